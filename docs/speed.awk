@@ -1,22 +1,22 @@
-# Times per car and step from the table of docs/SPEED.md, as an SVG image of bars:
+# Times per car and step from docs/speed.tsv, as an SVG image of bars:
 #
-#   awk -f docs/speed.awk docs/SPEED.md > docs/speed.svg
+#   awk -f docs/speed.awk docs/speed.tsv > docs/speed.svg
 #
 # It shows the rules on long roads, 100000 cells per lane, three cars on ten cells: a bar for each program that has one.
 
 BEGIN {
-    FS = " *[|] *"
+    FS = "\t"
     left = 90; right = 600; top = 20; thickness = 14
     colors = split("#0072b2 #999999 #e69f00 #d55e00 #009e73 #cc79a7", color, " ")
     split("trlab floor plain interpreter numba NumPy", shown, " ")
 }
 
 # The heading tells which column is whose.
-$2 == "what" { for (k = 3; k < NF; k++) column[$k] = k; next }
+$1 == "what" { for (k = 2; k <= NF; k++) column[$k] = k; next }
 
 # A rule by itself, with no other word behind it.
-$2 ~ /^`[^`]*`$/ && $column["cells"] == 100000 && $column["cars"] == 30000 * $column["lanes"] {
-    rule[++rules] = substr($2, 2, length($2) - 2)
+$1 ~ /^[a-z]+[0-9 ]+$/ && $column["cells"] == 100000 && $column["cars"] == 30000 * $column["lanes"] {
+    rule[++rules] = $1
     for (k = 1; k <= colors; k++) {
         time[rules, k] = $column[shown[k]] + 0
         if (time[rules, k] > slowest) slowest = time[rules, k]

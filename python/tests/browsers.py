@@ -12,6 +12,7 @@ from pathlib import Path
 
 CHROMIUM = shutil.which("chromium") or shutil.which("chromium-browser") or shutil.which("google-chrome")
 FIREFOX = shutil.which("firefox-esr") or shutil.which("firefox")
+PATIENCE = {"script": 300000}  # milliseconds, because other work may slow a browser down
 ELEMENT = "element-6066-11e4-a52e-4f735466cecf"
 # The commands of WebDriver: the method and the path for chromedriver, and the name in Marionette.
 COMMANDS = {
@@ -20,6 +21,8 @@ COMMANDS = {
     "refresh": ("POST", "refresh", "Refresh"),
     "script": ("POST", "execute/sync", "ExecuteScript"),
     "find": ("POST", "element", "FindElement"),
+    "label": ("GET", "element/{id}/computedlabel", "GetComputedLabel"),
+    "role": ("GET", "element/{id}/computedrole", "GetComputedRole"),
     "keys": ("POST", "element/{id}/value", "ElementSendKeys"),
     "actions": ("POST", "actions", "PerformActions"),
     "window": ("GET", "window", "GetWindowHandle"),
@@ -51,7 +54,7 @@ def missing(browser):
 
 
 def until(seconds, call):
-    """The first value that is not None of a call that is repeated for so many seconds."""
+    """The first value of a call, repeated for some seconds, that is not None."""
     end = time.monotonic() + seconds
     while (found := call()) is None:
         if time.monotonic() > end:
@@ -68,10 +71,10 @@ class Chromium:
             [shutil.which("chromedriver"), "--port=0"], stdout=subprocess.PIPE, stderr=subprocess.DEVNULL, text=True
         )
         port = next(int(line.rsplit(" ", 1)[1].rstrip(".\n")) for line in self.driver.stdout if "successfully on port" in line)
-        self.talk = http.client.HTTPConnection("127.0.0.1", port, timeout=120)
+        self.talk = http.client.HTTPConnection("127.0.0.1", port, timeout=320)
         words = ["--headless=new", "--no-sandbox", "--disable-gpu", "--hide-scrollbars", f"--window-size={width},{height}"]
         options = {"binary": CHROMIUM, "args": words + ["--force-prefers-reduced-motion"] * calm}
-        wanted = {"browserName": "chrome", "goog:chromeOptions": options, "goog:loggingPrefs": {"browser": "ALL"}}
+        wanted = {"browserName": "chrome", "goog:chromeOptions": options, "goog:loggingPrefs": {"browser": "ALL"}, "timeouts": PATIENCE}
         self.path = ""
         found = self.request("POST", "session", {"capabilities": {"alwaysMatch": wanted}})
         self.path = f"session/{found['sessionId']}/"
@@ -117,12 +120,16 @@ class Firefox:
         (Path(self.folder.name) / "user.js").write_text("".join(lines))
         words = ["--headless", "--marionette", "--remote-allow-system-access", "--no-remote", "--profile", self.folder.name]
         self.driver = subprocess.Popen([FIREFOX, *words, "about:blank"], stdout=subprocess.DEVNULL, stderr=subprocess.DEVNULL)
-        port = int(until(60, self.active_port))
-        self.socket = until(20, lambda: self.connected(port))
+        try:
+            port = int(until(60, self.active_port))
+            self.socket = until(20, lambda: self.connected(port))
+        except TimeoutError:
+            self.driver.kill()
+            raise
         self.stream = self.socket.makefile("rwb")
         self.number, self.seen = 0, 0
         self.read()
-        self.send("WebDriver:NewSession", {"capabilities": {"alwaysMatch": {}}})
+        self.send("WebDriver:NewSession", {"capabilities": {"alwaysMatch": {"timeouts": PATIENCE}}})
         self.size(width, height)
 
     def active_port(self):
@@ -131,7 +138,7 @@ class Firefox:
 
     def connected(self, port):
         try:
-            return socket.create_connection(("127.0.0.1", port), timeout=120)
+            return socket.create_connection(("127.0.0.1", port), timeout=320)
         except OSError:
             return None
 
@@ -211,11 +218,11 @@ class Window:
         self.browser.quit()
 
     def errors(self):
-        """What the console of the browser reports since the last call."""
+        """The errors in the console of the browser since the last call."""
         return self.browser.errors()
 
     def js(self, source, *words):
-        """What a script returns, or what the promise that it returns becomes."""
+        """The result of a script, or of the promise that it returns."""
         return self.command("script", script=source, args=list(words))
 
     def later(self, source, *words):
@@ -227,6 +234,10 @@ class Window:
 
     def find(self, selector):
         return self.command("find", using="css selector", value=selector)[ELEMENT]
+
+    def spoken(self, element):
+        """The role and the name of an element that a screen reader says; `element` is what a script returns."""
+        return self.command("role", id=element[ELEMENT]), self.command("label", id=element[ELEMENT])
 
     def type(self, selector, *keys):
         self.command("keys", id=self.find(selector), text="".join(keys))
@@ -252,6 +263,13 @@ class Window:
         move = {"type": "pointerMove", "duration": 0, "x": round(left + x), "y": round(top + y)}
         click = [move, {"type": "pointerDown", "button": 0}, {"type": "pointerUp", "button": 0}]
         self.command("actions", actions=[{"type": "pointer", "id": "mouse", "actions": click}])
+
+    def drag(self, name, x, to, y):
+        """Drag from one x to another one inside an element, at a y."""
+        left, top = self.js("const box = document.getElementById(arguments[0]).getBoundingClientRect(); return [box.left, box.top]", name)
+        moves = [{"type": "pointerMove", "duration": 50, "x": round(left + it), "y": round(top + y)} for it in (x, to)]
+        drag = [moves[0], {"type": "pointerDown", "button": 0}, moves[1], {"type": "pointerUp", "button": 0}]
+        self.command("actions", actions=[{"type": "pointer", "id": "mouse", "actions": drag}])
 
     def open(self):
         """A second window, and the handles of both."""

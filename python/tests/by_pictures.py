@@ -1,6 +1,6 @@
 """A second program for series: the table of a job as sums over the pictures that `trlab run` writes.
 
-It knows nothing of rules. Cars that changed lanes are told from two pictures that follow on each other: a car at
+It knows nothing of rules. Cars that changed lanes are found in two consecutive pictures: a car at
 speed v has come from v cells behind, on the lane where it is now."""
 from typing import Iterable, Iterator, List, NamedTuple, Sequence, Set
 

@@ -21,7 +21,7 @@ def digest(key, step):
 @contextmanager
 def short_inputs(steps):
     """Inputs of at most so many steps."""
-    with mock.patch("trlab.texts.MOST_STEPS", steps), mock.patch("trlab.continuing.MOST_STEPS", steps):
+    with mock.patch("trlab.texts.MAX_STEPS", steps), mock.patch("trlab.continuing.MAX_STEPS", steps):
         yield
 
 

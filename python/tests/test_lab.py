@@ -5,6 +5,7 @@ import gzip
 import hashlib
 import http.client
 import io
+import json
 import os
 import re
 import signal
@@ -18,7 +19,7 @@ import zlib
 from pathlib import Path
 from unittest import mock
 
-from trlab import Job, Nasch, Picture, Pictures, Refused
+from trlab import Job, Nasch, Picture, Pictures, Refused, Rickert, random
 from trlab.lab import Lab, page_of, server
 from trlab.lab.__main__ import fragment, main
 from trlab.program import ask
@@ -30,7 +31,7 @@ SILENT = "sweep 1\nkey " + "0" * 64 + "\nlimit 5\nlength 100000\nlanes 1\nrule n
 
 
 def within(seconds, holds):
-    """Whether a condition holds within so many seconds."""
+    """Whether a condition holds within some seconds."""
     end = time.monotonic() + seconds
     while not holds():
         if time.monotonic() > end:
@@ -100,7 +101,7 @@ class Pages(Serving):
     def test_no_other_path(self):
         for name in "nothing", "../server.py", "%2e%2e/server.py", "server.py", "page.html", "run":
             self.assertEqual(self.ask(name).status, 404, name)
-        for name in "", "page.css", "help", "--help", "explain", "explain/cause", "run/--workers":
+        for name in "", "page.css", "help", "--help", "check", "explain/cause", "run/--workers":
             self.assertEqual(self.ask(name, b"").status, 404, name)
 
 
@@ -108,11 +109,14 @@ class Answers(Serving):
     def test_every_example(self):
         for name, text in server.examples().items():
             kind = {"job": "run", "sweep": "sweep", "rule": "check"}[name.rpartition(".")[2]]
-            self.assertEqual(self.text(f"explain/{kind}", text), ask(["explain", kind], text), name)
+            self.assertEqual(self.text(f"explain/{kind}", text), ask(["explain", "--json", kind], text), name)
+            if kind == "check":
+                continue
             output = self.text(kind, text)
             lines = output.splitlines(True)
             self.assertEqual("".join(it for it in lines if not it.startswith("trlab: ")), ask([kind], text), name)
             if kind == "run":
+                self.assertEqual(self.text("explain", text), ask(["explain", "run"], text), name)
                 self.assertEqual(self.text("series", text), ask(["series"], text), name)
             self.assertEqual(kind == "sweep", "trlab: 100 % (" in output)
 
@@ -126,21 +130,51 @@ class Answers(Serving):
 
     def test_a_rejected_input(self):
         self.assertEqual(self.text("run", "road 2\n"), "fault line 1 cause 1\n")
-        self.assertIn("fault line 1 cause 1\n", self.text("explain/run", "road 2\n"))
+        self.assertIn("fault line 1 cause 1\n", self.text("explain", "road 2\n"))
+        self.assertEqual(json.loads(self.text("explain/run", "road 2\n"))["answer"], "fault line 1 cause 1")
+
+
+class Files(Serving):
+    def controls(self, text):
+        return json.loads(self.text("controls", text))
+
+    def file(self, kind, controls):
+        return self.ask(f"file/{kind}", json.dumps(controls))
+
+    def test_every_job_again(self):
+        wordy = "road 1\nkey " + "f" * 64 + "\nlimit 35\nlane z.\nlane ..\nrule own\ncode 0\nchange\nstay\nend\nsteps 9\nat 3 rule vdr 1 2147483648\n"
+        for text in [wordy, *(text for name, text in server.examples().items() if name.endswith(".job"))]:
+            got = self.file("job", self.controls(text))
+            self.assertEqual((got.status, got.read().decode()), (200, text))
+
+    def test_controls(self):
+        found = self.controls((EXAMPLES / "weather.job").read_text())
+        self.assertEqual([rule["at"] for rule in found["rules"]], [0, *(rule["at"] for rule in found["rules"][1:])])
+        rule = {"at": 0, "model": "rickert", "p": 0.25, "q": "1/3", "motion": "", "change": ""}
+        road = {"key": "7", "limit": 5, "lanes": 2, "length": 50, "cars": 20, "start": "random", "steps": 9, "rules": [rule]}
+        job = Job(limit=5, lanes=2, length=50, cars=20, start=random(7), rule=Rickert(0.25, "1/3"), steps=9, key=7)
+        self.assertEqual(self.file("job", road).read().decode(), job.text())
+        sweep = self.file("sweep", {**road, "rule": rule, "warm": 3, "measure": 4}).read().decode()
+        self.assertIn("\nlength 50\nlanes 2\nrule rickert 536870912 715827883\nwarm 3\nmeasure 4\ncars 2\ncars 4\n", sweep)
+        self.assertEqual(ask(["explain", "sweep"], sweep).splitlines()[0], "This is a valid sweep: `trlab sweep` runs it.")
+
+    def test_errors(self):
+        for name, body in ("file/job", b"{"), ("file/job", b"{}"), ("file/sweep", b"[]"), ("controls", b"\xff"), ("controls", b"road 1\nat"):
+            self.assertEqual(self.ask(name, body).status, 400, (name, body))
 
 
 class Refusals(Serving):
     def test_other_pages(self):
         port = self.lab.server_port
         for origin in None, "null", "http://evil.example", "http://127.0.0.1", f"https://127.0.0.1:{port}", f"http://localhost:{port}":
-            got = self.ask("check", b"motion\ngo r0\n", origin=origin)
+            got = self.ask("explain/check", b"motion\ngo r0\n", origin=origin)
             self.assertEqual(got.status, 403, origin)
             self.assertNotIn(b"refused", got.read())
         self.assertEqual(self.ask(origin="http://evil.example").status, 403)
         for host in "evil.example", f"evil.example:{port}", "127.0.0.1", f"127.0.0.1.evil.example:{port}":
             self.assertEqual(self.ask(host=host).status, 403, host)
         local = f"localhost:{port}"
-        self.assertEqual(self.ask("check", b"", host=local, origin=f"http://{local}").status, 200)
+        self.assertEqual(self.ask("explain/check", b"", host=local, origin=f"http://{local}").status, 200)
 
     def test_other_tokens(self):
         good = self.lab.token
@@ -161,10 +195,10 @@ class Refusals(Serving):
             self.assertIsNone(got.headers["Access-Control-Allow-Origin"])
 
     def test_long_inputs(self):
-        self.assertEqual(self.text("check", b"a" * server.MOST_BYTES), "fault line 1 cause 1\n")
+        self.assertEqual(json.loads(self.text("explain/check", b"a" * server.MOST_BYTES))["answer"], "fault line 1 cause 1")
         for length, status in ("4194305", 413), ("9" * 18, 413), ("9" * 30, 411), ("-1", 411), ("x", 411), (None, 411):
             talk = http.client.HTTPConnection("127.0.0.1", self.lab.server_port, timeout=60)
-            talk.putrequest("POST", f"/{self.lab.token}/check")  # the input itself is never sent
+            talk.putrequest("POST", f"/{self.lab.token}/explain")  # the input itself is never sent
             talk.putheader("Origin", f"http://127.0.0.1:{self.lab.server_port}")
             if length:
                 talk.putheader("Content-Length", length)

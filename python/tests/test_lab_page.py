@@ -25,6 +25,24 @@ SHOTS = """const {film} = lab.player;
 return film.shots.map(it => [it.step, String.fromCharCode(...it.cells), it.flow, it.speed, it.stopped])"""
 
 
+# How eyes without red, green or blue cones see linear red, green and blue (Machado, Oliveira and Fernandes 2009).
+SIGHTS = {
+    "all colours": ((1, 0, 0), (0, 1, 0), (0, 0, 1)),
+    "no red": ((0.152286, 1.052583, -0.204868), (0.114503, 0.786281, 0.099216), (-0.003882, -0.048116, 1.051998)),
+    "no green": ((0.367322, 0.860646, -0.227968), (0.280085, 0.672501, 0.047413), (-0.011820, 0.042940, 0.968881)),
+    "no blue": ((1.255528, -0.076749, -0.178779), (-0.078411, 0.930809, 0.147602), (0.004733, 0.691367, 0.303900)),
+}
+
+
+def lightness_and_hue(colour, sight):
+    """A colour as such eyes see it, in CIELAB: distances are differences that one sees."""
+    times = lambda matrix, column: [sum(a * b for a, b in zip(row, column)) for row in matrix]
+    light = times(sight, [(it / 255 / 12.92 if it <= 10 else ((it / 255 + 0.055) / 1.055) ** 2.4) for it in colour])
+    to_xyz = ((0.4339, 0.3762, 0.1899), (0.2126, 0.7152, 0.0722), (0.0178, 0.1096, 0.8730))  # white is 1, 1, 1
+    x, y, z = (max(it, 0.0089) ** (1 / 3) for it in times(to_xyz, light))
+    return 116 * y - 16, 500 * (x - y), 200 * (y - z)
+
+
 def pictures(text):
     return Pictures(pictures_in(ask(["run"], text).splitlines(True)))
 
@@ -58,7 +76,17 @@ class Pages:
         if not self.page.within(seconds, condition):
             self.fail(self.page.js("return document.getElementById('fault')?.textContent") or "it does not become true")
 
+    def has_job(self, wanted):
+        """The page shows this job file, which the server may still be writing."""
+        if not self.page.within(20, lambda: self.page.job() == wanted):
+            self.assertEqual(self.page.job(), wanted)
+
+    def has_line(self, wanted):
+        if not self.page.within(20, lambda: wanted in self.page.job()):
+            self.assertIn(wanted, self.page.job())
+
     def pause(self):
+        self.hold(lambda: not self.page.js("return window.lab.isWriting"))
         if self.page.text("play") == "Pause":
             self.page.click("play")
         self.hold(lambda: self.page.js("const it = lab.player; return it.scene?.step === it.step && it.phase === 1 && !it.moving && !it.stale"))
@@ -66,6 +94,7 @@ class Pages:
     def run_to(self, step):
         """Play fast to a step at least, and pause."""
         self.page.set("rate", 100, "input")
+        self.hold(lambda: not self.page.js("return window.lab.isWriting"))
         if self.page.text("play") == "Play":
             self.page.click("play")
         self.page.later("""const it = lab.player;
@@ -111,6 +140,25 @@ class Pages:
                 return Array.from({length: film.lanes}, (_, lane) => Array.from({length: film.length}, (_, x) =>
                     [...pen.getImageData((x + 0.5) * canvas.width / film.length, first + (lane + 0.5) * tall, 1, 1).data].join()))""")
             self.assertEqual(["".join(colours.get(it, ".") for it in row) for row in road], list(found[step].lanes))
+            ring = self.page.js("""const {film} = lab.player, pen = document.getElementById('ring').getContext('2d'), tall = film.lanes === 2 ? 13 : 18;
+                return Array.from({length: film.lanes}, (_, lane) => Array.from({length: film.length}, (_, x) => {
+                    const angle = (x + 0.5) / film.length * 2 * Math.PI, away = 146 - 2.5 - lane * (tall + 5) - tall / 2;
+                    return [...pen.getImageData(150 + away * Math.sin(angle), 150 - away * Math.cos(angle), 1, 1).data].join();
+                }))""")
+            self.assertEqual(["".join(colours.get(it, ".") for it in row) for row in ring], list(found[step].lanes))
+
+    def test_cars_move_between_steps(self):
+        self.open(Job(limit=5, length=100, cars=1, rule=Nasch(0), steps=400).text())
+        self.hold(lambda: self.page.js("return lab.job.length") == 100)
+        self.run_to(50)
+        drawn = self.page.js("""const {player} = lab, canvas = document.getElementById('band'), {scene: {place: [cell]}} = player;
+            const at = x => canvas.getContext('2d').getImageData((x + 100) % 100 * canvas.width / 100, canvas.height / 2, 1, 1).data[3] > 0;
+            return [0, 0.4, 0.6, 1].map(share => {
+                player.phase = share;
+                player.draw(0);
+                return [0, 0.4, 0.6, 1].map(part => at(cell + 0.5 - 5 * (1 - part)));
+            })""")
+        self.assertEqual(drawn, [[place == share for place in range(4)] for share in range(4)])
 
     def test_a_followed_car_is_one_car(self):
         self.page.set("model", "rickert")
@@ -227,16 +275,17 @@ class Pages:
         for name, value, wanted in tries:
             with self.subTest(name=name, value=value):
                 page.set(name, value)
-                self.assertEqual(page.job(), self.job_of(**wanted))
+                self.has_job(self.job_of(**wanted))
                 self.agree()
         page.set("model", "own")
-        self.assertIn("rule own\nmotion\n", page.job())
-        self.assertIn("\nchange\n", page.job())
+        self.has_line("rule own\nmotion\n")
+        self.has_line("\nchange\n")
         self.hold(lambda: "Accepted" in page.text("motionverdict") and "Accepted" in page.text("changeverdict"))
         page.set("lanes", "1")
-        self.assertNotIn("\nchange\n", page.job())
+        self.hold(lambda: "\nchange\n" not in page.job())
         page.click("newkey")
         self.assertNotEqual(page.value("key"), "1")
+        self.has_line(f"key {int(page.value('key')):064x}\n")
 
     def agree(self):
         """The controls, the sentence and the file say the same, and trlab accepts it."""
@@ -253,35 +302,68 @@ class Pages:
     def test_the_sentence(self):
         self.page.select(".lead [data-set=cars]")
         self.page.press(*"200", Keys.ENTER)
-        self.assertEqual(self.page.job(), self.job_of(cars=200))
-        self.page.select(".lead [data-model=nasch] [data-set=p]")
+        self.has_job(self.job_of(cars=200))
+        self.page.select(".lead [data-set=p]")
         self.page.press("0", Keys.ENTER)
-        self.assertIn("rule nasch 0\n", self.page.job())
+        self.has_line("rule nasch 0\n")
 
     def test_sliders(self):
         for _ in range(30):
             self.page.type("#density ~ [type=range]", Keys.RIGHT)
         self.assertEqual(self.page.value("density"), "0.3")
-        self.assertEqual(self.page.job(), self.job_of(cars=300))
+        self.has_job(self.job_of(cars=300))
         self.hold(lambda: len(self.lab.children) <= 1 and not self.page.text("fault"))
+
+    def test_every_slider(self):
+        self.page.set("model", "vdr")
+        for name in "p", "q", "density", "limit", "length", "cars":
+            value = self.page.js("""const slider = document.querySelector(`#${arguments[0]} ~ [type=range]`);
+                slider.value = +slider.min + 0.4 * (slider.max - slider.min);
+                slider.dispatchEvent(new Event('input', {bubbles: true}));
+                return slider.value""", name)
+            self.assertEqual(float(self.page.value(name)), float(value), name)
+            self.agree()
+
+    def test_the_enlarged_part_can_be_dragged(self):
+        self.page.set("density", "0.01")
+        self.pause()
+        width = self.page.js("return document.getElementById('band').clientWidth")
+        empty = pictures(self.page.job())[self.page.step()].lanes[0].index("." * 60) + 30
+        self.page.drag("band", empty / 1000 * width, 0.8 * width, 8)
+        self.hold(lambda: abs(self.page.js("return lab.player.lens") - 800) < 5)
 
     def test_a_change_on_the_way_is_an_at_line(self):
         self.run_to(100)
         step = self.page.step()
         self.page.set("p", "0.5")
-        self.assertIn(f"steps 5000\nat {step} rule nasch 1073741824\n", self.page.job())
+        self.has_line(f"steps 5000\nat {step} rule nasch 1073741824\n")
         self.assertEqual(self.page.step(), step)
         self.run_to(step + 100)
         later = self.page.step()
         self.page.set("model", "vdr")
-        self.assertIn(f"at {later} rule vdr 1073741824 1073741824\n", self.page.job())
+        self.has_line(f"at {later} rule vdr 1073741824 1073741824\n")
         self.run_to(later + 100)
         for (now, cells, *_), picture in zip(self.page.js(SHOTS), pictures(self.page.job())):
             self.assertEqual((now, cells), (picture.step, "".join(picture.lanes)))
         self.page.click("again")
         self.hold(lambda: self.page.value("p") == "0.25" and self.page.value("model") == "nasch")
         self.page.set("density", "0.2")
-        self.assertEqual(self.page.job(), self.job_of(cars=200))
+        self.has_job(self.job_of(cars=200))
+
+    def test_many_changes_on_the_way(self):
+        self.page.set("rate", 80, "input")
+        self.hold(lambda: self.page.step() > 50)
+        self.page.later("""const slider = document.querySelector('#p ~ [type=range]');
+            for (let k = 1; k <= 40; k++) {
+                slider.value = k / 40;
+                slider.dispatchEvent(new Event('input', {bubbles: true}));
+                if (k % 3 === 0) await new Promise(requestAnimationFrame);
+            }""")
+        self.has_line(" rule nasch 2147483648\n")
+        self.run_to(self.page.step() + 50)
+        self.assertGreater(self.page.job().count("\nat "), 1)
+        for (now, cells, *_), picture in zip(self.page.js(SHOTS), pictures(self.page.job())):
+            self.assertEqual((now, cells), (picture.step, "".join(picture.lanes)))
 
     # Inputs
 
@@ -316,7 +398,7 @@ class Pages:
         self.hold(lambda: values() == ["0.25", "3", "10", "1", "file", "400", "2"])
         self.page.press(Keys.ENTER, *"at 10 rule nasch 0")
         self.hold(lambda: self.page.js("return lab.job.rules.length") == 2)
-        self.assertEqual(self.page.job(), job.replace("0.25", "536870912") + "0\nat 10 rule nasch 0\n")
+        self.has_job(job.replace("0.25", "536870912") + "0\nat 10 rule nasch 0\n")
 
     def test_a_rejected_program(self):
         self.page.set("example", "keep_distance.rule")
@@ -326,7 +408,7 @@ class Pages:
         bad = "\n".join(line for line in lines if "jle" not in line and "go r2" not in line)
         self.write("#motion .code", bad)
         self.hold(lambda: "Rejected at line 9" in self.page.text("motionverdict") and "Reason 9" in self.page.text("motion"))
-        self.assertEqual(self.page.job(), good)
+        self.has_job(good)
         low, high = self.page.js("""const box = it => document.querySelector(it).getBoundingClientRect();
             return [box('#motion .code').top, box('#motion .words').top]""")
         self.assertAlmostEqual(high - low, 9 * 20 + 4, delta=3)  # the words are below line 9
@@ -351,8 +433,8 @@ class Pages:
             with self.subTest(line=line, wrong=wrong):
                 self.write("#text .code", job.replace(line, wrong).rstrip("\n"))
                 self.fix("text")
-                self.assertEqual(self.page.job(), job)
-        self.assertEqual(self.page.js("return lab.job.cars"), 2)
+                self.has_job(job)
+        self.hold(lambda: self.page.js("return lab.job.cars") == 2)
 
     def test_a_change_of_a_program_that_you_click(self):
         self.page.set("model", "own")
@@ -363,15 +445,28 @@ class Pages:
             self.fix("motion")
             wanted = f"motion\nget r1, limit\n{fixed}\n".replace("go r0", "min r0, r0, r1\ngo r0")
             self.hold(lambda: f"rule own\n{wanted}end\n" in self.page.job())
+        edits = [{"line": 2, "first": 3, "last": 2, "replacement": "\\x5c"}, {"line": 3, "first": 1, "last": 2, "replacement": ""}]
         fixed = self.page.later("""const {repaired} = await import('./editor.js');
-            return ["Line 1, column 3: delete `b`.", "Line 1, column 1: replace `\\\\xff` with `b`.", "Line 1, column 1: insert `\\\\xff`.", "Known before it:"]
-                .map(it => repaired("a bc d\\n", it))""")
-        self.assertEqual(fixed, ["a c d\n", None, None, None])
+            return repaired("\u00e9\\n\u00e9a\\nb\\nc\\n", {why: "so.", edits: words[0]})""", edits)
+        self.assertEqual(fixed, {"words": "Insert `\\`, Delete `b`: so.", "text": "\u00e9\n\u00e9\\a\nc\n"})
 
     def test_a_rejected_file(self):
         self.open("road 2\n")
         self.hold(lambda: "a.job is rejected" in self.page.text("fault"))
-        self.assertEqual(self.page.job(), self.job_of())
+        self.has_job(self.job_of())
+
+    def test_a_file_of_the_disk(self):
+        for name in "two_cars.job", "lane_change.rule":
+            self.page.js("""const files = new DataTransfer(), place = document.getElementById('file');
+                files.items.add(new File([arguments[1]], arguments[0]));
+                place.files = files.files;
+                place.dispatchEvent(new Event('change', {bubbles: true}))""", name, server.examples()[name])
+            self.hold(lambda: server.examples()[name] in self.page.job())
+        self.page.js("""const place = document.getElementById('file'), files = new DataTransfer();
+            files.items.add(new File(['a'.repeat(4194305)], 'long.job'));
+            place.files = files.files;
+            place.dispatchEvent(new Event('change', {bubbles: true}))""")
+        self.hold(lambda: "long.job is too long" in self.page.text("fault"))
 
     # The fundamental diagram, and saving
 
@@ -385,6 +480,10 @@ class Pages:
         self.hold(lambda: 390 <= int(self.page.value("cars")) <= 410)
         self.page.click("clear")
         self.assertEqual(self.page.js("return lab.marks.length"), 0)
+        self.page.set("warm", "20")
+        self.page.set("measure", "0")
+        self.page.click("sweep")
+        self.hold(lambda: self.page.js("return lab.table").startswith("cars,cells,steps,distance,stopped,changes,flow\n20,1000,1,"))
 
     def saved(self, *names):
         """The text of the file that a click on these buttons saves."""
@@ -421,7 +520,7 @@ class Pages:
         self.page.get("about:blank")
         self.page.get(link)
         self.hold(lambda: self.page.js("return window.lab?.player.step >= 0"))
-        self.assertEqual(self.page.job(), job)
+        self.has_job(job)
         self.page.js("location.hash = '#job=!'")
         self.hold(lambda: "The link is damaged" in self.page.text("fault"))
 
@@ -444,7 +543,7 @@ class Pages:
 
     def test_an_interrupted_run(self):
         self.page.set("length", 100000)
-        self.hold(lambda: len(self.lab.children) == 1)
+        self.hold(lambda: self.page.js("return lab.player.film.length") == 100000 and len(self.lab.children) == 1)
         for child in list(self.lab.children):
             os.kill(child.pid, signal.SIGKILL)
         self.hold(lambda: self.page.text("fault") != "")
@@ -519,6 +618,23 @@ class Pages:
             seen.append(self.page.js("const it = document.activeElement; return it.id || it.dataset.set || it.ariaLabel || it.className"))
         for name in "play", "back", "one", "again", "follow", "rate", "model", "p", "density", "cars", "sweep", "savefigure", "link", "example":
             self.assertIn(name, seen)
+
+    def test_what_a_screen_reader_says(self):
+        self.pause()
+        controls = self.page.js("""return [...document.querySelectorAll('input, select, button, summary, canvas, #diagram, [role=textbox], [role=region]')]
+            .filter(it => it.checkVisibility() && it.type !== 'file')""")
+        self.assertGreater(len(controls), 40)
+        for element in controls:
+            role, name = self.page.spoken(element)
+            self.assertTrue(name.strip() and role not in ("none", "generic"), (role, name))
+
+    def test_colours_are_safe_for_the_colour_blind(self):
+        colours = self.page.js("return [0, 1, 2, 3, 4, 5].map(v => lab.colour(v / 5))")
+        for kind, sight in SIGHTS.items():
+            seen = [lightness_and_hue(colour, sight) for colour in colours]
+            least = min(math.dist(one, other) for k, one in enumerate(seen) for other in seen[:k])
+            self.assertGreater(least, 15, kind)
+            self.assertGreater(math.dist(seen[0], seen[-1]), 40, kind)
 
     def test_numbers_as_a_table(self):
         self.run_to(30)

@@ -31,13 +31,6 @@ def stand_in(folder, lines):
     return mock.patch.dict(os.environ, TRLAB=str(path))
 
 
-def knows_series():
-    try:
-        return ask(["series", "--help"], "") != ""
-    except Failed:
-        return False
-
-
 class Sweeps(unittest.TestCase):
     def test_the_example(self):
         cars = [int(line[5:]) for line in example("fundamental_diagram.sweep").splitlines() if line.startswith("cars ")]
@@ -126,8 +119,6 @@ class Series(unittest.TestCase):
             self.assertEqual(told.changes > 0, lanes == 2)
 
     def test_the_table_is_that_of_the_pictures(self):
-        if not knows_series():
-            self.skipTest("this program has no `series`")
         for job in self.JOBS:
             for every, first in (1, 0), (7, 0), (4, 5), (100, 0):
                 told = job.series(every=every, first=first, workers=2)
@@ -150,8 +141,9 @@ class Refusals(unittest.TestCase):
         with self.assertRaises(Refused) as caught:
             Job(limit=5, length=10, cars=2, rule=Rickert(0, 1), steps=1).run()
         refused = caught.exception
-        self.assertEqual((refused.line, refused.cause, refused.pc), (5, 4, None))
+        self.assertEqual((refused.line, refused.cause, refused.reason, refused.pc), (5, 4, None, None))
         self.assertEqual(refused.answer, "fault line 5 cause 4")
+        self.assertIn(f"Cause 4: {refused.meaning}\n", refused.explanation)
         self.assertTrue(refused.explanation.startswith("fault line 5 cause 4\n"))
         self.assertEqual(str(refused), refused.explanation)
 
@@ -164,7 +156,22 @@ class Refusals(unittest.TestCase):
         self.assertEqual(check(HALF), (5, HALF.partition("\n")[2]))
         with self.assertRaises(Refused) as caught:
             check("motion\nget r0, speed\ngo r0\n")
-        self.assertEqual((caught.exception.pc, caught.exception.reason, caught.exception.line), (1, 10, None))
+        refused = caught.exception
+        self.assertEqual((refused.pc, refused.reason, refused.cause, refused.line), (1, 10, None, 3))
+        for words in (refused.meaning, refused.advice, *refused.facts):
+            self.assertIn(words, str(refused))
+        self.assertEqual(len(refused.facts), 2)
+
+    def test_a_repair(self):
+        text = Job(limit=5, length=10, cars=2, rule=Nasch(0), steps=1).text()
+        wrong = text.replace("nasch 0", "nasch 0.25")
+        with self.assertRaises(Refused) as caught:
+            ask(["run"], wrong)
+        refused = caught.exception
+        self.assertEqual((refused.line, refused.first, refused.last), (5, 12, 15))
+        self.assertIn("0.25", refused.found)
+        [repair] = refused.repairs
+        self.assertEqual(repair["edits"], [{"line": 5, "first": 12, "last": 15, "replacement": "536870912"}])
 
     def test_words_that_are_refused(self):
         with self.assertRaises(Failed) as caught:

@@ -15,7 +15,6 @@ from typing import Dict, List, NamedTuple, Set
 from unittest import mock
 
 from tests.processes import calls, logging_program
-from tests.test_runs import knows_series
 from trlab import Nasch, Point, Sweep, random
 from trlab.figure import Axis, Figure
 
@@ -173,8 +172,6 @@ class Studies(unittest.TestCase):
             self.assertEqual(subprocess.run(["git", "check-ignore", "-q", path], cwd=top).returncode, 0)
 
     def test_a_branch_comes_out_again(self):
-        if not knows_series():
-            self.skipTest("this program has no `series`")
         module, table = script("1998"), rows(STUDIES / "1998" / "table.csv")
         jobs = module.branches(False)
         self.assertEqual(list(table), list(jobs))

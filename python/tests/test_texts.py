@@ -1,4 +1,4 @@
-"""Texts by hand: what a person writes, and the exact text that stands for it."""
+"""Files by hand: the Python that a person writes, and the exact input file."""
 import unittest
 import warnings
 from fractions import Fraction

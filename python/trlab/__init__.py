@@ -9,10 +9,10 @@
     job = Job(limit=5, length=100, density=0.2, start=random(1), rule=Nasch(0.25), steps=50, key=7)
     print(job.run()[-1].lanes[0])
 
-Lengths are in cells, times in steps, speeds in cells per step; probabilities and densities (cars per cell) are between 0
-and 1. `.text()` returns the input file of a job or a sweep, and its results depend only on this file. No package is
-needed, except that `.to_numpy()` and `.to_pandas()` of results need numpy and pandas. `TRLAB` names the program; without it
-that of the package or of the checkout is used."""
+Lengths are in cells, times in steps, speeds in cells per step; probabilities and densities (cars per cell) are
+between 0 and 1. Results depend only on the input file of a job or a sweep, which `.text()` returns. No package is
+needed, except numpy and pandas for `.to_numpy()` and `.to_pandas()`. `TRLAB` may name the program
+(see `find_program`)."""
 from .drift import Drift
 from .figure import Figure
 from .frame import Frame

@@ -1,4 +1,4 @@
-"""The command `trlab`, as `pip` installs it, and `python -m trlab`: runs the program with the same words."""
+"""The command `trlab`, as `pip` installs it, and `python -m trlab`: run the program with the same arguments."""
 import os
 import sys
 
@@ -6,7 +6,7 @@ from .location import find_program
 
 
 def main() -> None:
-    """Runs the program in place of this process, with its words, its streams and its exit status."""
+    """Replace this process with the program, which gets its arguments and streams."""
     try:
         program = find_program()
     except (OSError, ValueError) as error:

@@ -1,3 +1,3 @@
 """The version of the module, which is that of the program."""
 
-__version__ = "0.4.0"
+__version__ = "0.5.0"

@@ -13,7 +13,7 @@ from typing import TYPE_CHECKING, Callable, Iterator, List, NamedTuple, Optional
 from .program import ask_by_line
 from .results import Picture, Table, Window, pictures_in
 from .rules import Rule
-from .units import MOST_STEPS, Key, derived_key, whole
+from .units import MAX_STEPS, Key, derived_key, whole
 
 if TYPE_CHECKING:
     from .texts import Job
@@ -53,11 +53,11 @@ class _Part(NamedTuple):
 def _parts(job: Job, last_of: Callable[[Job], Picture]) -> Iterator[_Part]:
     """The inputs of a job in their order; `last_of` returns the last picture of one, and is asked after its turn."""
     offset = 0
-    while job.steps > MOST_STEPS:
-        part = replace(job, steps=MOST_STEPS, at={step: rule for step, rule in job.at.items() if step < MOST_STEPS})
+    while job.steps > MAX_STEPS:
+        part = replace(job, steps=MAX_STEPS, at={step: rule for step, rule in job.at.items() if step < MAX_STEPS})
         yield _Part(offset, part)
-        job = continued(job, last_of(part), None, job.steps - MOST_STEPS)
-        offset += MOST_STEPS
+        job = continued(job, last_of(part), None, job.steps - MAX_STEPS)
+        offset += MAX_STEPS
     yield _Part(offset, job)
 
 
@@ -68,7 +68,7 @@ def pictures(job: Job, every: int, first: int, words: List[str]) -> Iterator[Pic
     The last picture of each input is needed too. So the program prints every picture whose step is a multiple of a number
     that divides `every`, `first` and the steps of an input."""
     whole("every", every, 1), whole("first", first, 0)
-    options = ["--every", str(gcd(every, first, MOST_STEPS)), *words]
+    options = ["--every", str(gcd(every, first, MAX_STEPS)), *words]
     last: List[Picture] = []
     for offset, part in _parts(job, lambda _: last.pop()):
         for picture in pictures_in(ask_by_line(["run", *options], part.text())):
@@ -85,12 +85,12 @@ def series(job: Job, every: int, first: int, words: List[str]) -> Table[Window]:
     Windows may begin in one input and end in the next one, so they are put together from narrower windows, whose width
     divides `every`, `first` and the steps of an input."""
     whole("every", every, 1), whole("first", first, 0)
-    width = gcd(every, first, MOST_STEPS)
+    width = gcd(every, first, MAX_STEPS)
     return Table(Window, list(_joined(_narrow_windows(job, width, first, words), every // width)))
 
 
 def _narrow_windows(job: Job, width: int, first: int, words: List[str]) -> Iterator[Window]:
-    """All windows of so many steps from a step on, one by one."""
+    """Iterate over the windows of `width` steps from the step `first` on."""
     for offset, part in _parts(job, lambda it: _last_picture(it, words)):
         if first < offset + part.steps:
             options = ["--every", str(width), "--from", str(max(0, first - offset))]

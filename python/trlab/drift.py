@@ -24,17 +24,15 @@ from typing import List, NamedTuple, Sequence
 from .results import Row, Table, Window
 
 BATCHES = 20
-"""The last half of a series is cut into so many batches of equal numbers of windows."""
+"""The number of batches, of equally many windows, in the last half of a series."""
 
 FEWEST = 2 * BATCHES
-"""The windows that a series needs at least."""
+"""The minimum number of windows of a series."""
 
 
 class Drift(NamedTuple):
-    """What `Table.drift` finds.
-
-    `z` is above 0 if the series rises, and below 0 if it falls; `p`, 0 to 1, is the probability that a stationary series
-    has a `z` at least as far from 0."""
+    """The result of `Table.drift`. `z` is positive if the series rises; `p`, 0 to 1, is the probability that a
+    stationary series has a `z` at least as far from 0."""
 
     z: float
     p: float

@@ -45,7 +45,7 @@ class Axis(NamedTuple):
 
 
 class Figure(NamedTuple):
-    """Curves over two axes."""
+    """Curves on two axes."""
 
     across: Axis
     up: Axis
@@ -56,7 +56,7 @@ class Figure(NamedTuple):
         return f"<figure of {self.up.title} against {self.across.title}, {number}>"
 
     def svg(self) -> str:
-        """The image."""
+        """The SVG image."""
         head = '<svg xmlns="http://www.w3.org/2000/svg" viewBox="0 0 620 440" font-family="sans-serif" font-size="13">'
         parts = [head, '<rect width="620" height="440" fill="white"/>', *self._axes()]
         for number, curve in enumerate(self.curves):
@@ -69,7 +69,7 @@ class Figure(NamedTuple):
         return self.svg()
 
     def draw(self, axes: Any) -> None:
-        """Draws the same on an axis of matplotlib."""
+        """Draw the figure on an axis of matplotlib."""
         styles = {"line": "-", "dots": ",", "points": "o", "joined": "o-"}
         for number, curve in enumerate(self.curves):
             across, up = [spot.x for spot in curve.spots], [spot.y for spot in curve.spots]

@@ -55,22 +55,21 @@ def write_texts(
     program: Optional[str] = None,
     per_task: int = 1,
 ) -> Path:
-    """Writes each input as `folder/NAME.sweep` (or `folder/NAME.job` if the words are not those of a sweep), and
-    `folder/array.sh`, the script of a Slurm array, which it returns:
+    """Write each input as `folder/NAME.sweep` (`folder/NAME.job` for other words), and a script for a Slurm array, whose
+    path is returned:
 
         sbatch folder/array.sh
 
-    A task of the array passes `per_task` inputs to the program with these words, for example `["series", "--every",
-    "100"]`, and writes `folder/NAME.csv` (`folder/NAME.out` for `run`). A result is complete or absent, also if a
-    task is killed, and a task that is started again skips inputs that have one. Slurm's own messages go to
-    `folder/slurm-*.out`. Clusters limit the number of tasks, often to 1001: with more inputs use `per_task`.
-
-    Without Slurm `sh folder/array.sh` runs all inputs, one after the other, and GNU parallel runs N tasks side by side:
+    A task passes `per_task` inputs to the program with these words, for example `["series", "--every", "100"]`, and
+    writes `folder/NAME.csv` (`folder/NAME.out` for `run`). A result is complete or absent, even if a task is killed;
+    a task that is started again skips finished inputs. Slurm's messages go to `folder/slurm-*.out`. If the cluster
+    limits the number of tasks, often to 1001, increase `per_task`. Without Slurm, `sh folder/array.sh` runs all
+    inputs in sequence, and GNU parallel runs N tasks side by side:
 
         seq N | parallel SLURM_ARRAY_TASK_ID={} sh folder/array.sh
 
-    `program` is the path of trlab on the machines of the tasks, by default its path here. Raises `FileExistsError` if
-    the folder has a result of another input or of other words under one of these names."""
+    `program` is the path of trlab on the tasks' machines, by default its path here. Raises `FileExistsError` if the
+    folder has a result of another input or of other words under one of the names."""
     place = Path(folder).expanduser().resolve()
     count = whole("per_task", per_task, 1, 10**9)
     kind, result = ("sweep" if words[0] == "sweep" else "job"), ("out" if words[0] == "run" else "csv")
@@ -97,12 +96,10 @@ def write_texts(
 def read_tables(
     folder: Union[str, Path], kind: type[Row], texts: Optional[Mapping[str, Union[Job, Sweep]]] = None
 ) -> Dict[str, Table[Row]]:
-    """The tables `folder/NAME.csv` of such tasks by their names; `kind` is `Point` or `Window`.
-
-    Pass the `texts` that you gave to `write_texts`: then the tables have their order, and each of them has to be
-    whole, with all points of its sweep, or all windows of its job. Raises one `ValueError` that names every missing,
-    empty, short or damaged file. Without `texts` every table of the folder is read, and a table that ends after a
-    whole row counts as whole."""
+    """The tables `folder/NAME.csv` of such tasks by name; `kind` is `Point` or `Window`. With the `texts` of
+    `write_texts` the tables have their order, and each must be whole: one `ValueError` names every missing, empty,
+    short or damaged file. Without `texts` every table of the folder is read, and a table that ends after a whole row
+    counts as whole."""
     place = Path(folder).expanduser()
     names = sorted(file.stem for file in place.glob("[!.]*.csv")) if texts is None else list(texts)
     found: Dict[str, Table[Row]] = {}
@@ -165,7 +162,7 @@ def _read(place: Path, name: str, kind: type[Row], text: Union[None, Job, Sweep]
 
 
 def _check_input(place: Path, name: str, text: Union[Job, Sweep]) -> None:
-    """Raises `ValueError` if the input beside a table is another one."""
+    """Raises `ValueError` if the folder has another input for a table."""
     file = place / f"{name}.{'sweep' if isinstance(text, Sweep) else 'job'}"
     if file.exists() and file.read_text() != text.text():
         raise ValueError(f"is the result of another input, {file.name}")

@@ -1,7 +1,7 @@
 """Follows cars from picture to picture: with numpy, and without.
 
 A car at speed v came from the cell v behind it, of its own lane or of the other one. If both of these cells were taken,
-it came from its own lane, because a lane change needs an empty cell beside the car."""
+it came from its own lane, because a lane change needs an empty cell next to the car."""
 from __future__ import annotations
 
 from itertools import islice

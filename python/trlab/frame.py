@@ -22,11 +22,9 @@ Columns = Dict[str, Any]
 
 
 class Frame(Sequence[Any]):
-    """Rows with the same columns, like a table of named tuples: `frame[0].flow` is a number, `for row in frame` works.
-
-    `columns` are the names of all columns. `axes` are those that say which row it is: the parameters, and `step`,
-    `density` or `point` if there are several rows for each choice of parameters. `errors` has the exceptions that
-    were kept, by parameters."""
+    """Rows with the same columns: `frame[0].flow` is a number, `for row in frame` works. `columns` are the names of all
+    columns, and `axes` of those that identify a row: the parameters, and `step`, `density` or `point` if a choice has
+    several rows. `errors` maps choices to the exceptions that were kept."""
 
     def __init__(
         self, axes: Iterable[str], rows: Iterable[Mapping[str, Any]], errors: Optional[Mapping[Any, Exception]] = None
@@ -63,13 +61,11 @@ class Frame(Sequence[Any]):
         return Frame, (self.axes, rows, {tuple(choice): error for choice, error in self.errors.items()})
 
     def means(self, axis: str, of: Optional[Iterable[str]] = None) -> Frame:
-        """The mean along an axis, for example `frame.means("seed")`: one row for each choice of the other axes.
-
-        Every column of numbers, or every column in `of`, holds its mean, and `NAME_error` the standard error of that
-        mean: the standard deviation of the n values divided by the square root of n, or NaN if n is 1. `count` is n.
-        The errors are right if the values are independent, as those of different keys are.
-
-        A column of strings is kept if all rows that are averaged together have the same string."""
+        """The means along an axis, for example `frame.means("seed")`: one row for each choice of the other axes. Every
+        column of numbers, or every column in `of`, holds its mean, and `NAME_error` the standard error: the standard
+        deviation of the n values divided by the square root of n, NaN if n is 1. `count` is n. Errors assume
+        independent values, such as those of different keys. A column of strings is kept if it has one string per row
+        of the result."""
         if axis not in self.axes:
             raise ValueError(f"{axis!r} is not an axis of the frame: these are {', '.join(self.axes)}")
         others = [name for name in self.axes if name != axis]
@@ -105,7 +101,7 @@ class Frame(Sequence[Any]):
         return all(isinstance(getattr(row, name), Real) for row in self._rows)
 
     def csv(self) -> str:
-        """The frame as a text of comma-separated values, with a line of names."""
+        """Comma-separated values, with a line of names."""
         text = io.StringIO()
         writer = csv.writer(text, lineterminator="\n")
         writer.writerow(self.columns)
@@ -113,13 +109,13 @@ class Frame(Sequence[Any]):
         return text.getvalue()
 
     def to_pandas(self) -> pandas.DataFrame:
-        """The frame of pandas with these rows and columns."""
+        """A pandas frame of these rows and columns."""
         import pandas
 
         return pandas.DataFrame(self._rows, columns=list(self.columns))
 
     def to_xarray(self) -> Any:
-        """The dataset of xarray whose dimensions are the axes; NaN if a row is missing. It needs pandas too."""
+        """An xarray dataset with the axes as dimensions, NaN for a missing row. Needs pandas."""
         return self.to_pandas().set_index(list(self.axes)).to_xarray()
 
 

@@ -20,7 +20,7 @@ _TAKEN = set("flow speed stopped_share cells steps step distance stopped changes
 
 
 class Grid:
-    """A job or sweep for each choice of parameters.
+    """A job or sweep for each choice of parameters:
 
         def make(chance, density, seed, key):
             return trlab.Job(limit=5, length=1000, density=density, rule=trlab.Nasch(chance), steps=3000, key=key,
@@ -31,15 +31,12 @@ class Grid:
         for row in frame.means("seed"):
             print(row.chance, row.density, row.flow, row.flow_error)
 
-    `make` gets each parameter by its name, and `key`, a number below 2**256. The values of a parameter are numbers or
-    texts; other values, such as rules, need a name each, which frames show:
+    `make` gets each parameter by name, and `key`, a number below 2**256. Values are numbers or strings; others, such
+    as rules, need names, which frames show: `rule={"nasch": Nasch(0.25), "slow": SlowToStart("1/64", 0.75)}`.
 
-        rule={"nasch": Nasch(0.25), "slow": SlowToStart("1/64", 0.75)}
-
-    The key depends on the names and values of the parameters only (`key_for`): a choice keeps its key if the grid
-    grows, and different choices have independent random numbers. If `make` takes the key from a part of the choice
-    instead, for example `key=seed`, then all choices of one seed share their random numbers, and differences are less
-    noisy."""
+    The key depends only on the names and values of the parameters (`key_for`): a choice keeps its key if the grid
+    grows, and different choices have independent random numbers. With another key in `make`, for example `key=seed`,
+    choices of one seed share their random numbers, and differences are less noisy."""
 
     def __init__(self, make: Callable[..., Any], /, **parameters: Union[Iterable[Any], Mapping[str, Any]]) -> None:
         values = {name: _named_values(name, given) for name, given in parameters.items()}
@@ -56,24 +53,23 @@ class Grid:
         return f"<grid of {len(self.inputs)} inputs by {', '.join(self.names)}>"
 
     def results(self, **options: Any) -> Iterator[Tuple[Any, Any]]:
-        """Yields each choice and its result as it finishes: `trlab.results` with the same options, on these inputs."""
+        """Yield each choice and its result: `trlab.results` of these inputs, with these options."""
         return results_of(self.inputs, **options)
 
     def run(self, **options: Any) -> Frame:
-        """Runs all inputs, with the options of `trlab.results`, and returns one frame of all results.
-
-        A result is a table, a number, a named tuple or mapping, or a list of those. For example, a `call` that returns
-        `[{"kind": "gap", "value": 3.5}, {"kind": "speed", "value": 4.2}]` gives two rows for each choice.
-        With `errors="keep"` choices without a result are in `frame.errors`."""
+        """Run all inputs, with the options of `trlab.results`, and return one frame. A result is a table, a number, a
+        named tuple or mapping, or a list of those, with one row each. With `errors="keep"`, choices without a result
+        are in `frame.errors`."""
         found = dict(self.results(**options))
         return frame_of({choice: found[choice] for choice in self.inputs}, self.names)
 
     def texts(self) -> Dict[str, Union[Job, Sweep]]:
-        """The inputs by names that are good for files, such as `chance_0.25_seed_3`, for `write_texts`."""
+        """The inputs by file names such as `chance_0.25_seed_3`, for `write_texts`. Raises `ValueError` if two names are
+        equal."""
         return dict(zip(self._file_names(), self.inputs.values()))
 
     def frame(self, results: Mapping[str, Any]) -> Frame:
-        """One frame of results by the names of `texts`, such as `read_tables` returns."""
+        """One frame of results by the names of `texts`, for example those of `read_tables`."""
         return frame_of({choice: results[name] for name, choice in zip(self._file_names(), self.inputs)}, self.names)
 
     def _file_names(self) -> List[str]:
@@ -85,11 +81,9 @@ class Grid:
 
 
 def key_for(**parameters: Union[int, float, str, Fraction]) -> str:
-    """The key of named values, 64 hexadecimal digits: the same for equal values, in every version of Python.
-
-    It is the SHA-256 of one line `name=value` for each parameter, sorted by name, each ending in a line feed. A value
-    is written as a fraction in lowest terms (`3`, `1/4`, so that 0.25 and `Fraction(1, 4)` have the same key), or as
-    a JSON string in ASCII."""
+    """The key of named values, 64 hexadecimal digits: the SHA-256 of one line `name=value` for each parameter, sorted by
+    name, each with a line feed. A value is a fraction in lowest terms (`3`, `1/4`, also for 0.25), or a JSON string
+    in ASCII."""
     lines = [f"{name}={_written(name, value)}\n" for name, value in sorted(parameters.items())]
     return sha256("".join(lines).encode()).hexdigest()
 

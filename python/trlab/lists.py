@@ -59,7 +59,7 @@ class ResultList(MutableSequence[Item]):
         self._list().extend(values)
 
     def sort(self, *, key: Optional[Callable[[Item], Any]] = None, reverse: bool = False) -> None:
-        """Sorts the items in place, as `list.sort` does."""
+        # Sorts the items in place, as `list.sort` does.
         items: List[Any] = self._list()
         items.sort(key=key, reverse=reverse)
 

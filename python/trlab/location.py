@@ -24,10 +24,10 @@ _ON_PATH = "TRLAB_FOUND_ON_PATH"
 def find_program() -> str:
     """The path of the program, which is the first of these:
 
-    1. the one that the environment variable `TRLAB` names, a path that may be relative or begin with `~`;
-    2. the one that the installed package contains for this processor, unpacked on first use into the user's cache
-       (`$XDG_CACHE_HOME/trlab` or `~/.cache/trlab`) and compared with its SHA-256;
-    3. the one of the checkout that the module belongs to, as `./trlab` finds it;
+    1. the one in the environment variable `TRLAB`, a path that may be relative or begin with `~`;
+    2. that of the installed package, unpacked on first use into `$XDG_CACHE_HOME/trlab` or `~/.cache/trlab`, and
+       compared with its SHA-256;
+    3. that of the checkout, as `./trlab` finds it;
     4. `trlab` on the `PATH`.
 
     Raises `FileNotFoundError` if there is none, and `ValueError` if `TRLAB` names something else than trlab."""

@@ -65,38 +65,30 @@ def results(
     errors: str = "raise",
     at_once: Optional[int] = None,
 ) -> Iterator[Tuple[Any, Any]]:
-    """Runs many inputs side by side, and yields the name and the result of each as it finishes:
+    """Run many inputs in parallel, and yield the name and result of each as it finishes:
 
         for name, table in trlab.results(sweeps, cache="study/cache", progress=True):
             print(name, table[0].flow)
 
-    `texts` is a mapping of names to jobs or sweeps, or a list, whose names are the numbers 0, 1, 2 and so on.
+    - `texts` maps names to jobs or sweeps, or is a list, with the numbers 0, 1, 2 and so on as names.
+    - `call` is applied to each input, by default `Sweep.sweep` or `Job.run`. It should return a whole result, not an
+      iterator, for example `lambda job: job.series(every=100, first=1000)`.
+    - `cache` is a folder that keeps the outputs of the program. If a run is interrupted, even by `kill -9`, start it
+      again with the same folder: finished outputs are read, and `call` is applied to them again. Files are named by
+      the SHA-256 of arguments, input and program, so a change never gets an old result; damaged files are never used.
+      Several runs, also on several machines, may share a folder.
+    - `executor` is any executor of `concurrent.futures`, which you shut down yourself; by default each thread waits
+      for one process of the program. With other processes (`ProcessPoolExecutor`, dask's `client.get_executor()`,
+      `mpi4py.futures.MPIPoolExecutor`, joblib's `get_reusable_executor()`), `call` must be a top-level function of a
+      module, unless the executor can send others.
+    - `progress=True` reports on standard error; a function is called with the numbers of finished and of all inputs.
+    - `errors="raise"` raises the first exception of a call, for example `Refused`; `errors="keep"` yields it as the
+      result and continues.
+    - `at_once` is the number of inputs that run at a time, by default one per processor, or as many as the executor
+      takes.
 
-    `call` is the function that is applied to each input. Without it a sweep gives its table, and a job its pictures.
-    For other results pass a function, for example `lambda job: job.series(every=100, first=1000)`. It should return a
-    whole result, not an iterator.
-
-    `cache` is a folder that keeps the outputs of the program, one file per call of the program. If a run is
-    interrupted or killed, even by `kill -9`, start it again with the same folder: finished outputs are read, not
-    computed. The name of a file is the SHA-256 of the program's arguments, the input and the program, so a changed
-    input, argument or program never gets an old result. A damaged file is never used. `call` itself is applied again.
-    Several runs, also on several machines, may share a folder.
-
-    `executor` is any executor of `concurrent.futures`, which you shut down yourself. Without it threads are used,
-    each of which waits for one process of the program. With executors of other processes (`ProcessPoolExecutor`,
-    dask's `client.get_executor()`, `mpi4py.futures.MPIPoolExecutor`, joblib's `get_reusable_executor()`) `call` must
-    be a function at the top level of a module, unless the executor can send others.
-
-    `progress=True` writes a line to standard error; a function is called with the numbers of finished and of all
-    inputs.
-
-    `errors="raise"` raises the first exception of a call, such as `Refused` for a rejected input; `errors="keep"`
-    yields the exception in place of the result, and goes on.
-
-    At most `at_once` inputs run at a time: without it as many as there are processors, or as many as the executor
-    takes. After an exception, Ctrl-C or a loop that is left early no process of the program goes on. If a variable
-    holds the iterator itself, call its `.close()` in such a case; else the processes are stopped when Python
-    exits."""
+    After an exception, Ctrl-C or a `break`, no process of the program continues. If a variable holds the iterator,
+    call its `.close()`; otherwise its processes end when Python exits."""
     if errors not in ("raise", "keep"):
         raise ValueError(f'errors must be "raise" or "keep", not {errors!r}')
     if at_once is not None:
@@ -111,10 +103,8 @@ def results(
 
 
 def map(call: Callable[[Text], Result], texts: Iterable[Text], at_once: Optional[int] = None) -> List[Result]:
-    """Applies `call` to every input and returns the results in order, for example `map(Sweep.sweep, sweeps)`.
-
-    At most `at_once` inputs run at a time, by default as many as there are processors. If a call raises an exception,
-    the others are stopped and it is raised. `results` can do more: it keeps results, and yields each as it finishes."""
+    """Apply `call` to every input and return the results in order, for example `map(Sweep.sweep, sweeps)`. `at_once` is
+    that of `results`. If a call raises an exception, the others are stopped and it is raised."""
     found = dict(results(list(texts), call, at_once=at_once))
     return [found[place] for place in range(len(found))]
 
@@ -201,7 +191,7 @@ def _found(future: Future[Any], are_errors_kept: bool) -> Any:
 
 
 def _task(call: Callable[[Any], Any], text: Any, cache: Optional[Cache], lease: Lease) -> Any:
-    """Applies a call to an input, in whatever thread, process or machine the executor runs it."""
+    """Apply a call to an input, in the thread, process or machine that the executor chooses."""
     with _processes_of(lease) as processes, set_to(Setting(processes, cache)):
         return call(text)
 

@@ -1,44 +1,54 @@
 """Calls of the program, and its errors."""
 from __future__ import annotations
 
-import re
+import json
 import subprocess
 from itertools import chain
-from typing import Iterator, NamedTuple, Optional, Sequence
+from typing import Any, Dict, Iterator, List, Mapping, Optional, Sequence
 
 from .location import find_program, sha256_of_program
 from .running import Failed as Failed, output_of
 
 REFUSED = 1
-# `explain` reads a refused text as one of these commands does.
+# `explain` reads a rejected input as one of these commands does.
 _READ_AS = {"series": "run"}
 
 
 class Refused(Exception):
-    """An input that the program rejects.
+    """An input that the program rejects. The message is the text of `trlab explain`; the attributes are values of `trlab
+    explain --json`:
 
-    `answer` is the output of the command, `explanation` that of `trlab explain` for the same input. For a faulty input
-    `line` (from 1) and `cause` are numbers; for a program that the verifier rejects, `pc` (from 0) is the instruction and
-    `reason` a number. The others are None."""
+    - `answer`: the output of the command, for example `fault line 5 cause 2`;
+    - `line`, from 1 (0: the input is too long), and its rejected bytes `first` to `last`, from 1 (None: the whole
+      line);
+    - `cause`: the error number of an input, and `reason`: that of a program, which may be a part of it; or None;
+    - `pc`: the rejected instruction of a program, from 0, or None;
+    - `meaning`, and `found` and `advice`, which may be None;
+    - `expected`: a list of strings; `facts`: a list of those known before the rejected instruction;
+    - `repairs`: a list of dicts with `why`, and `edits` or else a `command` that accepts the input. An edit is a dict:
+      the bytes `first` to `last` of `line` become `replacement`, which is inserted before `first` if `last` is
+      `first` - 1."""
 
-    def __init__(self, answer: str, explanation: str) -> None:
-        super().__init__(answer, explanation)
-        self.answer, self.explanation = answer, explanation
-        self.line, self.cause = _numbers(r"fault line (\d+) cause (\d+)", answer)
-        self.pc, self.reason = _numbers(r"refused at (\d+) reason (\d+)", answer)
+    def __init__(self, explanation: str, report: Mapping[str, Any]) -> None:
+        super().__init__(explanation, report)
+        error: Mapping[str, Any] = report["error"]
+        self.explanation = explanation
+        self.answer: str = report["answer"]
+        self.line: int = error["line"]
+        self.first: Optional[int] = error["first"]
+        self.last: Optional[int] = error["last"]
+        self.cause: Optional[int] = error["number"] if error["kind"] == "cause" else None
+        self.reason: Optional[int] = error["number"] if error["kind"] == "reason" else (error["reason"] or {}).get("number")
+        self.pc: Optional[int] = error["pc"]
+        self.meaning: str = error["meaning"]
+        self.found: Optional[str] = error["found"]
+        self.expected: List[str] = error["expected"]
+        self.advice: Optional[str] = error["advice"]
+        self.facts: List[str] = report["facts"]
+        self.repairs: List[Dict[str, Any]] = report["repairs"]
 
     def __str__(self) -> str:
-        return self.explanation or self.answer
-
-
-class _Pair(NamedTuple):
-    first: Optional[int]
-    second: Optional[int]
-
-
-def _numbers(form: str, answer: str) -> _Pair:
-    found = re.match(form, answer)
-    return _Pair(int(found[1]), int(found[2])) if found else _Pair(None, None)
+        return self.explanation
 
 
 def ask(words: Sequence[str], text: str) -> str:
@@ -49,9 +59,9 @@ def ask(words: Sequence[str], text: str) -> str:
 def ask_for_bytes(words: Sequence[str], text: str) -> bytes:
     """The same output as bytes."""
     with output_of(words, text) as output:
-        told = output.read()
-        _raise_if_refused(told, words, text)
-    return told
+        found = output.read()
+        _raise_if_refused(found, words, text)
+    return found
 
 
 def ask_by_line(words: Sequence[str], text: str) -> Iterator[str]:
@@ -65,13 +75,11 @@ def ask_by_line(words: Sequence[str], text: str) -> Iterator[str]:
 def _raise_if_refused(begun: bytes, words: Sequence[str], text: str) -> None:
     """Raises `Refused` if an output begins with a line that says that the input is rejected."""
     if begun.startswith((b"fault ", b"refused ")):
-        raise Refused(begun.partition(b"\n")[0].decode(), _explain(words[0], text))
-
-
-def _explain(word: str, text: str) -> str:
-    """The explanation of a rejected input."""
-    told = explained(text, _READ_AS.get(word, word))
-    return told.stdout.rstrip("\n") if told.returncode == REFUSED else ""
+        word = _READ_AS.get(words[0], words[0])
+        said, report = explained(text, word), explained(text, "--json", word)
+        if report.returncode != REFUSED:
+            raise Failed(report.returncode, report.stderr)
+        raise Refused(said.stdout.rstrip("\n"), json.loads(report.stdout))
 
 
 def explained(text: str, *words: str) -> subprocess.CompletedProcess[str]:
@@ -82,5 +90,5 @@ def explained(text: str, *words: str) -> subprocess.CompletedProcess[str]:
 
 
 def version() -> str:
-    """The version of the program, the logic in which it is proved, and the SHA-256 of the program, one per line."""
+    """The version of the program, the logic of its proof, and its SHA-256, one per line."""
     return ask(["--version"], "") + f"SHA-256 {sha256_of_program(find_program())}"

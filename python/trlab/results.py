@@ -39,12 +39,12 @@ class _Counted:
 
     @property
     def speed(self) -> float:
-        """The mean speed in cells per step, or 0 if there is no car."""
+        """The mean speed in cells per step, 0 without cars."""
         return self.distance / (self.cars * self.steps) if self.cars else 0.0
 
     @property
     def stopped_share(self) -> float:
-        """The share of stopped cars, 0 to 1, or 0 if there is no car."""
+        """The share of stopped cars, 0 to 1, or 0 without cars."""
         return self.stopped / (self.cars * self.steps) if self.cars else 0.0
 
 
@@ -59,10 +59,8 @@ class _PointColumns(NamedTuple):
 
 
 class Point(_PointColumns, _Counted):
-    """A row of a sweep's table: the counts on one road during the measured steps.
-
-    `distance` is in cells; `stopped` and `changes` count over cars and steps; `flow` is in millionths of a car per
-    step, rounded down."""
+    """A row of a sweep: the counts on one road during the measured steps. `distance` is in cells; `stopped` and
+    `changes` count over cars and steps; `flow` is in millionths of a car per step, rounded down."""
 
     __slots__ = ()
 
@@ -85,10 +83,9 @@ class _WindowColumns(NamedTuple):
 
 
 class Window(_WindowColumns, _Counted):
-    """A row of a series: the counts of a window of `steps` steps, which ends with the picture of `step`.
-
-    Units are those of a `Point`. `cars0`, `distance0` and `stopped0` are sums, over the roads after the steps, of what
-    is on lane 0 then: the cars, their speeds, the stopped cars; those that end in 1 are of lane 1."""
+    """A row of a series: the counts of the `steps` steps that end with the snapshot of `step`, with the units and
+    properties of a `Point`. `cars0`, `distance0` and `stopped0` are sums over the snapshots after these steps: the
+    cars on lane 0, their speeds, and the stopped ones; the last three are those of lane 1."""
 
     __slots__ = ()
 
@@ -97,10 +94,8 @@ Row = TypeVar("Row", Point, Window)
 
 
 class Table(ResultList[Row]):
-    """The rows of a table, in their order.
-
-    A table can be used like a list, and can be changed. A table that was read keeps the text, from which `to_numpy()`
-    and `to_pandas()` make arrays at once. The rows are made when the first of them is needed."""
+    """The rows of a table, as a list. A table that was read keeps the text: `to_numpy()` and `to_pandas()` are fast, and
+    rows are made when first needed."""
 
     def __init__(self, kind: Type[Row], rows: Iterable[Row] = ()) -> None:
         self.kind: Type[Row] = kind
@@ -114,9 +109,8 @@ class Table(ResultList[Row]):
 
     @classmethod
     def read(cls, kind: Type[Row], text: Union[str, bytes]) -> Table[Row]:
-        """The table that `trlab sweep` (`Point`) or `trlab series` (`Window`) has written.
-
-        Raises `ValueError` with the line if the text is not such a table, or if it is cut off."""
+        """The output of `trlab sweep` (`kind` is `Point`) or `trlab series` (`Window`). Raises `ValueError` with the
+        line if it is anything else, or cut off."""
         plain = text if isinstance(text, str) else text.decode()
         return cls(kind, WrittenRows(kind, plain.replace("\r\n", "\n") if "\r" in plain else plain))
 
@@ -140,8 +134,8 @@ class Table(ResultList[Row]):
         return numbers.view([(name, numpy.int64) for name in self.kind._fields])
 
     def to_pandas(self) -> pandas.DataFrame:
-        """A frame with the columns of the table, and with `density` (cars per cell), `speed` (mean speed in cells per
-        step) and `stopped_share` (0 to 1). In it `flow` is in cars per step, not in millionths."""
+        """A frame with the columns of the table and `density`, `speed` and `stopped_share`. Its `flow` is in cars per
+        step, not in millionths."""
         import pandas
 
         frame = pandas.DataFrame(self.to_numpy())
@@ -153,20 +147,16 @@ class Table(ResultList[Row]):
         return frame
 
     def plot(self, name: str = "") -> Figure:
-        """A figure of the table: the fundamental diagram of a sweep, or the flow of a series against the step.
-
-        Points of one density are averaged, with error bars of two standard errors. Notebooks show the figure,
-        `.svg()` is the image, and `.draw(axes)` draws it on an axis of matplotlib. `trlab.figure.diagram` compares
-        several tables."""
+        """The fundamental diagram of a sweep, averaged by density with error bars of two standard errors, or the flow of
+        a series against the step. Notebooks show it; `trlab.figure.diagram` compares tables."""
         from .figure import diagram
 
         return diagram({name: self})
 
     def drift(self, column: str = "passing") -> Drift:
-        """Whether a series still drifts: the test of Schruben, Singh and Tierney (1983), which `trlab.drift` explains.
-
-        `column` is tested: `passing` (the flow), `speed`, `stopped_share` or any column. Raises `ValueError` if the series
-        has fewer than 40 windows, or if this is the table of a sweep."""
+        """Whether a series still drifts: the test of Schruben, Singh and Tierney (1983), see `help(trlab.drift)`.
+        `column` is `passing` (the flow), `speed`, `stopped_share` or any column. Raises `ValueError` for a sweep, or
+        fewer than 40 windows."""
         from .drift import drift_of_series
 
         return drift_of_series(self, column)
@@ -176,10 +166,7 @@ class Table(ResultList[Row]):
 
 
 class Pictures(ResultList[Picture]):
-    """The pictures of a run: of step 0 and after each step, or of every n-th step.
-
-    They can be used like a list, and can be changed. Pictures of a run are kept as one byte per cell, and a `Picture` is
-    made each time you ask for one."""
+    """The snapshots of a run, as a list that takes one byte per cell: a `Picture` is made each time you ask for one."""
 
     def __init__(self, pictures: Iterable[Picture] = ()) -> None:
         self._held = pictures if isinstance(pictures, WrittenPictures) else list(pictures)
@@ -195,18 +182,16 @@ class Pictures(ResultList[Picture]):
 
     @classmethod
     def read(cls, text: Union[str, bytes]) -> Pictures:
-        """The pictures that `trlab run` has written.
-
-        Raises `ValueError` with the line if the text is not the output of a run, or if it is cut off."""
+        """The output of `trlab run`. Raises `ValueError` with the line if it is anything else, or cut off."""
         plain = text.encode() if isinstance(text, str) else text
         return cls(read_pictures(plain.replace(b"\r\n", b"\n") if b"\r" in plain else plain))
 
     def text(self) -> str:
-        """The pictures as the program writes them."""
+        """The snapshots as the program writes them."""
         return "".join(f"step {it.step}\n" + "".join(lane + "\n" for lane in it.lanes) for it in self)
 
     def to_numpy(self) -> numpy.ndarray[Any, Any]:
-        """An array by picture, lane and cell: the speed in cells per step, or -1 if the cell is empty."""
+        """An array by snapshot, lane and cell: the speed in cells per step, -1 for an empty cell."""
         if isinstance(self._held, WrittenPictures):
             return self._held.speeds()
         lanes = self[0].lanes if self else ()
@@ -214,7 +199,7 @@ class Pictures(ResultList[Picture]):
         return speeds.reshape(len(self), len(lanes), len(lanes[0]) if lanes else 0)
 
     def to_pandas(self) -> pandas.DataFrame:
-        """A frame with one row per car and picture: `step`, `lane`, `cell` and `speed` in cells per step."""
+        """A frame with one row per car and snapshot: `step`, `lane`, `cell` and `speed`."""
         import numpy
         import pandas
 
@@ -232,9 +217,7 @@ class Pictures(ResultList[Picture]):
         return pandas.DataFrame(frame.T, columns=["step", "lane", "cell", "speed"], copy=False)
 
     def space_time(self) -> SpaceTime:
-        """The space-time diagram: `.svg()` with axes and a legend, `.png()`, or `.draw(axes)` on an axis of matplotlib.
-
-        Raises `ValueError` if there are no pictures."""
+        """The space-time diagram. Raises `ValueError` if there are no snapshots."""
         from .space_time import SpaceTime
 
         return SpaceTime(self)
@@ -245,20 +228,16 @@ class Pictures(ResultList[Picture]):
         return Pictures(shown).space_time().svg() if shown else None
 
     def html(self, limit: Optional[int] = None, title: str = "") -> str:
-        """A web page that plays these snapshots: one file, which needs no server and no network.
-
-        The colours range from speed 0 to `limit` (in cells per step), or to the highest speed if it is None. Raises
-        `ValueError` if the snapshots do not begin at step 0."""
+        """A web page that plays these snapshots: one file, without server and network. Colours range from speed 0 to
+        `limit`, by default the highest speed. Raises `ValueError` if the snapshots do not begin at step 0 or are
+        longer than 256 MiB."""
         from .lab.export import page_of
 
         return page_of(self, limit, title)
 
     def trajectories(self) -> Trajectories:
-        """The trajectory of every car, with its lane, cell, distance and speed at each step.
-
-        Cars are numbered as in the first picture: lane by lane, and by cell. The pictures must be those of consecutive
-        steps of one run, otherwise `ValueError` is raised. A part of a run is good as well:
-        `job.run()[1000:].trajectories()` leaves out the first 1000 pictures."""
+        """The trajectory of every car. Raises `ValueError` unless the snapshots are those of consecutive steps of one
+        run (or of a part, such as `job.run()[1000:]`)."""
         from .following import trajectories_of
 
         return trajectories_of(self)

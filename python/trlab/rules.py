@@ -9,7 +9,7 @@ from .units import Chance, parts, whole
 
 @dataclass(frozen=True)
 class Nasch:
-    """The rule of Nagel and Schreckenberg (1992). `brake` is the probability to brake by one cell per step, 0 to 1."""
+    """Nagel and Schreckenberg (1992). `brake` is the probability to brake by one cell per step, 0 to 1."""
 
     brake: Chance
 
@@ -22,9 +22,8 @@ class Nasch:
 
 @dataclass(frozen=True)
 class SlowToStart:
-    """The rule of Barlovic, Santen, Schadschneider and Schreckenberg (1998).
-
-    `brake` is the braking probability of moving cars, `stopped` that of stopped cars, 0 to 1."""
+    """Barlovic, Santen, Schadschneider and Schreckenberg (1998). `brake` is the braking probability of moving cars,
+    `stopped` that of stopped cars, 0 to 1."""
 
     brake: Chance
     stopped: Chance
@@ -38,9 +37,8 @@ class SlowToStart:
 
 @dataclass(frozen=True)
 class Rickert:
-    """The rule of Rickert, Nagel, Schreckenberg and Latour (1996), for two lanes.
-
-    `brake` is the probability to brake, `change` the probability to change lanes if the rule allows it, 0 to 1."""
+    """Rickert, Nagel, Schreckenberg and Latour (1996), for two lanes. `brake` is the braking probability, `change` the
+    probability to change lanes if the rule allows it, 0 to 1."""
 
     brake: Chance
     change: Chance
@@ -54,9 +52,8 @@ class Rickert:
 
 @dataclass(frozen=True)
 class Own:
-    """Your own driver programs: the text that `trlab check` takes, or one line `code X`.
-
-    `change` is for two lanes; without it no car crosses."""
+    """Your own driver programs, as `trlab check` reads them or as one line `code X`. Without `change` no car changes
+    lanes."""
 
     motion: str
     change: Optional[str] = None

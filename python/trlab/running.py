@@ -15,7 +15,7 @@ if TYPE_CHECKING:
 
 
 class Failed(Exception):
-    """The program ended with an error that is not a rejected input: its exit `status`, and what it `said`."""
+    """The program ended with an error other than a rejected input: its exit `status`, and the message that it `said`."""
 
     def __init__(self, status: int, said: str) -> None:
         super().__init__(status, said)

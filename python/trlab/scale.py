@@ -7,10 +7,8 @@ from math import isfinite
 
 @dataclass(frozen=True)
 class Scale:
-    """The length of a cell in metres and the duration of a step in seconds.
-
-    The defaults are those of Nagel and Schreckenberg (1992): a car in a jam takes 7.5 m, and a step takes 1 s, so one
-    cell per step is 27 km/h. The methods take a number or an array of numpy:
+    """The length of a cell in metres and the duration of a step in seconds, by default those of Nagel and Schreckenberg
+    (1992), with which one cell per step is 27 km/h. The methods take numbers or arrays of numpy:
 
         Scale().kilometres_per_hour(5)                  # 135.0
         Scale().vehicles_per_hour(point.passing)"""
@@ -24,21 +22,21 @@ class Scale:
                 raise ValueError(f"the {name} of a scale must be above 0, not {getattr(self, name)}")
 
     def metres(self, cells: float) -> float:
-        """A length in cells, in metres."""
+        """Cells in metres."""
         return cells * self.cell
 
     def seconds(self, steps: float) -> float:
-        """A time in steps, in seconds."""
+        """Steps in seconds."""
         return steps * self.step
 
     def kilometres_per_hour(self, speed: float) -> float:
-        """A speed in cells per step, in km/h."""
+        """Cells per step in km/h."""
         return speed * self.cell / self.step * 3.6
 
     def vehicles_per_hour(self, flow: float) -> float:
-        """A flow in cars per step (`passing`, or the column `flow` of a frame), in vehicles per hour and lane."""
+        """Cars per step (`passing`, or `flow` of a frame) in vehicles per hour and lane."""
         return flow / self.step * 3600
 
     def vehicles_per_kilometre(self, density: float) -> float:
-        """A density in cars per cell, in vehicles per kilometre and lane."""
+        """Cars per cell in vehicles per kilometre and lane."""
         return density / self.cell * 1000

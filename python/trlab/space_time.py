@@ -36,9 +36,8 @@ def colours(fastest: int) -> List[str]:
 
 @dataclass(frozen=True)
 class SpaceTime:
-    """A space-time diagram: time runs down, the colour of a car is its speed, and empty cells are white.
-
-    Two lanes are drawn side by side. The colours range from speed 0 to the highest speed in the pictures."""
+    """A space-time diagram: time runs down, colours are speeds from 0 to the highest one, and empty cells are white. Two
+    lanes are drawn side by side."""
 
     pictures: Pictures
 
@@ -48,21 +47,20 @@ class SpaceTime:
 
     @property
     def fastest(self) -> int:
-        """The highest speed in cells per step, 0 if there is no car."""
+        """The highest speed in cells per step, 0 without cars."""
         signs = set().union(*(lane for picture in self.pictures for lane in picture.lanes)) - {"."}
         return max((SPEEDS.index(sign) for sign in signs), default=0)
 
     def svg(self) -> str:
-        """The diagram as an SVG image, with axes and a legend."""
+        """An SVG image with axes and a legend."""
         return "\n".join(_Drawing(self.pictures, self.fastest).lines()) + "\n"
 
     def _repr_svg_(self) -> str:
         return self.svg()
 
     def png(self, scale: int = 2) -> bytes:
-        """The cells alone as a PNG image, without axes: `scale` x `scale` pixels for each cell and step.
-
-        Raises `ValueError` if `scale` is not positive."""
+        """A PNG image of the cells only, `scale` x `scale` pixels per cell and step. Raises `ValueError` if `scale` is
+        not positive."""
         if scale < 1:
             raise ValueError(f"scale must be at least 1, not {scale}")
         fastest = self.fastest
@@ -80,8 +78,8 @@ class SpaceTime:
         return b"\x89PNG\r\n\x1a\n" + b"".join(parts)
 
     def draw(self, axes: Any, lane: int = 0) -> Any:
-        """Draws a lane on an axis of matplotlib, and returns the image, for example for
-        `figure.colorbar(image, label="speed (cells per step)")`. Needs matplotlib and numpy."""
+        """Draw a lane on an axis of matplotlib, which needs numpy, and return the image, for example for
+        `figure.colorbar(image, label="speed (cells per step)")`."""
         import numpy
         from matplotlib.colors import ListedColormap
 
@@ -104,7 +102,7 @@ def _distance(pictures: Pictures) -> int:
 
 
 def _wide(row: bytes, scale: int) -> bytes:
-    """A row with each byte so many times."""
+    """A row with each byte repeated."""
     wide = bytearray(len(row) * scale)
     for place in range(scale):
         wide[place::scale] = row

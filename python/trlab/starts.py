@@ -1,6 +1,6 @@
 """Initial states: the cells and speeds of the cars at the start of a job.
 
-The cells of a road are counted across its lanes: on two lanes cell 0 is on lane 0, cell 1 beside it on lane 1,
+The cells of a road are counted across its lanes: on two lanes cell 0 is on lane 0, cell 1 next to it on lane 1,
 cell 2 on lane 0 and so on."""
 from __future__ import annotations
 
@@ -22,10 +22,8 @@ PLACEMENTS = ("even", "jam", "random")
 
 @dataclass(frozen=True)
 class Start:
-    """How cars are placed at first: `even`, `moving`, `jam` or `random(seed)`.
-
-    `placement` is "even", "jam" or "random". `speed` is the initial speed of all cars in cells per step; None means the
-    maximum speed. `seed`, from 0 to 2**256 - 1, is for random cells only."""
+    """An initial state: `even`, `moving`, `jam` or `random(seed)`. `placement` is "even", "jam" or "random"; `speed` and
+    `seed` are those of `random`."""
 
     placement: str
     speed: Optional[int] = 0
@@ -42,12 +40,12 @@ class Start:
             raise ValueError(f"a seed is for random cells only, not for {self.placement!r}")
 
     def judge(self, limit: int) -> None:
-        """Raises `ValueError` if the cars are faster than the limit."""
+        # Raises `ValueError` if the cars are faster than the limit.
         if self.speed is not None and self.speed > limit:
             raise ValueError(f"all cars start with the speed {self.speed}, and the limit is {limit} cells per step")
 
     def taken(self, cars: int, cells: int) -> List[int]:
-        """The cells of `cars` cars on a road of `cells` cells."""
+        # The cells of `cars` cars on `cells` cells, which are counted across the lanes.
         if self.placement == "random":
             numbers = _random.Random(self.seed)
             order = sorted((numbers.random(), cell) for cell in range(cells))
@@ -55,7 +53,7 @@ class Start:
         return list(range(cars)) if self.placement == "jam" else [car * cells // cars for car in range(cars)]
 
     def on_lanes(self, cars: int, length: int, lanes: int, limit: int) -> List[Lane]:
-        """The lanes of the road with `cars` cars in total."""
+        # The lanes of a road with `cars` cars in total. Raises `ValueError` if they do not fit.
         if not 0 <= cars <= length * lanes:
             raise ValueError(f"{cars} cars do not fit on {length * lanes} cells")
         road: List[List[Optional[int]]] = [[None] * length for _ in range(lanes)]
@@ -66,30 +64,26 @@ class Start:
         return list(road)
 
     def of_point(self, number: int) -> Start:
-        """The initial state of a point of a sweep, from 0 on: random cells are drawn for each point.
-
-        Their seed is `derived_key("seed", seed, number)`, read as a hexadecimal number."""
+        # The initial state of a point of a sweep, from 0 on: random cells are drawn for each point.
+        # Their seed is `derived_key("seed", seed, number)`, read as a hexadecimal number.
         if self.seed is None:
             return self
         return replace(self, seed=int(derived_key("seed", self.seed, number), 16))
 
 
 even = Start("even")
-"""Evenly spaced, all stopped: the initial state of every sweep. On two lanes all cars are on lane 0 if their number
-divides the length of a lane."""
+"""Evenly spaced and stopped, the default. On two lanes all cars are on lane 0 if their number divides the lane length."""
 
 moving = Start("even", None)
-"""Evenly spaced, all at the maximum speed."""
+"""Evenly spaced, at the maximum speed."""
 
 jam = Start("jam")
-"""All stopped in one block, on the first cells of the road."""
+"""Stopped in one block, on the first cells of the road."""
 
 
 def random(seed: int, speed: Optional[int] = 0) -> Start:
-    """Uniformly random cells, drawn with a seed independent of `key`.
-
-    `speed` is the initial speed of every car in cells per step; None means the maximum speed. The same seed gives the
-    same cells in every version of Python."""
+    """Uniformly random cells, the same in every version of Python. `seed`, 0 to 2**256 - 1, is independent of `key`.
+    `speed` is the initial speed of all cars in cells per step; None means the maximum speed."""
     return Start("random", speed, seed)
 
 

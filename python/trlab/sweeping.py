@@ -6,7 +6,7 @@ from typing import TYPE_CHECKING, Any, Dict, List
 
 from .results import Point, Table
 from .starts import Start, even
-from .units import MOST_POINTS, MOST_STEPS, derived_key, whole
+from .units import MAX_POINTS, MAX_STEPS, derived_key, whole
 
 if TYPE_CHECKING:
     from .texts import Job, Sweep
@@ -14,7 +14,7 @@ if TYPE_CHECKING:
 
 def is_of_jobs(sweep: Sweep) -> bool:
     """Whether no sweep text can say the points, so that each is a job."""
-    return sweep.start != even or sweep.warm + sweep.measure > MOST_STEPS
+    return sweep.start != even or sweep.warm + sweep.measure > MAX_STEPS
 
 
 def need_one_input(sweep: Sweep) -> None:
@@ -22,18 +22,18 @@ def need_one_input(sweep: Sweep) -> None:
     steps, count = sweep.warm + sweep.measure, len(sweep.counts())
     if sweep.start != even:
         raise ValueError("a sweep file begins with evenly spaced cars, and this sweep has another start: use `jobs()`")
-    if steps > MOST_STEPS:
-        raise ValueError(f"a point of a sweep file has at most {MOST_STEPS} steps, and this has {steps}: use `jobs()`")
+    if steps > MAX_STEPS:
+        raise ValueError(f"a point of a sweep file has at most {MAX_STEPS} steps, and this has {steps}: use `jobs()`")
     if count > _points_of_input(sweep):
         raise ValueError(
-            f"a sweep file has at most {MOST_POINTS} points and {MOST_STEPS} steps of all points together, "
+            f"a sweep file has at most {MAX_POINTS} points and {MAX_STEPS} steps of all points together, "
             f"and this sweep has {count} points of {steps} steps: use `parts()`"
         )
 
 
 def _points_of_input(sweep: Sweep) -> int:
     """How many points of such a sweep one input can have."""
-    return min(MOST_POINTS, MOST_STEPS // (sweep.warm + sweep.measure))
+    return min(MAX_POINTS, MAX_STEPS // (sweep.warm + sweep.measure))
 
 
 def parts(sweep: Sweep) -> List[Sweep]:
@@ -67,7 +67,7 @@ def _initial_states(sweep: Sweep) -> List[Dict[str, Any]]:
 
 
 def table_of_jobs(sweep: Sweep, runners: int, workers: int) -> Table[Point]:
-    """The table of a sweep whose points are jobs, so many side by side."""
+    """The table of a sweep whose points are jobs; `runners` of them run at a time."""
     from .many import map
 
     whole("runners", runners, 1)

@@ -10,22 +10,20 @@ from .program import ask, ask_by_line, ask_for_bytes, explained
 from .results import Picture, Pictures, Point, Table, Window, pictures_in
 from .rules import Rule, Schedule, need_rule
 from .starts import Lane, Road, Start, cars_on, even, lanes_of, picture, roads_of
-from .units import MOST_CARS, MOST_CELLS, MOST_SPEED, MOST_STEPS, Density, Key, cars_at, key_digits, whole
+from .units import MOST_CARS, MAX_CELLS, MOST_SPEED, MAX_STEPS, Density, Key, cars_at, key_digits, whole
 
 
 @dataclass(frozen=True)
 class Job:
     """A road, a rule and a number of steps.
 
-    The road has `lanes` lanes of `length` cells and `cars` cars in all, or as many as come nearest to `density`, in
-    cars per cell, placed as `start` says. Or `start` is the road itself: a list with the speed of the car in
-    each cell, in cells per step, and None, or -1 as in arrays, where the cell is empty; for two lanes two such lists.
+    The road has `lanes` lanes of `length` cells (at most 100,000), with `cars` cars in total or the number nearest to
+    `density`, placed as `start` says. Or `start` is the road itself, and these four are left out: a list of speeds by
+    cell, in cells per step, with None or -1 for an empty cell; two such lists for two lanes.
 
-    `limit` is the maximum speed in cells per step, 1 to 35. `at` has the rules that take over later, each by its step.
-    If the program rejects the job, `Refused` is raised when it runs.
-
-    `steps` has no upper limit. A job of more than 500,000 steps is not a single input: it runs as several, each of which
-    continues the one before it as `continued` does."""
+    `limit` is the maximum speed in cells per step, 1 to 35. `at` maps steps to the rules that take over then. A job
+    of more than 500,000 steps runs as several inputs, each of which continues the previous one. If the program
+    rejects the job, `Refused` is raised when it runs."""
 
     limit: int
     rule: Rule
@@ -49,7 +47,7 @@ class Job:
             self.start.judge(self.limit)
             if self.length is None:
                 raise ValueError("a job needs the length of its lanes, or a road as `start`")
-            cells = whole("length", self.length, 1, MOST_CELLS) * self.lanes
+            cells = whole("length", self.length, 1, MAX_CELLS) * self.lanes
             _count(self.cars, self.density, cells)
         elif not (self.length is None and self.lanes == 1 and self.cars is None and self.density is None):
             raise ValueError("a road as `start` has its own length, lanes and cars: leave them out")
@@ -57,7 +55,7 @@ class Job:
             object.__setattr__(self, "start", lanes_of(self.start, self.limit))
 
     def road(self) -> List[Lane]:
-        """The lanes at the start: the speed of the car in each cell, and None for an empty cell."""
+        """The lanes at the start: speeds by cell, None for an empty cell."""
         if not isinstance(self.start, Start):
             return list(cast(Sequence[Lane], self.start))
         length = cast(int, self.length)
@@ -65,10 +63,10 @@ class Job:
         return self.start.on_lanes(cars, length, self.lanes, self.limit)
 
     def text(self) -> str:
-        """The job text, as `trlab run` reads it. Raises `ValueError` if the job has more than 500,000 steps."""
-        if self.steps > MOST_STEPS:
+        """The job file. Raises `ValueError` for more than 500,000 steps."""
+        if self.steps > MAX_STEPS:
             raise ValueError(
-                f"a job file has at most {MOST_STEPS} steps, and this job has {self.steps}: "
+                f"a job file has at most {MAX_STEPS} steps, and this job has {self.steps}: "
                 "`run`, `pictures` and `series` run it as several"
             )
         lines = ["road 1", f"key {key_digits(self.key)}", f"limit {self.limit}"]
@@ -80,39 +78,36 @@ class Job:
         return _text(lines)
 
     def run(self, workers: int = 1, every: int = 1, first: int = 0) -> Pictures:
-        """The pictures of the road: of step 0 and after each step, or of the steps `first`, `first + every` and so
-        on, as `trlab run` writes them. The other pictures are never made, so a long run fits in memory:
+        """The snapshots of step 0 and after each step, or only of the steps `first`, `first + every` and so on; the
+        others are never made, so a long run fits in memory:
 
             job.run(every=100, first=5000).space_time()
 
-        Trajectories need the picture of every step."""
-        if self.steps > MOST_STEPS:
+        `workers` is the number of threads, 1 to 16; results do not depend on it."""
+        if self.steps > MAX_STEPS:
             return Pictures(self.pictures(workers, every, first))
         return Pictures.read(ask_for_bytes(["run", *_shown(every, first, workers)], self.text()))
 
     def pictures(self, workers: int = 1, every: int = 1, first: int = 0) -> Iterator[Picture]:
-        """Iterate over the pictures of `run` while the program runs, for runs too long to hold in memory."""
-        if self.steps > MOST_STEPS:
+        """Iterate over the snapshots of `run` while the program runs, keeping only one."""
+        if self.steps > MAX_STEPS:
             return continuing.pictures(self, every, first, _option("workers", workers, 1))
         return pictures_in(ask_by_line(["run", *_shown(every, first, workers)], self.text()))
 
     def series(self, every: int = 1, first: int = 0, workers: int = 1) -> Table[Window]:
-        """The counts of each window of `every` steps, from the step `first` on, as `trlab series` writes them.
-
-        A job of more than 500,000 steps takes about twice the time per step, because its road at the end of each input
-        is computed by a second run."""
-        if self.steps > MOST_STEPS:
+        """The counts of each window of `every` steps, from step `first` on, as `trlab series` writes them. A job of more
+        than 500,000 steps takes about twice as long per step."""
+        if self.steps > MAX_STEPS:
             return continuing.series(self, every, first, _option("workers", workers, 1))
         return Table.read(Window, ask(["series", *_shown(every, first, workers)], self.text()))
 
     def continued(self, picture: Picture, key: Optional[Key] = None, steps: Optional[int] = None) -> Job:
-        """A job of `steps` steps (by default as many as this one has) that begins with the road of `picture`, which is
-        the last picture of this job or any other one. Its steps count from 0 again.
+        """A job of `steps` steps, by default as many as this one, that begins with the road of `picture`, the last
+        snapshot of this job or any other one. Its steps count from 0 again; the rule in force at the snapshot's step
+        and the later rules of `at` apply at the same times.
 
-        Its rule is the one in force at the picture's step, and the later rules of `at` take over where they would have.
-        Without a `key` it is SHA-256 of the ASCII bytes of `trlab continued KEY STEP`, with the key of this job as 64
-        lower-case hexadecimal digits and the picture's step in decimal. With the key of this job itself, the random
-        words of steps 0, 1, and so on would be drawn a second time.
+        The default `key` is derived (see `Key`) from `trlab continued KEY STEP`, with the snapshot's step. This job's
+        own key would draw the random numbers of its first steps again.
 
             longer = job.continued(job.run()[-1], steps=1000).run()"""
         return continuing.continued(self, picture, key, steps)
@@ -120,30 +115,27 @@ class Job:
 
 @dataclass(frozen=True)
 class Sweep:
-    """Roads of the same shape with the same rule, one for each of the `cars`, or for each of the `densities` in cars
-    per cell.
+    """Roads of equal shape with the same rule: one point for each number in `cars`, or for each density in `densities`.
+    There is no limit on points and steps.
 
-    `warm` steps are not counted, and then `measure` steps are. `limit` is the maximum speed in cells per step, `length`
-    the cells of a lane. Equal numbers of cars are repetitions: each point draws random words of its own. There is no
-    upper limit on the number of points or steps.
+    Each point runs `warm` steps that are not counted, then `measure` steps that are. `limit` is the maximum speed in
+    cells per step, `length` the cells per lane. Equal numbers of cars are repetitions: each point draws its own
+    random numbers.
 
     `start` is the initial state of every point:
 
-    - `even`: evenly spaced and stopped, as `trlab sweep` does it;
-    - `random(seed)`: random cells, drawn for each point;
-    - `jam` and `moving`;
-    - a list of roads, one for each point and each written as in a job. Every road must have `lanes` lanes of `length`
-      cells; `cars` and `densities` are left out. For 20 repetitions from one road write `20 * [road]`.
+    - `even`: evenly spaced and stopped, as in `trlab sweep`;
+    - `random(seed)`: random cells, drawn again for each point;
+    - `jam` or `moving`;
+    - a list of roads, one per point, each written as in a `Job`, with `lanes` lanes of `length` cells (leave out
+      `cars` and `densities`). For 20 repetitions of one road write `20 * [road]`.
 
-    **An even initial state biases the mean**, because the road remembers it for thousands of steps. With `limit=1`, 10,000
-    cells, `warm=3000` and `measure=2000`, the mean flow of 16 points was above the exact one by 0.12 to 0.17 percent for
-    `Nasch("1/4")` and by 0.19 to 0.30 percent for `Nasch("1/2")`, at the densities 0.1, 0.3, 0.5 and 0.8: 5 to 15 standard
-    errors. From `random(1)` it was below the exact one by 0.02 to 0.09 percent. A single series rarely shows this as a
-    drift. If the third digit matters, run a sweep from both states and take a `warm` for which they agree.
+    **An even initial state biases the mean** for thousands of steps, by up to 0.3 percent with `warm=3000` (see
+    STUDIES.md). If the third digit matters, sweep from `random` states too and choose a `warm` for which they agree.
 
-    The points of an even sweep within the limits of one input (200 points; 500,000 steps of all points together) are
-    those of `trlab sweep` for `.text()`. Beyond these limits `.parts()` are run one after the other. From any other
-    initial state, or if `warm + measure` is above 500,000, every point is a job: `.jobs()` says which."""
+    An even sweep of at most 200 points and, of all points together, 500,000 steps is a single input, `.text()`; a
+    larger one runs as its `.parts()`. From any other state, or if `warm + measure` is above 500,000, every point is a
+    job of `.jobs()`."""
 
     limit: int
     rule: Rule
@@ -158,7 +150,7 @@ class Sweep:
 
     def __post_init__(self) -> None:
         whole("limit", self.limit, 1, MOST_SPEED)
-        whole("length", self.length, 1, MOST_CELLS)
+        whole("length", self.length, 1, MAX_CELLS)
         whole("lanes", self.lanes, 1, 2)
         whole("warm", self.warm, 0)
         whole("measure", self.measure, 1)
@@ -187,8 +179,7 @@ class Sweep:
         return [cars_at(density, cells) for density in cast(Sequence[Density], self.densities)]
 
     def text(self) -> str:
-        """The sweep text, as `trlab sweep` reads it. Raises `ValueError` if this sweep is not a single input: then use
-        `parts()` or `jobs()`, as the message says."""
+        """The sweep file. Raises `ValueError` if the sweep is not a single input."""
         sweeping.need_one_input(self)
         counts = self.counts()
         for cars in counts:
@@ -199,26 +190,21 @@ class Sweep:
         return _text(lines + [f"cars {cars}" for cars in counts])
 
     def parts(self) -> List[Sweep]:
-        """The sweeps within the limits of one input, each of as many points as possible, that together are this sweep.
-
-        The first has the key of this sweep. Part n, from 1 on, has the SHA-256 of the ASCII bytes of `trlab part KEY n`,
-        with the key as 64 lower-case hexadecimal digits and n in decimal, because point i of an input draws the random
-        words of road i. Raises `ValueError` if the points are jobs."""
+        """The largest sweeps within the limits of one input that together are this sweep. The first has this sweep's
+        key; part n, from 1 on, has the key derived from `trlab part KEY n`, because point i of an input draws the
+        random numbers of road i. Raises `ValueError` if the points are jobs."""
         return sweeping.parts(self)
 
     def jobs(self) -> List[Job]:
-        """One job for each point, of `warm + measure` steps: its `series(every=measure, first=warm)` has one line.
-
-        The key of point i, from 0 on, is the SHA-256 of the ASCII bytes of `trlab point KEY i`, with KEY as 64 lower-case
-        hexadecimal digits and i in decimal. For `random(seed)` the seed of point i is the SHA-256 of
-        `trlab seed SEED i`, with SEED written as KEY, read as a hexadecimal number. So equal numbers of cars are
-        repetitions, from different cells. Also an even sweep has such jobs; they draw other random words than its
+        """One job per point, of `warm + measure` steps: its `series(every=measure, first=warm)` is the point's row.
+        Point i, from 0 on, has the key derived from `trlab point KEY i`, and for `random(seed)` the seed derived from
+        `trlab seed SEED i`, read as a hexadecimal number. Jobs of an even sweep draw other random numbers than its
         `.text()`."""
         return sweeping.jobs(self)
 
     def sweep(self, runners: int = 1, workers: int = 1) -> Table[Point]:
-        """The table, one row per point, in their order. `runners` points are run at the same time, each with `workers`
-        threads; the table does not depend on these numbers."""
+        """The table, one row per point, in order. `runners` points, 1 to 16, run at a time, which does not change the
+        table."""
         if sweeping.is_of_jobs(self):
             return sweeping.table_of_jobs(self, runners, workers)
         options = _option("runners", runners, 1) + _option("workers", workers, 1)
@@ -227,15 +213,14 @@ class Sweep:
 
 
 class Accepted(NamedTuple):
-    """A driver program that the verifier accepts: the maximum number of instructions per car and step, and the
-    program in canonical form."""
+    """An accepted driver program: its maximum number of instructions per car and step, and its canonical form."""
 
     budget: int
     program: str
 
 
 def check(program: str) -> Accepted:
-    """Verify a driver program: text that begins with `motion` or `change`, or one line `code X`."""
+    """Verify a driver program: text that begins with `motion` or `change`, or one line `code X`. Raises `Refused`."""
     first, _, written = ask(["check"], program.lstrip("\n")).partition("\n")
     return Accepted(int(first.split(" ")[-1]), written)
 
@@ -245,7 +230,7 @@ def _text(lines: Sequence[str]) -> str:
 
 
 def _option(name: str, number: int, unsaid: int) -> List[str]:
-    """The words of an option, none where it is what holds without them."""
+    """The words of an option; none for its default value."""
     return [] if number == unsaid else [f"--{name}", str(number)]
 
 
@@ -255,12 +240,12 @@ def _shown(every: int, first: int, workers: int) -> List[str]:
 
 
 def explain(text: Union[str, Job, Sweep]) -> str:
-    """The explanation of an input: the work of a valid one, or the error and how to fix it."""
+    """The text of `trlab explain`: the error in an input and how to fix it, or the work of a valid one."""
     return explained(text if isinstance(text, str) else text.text()).stdout.rstrip("\n")
 
 
 def _listed(name: str, values: object) -> Optional[Tuple[Any, ...]]:
-    """The values of the points, as a tuple; raises `TypeError` if they are no list."""
+    """The values of the points, as a tuple; raises `TypeError` if they are not a list."""
     if values is not None and (isinstance(values, str) or not isinstance(values, Iterable)):
         raise TypeError(f"{name} must be a list with a number for each point, not {values!r}")
     return None if values is None else tuple(values)

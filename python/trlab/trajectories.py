@@ -13,11 +13,9 @@ Grid = Any
 
 
 class Jam(NamedTuple):
-    """A jam: stopped cars that are connected in space and time.
-
-    It exists from step `first` on for `lifetime` steps. `cars` is the number of different cars in it, and `size` their
-    stopped time in car-steps. `is_cut` is True if it is in the first or the last picture: then it may have begun
-    earlier or ended later, and its lifetime, cars and size are lower bounds."""
+    """A jam. It exists for `lifetime` steps from step `first` on; `cars` is the number of different cars in it, and
+    `size` their stopped time in car-steps. If `is_cut`, it is in the first or last snapshot, and its lifetime, cars
+    and size are lower bounds."""
 
     first: int
     lifetime: int
@@ -27,8 +25,7 @@ class Jam(NamedTuple):
 
 
 class Trip(NamedTuple):
-    """A trip of `car` between two detectors: it passes the first one in step `start`, and the second one `time` steps
-    later."""
+    """A trip of `car`: it passes the first detector in step `start`, and the second one `time` steps later."""
 
     car: int
     start: int
@@ -37,11 +34,11 @@ class Trip(NamedTuple):
 
 @dataclass(frozen=True, eq=False, repr=False)
 class Trajectories:
-    """The trajectory of every car. Cars are numbered from 0 as in the first picture: lane by lane, and by cell.
+    """The trajectory of every car. Cars are numbered from 0 by lane and cell in the first snapshot.
 
-    `lane`, `cell`, `distance` and `speed` are indexed `[step][car]`, with one row for each picture. Row 0 belongs to
-    the step `first`. `cell` is between 0 and `length` - 1. `distance` is in cells and not wrapped round the ring: the cell in
-    row 0 plus all speeds since. `speed` is in cells per step: the car drove this far in the step before the picture."""
+    A `Grid` holds whole numbers indexed `[step][car]`: an array of 32-bit integers if numpy is installed, otherwise a
+    list of lists. Row 0 is the step `first`. `cell` is 0 to `length` - 1. `distance` is the cell in row 0 plus all
+    speeds since, not wrapped round the ring. `speed` is in cells per step: the car drove this far in the step before."""
 
     first: int
     length: int
@@ -63,10 +60,8 @@ class Trajectories:
         return f"<trajectories of {self.cars} cars, steps {self.first} to {self.first + len(self) - 1}>"
 
     def ahead(self, places: int = 1) -> Grid:
-        """The number of the car that is `places` places ahead on the same lane, indexed `[step][car]`.
-
-        A lane with n cars is a ring, so n places ahead is the car itself. On one lane nobody overtakes, so all rows are
-        equal. Raises `ValueError` if `places` is negative."""
+        """The car `places` places ahead on the same lane, which is a ring: of n cars, n places ahead is the car itself.
+        On one lane nobody overtakes, so all rows are equal. Raises `ValueError` if `places` is negative."""
         if places < 0:
             raise ValueError(f"places must be at least 0, not {places}")
         if self._by_numpy:
@@ -74,8 +69,7 @@ class Trajectories:
         return [_ahead(row, places, self.lanes) for row in self._rows("lane", "cell")]
 
     def headways(self) -> Grid:
-        """The gap ahead of every car, indexed `[step][car]`: the number of empty cells between the car and the next one on
-        its lane, 0 to `length` - 1. A car alone on its lane has the gap `length` - 1."""
+        """The empty cells between each car and the next one on its lane, 0 to `length` - 1 (the car itself)."""
         if self._by_numpy:
             return self._by_numpy.gaps(self, self.ahead())
         return [
@@ -84,10 +78,9 @@ class Trajectories:
         ]
 
     def detector(self, cell: int, lane: int = 0) -> List[int]:
-        """The number of cars, 0 or 1, that pass the end of a cell of a lane in each step, without the first row.
-
-        A car at cell x that drove v cells passed the ends of the cells x - v to x - 1 of the lane where it is now.
-        Raises `ValueError` if the road has no such cell or lane."""
+        """The cars, 0 or 1, that pass the end of a cell of a lane in each step after the first row. A car at cell x that
+        drove v cells passed the ends of the cells x - v to x - 1 of its present lane. Raises `ValueError` if the road
+        has no such cell or lane."""
         self._need_cell(cell)
         if not 0 <= lane < self.lanes:
             raise ValueError(f"lane must be between 0 and {self.lanes - 1}, not {lane}")
@@ -99,11 +92,9 @@ class Trajectories:
         ]
 
     def travel_times(self, start: int, end: int) -> List[Trip]:
-        """The trips from the end of cell `start` to the end of cell `end`, on any lane, by car and time.
-
-        If both are the same cell, a trip is one lap. Trips that begin before the first picture or end after the last
-        are left out, so use many more steps than a trip takes: otherwise slow trips are missing. Raises `ValueError`
-        if the road has no such cell."""
+        """The trips from the end of cell `start` to the end of cell `end`, on any lane, by car and time; laps if both
+        are equal. Trips cut off by the first or last snapshot are left out: run many more steps than a trip takes, or
+        slow trips are missing. Raises `ValueError` if the road has no such cell."""
         self._need_cell(start)
         self._need_cell(end)
         between = (end - start - 1) % self.length + 1
@@ -115,11 +106,9 @@ class Trajectories:
         return trips
 
     def jams(self) -> List[Jam]:
-        """The jams, by their first step. A jam is a connected component of stopped cars in space and time.
-
-        Two stopped cars are connected if they are in neighbouring cells of one lane in the same step, or if they are
-        the same car in consecutive steps. Cars that were stopped in the first picture count as well. A jam in the first
-        or last picture is marked `is_cut`; leave these out of a mean, or make the window much longer than a jam."""
+        """The jams by their first step: connected components of stopped cars in space and time. Two stopped cars are
+        connected if they are neighbours on a lane in the same step, or the same car in consecutive steps. Leave jams
+        with `is_cut` out of a mean, or make the run much longer than a jam."""
         last_row = len(self) - 1
         if self._by_numpy:
             return [
@@ -135,12 +124,9 @@ class Trajectories:
         return [part.jam(self.first, last_row) for part in parts.values()]
 
     def speed_correlation(self, places: int = 0, later: int = 0) -> float:
-        """The correlation of speeds, -1 to 1, between a car and the car `places` places ahead on its lane, `later` steps
-        later.
-
-        It is Pearson's coefficient over all cars and steps: `speed_correlation(places=k)` for k = 0, 1, 2.. is
-        the correlation in space, and `speed_correlation(later=t)` the autocorrelation in time. It is nan if one
-        of the speeds does not vary. Raises `ValueError` if `later` is not between 0 and the number of steps."""
+        """Pearson's correlation, -1 to 1, over all cars and steps, of the speed of a car and that of the car `places`
+        places ahead, `later` steps later: in space with `places=k`, in time with `later=t`. NaN if one of the speeds
+        does not vary. Raises `ValueError` if `later` is not between 0 and the number of steps."""
         if not 0 <= later < len(self):
             raise ValueError(f"later must be between 0 and {len(self) - 1}, not {later}")
         sums = self._by_numpy.sums_of_speeds if self._by_numpy else Trajectories._sums
@@ -222,7 +208,7 @@ def _join(roots: List[int], one: int, other: int) -> None:
 
 
 def _ahead(row: Tuple[List[int], ...], places: int, lanes: int) -> List[int]:
-    """The car so many places ahead of each car, from the lanes and the cells of all cars at one step."""
+    """The car that is `places` places ahead of each car, from the lanes and cells of all cars at one step."""
     on, cells = row
     leaders = [0] * len(cells)
     for lane in range(lanes):

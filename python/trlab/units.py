@@ -12,15 +12,17 @@ Chance = Union[SupportsFloat, str]
 """A probability, 0 to 1: `0.25`, `"1/4"`, `"0.25"`, a `Fraction` or a number of numpy."""
 
 Density = Chance
-"""Cars per cell, 0 to 1, written as a probability is."""
+"""Cars per cell, 0 to 1, written like a probability."""
 
 Key = Union[int, str]
-"""The key of the random words: a number from 0 to 2**256 - 1, or 64 hexadecimal digits."""
+"""The seed of the random numbers: a whole number from 0 to 2**256 - 1, or 64 hexadecimal digits. A key that is derived,
+for example from `trlab part KEY 3`, is the SHA-256 of these ASCII characters, with KEY as 64 lower-case hexadecimal
+digits and the number in decimal."""
 
 ALWAYS = 2**31
 """The number in input files for the probability 1."""
 
-MOST_CELLS, MOST_SPEED, MOST_STEPS, MOST_CARS, MOST_POINTS = 100000, 35, 500000, 200000, 200
+MAX_CELLS, MOST_SPEED, MAX_STEPS, MOST_CARS, MAX_POINTS = 100000, 35, 500000, 200000, 200
 """The greatest length of a lane in cells, maximum speed in cells per step, number of steps, number of cars and number of
 points of one input."""
 

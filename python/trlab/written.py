@@ -23,7 +23,7 @@ NUMBERS = bytes(255 if chr(sign) == "." else SPEEDS.find(chr(sign)) % 255 for si
 
 
 class WrittenRows(Sequence[Any]):
-    """The rows of a table as text. They are made when the first of them is needed, and then kept beside the text.
+    """The rows of a table as text. They are made when the first of them is needed, and then kept with the text.
 
     `kind` is a named tuple of whole numbers. Raises `ValueError` if the text has another heading, a line that is not a
     row, or a last line without an end."""
@@ -91,7 +91,7 @@ class WrittenRows(Sequence[Any]):
 
 
 class Picture(NamedTuple):
-    """The road at a step: each lane in characters, `.` an empty cell, `0` to `9` and `a` to `z` a car and its speed."""
+    """The road at a step. Each lane is a string: `.` is an empty cell, `0` to `9` and `a` to `z` a car and its speed."""
 
     step: int
     lanes: Tuple[str, ...]
@@ -245,7 +245,7 @@ def pictures_in(lines: Iterable[str]) -> Iterator[Picture]:
 
 
 def _picture_fault(heading: str, lanes: List[str], length: int) -> str:
-    """Says why these lines are not a picture with lanes of such a length."""
+    """The reason why these lines are not a snapshot with lanes of this length."""
     if heading.endswith("\n") and not HEADING.fullmatch(heading.encode()):
         return f"this is not the heading of a picture of a run: {_shown(heading)}"
     if not all(line.endswith("\n") for line in (heading, *lanes)):

@@ -7,7 +7,7 @@ from rows import Row, a_move, wish
 
 SECONDS = 0.2
 BYTES = 30_000_000  # of an output that is compared
-MOST_STEPS = 500_000  # of a job text
+MAX_STEPS = 500_000  # of a job text
 LANES = {
     "nasch 0": 1,
     "nasch 536870912": 1,
@@ -81,7 +81,7 @@ def roads(is_quick):
         yield Road(HEAP, 2, 16000, None)
 
 
-def fitting_steps(road, path, seconds_of, most=MOST_STEPS):
+def fitting_steps(road, path, seconds_of, most=MAX_STEPS):
     """So many steps that a run takes about SECONDS."""
     steps = 1
     while steps < most:

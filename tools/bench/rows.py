@@ -1,10 +1,28 @@
-"""A row of the table, and the table as text."""
+"""A row of the table, and the table as text: all of it as tab-separated values, a few rows of it in Markdown."""
+import re
 from typing import NamedTuple
 
 import tools
 
 OTHERS = ["plain", "interpreter", "floor", "numba", "NumPy"]
 COLUMNS = ["what", "lanes", "cells", "cars", "trlab", "wall clock", *OTHERS, "beside", "wanted"]
+# The columns and the rows of the page: what was measured, and the cells of a lane.
+COLUMNS_OF_PAGE = ["what", "lanes", "cells", "cars", "trlab", *OTHERS, "beside"]
+ROWS_OF_PAGE = [
+    ("`nasch 0`", 100000, 30000),
+    ("`nasch 536870912`", 100000, 30000),
+    ("`vdr 33554432 1610612736`", 100000, 30000),
+    ("`rickert 536870912 1073741824`", 100000, 60000),
+    ("`nasch 536870912`", 1000, 300),
+    ("`nasch 536870912`", 100, 30),
+    ("`nasch 536870912`", 100, 5),
+    ("memory, `nasch 536870912`", 100000, 30000),
+    ("sweep of 7 points, `nasch 536870912`, 4 runners", 1000, 3500),
+    ("`nasch 536870912`, 4 workers", 100000, 30000),
+    ("`nasch 536870912`, four runs at once", 100000, 30000),
+    ("`rickert 536870912 1073741824`, 4 workers", 50000, 30000),
+]
+RATIO = re.compile(r" \(\d+\.\d+\)$")
 
 
 class Programs(NamedTuple):
@@ -68,14 +86,22 @@ def line(cells):
     return "| " + " | ".join(cells) + " |"
 
 
-def cells_of(text):
-    """The cells of a line of a table, by column; empty for any other line."""
-    cells = [cell.strip() for cell in text.strip().strip("|").split(" | ")]
-    is_row = text.startswith("| ") and len(cells) == len(COLUMNS) and cells[0] != COLUMNS[0]
-    return dict(zip(COLUMNS, cells)) if is_row else {}
+def rows_of(table):
+    """The rows of a printed table, each with its cells by column."""
+    lines = [[cell.strip() for cell in text.strip().strip("|").split(" | ")] for text in table.splitlines() if text[:2] == "| "]
+    heading = next((cells for cells in lines if cells[0] == COLUMNS[0]), [])
+    return [dict(zip(heading, cells)) for cells in lines if len(cells) == len(heading) and cells[0] != COLUMNS[0]]
 
 
-def written(table):
-    """The rows of a printed table in Markdown, below their heading."""
-    found = filter(None, map(cells_of, table.splitlines()))
-    return "\n".join(heading(COLUMNS) + [line(list(cells.values())) for cells in found]) + "\n"
+def as_data(rows):
+    """All rows as tab-separated values below a heading. Times are without ratios, which they give."""
+    columns = [column for column in COLUMNS if column in rows[0]]
+    values = [[RATIO.sub("", row[column]).replace("`", "") for column in columns] for row in rows]
+    return "\n".join(map("\t".join, [columns, *values])) + "\n"
+
+
+def as_page(rows):
+    """The rows of the page in Markdown, below their heading, without columns that are empty."""
+    found = [row for wanted in ROWS_OF_PAGE for row in rows if (row["what"], int(row["cells"] or 0), int(row["cars"] or 0)) == wanted]
+    columns = [column for column in COLUMNS_OF_PAGE if any(row.get(column) for row in found)]
+    return "\n".join(heading(columns) + [line(row[column] for column in columns) for row in found]) + "\n"

@@ -5,7 +5,7 @@ import re
 import standing
 
 # Of pages with many blocks, which do not count.
-MOST_WORDS_OUTSIDE_BLOCKS = {"README.md": 900, "docs/TUTORIAL.md": 1500, "docs/CHEATSHEET.md": 600, "docs/FAQ.md": 1100}
+MAX_WORDS_OUTSIDE_BLOCKS = {"README.md": 900, "docs/TUTORIAL.md": 800, "docs/CHEATSHEET.md": 550, "docs/FAQ.md": 950}
 INDEX = "docs/README.md"
 NUMBER = re.compile(r"\d+\.\d+")
 REPRODUCED = re.compile(r"^\| \[[^]]*\]\((studies/[^)]*)\): [^|]*\| (.*) \|$", re.M)
@@ -15,17 +15,18 @@ CITED_ROW = re.compile(r"^\| `nasch 536870912` \| 1 \| 100000 \| 30000 \| .*$", 
 
 def words_are_few():
     """No page has more words outside its blocks than it may have."""
-    for name, most in MOST_WORDS_OUTSIDE_BLOCKS.items():
+    for name, most in MAX_WORDS_OUTSIDE_BLOCKS.items():
         words = len(standing.FENCED.sub("", standing.content(name)).split())
         yield words <= most, f"{name} has {words} words outside its blocks, and may have {most} at most"
 
 
 def index_has_all_pages():
-    """Each page of docs/ is in the index by task."""
+    """Each page of docs/ is in the index by task, and has a word limit."""
     for name in standing.documents():
         if name.startswith("docs/") and name != INDEX:
             link = f"]({name.removeprefix('docs/')})"
             yield link in standing.content(INDEX), f"{INDEX} has no link to {name}"
+            yield name in standing.MAX_WORDS, f"standing.py has no word limit for {name}"
 
 
 def reproduced_numbers_are_of_studies():

@@ -6,10 +6,10 @@ import os
 import re
 
 from finder import TOP
-from standing import MOST_WORDS
+from standing import MAX_WORDS
 
 STAND_INS = re.compile(r"\b(?:what|whoever|alone|told|stands?|where)\b", re.I)
-MOST_STAND_INS = 5  # per 1000 words
+MAX_STAND_INS = 5  # per 1000 words
 COMMENT = re.compile(r"//[^\n]*")
 LITERAL = re.compile(r'"((?:[^"\\]|\\.)*)"', re.S)
 MESSAGE = re.compile(r'\b(?:say|fail|echo) "([^"]*)"')
@@ -50,7 +50,7 @@ def texts():
     yield "the explanations", " ".join(map(literals, sources))
     yield "the docstrings of python/trlab", " ".join(map(docstrings, files_below("python/trlab", ".py")))
     yield "the messages of ./trlab", " ".join(MESSAGE.findall(content("trlab")))
-    for page in sorted({*PAGES, *MOST_WORDS}):
+    for page in sorted({*PAGES, *MAX_WORDS}):
         yield page, NO_PROSE.sub(" ", content(page))
 
 
@@ -58,4 +58,4 @@ def verdicts():
     """For each text whether it has few of these words, and how many it has."""
     for name, text in texts():
         share = 1000 * len(STAND_INS.findall(text)) / len(text.split())
-        yield share <= MOST_STAND_INS, f"{name}: {share:.1f} of 1000 words are what, whoever, alone, told, stand or where"
+        yield share <= MAX_STAND_INS, f"{name}: {share:.1f} of 1000 words are what, whoever, alone, told, stand or where"

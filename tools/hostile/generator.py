@@ -9,7 +9,7 @@ import tools
 from programs import FORMS, INPUTS, KINDS, encode
 from reader import Job, Sweep
 
-MOST_CELLS = 60000  # of all pictures of a run, or of all steps of a sweep, for the work to stay small
+MAX_CELLS = 60000  # of all pictures of a run, or of all steps of a sweep, for the work to stay small
 WIDE = 400  # one job in so many has a road on which more than one worker drives
 NUMBERS = (0, 1, 2, 3, 5, 7, 9, 35, 36, 100, 99999, 2147483648, 2147483649, 4294967295, 4294967296)
 CHANCES = (0, 1, 214748365, 536870912, 1073741824, 2147483648)
@@ -221,9 +221,9 @@ def draw(dice):
 def is_small(says):
     """Whether what a text says is little work."""
     if isinstance(says, Job):
-        return (says.steps + 1) * len(says.lanes) * len(says.lanes[0]) <= MOST_CELLS * 2
+        return (says.steps + 1) * len(says.lanes) * len(says.lanes[0]) <= MAX_CELLS * 2
     if isinstance(says, Sweep):
-        return len(says.cars) * says.steps * says.cells <= MOST_CELLS
+        return len(says.cars) * says.steps * says.cells <= MAX_CELLS
     return True
 
 

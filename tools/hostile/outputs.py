@@ -1,4 +1,4 @@
-"""Whether what the program wrote for a text is in the form that docs/TEXTS.md gives.
+"""Whether what the program wrote for a text is in the form that docs/FILES.md gives.
 
 The text is read by reader.py, so a refusal is compared with its own line and cause. The pictures of a
 run are compared with each other: each car of a picture has gone as many cells as its speed says, over

@@ -1,11 +1,11 @@
 """Driver programs, read from their lines and from their bytes, and written in the one canonical way.
 
-Written from docs/PROGRAMS.md and docs/TEXTS.md, beside the proved program and not from it, so
+Written from docs/PROGRAMS.md and docs/FILES.md, beside the proved program and not from it, so
 that the two can be compared. A program is a list of instructions; an instruction is its name and the
 tuple of its operands, all numbers; a label stands there as the instruction that it names."""
 import re
 
-MOST_INSTRUCTIONS = 128
+MAX_INSTRUCTIONS = 128
 CERTAIN = 2147483648  # parts of the chance that always happens
 GREATEST = 4294967295
 MAGIC = bytes.fromhex("54524c42")
@@ -103,7 +103,7 @@ def assemble(lines, first):
         forms = FORMS.get(name.decode("latin-1"))
         if forms is None:
             raise Fault(line, 11)
-        if len(instructions) == MOST_INSTRUCTIONS:
+        if len(instructions) == MAX_INSTRUCTIONS:
             raise Fault(line, 16)
         operands = read_operands(forms, text[len(name):].strip(BLANKS), line)
         instructions.append((name.decode(), operands))
@@ -150,7 +150,7 @@ def decode(code, line):
     count = int.from_bytes(code[6:8], "little")
     for cause, is_right in (
         (22, code[:4] == MAGIC), (23, code[4] in (1, 2)), (24, code[5] in (0, 1)),
-        (25, 1 <= count <= MOST_INSTRUCTIONS), (21, len(code) >= 8 + 8 * count),
+        (25, 1 <= count <= MAX_INSTRUCTIONS), (21, len(code) >= 8 + 8 * count),
     ):
         if not is_right:
             raise Fault(line, cause)

@@ -1,4 +1,4 @@
-"""Job texts, sweep texts and check texts, read as docs/TEXTS.md says.
+"""Job texts, sweep texts and check texts, read as docs/FILES.md says.
 
 Written from the documents, beside the proved program and not from it, so that the two can be
 compared. What a text says is a Job, a Sweep or a Check; its first fault is raised as a Fault. The
@@ -10,11 +10,11 @@ from typing import NamedTuple
 from programs import CERTAIN, Fault, assemble, decode
 
 LONGEST_TEXT = 4194304
-MOST_CELLS = 100000
-MOST_STEPS = 500000
+MAX_CELLS = 100000
+MAX_STEPS = 500000
 GREATEST_LIMIT = 35
-MOST_LATER_RULES = 1023
-MOST_POINTS = 200
+MAX_LATER_RULES = 1023
+MAX_POINTS = 200
 NUMBER = re.compile(rb"0|[1-9][0-9]{0,9}")
 HEX = re.compile(rb"[0-9A-Fa-f]*")
 SPEEDS = b"0123456789abcdefghijklmnopqrstuvwxyz"
@@ -191,7 +191,7 @@ def read_later_rules(lines, steps, lanes):
         at = []
         read_rule(lines, words[2:], lanes, lambda: at.append(lines.value(words[1], 0, 9999999999)))
         count += 1
-        if count > MOST_LATER_RULES:
+        if count > MAX_LATER_RULES:
             lines.fail(6)
         if not last < at[0] < steps:
             lines.fail(5)
@@ -206,7 +206,7 @@ def read_lanes(lines, limit):
         lanes.append(lines.named(b"lane"))
         numbers.append(lines.number)
         lines.past()
-    if len({len(lane) for lane in lanes}) > 1 or len(lanes[0]) > MOST_CELLS:
+    if len({len(lane) for lane in lanes}) > 1 or len(lanes[0]) > MAX_CELLS:
         raise Fault(numbers[-1], 32)
     for number, lane in zip(numbers, lanes):
         for cell in lane:
@@ -225,7 +225,7 @@ def read_job(text, verdict):
     limit = lines.number_line(b"limit", 1, GREATEST_LIMIT)
     lanes = read_lanes(lines, limit)
     read_first_rule(lines, len(lanes))
-    steps = lines.number_line(b"steps", 0, MOST_STEPS)
+    steps = lines.number_line(b"steps", 0, MAX_STEPS)
     read_later_rules(lines, steps, len(lanes))
     return Job(lanes, limit, steps)
 
@@ -236,18 +236,18 @@ def read_sweep(text, verdict):
     lines.exactly(b"sweep 1")
     lines.key()
     lines.number_line(b"limit", 1, GREATEST_LIMIT)
-    length = lines.number_line(b"length", 1, MOST_CELLS)
+    length = lines.number_line(b"length", 1, MAX_CELLS)
     lanes = lines.number_line(b"lanes", 1, 2)
     read_first_rule(lines, lanes)
-    warm = lines.number_line(b"warm", 0, MOST_STEPS)
-    measure = lines.number_line(b"measure", 1, MOST_STEPS)
+    warm = lines.number_line(b"warm", 0, MAX_STEPS)
+    measure = lines.number_line(b"measure", 1, MAX_STEPS)
     cars = []
     while not cars or not lines.is_end():
         count = lines.value(lines.named(b"cars"), 0, 200000)
         cars.append(count)
         for cause, is_right in (
-            (6, len(cars) <= MOST_POINTS), (37, count <= lanes * length),
-            (7, len(cars) * (warm + measure) <= MOST_STEPS),
+            (6, len(cars) <= MAX_POINTS), (37, count <= lanes * length),
+            (7, len(cars) * (warm + measure) <= MAX_STEPS),
         ):
             if not is_right:
                 lines.fail(cause)

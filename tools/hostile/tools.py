@@ -16,7 +16,7 @@ sys.path.insert(0, os.path.dirname(os.path.dirname(os.path.abspath(__file__))))
 from finder import TOP, program as the_program
 
 LONGEST = 60  # seconds after which a run is called a hang
-MOST_TOLD = 20
+MAX_TOLD = 20
 
 DONE, REFUSED, WORDS, MEMORY, DEVICE = range(5)
 
@@ -86,7 +86,7 @@ class Count:
             self.passed += 1
             return
         self.failed += 1
-        if self.failed <= MOST_TOLD:
+        if self.failed <= MAX_TOLD:
             print(what, flush=True)
 
     def end(self):

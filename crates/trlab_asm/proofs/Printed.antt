@@ -13,11 +13,11 @@ use Rattle.trlab_code.specs.declared.instruction.Input.TheVariants.{Speed, Limit
 use Rattle.trlab_bounds.specs.declared.programs.TheConstants.{WORDS, CERTAIN}
 use Rattle.trlab_asm.specs.Names.{register_text, input_text, mnemonic_text, mnemonic_named}
 use Rattle.trlab_lines.specs.Numbers.{all_digits}
-use Rattle.trlab_asm.specs.Operands.{register, input, digits_of, numeral, value_within, number, Target, target, target_named, is_label, all_label_bytes, two_registers, three_registers, register_input, register_number, two_registers_number, word_chance, register_word_chance, register_target, two_registers_target, ◌then◌}
+use Rattle.trlab_asm.specs.Operands.{register, input, digits_of, numeral, value_within, number, Target, jump_target, target_named, is_label, all_label_bytes, two_registers, three_registers, register_input, register_and_number, two_registers_number, word_chance, register_word_chance, register_target, two_registers_target, ◌then◌}
 use Rattle.trlab_asm.specs.Canonical.{label_text, target_text, ◌comma◌}
 use Rattle.trlab_asm.specs.declared.names.Mnemonic.{Mnemonic}
 use Rattle.trlab_asm.specs.declared.names.Mnemonic.TheVariants as name
-use Rattle.trlab_bounds.specs.declared.programs.TheConstants.{GREATEST_NUMBER}
+use Rattle.trlab_bounds.specs.declared.programs.TheConstants.{MAX_NUMBER}
 use Rattle.trlab_asm.proofs.UncutWords.{is_plain, plain_word, and_parts, and_both, alone_behind_blank, then_again}
 use Rattle.trlab_lines.proofs.Digits.{own}
 
@@ -114,8 +114,8 @@ ranged_again low high n small above below =
     let short : length (decimal n) ≤ 10 = length-decimal-le 10 n (omega arith) (omega arith) (omega arith) in
     rw (value, le-leb (length (decimal n)) 10 short, le-leb low n above, le-leb n high below) refl
 
-number_again : (low n : ℕ) → n < 2 ^ 32 → low ≤ n → number low GREATEST_NUMBER (32 ∷ decimal n) ≡ Ok n
-number_again low n small above = rw (numeral_again n small) (ranged_again low GREATEST_NUMBER n small above (omega arith))
+number_again : (low n : ℕ) → n < 2 ^ 32 → low ≤ n → number low MAX_NUMBER (32 ∷ decimal n) ≡ Ok n
+number_again low n small above = rw (numeral_again n small) (ranged_again low MAX_NUMBER n small above (omega arith))
 
 digit_in_label : (c : ℕ) → is_ascii_digit c ≡ true → (is_ascii_alphanumeric c || c == 95) ≡ true
 digit_in_label c digit = grind (arith, nat_tests)
@@ -140,7 +140,7 @@ goal_of count pc = cond (nat_lt pc count) (record { pc = 0; label = Some (label_
 at_sign : (pc : ℕ) → pc < 2 ^ 32 → target_named (64 ∷ decimal pc) ≡ Ok (record { pc = pc; label = None })
 at_sign pc small =
     let no_label : is_label (64 ∷ decimal pc) ≡ false = and_false (nat_lt 0 (length (64 ∷ decimal pc)) && nat_le (length (64 ∷ decimal pc)) 32) in
-    rw (no_label, decimal_number pc small, ranged_again 0 GREATEST_NUMBER pc small (omega arith) (omega arith)) refl
+    rw (no_label, decimal_number pc small, ranged_again 0 MAX_NUMBER pc small (omega arith) (omega arith)) refl
 
 pub target_plain : (count pc : ℕ) → pc < 2 ^ 32 → plain_word (target_text count pc) ≡ true
 target_plain count pc small = by_cases (nat_lt pc count)
@@ -149,10 +149,10 @@ target_plain count pc small = by_cases (nat_lt pc count)
     by_cases true = decimal_plain pc small
     by_cases false = decimal_plain pc small
 
-pub target_again : (count pc : ℕ) → pc < 2 ^ 32 → target (32 ∷ target_text count pc) ≡ Ok (goal_of count pc)
+pub target_again : (count pc : ℕ) → pc < 2 ^ 32 → jump_target (32 ∷ target_text count pc) ≡ Ok (goal_of count pc)
 target_again count pc small = by_cases (nat_lt pc count)
   where
-    by_cases : (b : Bool) → target (32 ∷ cond b (label_text pc) (64 ∷ decimal pc)) ≡ Ok (cond b (record { pc = 0; label = Some (label_text pc) }) (record { pc = pc; label = None }))
+    by_cases : (b : Bool) → jump_target (32 ∷ cond b (label_text pc) (64 ∷ decimal pc)) ≡ Ok (cond b (record { pc = 0; label = Some (label_text pc) }) (record { pc = pc; label = None }))
     by_cases true = rw (alone_behind_blank (label_text pc) (decimal_plain pc small) (omega arith), label_again pc small) refl
     by_cases false = rw (alone_behind_blank (64 ∷ decimal pc) (decimal_plain pc small) (omega arith)) (at_sign pc small)
 
@@ -167,13 +167,13 @@ three_again d a b = then_again register two_registers (register_text d) (registe
 pub get_again : (d : Register) (k : Input) → register_input (32 ∷ (register_text d comma input_text k)) ≡ Ok (d, k)
 get_again d k = then_again register input (register_text d) (input_text k) d k (register_plain d) (register_again d) (input_again k)
 
-pub one_number_again : (d : Register) (n : ℕ) → n < 2 ^ 32 → register_number 0 (32 ∷ (register_text d comma decimal n)) ≡ Ok (d, n)
-one_number_again d n small = then_again register (number 0 GREATEST_NUMBER) (register_text d) (decimal n) d n (register_plain d) (register_again d) (number_again 0 n small (omega arith))
+pub one_number_again : (d : Register) (n : ℕ) → n < 2 ^ 32 → register_and_number 0 (32 ∷ (register_text d comma decimal n)) ≡ Ok (d, n)
+one_number_again d n small = then_again register (number 0 MAX_NUMBER) (register_text d) (decimal n) d n (register_plain d) (register_again d) (number_again 0 n small (omega arith))
 
 pub two_number_again : (low : ℕ) (d a : Register) (n : ℕ) → n < 2 ^ 32 → low ≤ n → two_registers_number low (32 ∷ (register_text d comma register_text a comma decimal n)) ≡ Ok (d, (a, n))
 two_number_again low d a n small above =
-    then_again register (register then number low GREATEST_NUMBER) (register_text d) (register_text a comma decimal n) d (a, n) (register_plain d) (register_again d)
-    (then_again register (number low GREATEST_NUMBER) (register_text a) (decimal n) a n (register_plain a) (register_again a) (number_again low n small above))
+    then_again register (register then number low MAX_NUMBER) (register_text d) (register_text a comma decimal n) d (a, n) (register_plain d) (register_again d)
+    (then_again register (number low MAX_NUMBER) (register_text a) (decimal n) a n (register_plain a) (register_again a) (number_again low n small above))
 
 word_chance_again : (k t : ℕ) → k < WORDS → t ≤ CERTAIN → word_chance (32 ∷ (decimal k comma decimal t)) ≡ Ok (k, t)
 word_chance_again k t low less =
@@ -189,7 +189,7 @@ pub draw_again : (d : Register) (k t : ℕ) → k < WORDS → t ≤ CERTAIN → 
 draw_again d k t low less = then_again register word_chance (register_text d) (decimal k comma decimal t) d (k, t) (register_plain d) (register_again d) (word_chance_again k t low less)
 
 pub one_target_again : (count : ℕ) (a : Register) (t : ℕ) → t < 2 ^ 32 → register_target (32 ∷ (register_text a comma target_text count t)) ≡ Ok (a, goal_of count t)
-one_target_again count a t small = then_again register target (register_text a) (target_text count t) a (goal_of count t) (register_plain a) (register_again a) (target_again count t small)
+one_target_again count a t small = then_again register jump_target (register_text a) (target_text count t) a (goal_of count t) (register_plain a) (register_again a) (target_again count t small)
 
 pub two_target_again : (count : ℕ) (a b : Register) (t : ℕ) → t < 2 ^ 32 → two_registers_target (32 ∷ (register_text a comma register_text b comma target_text count t)) ≡ Ok (a, (b, goal_of count t))
 two_target_again count a b t small = then_again register register_target (register_text a) (register_text b comma target_text count t) a (b, goal_of count t) (register_plain a) (register_again a) (one_target_again count b t small)

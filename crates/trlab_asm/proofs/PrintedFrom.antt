@@ -2,11 +2,11 @@
 use Rattle.std.proofs.Common.{◌≡◌, ℕ, ◌+◌, ◌<◌, ◌≤◌, List, ◌∷◌, ◌++◌, length, drop, get_or, refl, append_assoc, append-nil, add-one, drop-cons}
 use Rattle.std.proofs.Math.ListN.{drop_of_length-le}
 use Rattle.trlab_code.specs.declared.instruction.Instr.{Instr}
-use Rattle.trlab_asm.specs.Canonical.{line_text, is_target, text_from}
+use Rattle.trlab_asm.specs.Canonical.{instr_line, is_jumped_to, text_from}
 
 -- a line that is printed, and the lines after it
 pub text_next : (instrs : List Instr) (pc : ℕ) (d : Instr) (before : List ℕ) → pc < length instrs
-    → (before ++ line_text (length instrs) (is_target instrs pc) pc (get_or instrs pc d)) ++ (10 ∷ text_from instrs (pc + 1) (drop (pc + 1) instrs)) ≡ before ++ text_from instrs pc (drop pc instrs)
+    → (before ++ instr_line (length instrs) (is_jumped_to instrs pc) pc (get_or instrs pc d)) ++ (10 ∷ text_from instrs (pc + 1) (drop (pc + 1) instrs)) ≡ before ++ text_from instrs pc (drop pc instrs)
 unfolding text_from
 text_next instrs pc d before inside = rw (drop-cons instrs pc d, append_assoc, add-one) refl
 

@@ -5,10 +5,10 @@ use Rattle.std.proofs.lemmas.Bool.{lt-ltb, ne_eqb}
 use Rattle.trlab_code.specs.Program.{IsInRange}
 use Rattle.trlab_code.specs.declared.instruction.Instr.{Instr}
 use Rattle.trlab_code.specs.declared.instruction.Instr.TheVariants.{Num, Get, Side, Draw, Copy, Add, Sub, Mul, Div, Min, Max, Not, And, Or, Jump, JumpLess, JumpAtMost, JumpTrue, JumpFalse, Go, Cross, Stay}
-use Rattle.trlab_bounds.specs.declared.programs.TheConstants.{MOST_INSTRUCTIONS}
+use Rattle.trlab_bounds.specs.declared.programs.TheConstants.{MAX_INSTRUCTIONS}
 use Rattle.trlab_asm.specs.Names.{register_text, input_text, mnemonic_text}
 use Rattle.trlab_asm.specs.Operands.{Target}
-use Rattle.trlab_asm.specs.Reading.{Draft, draft_of, body}
+use Rattle.trlab_asm.specs.Reading.{InstrDraft, draft_of, body}
 use Rattle.trlab_asm.specs.Canonical.{target_text, ◌comma◌, row_text, instr_text}
 use Rattle.trlab_code.specs.Laws.{HasWord}
 use Rattle.trlab_asm.specs.declared.names.Mnemonic.{Mnemonic}
@@ -20,14 +20,14 @@ use Rattle.trlab_asm.proofs.Printed.{goal_of, name_again, register_again, target
 abbrev pub Fits : Instr → Type 0
 Fits instr = IsInRange instr × HasWord instr
 
-abbrev pub jump_draft : (ℕ → Instr) → Target → Draft
+abbrev pub jump_draft : (ℕ → Instr) → Target → InstrDraft
 jump_draft instr to = record { instr = instr to.pc; label = to.label }
 
-abbrev plain_draft : Instr → Draft
+abbrev plain_draft : Instr → InstrDraft
 plain_draft instr = record { instr = instr; label = None }
 
 -- an instruction as it is read from its canonical text
-abbrev pub draft_again : ℕ → Instr → Draft
+abbrev pub draft_again : ℕ → Instr → InstrDraft
 draft_again count (Num d n) = plain_draft (Num d n)
 draft_again count (Get d k) = plain_draft (Get d k)
 draft_again count (Side d) = plain_draft (Side d)
@@ -55,13 +55,13 @@ not_empty : (text rest : List ℕ) → 0 < length text → (length (text ++ rest
 not_empty text rest some = ne_eqb (length (text ++ rest)) 0 (λ e. absurd (omega (arith, length-append text rest)))
 
 -- a name and operands that say a draft
-named_again : (pc : ℕ) (x : Mnemonic) (operands : List ℕ) (draft : Draft) → pc < MOST_INSTRUCTIONS → draft_of x (32 ∷ operands) ≡ Ok draft → body pc (row_text x operands) ≡ Ok (Some draft)
+named_again : (pc : ℕ) (x : Mnemonic) (operands : List ℕ) (draft : InstrDraft) → pc < MAX_INSTRUCTIONS → draft_of x (32 ∷ operands) ≡ Ok draft → body pc (row_text x operands) ≡ Ok (Some draft)
 named_again pc x operands draft room says =
     let known = name_again x in
-    rw (not_empty (mnemonic_text x) (32 ∷ operands) known.some, word_and_more (mnemonic_text x) operands known.plain, known.again, lt-ltb pc MOST_INSTRUCTIONS room, says) refl
+    rw (not_empty (mnemonic_text x) (32 ∷ operands) known.some, word_and_more (mnemonic_text x) operands known.plain, known.again, lt-ltb pc MAX_INSTRUCTIONS room, says) refl
 
 -- an instruction's text says the instruction
-pub instr_again : (count pc : ℕ) (i : Instr) → pc < MOST_INSTRUCTIONS → Fits i → body pc (instr_text count i) ≡ Ok (Some (draft_again count i))
+pub instr_again : (count pc : ℕ) (i : Instr) → pc < MAX_INSTRUCTIONS → Fits i → body pc (instr_text count i) ≡ Ok (Some (draft_again count i))
 instr_again count pc (Num d n) room fits = named_again pc name.Num (register_text d comma decimal n) (plain_draft (Num d n)) room (rw (one_number_again d n fits.1) refl)
 instr_again count pc (Get d k) room fits = named_again pc name.Get (register_text d comma input_text k) (plain_draft (Get d k)) room (rw (get_again d k) refl)
 instr_again count pc (Side d) room fits = named_again pc name.Side (register_text d) (plain_draft (Side d)) room (rw (register_again d) refl)
@@ -82,5 +82,5 @@ instr_again count pc (JumpAtMost a b t) room fits = named_again pc name.JumpAtMo
 instr_again count pc (JumpTrue a t) room fits = named_again pc name.JumpTrue (register_text a comma target_text count t) (jump_draft (JumpTrue a) (goal_of count t)) room (rw (one_target_again count a t fits.1) refl)
 instr_again count pc (JumpFalse a t) room fits = named_again pc name.JumpFalse (register_text a comma target_text count t) (jump_draft (JumpFalse a) (goal_of count t)) room (rw (one_target_again count a t fits.1) refl)
 instr_again count pc (Go a) room fits = named_again pc name.Go (register_text a) (plain_draft (Go a)) room (rw (register_again a) refl)
-instr_again count pc Cross room fits = rw (lt-ltb pc MOST_INSTRUCTIONS room) refl
-instr_again count pc Stay room fits = rw (lt-ltb pc MOST_INSTRUCTIONS room) refl
+instr_again count pc Cross room fits = rw (lt-ltb pc MAX_INSTRUCTIONS room) refl
+instr_again count pc Stay room fits = rw (lt-ltb pc MAX_INSTRUCTIONS room) refl

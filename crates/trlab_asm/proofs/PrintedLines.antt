@@ -6,12 +6,12 @@ use Rattle.std.proofs.lemmas.List.Elements.{All-cons}
 use Rattle.trlab_code.specs.declared.instruction.Register.{Register}
 use Rattle.trlab_code.specs.declared.instruction.Instr.{Instr}
 use Rattle.trlab_code.specs.declared.instruction.Instr.TheVariants.{Num, Get, Side, Draw, Copy, Add, Sub, Mul, Div, Min, Max, Not, And, Or, Jump, JumpLess, JumpAtMost, JumpTrue, JumpFalse, Go, Cross, Stay}
-use Rattle.trlab_bounds.specs.declared.programs.TheConstants.{MOST_INSTRUCTIONS, WORDS, CERTAIN}
+use Rattle.trlab_bounds.specs.declared.programs.TheConstants.{MAX_INSTRUCTIONS, WORDS, CERTAIN}
 use Rattle.trlab_lines.specs.Lines.{HasNoEnd}
 use Rattle.trlab_lines.specs.Cutting.{without_indent}
 use Rattle.trlab_asm.specs.Names.{register_text, input_text, mnemonic_text}
 use Rattle.trlab_asm.specs.Reading.{Labels, line_says}
-use Rattle.trlab_asm.specs.Canonical.{label_text, target_text, ◌comma◌, row_text, instr_text, line_text}
+use Rattle.trlab_asm.specs.Canonical.{label_text, target_text, ◌comma◌, row_text, instr_text, instr_line}
 use Rattle.trlab_asm.specs.declared.names.Mnemonic.{Mnemonic}
 use Rattle.trlab_asm.specs.declared.names.Mnemonic.TheVariants as name
 use Rattle.trlab_asm.proofs.UncutWords.{is_plain, plain_word, and_parts, and_both, not_true, none_of, none_in_plain, alone_at_front, without_blank, behind_blank, cut_here, cut_nowhere, no_colon, no_semicolon, no_line_end}
@@ -127,13 +127,13 @@ none_append p [] b first second = second
 none_append p (c ∷ a) b first second = let both = and_parts (not (p c)) (none_of p a) first in and_both (not (p c)) (none_of p (a ++ b)) both.0 (none_append p a b both.1 second)
 
 -- a printed label and what stands after it
-marked_none : (p : ℕ → Bool) (count pc : ℕ) (i : Instr) → IsAside p → p 58 ≡ false → pc < MOST_INSTRUCTIONS → Fits i → none_of p (label_text pc ++ (58 ∷ 32 ∷ instr_text count i)) ≡ true
+marked_none : (p : ℕ → Bool) (count pc : ℕ) (i : Instr) → IsAside p → p 58 ≡ false → pc < MAX_INSTRUCTIONS → Fits i → none_of p (label_text pc ++ (58 ∷ 32 ∷ instr_text count i)) ≡ true
 marked_none p count pc i aside colon room fits =
     none_append p (label_text pc) (58 ∷ 32 ∷ instr_text count i)
     (none_in_plain p (label_text pc) aside.word (decimal_plain pc (omega arith)))
     (rw (colon, aside.space) (instr_none p count i aside fits))
 
-line_none : (count pc : ℕ) (marked : Bool) (i : Instr) → pc < MOST_INSTRUCTIONS → Fits i → none_of (λ b. b == 10) (line_text count marked pc i) ≡ true
+line_none : (count pc : ℕ) (marked : Bool) (i : Instr) → pc < MAX_INSTRUCTIONS → Fits i → none_of (λ b. b == 10) (instr_line count marked pc i) ≡ true
 line_none count pc true i room fits = marked_none (λ b. b == 10) count pc i end_aside refl room fits
 line_none count pc false i room fits = instr_none (λ b. b == 10) count i end_aside fits
 
@@ -147,16 +147,16 @@ none_is_end (c ∷ line) none =
     All-cons (λ byte. byte ≡ 10 → ⊥) c line (is_no_end c (not_true (c == 10) both.0)) (none_is_end line both.1)
 
 -- no line that is printed has an LF
-pub line_has_no_end : (count pc : ℕ) (marked : Bool) (i : Instr) → pc < MOST_INSTRUCTIONS → Fits i → HasNoEnd (line_text count marked pc i)
-line_has_no_end count pc marked i room fits = none_is_end (line_text count marked pc i) (line_none count pc marked i room fits)
+pub line_has_no_end : (count pc : ℕ) (marked : Bool) (i : Instr) → pc < MAX_INSTRUCTIONS → Fits i → HasNoEnd (instr_line count marked pc i)
+line_has_no_end count pc marked i room fits = none_is_end (instr_line count marked pc i) (line_none count pc marked i room fits)
 
 -- the label of a line that is marked
 abbrev pub mark : Bool → ℕ → Option (List ℕ)
 mark marked pc = cond marked (Some (label_text pc)) None
 
 -- a line that is printed says its instruction and its label
-pub line_again : (labels : Labels) (count pc : ℕ) (marked : Bool) (i : Instr) → pc < MOST_INSTRUCTIONS → Fits i → labels (label_text pc) ≡ None
-    → line_says labels pc (line_text count marked pc i) ≡ Ok (record { label = mark marked pc; draft = Some (draft_again count i) })
+pub line_again : (labels : Labels) (count pc : ℕ) (marked : Bool) (i : Instr) → pc < MAX_INSTRUCTIONS → Fits i → labels (label_text pc) ≡ None
+    → line_says labels pc (instr_line count marked pc i) ≡ Ok (record { label = mark marked pc; draft = Some (draft_again count i) })
 line_again labels count pc true i room fits free =
     rw (
       cut_nowhere 59 (label_text pc ++ (58 ∷ 32 ∷ instr_text count i)) (marked_none (λ b. b == 59) count pc i semicolon_aside refl room fits),

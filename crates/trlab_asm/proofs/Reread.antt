@@ -11,12 +11,12 @@ use Rattle.trlab_code.specs.Flow.{target}
 use Rattle.trlab_code.specs.Program.{Program, IsInRange, IsProgram}
 use Rattle.trlab_code.specs.declared.instruction.Instr.{Instr}
 use Rattle.trlab_code.specs.declared.instruction.Instr.TheVariants.{Num, Get, Side, Draw, Copy, Add, Sub, Mul, Div, Min, Max, Not, And, Or, Jump, JumpLess, JumpAtMost, JumpTrue, JumpFalse, Go, Cross, Stay}
-use Rattle.trlab_bounds.specs.declared.programs.TheConstants.{MOST_INSTRUCTIONS}
+use Rattle.trlab_bounds.specs.declared.programs.TheConstants.{MAX_INSTRUCTIONS}
 use Rattle.trlab_lines.specs.Lines.{lines_of}
 use Rattle.trlab_asm.specs.Operands.{Target}
 use Rattle.trlab_asm.specs.Reading.{Labels, line_says}
 use Rattle.trlab_asm.specs.Assembly.{LineDraft, with_label, first_pass, with_target, resolve_label, resolve, second_pass, code_of}
-use Rattle.trlab_asm.specs.Canonical.{label_text, line_text, is_pc, is_target, text_from, text_of}
+use Rattle.trlab_asm.specs.Canonical.{label_text, instr_line, is_pc, is_jumped_to, text_from, text_of}
 use Rattle.trlab_code.specs.Laws.{HasWord}
 use Rattle.trlab_asm.specs.Laws.{CanonicalTextSaysTheProgram, OneProgramOfAText}
 use Rattle.trlab_lines.proofs.Cuts.{line_and_rest}
@@ -28,7 +28,7 @@ use Rattle.trlab_asm.proofs.PrintedLines.{mark, line_has_no_end, line_again}
 -- the labels of the pcs below one
 abbrev labels_below : List Instr → ℕ → Labels
 labels_below instrs zero = λ name. None
-labels_below instrs (suc pc) = with_label (labels_below instrs pc) pc (mark (is_target instrs pc) pc)
+labels_below instrs (suc pc) = with_label (labels_below instrs pc) pc (mark (is_jumped_to instrs pc) pc)
 
 -- the instructions as they are read
 abbrev reads_of : ℕ → ℕ → List Instr → List LineDraft
@@ -58,7 +58,7 @@ other_step labels n t false small small_too differ = refl
 free : (instrs : List Instr) (n t : ℕ) → n ≤ t → t < 2 ^ 32 → labels_below instrs n (label_text t) ≡ None
 free instrs zero t le small = refl
 free instrs (suc n) t le small =
-    other_step (labels_below instrs n) n t (is_target instrs n) (omega arith) small (λ e. absurd (omega arith)) ∙ free instrs n t (omega arith) small
+    other_step (labels_below instrs n) n t (is_jumped_to instrs n) (omega arith) small (λ e. absurd (omega arith)) ∙ free instrs n t (omega arith) small
 
 -- but it is there after that, if some jump goes there
 here_step : (labels : Labels) (n t : ℕ) (b : Bool) → n ≡ t → b ≡ true → with_label labels n (mark b n) (label_text t) ≡ Some t
@@ -72,27 +72,27 @@ found_step labels n t b false e small small_too marked there =
     let differ : n ≢ t = (λ same. let both : true ≡ false = sym (eq-eqb n t same) ∙ e in cc) in
     other_step labels n t b small small_too differ ∙ there differ
 
-found : (instrs : List Instr) (n t : ℕ) → t < n → n < 2 ^ 32 → is_target instrs t ≡ true → labels_below instrs n (label_text t) ≡ Some t
+found : (instrs : List Instr) (n t : ℕ) → t < n → n < 2 ^ 32 → is_jumped_to instrs t ≡ true → labels_below instrs n (label_text t) ≡ Some t
 found instrs zero t below small marked = absurd (omega arith)
 found instrs (suc n) t below small marked =
-    found_step (labels_below instrs n) n t (is_target instrs n) (nat_eq n t) refl (omega arith) (omega arith) (λ e. ap (is_target instrs) e ∙ marked)
+    found_step (labels_below instrs n) n t (is_jumped_to instrs n) (nat_eq n t) refl (omega arith) (omega arith) (λ e. ap (is_jumped_to instrs) e ∙ marked)
     (λ differ. found instrs n t (omega arith) (omega arith) marked)
 
-says_at : (labels : Labels) (count pc here : ℕ) (marked : Bool) (i : Instr) → here ≡ pc → pc < MOST_INSTRUCTIONS → Fits i → labels (label_text pc) ≡ None
-    → line_says labels here (line_text count marked pc i) ≡ Ok (record { label = mark marked pc; draft = Some (draft_again count i) })
-says_at labels count pc here marked i same room fits none = subst (λ n. line_says labels n (line_text count marked pc i) ≡ Ok (record { label = mark marked pc; draft = Some (draft_again count i) })) (sym same) (line_again labels count pc marked i room fits none)
+says_at : (labels : Labels) (count pc here : ℕ) (marked : Bool) (i : Instr) → here ≡ pc → pc < MAX_INSTRUCTIONS → Fits i → labels (label_text pc) ≡ None
+    → line_says labels here (instr_line count marked pc i) ≡ Ok (record { label = mark marked pc; draft = Some (draft_again count i) })
+says_at labels count pc here marked i same room fits none = subst (λ n. line_says labels n (instr_line count marked pc i) ≡ Ok (record { label = mark marked pc; draft = Some (draft_again count i) })) (sym same) (line_again labels count pc marked i room fits none)
 
 -- the first pass over the canonical text
-first_again : (instrs : List Instr) (pc number : ℕ) (before : List LineDraft) (left : List Instr) → length before ≡ pc → pc + length left ≤ MOST_INSTRUCTIONS → AllByRecursion Fits left
+first_again : (instrs : List Instr) (pc number : ℕ) (before : List LineDraft) (left : List Instr) → length before ≡ pc → pc + length left ≤ MAX_INSTRUCTIONS → AllByRecursion Fits left
     → first_pass (record { labels = labels_below instrs pc; reads = before }) number (lines_of (text_from instrs pc left)) ≡ Ok (record { labels = labels_below instrs (pc + length left); reads = before ++ reads_of (length instrs) number left })
 unfolding first_pass text_from lines_of
 first_again instrs pc number before [] at room fit = let end : pc + 0 ≡ pc = omega arith in rw (append-nil before, end) refl
 first_again instrs pc number before (i ∷ left) at room fit =
-    let says = says_at (labels_below instrs pc) (length instrs) pc (length before) (is_target instrs pc) i at (omega arith) fit.0 (free instrs pc pc (omega arith) (omega arith)) in
-    let line = line_and_rest (line_text (length instrs) (is_target instrs pc) pc i) (text_from instrs (pc + 1) left) (line_has_no_end (length instrs) pc (is_target instrs pc) i (omega arith) fit.0) in
-    let next = first_next (record { labels = labels_below instrs pc; reads = before }) number (line_text (length instrs) (is_target instrs pc) pc i) (lines_of (text_from instrs (pc + 1) left)) (record { label = mark (is_target instrs pc) pc; draft = Some (draft_again (length instrs) i) }) (rw says refl) in
+    let says = says_at (labels_below instrs pc) (length instrs) pc (length before) (is_jumped_to instrs pc) i at (omega arith) fit.0 (free instrs pc pc (omega arith) (omega arith)) in
+    let line = line_and_rest (instr_line (length instrs) (is_jumped_to instrs pc) pc i) (text_from instrs (pc + 1) left) (line_has_no_end (length instrs) pc (is_jumped_to instrs pc) i (omega arith) fit.0) in
+    let next = first_next (record { labels = labels_below instrs pc; reads = before }) number (instr_line (length instrs) (is_jumped_to instrs pc) pc i) (lines_of (text_from instrs (pc + 1) left)) (record { label = mark (is_jumped_to instrs pc) pc; draft = Some (draft_again (length instrs) i) }) (rw says refl) in
     let more = first_again instrs (pc + 1) (number + 1) (before ++ (record { line = number; draft = draft_again (length instrs) i } ∷ [])) left (simp length-append (omega arith)) (omega arith) fit.1 in
-    let marked : labels_below instrs (pc + 1) ≡ with_label (labels_below instrs pc) (length before) (mark (is_target instrs pc) pc) = rw (at, add-one) refl in
+    let marked : labels_below instrs (pc + 1) ≡ with_label (labels_below instrs pc) (length before) (mark (is_jumped_to instrs pc) pc) = rw (at, add-one) refl in
     let end : pc + 1 + length left ≡ pc + length (i ∷ left) = omega arith in
     ap (first_pass (record { labels = labels_below instrs pc; reads = before }) number) line ∙ (next ∙ rw (marked, end, append_assoc) at more)
 
@@ -139,14 +139,14 @@ or_right true b e = refl
 or_right false b e = e
 
 -- the second pass, where the jumps that are left are jumps of the program
-second_again : (instrs : List Instr) (number : ℕ) (left : List Instr) → length instrs < 2 ^ 32 → ((t : ℕ) → is_target left t ≡ true → is_target instrs t ≡ true)
+second_again : (instrs : List Instr) (number : ℕ) (left : List Instr) → length instrs < 2 ^ 32 → ((t : ℕ) → is_jumped_to left t ≡ true → is_jumped_to instrs t ≡ true)
     → second_pass (labels_below instrs (length instrs)) (reads_of (length instrs) number left) ≡ Ok left
 unfolding second_pass
 second_again instrs number [] small all = refl
 second_again instrs number (i ∷ left) small all =
     rw (
-      finish_again (labels_below instrs (length instrs)) (length instrs) number i (λ t here below. found instrs (length instrs) t below small (all t (or_left (is_pc t (target i)) (is_target left t) here))),
-      second_again instrs (number + 1) left small (λ t here. all t (or_right (is_pc t (target i)) (is_target left t) here)),
+      finish_again (labels_below instrs (length instrs)) (length instrs) number i (λ t here below. found instrs (length instrs) t below small (all t (or_left (is_pc t (target i)) (is_jumped_to left t) here))),
+      second_again instrs (number + 1) left small (λ t here. all t (or_right (is_pc t (target i)) (is_jumped_to left t) here)),
     ) refl
 
 length_reads : (count number : ℕ) (instrs : List Instr) → length (reads_of count number instrs) ≡ length instrs

@@ -7,18 +7,18 @@ use Rattle.std.proofs.lemmas.List.Elements.{All-cons, All-head, All-push, All-ta
 use Rattle.trlab_code.specs.declared.kind.Kind.{Kind}
 use Rattle.trlab_code.specs.declared.instruction.Instr.{Instr}
 use Rattle.trlab_code.specs.declared.instruction.Instr.TheVariants.{Num, Get, Side, Draw, Copy, Add, Sub, Mul, Div, Min, Max, Not, And, Or, Jump, JumpLess, JumpAtMost, JumpTrue, JumpFalse, Go, Cross, Stay}
-use Rattle.trlab_bounds.specs.declared.programs.TheConstants.{MOST_INSTRUCTIONS, WORDS, CERTAIN}
+use Rattle.trlab_bounds.specs.declared.programs.TheConstants.{MAX_INSTRUCTIONS, WORDS, CERTAIN}
 use Rattle.trlab_code.specs.Program.{IsInRange, IsProgram}
 use Rattle.trlab_lines.specs.Cutting.{without_prefix, cut, label_and_rest, only_word, without_comment, without_indent, up_to_blank}
 use Rattle.trlab_asm.specs.Names.{register_named, input_named, mnemonic_named}
 use Rattle.trlab_lines.specs.Numbers.{is_numeral}
-use Rattle.trlab_asm.specs.Operands.{◌then◌, digits_of, input, is_label, no_operand, number, numeral, pc_named, value_within, register, register_input, register_number, register_target, register_word_chance, target, target_named, three_registers, two_registers, two_registers_number, two_registers_target, word, word_chance}
+use Rattle.trlab_asm.specs.Operands.{◌then◌, digits_of, input, is_label, no_operand, number, numeral, pc_named, value_within, register, register_input, register_and_number, register_target, register_word_chance, jump_target, target_named, three_registers, two_registers, two_registers_number, two_registers_target, word, word_chance}
 use Rattle.trlab_asm.specs.Results.{◌>>=◌}
-use Rattle.trlab_asm.specs.Reading.{Draft, Labels, Line, body, draft_of, if_free, instruction, label_of, line_says, new_label}
-use Rattle.trlab_asm.specs.Assembly.{Parts, LineDraft, with_target, jump_to, code_of, resolve, first_pass, in_line, instrs_of, nothing, resolve_label, second_pass, with_line, with_draft}
+use Rattle.trlab_asm.specs.Reading.{InstrDraft, Labels, Line, body, draft_of, if_free, instruction, label_of, line_says, new_label}
+use Rattle.trlab_asm.specs.Assembly.{Parts, LineDraft, with_target, jump_to, code_of, resolve, first_pass, in_line, instrs_of, no_parts, resolve_label, second_pass, with_line, with_draft}
 use Rattle.trlab_asm.specs.Laws.{TextsSaySomething}
 use Rattle.trlab_lines.specs.Lines.{lines_of}
-use Rattle.trlab_bounds.specs.declared.programs.TheConstants.{GREATEST_NUMBER, MOST_DIGITS}
+use Rattle.trlab_bounds.specs.declared.programs.TheConstants.{MAX_NUMBER, MAX_DIGITS}
 use Rattle.trlab_asm.specs.declared.names.Mnemonic.{Mnemonic}
 use Rattle.trlab_asm.specs.declared.names.Mnemonic.TheVariants as name
 use Rattle.trlab_asm.specs.declared.fault.Why.{Why}
@@ -76,7 +76,7 @@ within_if true true true low high n h k = (h refl, k refl)
 ranged_gives : (low high : ℕ) (digits : List ℕ) → Gives (λ m. (low ≤ m) × (m ≤ high)) (value_within low high digits)
 ranged_gives low high digits =
     let n = digits_value 10 digits in
-    within_if (nat_le (length digits) MOST_DIGITS) (nat_le low n) (nat_le n high) low high n (leb-true low n) (leb-true n high)
+    within_if (nat_le (length digits) MAX_DIGITS) (nat_le low n) (nat_le n high) low high n (leb-true low n) (leb-true n high)
 
 number_gives : (low high : ℕ) (text : List ℕ) → Gives (λ m. (low ≤ m) × (m ≤ high)) (number low high text)
 number_gives low high text = then_gives Anything _ (numeral text) (value_within low high) (numeral_gives text) (λ digits h. ranged_gives low high digits)
@@ -98,11 +98,11 @@ three_gives = both_give Anything _ register two_registers register_gives two_giv
 register_input_gives : (text : List ℕ) → Gives (λ x. Anything x.0 × Anything x.1) (register_input text)
 register_input_gives = both_give Anything Anything register input register_gives input_gives
 
-register_number_gives : (text : List ℕ) → Gives (λ x. Anything x.0 × ((0 ≤ x.1) × (x.1 ≤ GREATEST_NUMBER))) (register_number 0 text)
-register_number_gives = both_give Anything _ register (number 0 GREATEST_NUMBER) register_gives (number_gives 0 GREATEST_NUMBER)
+register_number_gives : (text : List ℕ) → Gives (λ x. Anything x.0 × ((0 ≤ x.1) × (x.1 ≤ MAX_NUMBER))) (register_and_number 0 text)
+register_number_gives = both_give Anything _ register (number 0 MAX_NUMBER) register_gives (number_gives 0 MAX_NUMBER)
 
-two_registers_number_gives : (low : ℕ) (text : List ℕ) → Gives (λ x. Anything x.0 × (Anything x.1.0 × ((low ≤ x.1.1) × (x.1.1 ≤ GREATEST_NUMBER)))) (two_registers_number low text)
-two_registers_number_gives low = both_give Anything _ register (register then number low GREATEST_NUMBER) register_gives (both_give Anything _ register (number low GREATEST_NUMBER) register_gives (number_gives low GREATEST_NUMBER))
+two_registers_number_gives : (low : ℕ) (text : List ℕ) → Gives (λ x. Anything x.0 × (Anything x.1.0 × ((low ≤ x.1.1) × (x.1.1 ≤ MAX_NUMBER)))) (two_registers_number low text)
+two_registers_number_gives low = both_give Anything _ register (register then number low MAX_NUMBER) register_gives (both_give Anything _ register (number low MAX_NUMBER) register_gives (number_gives low MAX_NUMBER))
 
 word_chance_gives : (text : List ℕ) → Gives (λ x. (x.0 ≤ WORDS - 1) × (x.1 ≤ CERTAIN)) (word_chance text)
 word_chance_gives text =
@@ -117,13 +117,13 @@ pc_gives : (text : List ℕ) → Gives Anything (pc_named text)
 pc_gives text =
     then_gives Anything Anything (ok_or (without_prefix (codes "@") text) Operand) _ (wanted_gives (without_prefix (codes "@") text)) (λ digits a.
     then_gives Anything Anything (digits_of digits) _ (digits_give digits) (λ more b.
-    then_gives (λ m. (0 ≤ m) × (m ≤ GREATEST_NUMBER)) Anything (value_within 0 GREATEST_NUMBER more) _ (ranged_gives 0 GREATEST_NUMBER more) (λ pc c. tt)))
+    then_gives (λ m. (0 ≤ m) × (m ≤ MAX_NUMBER)) Anything (value_within 0 MAX_NUMBER more) _ (ranged_gives 0 MAX_NUMBER more) (λ pc c. tt)))
 
-target_gives : (text : List ℕ) → Gives Anything (target text)
+target_gives : (text : List ℕ) → Gives Anything (jump_target text)
 target_gives text = then_gives Anything Anything (word text) target_named (word_gives text) (λ name h. if_gives Anything (is_label name) (Ok _) (pc_named name) tt (pc_gives name))
 
 one_target_gives : (text : List ℕ) → Gives (λ x. Anything x.0 × Anything x.1) (register_target text)
-one_target_gives = both_give Anything Anything register target register_gives target_gives
+one_target_gives = both_give Anything Anything register jump_target register_gives target_gives
 
 two_target_gives : (text : List ℕ) → Gives (λ x. Anything x.0 × (Anything x.1.0 × Anything x.1.1)) (two_registers_target text)
 two_target_gives = both_give Anything _ register register_target register_gives one_target_gives
@@ -133,29 +133,29 @@ none_gives text = then_gives Anything Anything (word text) _ (word_gives text) (
 
 -- instructions
 
-abbrev Fits : Draft → Type 0
+abbrev Fits : InstrDraft → Type 0
 Fits draft = IsInRange draft.instr
 
 -- the draft that is made of operands
-made : {A : Type 0} (P : A → Type 0) (r : Result A Why) (f : A → Result Draft Why) → Gives P r → ((x : A) → P x → Gives Fits (f x)) → Gives Fits (r >>= f)
+made : {A : Type 0} (P : A → Type 0) (r : Result A Why) (f : A → Result InstrDraft Why) → Gives P r → ((x : A) → P x → Gives Fits (f x)) → Gives Fits (r >>= f)
 made P = then_gives P Fits
 
 draft_fits : (x : Mnemonic) (text : List ℕ) → Gives Fits (draft_of x text)
-draft_fits name.Num text = made (λ x. Anything x.0 × ((0 ≤ x.1) × (x.1 ≤ GREATEST_NUMBER))) (register_number 0 text) _ (register_number_gives text) (λ x h. tt)
+draft_fits name.Num text = made (λ x. Anything x.0 × ((0 ≤ x.1) × (x.1 ≤ MAX_NUMBER))) (register_and_number 0 text) _ (register_number_gives text) (λ x h. tt)
 draft_fits name.Get text = made (λ x. Anything x.0 × Anything x.1) (register_input text) _ (register_input_gives text) (λ x h. tt)
 draft_fits name.Side text = made Anything (register text) _ (register_gives text) (λ x h. tt)
 draft_fits name.Draw text = made (λ x. Anything x.0 × ((x.1.0 ≤ WORDS - 1) × (x.1.1 ≤ CERTAIN))) (register_word_chance text) _ (draw_gives text) (λ x h. (omega (arith, h.1.0), h.1.1))
 draft_fits name.Copy text = made (λ x. Anything x.0 × Anything x.1) (two_registers text) _ (two_gives text) (λ x h. tt)
 draft_fits name.Add text = made (λ x. Anything x.0 × (Anything x.1.0 × Anything x.1.1)) (three_registers text) _ (three_gives text) (λ x h. tt)
 draft_fits name.Sub text = made (λ x. Anything x.0 × (Anything x.1.0 × Anything x.1.1)) (three_registers text) _ (three_gives text) (λ x h. tt)
-draft_fits name.Mul text = made (λ x. Anything x.0 × (Anything x.1.0 × ((0 ≤ x.1.1) × (x.1.1 ≤ GREATEST_NUMBER)))) (two_registers_number 0 text) _ (two_registers_number_gives 0 text) (λ x h. tt)
-draft_fits name.Div text = made (λ x. Anything x.0 × (Anything x.1.0 × ((1 ≤ x.1.1) × (x.1.1 ≤ GREATEST_NUMBER)))) (two_registers_number 1 text) _ (two_registers_number_gives 1 text) (λ x h. h.1.1.0)
+draft_fits name.Mul text = made (λ x. Anything x.0 × (Anything x.1.0 × ((0 ≤ x.1.1) × (x.1.1 ≤ MAX_NUMBER)))) (two_registers_number 0 text) _ (two_registers_number_gives 0 text) (λ x h. tt)
+draft_fits name.Div text = made (λ x. Anything x.0 × (Anything x.1.0 × ((1 ≤ x.1.1) × (x.1.1 ≤ MAX_NUMBER)))) (two_registers_number 1 text) _ (two_registers_number_gives 1 text) (λ x h. h.1.1.0)
 draft_fits name.Min text = made (λ x. Anything x.0 × (Anything x.1.0 × Anything x.1.1)) (three_registers text) _ (three_gives text) (λ x h. tt)
 draft_fits name.Max text = made (λ x. Anything x.0 × (Anything x.1.0 × Anything x.1.1)) (three_registers text) _ (three_gives text) (λ x h. tt)
 draft_fits name.Not text = made (λ x. Anything x.0 × Anything x.1) (two_registers text) _ (two_gives text) (λ x h. tt)
 draft_fits name.And text = made (λ x. Anything x.0 × (Anything x.1.0 × Anything x.1.1)) (three_registers text) _ (three_gives text) (λ x h. tt)
 draft_fits name.Or text = made (λ x. Anything x.0 × (Anything x.1.0 × Anything x.1.1)) (three_registers text) _ (three_gives text) (λ x h. tt)
-draft_fits name.Jump text = made Anything (target text) _ (target_gives text) (λ x h. tt)
+draft_fits name.Jump text = made Anything (jump_target text) _ (target_gives text) (λ x h. tt)
 draft_fits name.JumpLess text = made (λ x. Anything x.0 × (Anything x.1.0 × Anything x.1.1)) (two_registers_target text) _ (two_target_gives text) (λ x h. tt)
 draft_fits name.JumpAtMost text = made (λ x. Anything x.0 × (Anything x.1.0 × Anything x.1.1)) (two_registers_target text) _ (two_target_gives text) (λ x h. tt)
 draft_fits name.JumpTrue text = made (λ x. Anything x.0 × Anything x.1) (register_target text) _ (one_target_gives text) (λ x h. tt)
@@ -168,11 +168,11 @@ known_gives : {A : Type 0} (o : Option A) → Gives Anything (ok_or o Word)
 known_gives o = ok_or_gives o Word (λ e. cc)
 
 -- an instruction is in range, and there is room for it at pc
-MayStand : ℕ → Option Draft → Type 0
+MayStand : ℕ → Option InstrDraft → Type 0
 MayStand pc None = Unit {0}
-MayStand pc (Some draft) = IsInRange draft.instr × (pc < MOST_INSTRUCTIONS)
+MayStand pc (Some draft) = IsInRange draft.instr × (pc < MAX_INSTRUCTIONS)
 
-room_gives : (pc : ℕ) (b : Bool) (r : Result Draft Why) → (b ≡ true → pc < MOST_INSTRUCTIONS) → Gives Fits r
+room_gives : (pc : ℕ) (b : Bool) (r : Result InstrDraft Why) → (b ≡ true → pc < MAX_INSTRUCTIONS) → Gives Fits r
     → Gives (MayStand pc) (if b then (r >>= λ draft. Ok (Some draft)) else Err TooLong)
 unfolding MayStand
 room_gives pc true (Ok draft) room fits = (fits, room refl)
@@ -182,7 +182,7 @@ room_gives pc false r room fits = λ e. cc
 instruction_gives : (pc : ℕ) (parts : List ℕ × List ℕ) → Gives (MayStand pc) (instruction pc parts)
 instruction_gives pc parts =
     then_gives Anything (MayStand pc) (ok_or (mnemonic_named parts.0) Word) _ (known_gives (mnemonic_named parts.0)) (λ x h.
-    room_gives pc (nat_lt pc MOST_INSTRUCTIONS) (draft_of x parts.1) (ltb-true pc MOST_INSTRUCTIONS) (draft_fits x parts.1))
+    room_gives pc (nat_lt pc MAX_INSTRUCTIONS) (draft_of x parts.1) (ltb-true pc MAX_INSTRUCTIONS) (draft_fits x parts.1))
 
 nothing_stands : (pc : ℕ) → MayStand pc None
 unfolding MayStand
@@ -222,10 +222,10 @@ in_line_tells P number (Err why) h = h
 
 -- what was read has instructions in range, and not too many
 record Kept (reads : List LineDraft) : Type 0 where
-  few : length reads ≤ MOST_INSTRUCTIONS
+  few : length reads ≤ MAX_INSTRUCTIONS
   fit : All (λ (read : LineDraft). IsInRange read.draft.instr) reads
 
-kept_more : (reads : List LineDraft) (number : ℕ) (o : Option Draft) → Kept reads → MayStand (length reads) o → Kept (with_draft reads number o)
+kept_more : (reads : List LineDraft) (number : ℕ) (o : Option InstrDraft) → Kept reads → MayStand (length reads) o → Kept (with_draft reads number o)
 unfolding MayStand
 kept_more reads number None kept may = kept
 kept_more reads number (Some draft) kept may =
@@ -292,10 +292,10 @@ second_tells labels (read ∷ reads) fit =
 -- a program's instructions
 record Whole (instrs : List Instr) : Type 0 where
   some : 1 ≤ length instrs
-  few : length instrs ≤ MOST_INSTRUCTIONS
+  few : length instrs ≤ MAX_INSTRUCTIONS
   fit : All IsInRange instrs
 
-whole_of : (many : ℕ) (r : Result (List Instr) AsmFault) → 1 ≤ many → many ≤ MOST_INSTRUCTIONS → Tells (Finished many) r → Tells Whole r
+whole_of : (many : ℕ) (r : Result (List Instr) AsmFault) → 1 ≤ many → many ≤ MAX_INSTRUCTIONS → Tells (Finished many) r → Tells Whole r
 whole_of many (Ok instrs) some few h = record { some = omega (arith, h.all); few = omega (arith, h.all); fit = h.fit }
 whole_of many (Err fault) some few h = h
 
@@ -307,8 +307,8 @@ instrs_tell parts false e kept =
 -- any lines say something
 pub lines_say : (kind : Kind) (lines : List (List ℕ)) → MatchResult (code_of kind lines) IsProgram (λ fault. fault.why ≢ Memory)
 lines_say kind lines =
-    then_tells (λ (all : Parts). Kept all.reads) IsProgram (first_pass nothing 1 lines) _
-    (first_tells nothing 1 lines (record { few = omega arith; fit = λ k d h. absurd (omega arith) })) (λ parts kept.
+    then_tells (λ (all : Parts). Kept all.reads) IsProgram (first_pass no_parts 1 lines) _
+    (first_tells no_parts 1 lines (record { few = omega arith; fit = λ k d h. absurd (omega arith) })) (λ parts kept.
     then_tells Whole IsProgram (instrs_of parts) _ (instrs_tell parts (length parts.reads == 0) refl kept) (λ instrs h.
     record { some = h.some; few = h.few; in_range = h.fit }))
 

@@ -7,7 +7,7 @@ use Rattle.trlab_code.specs.declared.kind.Kind.{Kind}
 use Rattle.trlab_code.specs.declared.instruction.Instr.{Instr}
 use Rattle.trlab_code.specs.declared.instruction.Instr.TheVariants.{Jump, JumpLess, JumpAtMost, JumpTrue, JumpFalse}
 use Rattle.trlab_asm.specs.Results.{◌>>=◌}
-use Rattle.trlab_asm.specs.Reading.{Draft, Labels, Line, line_says}
+use Rattle.trlab_asm.specs.Reading.{InstrDraft, Labels, Line, line_says}
 use Rattle.trlab_asm.specs.declared.fault.Why.{Why}
 use Rattle.trlab_asm.specs.declared.fault.Why.TheVariants.{Empty, NoLabel, Memory}
 use Rattle.trlab_asm.specs.declared.fault.AsmFault.{AsmFault}
@@ -20,7 +20,7 @@ in_line number (Err why) = Err (record { line = number; why = why })
 -- an instruction as it was read, and the number of its line
 pub record LineDraft : Type 0 where
   pub line : ℕ
-  pub draft : Draft
+  pub draft : InstrDraft
 
 -- the labels and the instructions of a text
 pub record Parts : Type 0 where
@@ -32,8 +32,8 @@ abbrev pub line_numbers : Parts → List ℕ
 line_numbers parts = map (λ read. read.line) parts.reads
 
 -- those of no line
-abbrev pub nothing : Parts
-nothing = record { labels = λ name. None; reads = [] }
+abbrev pub no_parts : Parts
+no_parts = record { labels = λ name. None; reads = [] }
 
 -- labels with one more at pc, if there is one
 abbrev pub with_label : Labels → ℕ → Option (List ℕ) → Labels
@@ -41,7 +41,7 @@ with_label labels pc None = labels
 with_label labels pc (Some name) = update bytes_eq labels name (Some pc)
 
 -- instructions with one more, if there is one
-abbrev pub with_draft : List LineDraft → ℕ → Option Draft → List LineDraft
+abbrev pub with_draft : List LineDraft → ℕ → Option InstrDraft → List LineDraft
 with_draft reads number None = reads
 with_draft reads number (Some draft) = reads ++ (record { line = number; draft = draft } ∷ [])
 
@@ -97,10 +97,10 @@ instrs_of parts =
 -- the program of this kind that the lines of a text say, numbered from 1, or their first fault
 abbrev pub code_of : Kind → List (List ℕ) → Result Program AsmFault
 code_of kind lines = do
-  parts ← first_pass nothing 1 lines
+  parts ← first_pass no_parts 1 lines
   instrs ← instrs_of parts
   Ok (record { kind = kind; instrs = instrs })
 
--- the fault where memory ran out, which says nothing of the text
+-- the fault if an allocation fails, which says nothing of the text
 abbrev pub IsOutOfMemory : AsmFault → Type 0
 IsOutOfMemory fault = fault ≡ record { line = 0; why = Memory }

@@ -9,14 +9,14 @@ use Rattle.trlab_asm.specs.declared.names.Mnemonic.{Mnemonic}
 use Rattle.trlab_asm.specs.declared.names.Mnemonic.TheVariants as name
 use Rattle.trlab_asm.specs.declared.printing.Operand.{Operand}
 use Rattle.trlab_asm.specs.declared.printing.Operand.TheVariants.{Register, Input, Number, Label, Beyond}
-use Rattle.trlab_asm.specs.declared.printing.Row.{Row}
-use Rattle.trlab_asm.specs.declared.printing.Row.TheVariants.{Bare, One, Two, Three}
+use Rattle.trlab_asm.specs.declared.printing.Operation.{Operation}
+use Rattle.trlab_asm.specs.declared.printing.Operation.TheVariants.{Bare, One, Two, Three}
 
 -- the label of a pc: `L` and its digits
 abbrev pub label_text : ℕ → List ℕ
 label_text pc = 76 ∷ decimal pc
 
--- a target in a program of so many instructions: its label, or past the end of the program `@` and its digits
+-- a target in a program of `count` instructions: its label, or `@` and the pc past the end of the program
 abbrev pub target_text : ℕ → ℕ → List ℕ
 target_text count pc = if nat_lt pc count then label_text pc else 64 ∷ decimal pc
 
@@ -33,18 +33,18 @@ infixr 20 ◌comma◌
 abbrev pub ◌comma◌ : List ℕ → List ℕ → List ℕ
 operand comma others = operand ++ (44 ∷ 32 ∷ others)
 
--- a row: a name, a space, and operands
+-- a name, a space, and operands
 abbrev pub row_text : Mnemonic → List ℕ → List ℕ
 row_text name operands = mnemonic_text name ++ (32 ∷ operands)
 
--- a row of one name and its operands
-abbrev pub row_says : Row → List ℕ
+-- an instruction as it is printed
+abbrev pub row_says : Operation → List ℕ
 row_says (Bare name) = mnemonic_text name
 row_says (One name a) = row_text name (operand_text a)
 row_says (Two name a b) = row_text name (operand_text a comma operand_text b)
 row_says (Three name a b c) = row_text name (operand_text a comma operand_text b comma operand_text c)
 
--- an instruction, in a program of so many
+-- an instruction, in a program of `count` instructions
 abbrev pub instr_text : ℕ → Instr → List ℕ
 instr_text count (Num d n) = row_text name.Num (register_text d comma decimal n)
 instr_text count (Get d k) = row_text name.Get (register_text d comma input_text k)
@@ -77,19 +77,19 @@ is_pc pc None = false
 is_pc pc (Some t) = nat_eq t pc
 
 -- whether some jump has this target
-abbrev pub is_target : List Instr → ℕ → Bool
-is_target instrs pc = list_any (λ instr. is_pc pc (target instr)) instrs
+abbrev pub is_jumped_to : List Instr → ℕ → Bool
+is_jumped_to instrs pc = list_any (λ instr. is_pc pc (target instr)) instrs
 
 -- an instruction's line, after its label if it is marked
-abbrev pub line_text : ℕ → Bool → ℕ → Instr → List ℕ
-line_text count marked pc instr =
+abbrev pub instr_line : ℕ → Bool → ℕ → Instr → List ℕ
+instr_line count marked pc instr =
     if marked then label_text pc ++ (58 ∷ 32 ∷ instr_text count instr) else instr_text count instr
 
 -- the lines of the instructions from a pc on; those that a jump goes to are marked
 unfoldable pub text_from : List Instr → ℕ → List Instr → List ℕ
 text_from instrs pc [] = []
 text_from instrs pc (instr ∷ left) =
-    line_text (length instrs) (is_target instrs pc) pc instr ++ (10 ∷ text_from instrs (pc + 1) left)
+    instr_line (length instrs) (is_jumped_to instrs pc) pc instr ++ (10 ∷ text_from instrs (pc + 1) left)
 
 -- the canonical text of a program's instructions
 abbrev pub text_of : List Instr → List ℕ

@@ -4,7 +4,7 @@ use Rattle.trlab_code.specs.declared.kind.Kind.{Kind}
 use Rattle.trlab_code.specs.declared.instruction.Register.{Register}
 use Rattle.trlab_code.specs.declared.instruction.Input.{Input}
 use Rattle.trlab_code.specs.Program.{Program, IsProgram}
-use Rattle.trlab_code.specs.Laws.{IsStored}
+use Rattle.trlab_code.specs.Laws.{IsRepresentable}
 use Rattle.trlab_lines.specs.Lines.{lines_of}
 use Rattle.trlab_asm.specs.Names.{register_text, input_text, mnemonic_text, register_named, input_named, mnemonic_named}
 use Rattle.trlab_asm.specs.Assembly.{code_of}
@@ -12,32 +12,32 @@ use Rattle.trlab_asm.specs.Canonical.{text_of}
 use Rattle.trlab_asm.specs.declared.names.Mnemonic.{Mnemonic}
 use Rattle.trlab_asm.specs.declared.fault.Why.TheVariants.{Memory}
 
--- any text says a program, or has a first fault, which is never that memory ran out
+-- any text says a program, or has a first fault, which is never `Memory`
 abbrev pub TextsSaySomething : Type 0
 TextsSaySomething = (kind : Kind) (text : List ℕ)
     → MatchResult (code_of kind (lines_of text)) IsProgram (λ fault. fault.why ≢ Memory)
 
 -- the canonical text of a program says the program
 abbrev pub CanonicalTextSaysTheProgram : Type 0
-CanonicalTextSaysTheProgram = (program : Program) → IsStored program
+CanonicalTextSaysTheProgram = (program : Program) → IsRepresentable program
     → code_of program.kind (lines_of (text_of program.instrs)) ≡ Ok program
 
 -- two programs of one kind with one canonical text are one program
 abbrev pub OneProgramOfAText : Type 0
-OneProgramOfAText = (first second : Program) → IsStored first → IsStored second
+OneProgramOfAText = (first second : Program) → IsRepresentable first → IsRepresentable second
     → first.kind ≡ second.kind → text_of first.instrs ≡ text_of second.instrs → first ≡ second
 
--- a word names a register exactly where it is its text
+-- a word names a register exactly if it is its text
 abbrev pub RegistersAreNamed : Type 0
 RegistersAreNamed = (word : List ℕ) (register : Register)
     → register_named word ≡ Some register ↔ (word ≡ register_text register)
 
--- a word names an input exactly where it is its text
+-- a word names an input exactly if it is its text
 abbrev pub InputsAreNamed : Type 0
 InputsAreNamed = (word : List ℕ) (input : Input)
     → input_named word ≡ Some input ↔ (word ≡ input_text input)
 
--- a word names an instruction exactly where it is its text
+-- a word names an instruction exactly if it is its text
 abbrev pub InstructionsAreNamed : Type 0
 InstructionsAreNamed = (word : List ℕ) (name : Mnemonic)
     → mnemonic_named word ≡ Some name ↔ (word ≡ mnemonic_text name)

@@ -1,6 +1,7 @@
 pub mod Results
 pub mod Names
 pub mod Operands
+pub mod OperandKinds
 pub mod Reading
 pub mod Assembly
 pub mod Stored

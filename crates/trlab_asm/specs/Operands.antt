@@ -1,4 +1,4 @@
--- The operands of an instruction. Several are separated by commas, and each may have blanks beside it.
+-- The operands of an instruction. Commas separate them, and each may have blanks around it.
 use Rattle.std.specs.Prelude.{ℕ, ◌-◌, ◌==◌, ◌&&◌, ◌||◌, not, Bool, List, length, codes, nat_le, nat_lt, Option, None, Some, ok_or, Result, Ok, Err, slice_index, if◌then◌else◌}
 use Rattle.std.specs.List.{list_all}
 use Rattle.std.specs.Char.{is_ascii_digit, is_ascii_alphanumeric}
@@ -12,7 +12,7 @@ use Rattle.trlab_asm.specs.Results.{◌>>=◌}
 use Rattle.trlab_asm.specs.Names.{register_named, input_named}
 use Rattle.trlab_asm.specs.declared.fault.Why.{Why}
 use Rattle.trlab_asm.specs.declared.fault.Why.TheVariants.{Operand, Number}
-use Rattle.trlab_bounds.specs.declared.programs.TheConstants.{GREATEST_NUMBER, MOST_DIGITS}
+use Rattle.trlab_bounds.specs.declared.programs.TheConstants.{MAX_NUMBER, MAX_DIGITS}
 use Rattle.trlab_bounds.specs.declared.programs.TheConstants.{LONGEST_LABEL}
 
 -- the one word of an operand
@@ -35,10 +35,10 @@ digits_of text = if is_numeral text then Ok text else Err Operand
 abbrev pub numeral : List ℕ → Result (List ℕ) Why
 numeral text = word text >>= digits_of
 
--- the number that ten digits or fewer stand for, where it is from low to high
+-- the value of at most ten digits, which must be from low to high
 abbrev pub value_within : ℕ → ℕ → List ℕ → Result ℕ Why
 value_within low high digits =
-    if nat_le (length digits) MOST_DIGITS
+    if nat_le (length digits) MAX_DIGITS
     && (nat_le low (digits_value 10 digits) && nat_le (digits_value 10 digits) high)
     then Ok (digits_value 10 digits) else Err Number
 
@@ -46,16 +46,16 @@ value_within low high digits =
 abbrev pub number : ℕ → ℕ → List ℕ → Result ℕ Why
 number low high text = numeral text >>= value_within low high
 
--- where a jump goes: a pc; or the pc that a label names, which is not known yet and is written as 0
+-- where a jump goes: a pc, or a label, whose pc is not known yet and 0 here
 pub record Target : Type 0 where
   pub pc : ℕ
   pub label : Option (List ℕ)
 
--- letters, digits and `_` alone
+-- only letters, digits and `_`
 abbrev pub all_label_bytes : List ℕ → Bool
 all_label_bytes text = list_all (λ c. is_ascii_alphanumeric c || c == 95) text
 
--- 1 to 32 letters, digits or `_`, and no digit first
+-- 1 to LONGEST_LABEL letters, digits and `_`, and the first is not a digit
 abbrev pub is_label : List ℕ → Bool
 is_label text =
     (nat_lt 0 (length text) && nat_le (length text) LONGEST_LABEL)
@@ -70,7 +70,7 @@ abbrev pub pc_named : List ℕ → Result Target Why
 pc_named text = do
   digits ← ok_or (without_prefix (codes "@") text) Operand
   digits ← digits_of digits
-  pc ← value_within 0 GREATEST_NUMBER digits
+  pc ← value_within 0 MAX_NUMBER digits
   at_pc pc
 
 -- a target that is a label, or a pc
@@ -78,11 +78,11 @@ abbrev pub target_named : List ℕ → Result Target Why
 target_named text = if is_label text then Ok (record { pc = 0; label = Some text }) else pc_named text
 
 -- a jump's operand
-abbrev pub target : List ℕ → Result Target Why
-target text = word text >>= target_named
+abbrev pub jump_target : List ℕ → Result Target Why
+jump_target text = word text >>= target_named
 
 infixr 15 ◌then◌
--- what stands before the first comma, and then what stands after it
+-- the text before the first comma, and then the text after it
 abbrev pub ◌then◌ : {A B : Type 0} → (List ℕ → Result A Why) → (List ℕ → Result B Why)
     → List ℕ → Result (A × B) Why
 (first then rest) text = do
@@ -91,7 +91,7 @@ abbrev pub ◌then◌ : {A B : Type 0} → (List ℕ → Result A Why) → (List
   y ← rest parts.1
   Ok (x, y)
 
--- the shapes of operands, beside `register` and `target`
+-- the shapes of operands, besides `register` and `jump_target`
 
 -- no operand
 abbrev pub no_operand : List ℕ → Result (Unit {0}) Why
@@ -110,12 +110,12 @@ abbrev pub register_input : List ℕ → Result (Register × Input) Why
 register_input = register then input
 
 -- a register and a number that is at least low
-abbrev pub register_number : ℕ → List ℕ → Result (Register × ℕ) Why
-register_number low = register then number low GREATEST_NUMBER
+abbrev pub register_and_number : ℕ → List ℕ → Result (Register × ℕ) Why
+register_and_number low = register then number low MAX_NUMBER
 
 -- two registers and a number that is at least low
 abbrev pub two_registers_number : ℕ → List ℕ → Result (Register × (Register × ℕ)) Why
-two_registers_number low = register then register_number low
+two_registers_number low = register then register_and_number low
 
 -- the digits of two numbers
 abbrev pub two_numerals : List ℕ → Result (List ℕ × List ℕ) Why
@@ -135,7 +135,7 @@ register_word_chance = register then word_chance
 
 -- a register and a target
 abbrev pub register_target : List ℕ → Result (Register × Target) Why
-register_target = register then target
+register_target = register then jump_target
 
 -- two registers and a target
 abbrev pub two_registers_target : List ℕ → Result (Register × (Register × Target)) Why

@@ -3,30 +3,30 @@ use Rattle.std.specs.Prelude.{ℕ, ◌==◌, List, length, nat_lt, Option, None,
 use Rattle.trlab_code.specs.declared.instruction.Instr.{Instr}
 use Rattle.trlab_code.specs.declared.instruction.Instr.TheVariants.{Num, Get, Side, Draw, Copy, Add, Sub, Mul, Div, Min, Max, Not, And, Or, Jump, JumpLess, JumpAtMost, JumpTrue, JumpFalse, Go, Cross, Stay}
 use Rattle.trlab_code.specs.declared.instruction.Register.{Register}
-use Rattle.trlab_bounds.specs.declared.programs.TheConstants.{MOST_INSTRUCTIONS}
+use Rattle.trlab_bounds.specs.declared.programs.TheConstants.{MAX_INSTRUCTIONS}
 use Rattle.trlab_lines.specs.Cutting.{without_comment, label_and_rest, without_indent, up_to_blank, only_word}
 use Rattle.trlab_asm.specs.Names.{mnemonic_named}
 use Rattle.trlab_asm.specs.Results.{◌>>=◌}
-use Rattle.trlab_asm.specs.Operands.{Target, is_label, no_operand, register, two_registers, three_registers, register_input, register_number, two_registers_number, register_word_chance, target, register_target, two_registers_target}
+use Rattle.trlab_asm.specs.Operands.{Target, is_label, no_operand, register, two_registers, three_registers, register_input, register_and_number, two_registers_number, register_word_chance, jump_target, register_target, two_registers_target}
 use Rattle.trlab_asm.specs.declared.fault.Why.{Why}
 use Rattle.trlab_asm.specs.declared.fault.Why.TheVariants.{Word, LabelTwice, TooLong}
 use Rattle.trlab_asm.specs.declared.names.Mnemonic.{Mnemonic}
 use Rattle.trlab_asm.specs.declared.names.Mnemonic.TheVariants as name
 
--- an instruction as it was read: where a label names its target, that is still 0
-pub record Draft : Type 0 where
+-- an instruction as it was read; if its target is a label, the target is still 0
+pub record InstrDraft : Type 0 where
   pub instr : Instr
   pub label : Option (List ℕ)
 
 -- an instruction that has all its operands
-abbrev pub whole_draft : Instr → Result Draft Why
+abbrev pub whole_draft : Instr → Result InstrDraft Why
 whole_draft instr = Ok (record { instr = instr; label = None })
 
 -- a jump to a target
-abbrev pub jump_draft : (ℕ → Instr) → Target → Result Draft Why
+abbrev pub jump_draft : (ℕ → Instr) → Target → Result InstrDraft Why
 jump_draft instr to = Ok (record { instr = instr to.pc; label = to.label })
 
--- what a name makes of the operands of its shape; the last name of a shape stands for all others
+-- the instruction of a name and its operands, one definition per shape; the last case covers all other names
 abbrev pub of_none : Mnemonic → Instr
 of_none name.Cross = Cross
 of_none other = Stay
@@ -56,8 +56,8 @@ of_two_target name.JumpLess a b t = JumpLess a b t
 of_two_target other a b t = JumpAtMost a b t
 
 -- the instruction of a name and its operands
-abbrev pub draft_of : Mnemonic → List ℕ → Result Draft Why
-draft_of name.Num text = register_number 0 text >>= λ x. whole_draft (Num x.0 x.1)
+abbrev pub draft_of : Mnemonic → List ℕ → Result InstrDraft Why
+draft_of name.Num text = register_and_number 0 text >>= λ x. whole_draft (Num x.0 x.1)
 draft_of name.Get text = register_input text >>= λ x. whole_draft (Get x.0 x.1)
 draft_of name.Side text = register text >>= λ d. whole_draft (Side d)
 draft_of name.Draw text = register_word_chance text >>= λ x. whole_draft (Draw x.0 x.1.0 x.1.1)
@@ -71,7 +71,7 @@ draft_of name.Max text = three_registers text >>= λ x. whole_draft (Max x.0 x.1
 draft_of name.Not text = two_registers text >>= λ x. whole_draft (Not x.0 x.1)
 draft_of name.And text = three_registers text >>= λ x. whole_draft (And x.0 x.1.0 x.1.1)
 draft_of name.Or text = three_registers text >>= λ x. whole_draft (Or x.0 x.1.0 x.1.1)
-draft_of name.Jump text = target text >>= jump_draft Jump
+draft_of name.Jump text = jump_target text >>= jump_draft Jump
 draft_of name.JumpLess text = two_registers_target text >>= λ x. jump_draft (JumpLess x.0 x.1.0) x.1.1
 draft_of name.JumpAtMost text = two_registers_target text >>= λ x. jump_draft (JumpAtMost x.0 x.1.0) x.1.1
 draft_of name.JumpTrue text = register_target text >>= λ x. jump_draft (JumpTrue x.0) x.1
@@ -82,13 +82,13 @@ draft_of name.Stay text = no_operand text >>= λ none. whole_draft Stay
 
 -- the instruction at pc, from its name and what follows: first the name is judged, then whether a program has
 -- room for it, then its operands
-abbrev pub instruction : ℕ → List ℕ × List ℕ → Result (Option Draft) Why
+abbrev pub instruction : ℕ → List ℕ × List ℕ → Result (Option InstrDraft) Why
 instruction pc parts = do
   name ← ok_or (mnemonic_named parts.0) Word
-  if nat_lt pc MOST_INSTRUCTIONS then (draft_of name parts.1 >>= λ draft. Ok (Some draft)) else Err TooLong
+  if nat_lt pc MAX_INSTRUCTIONS then (draft_of name parts.1 >>= λ draft. Ok (Some draft)) else Err TooLong
 
 -- the instruction of a text without leading blanks, if it is not empty
-abbrev pub body : ℕ → List ℕ → Result (Option Draft) Why
+abbrev pub body : ℕ → List ℕ → Result (Option InstrDraft) Why
 body pc text = if length text == 0 then Ok None else instruction pc (up_to_blank text)
 
 -- the pc of each name that is a label
@@ -112,7 +112,7 @@ label_of labels (Some text) = ok_or (only_word text) Word >>= new_label labels
 -- what a line says: a label, an instruction, both or none
 pub record Line : Type 0 where
   pub label : Option (List ℕ)
-  pub draft : Option Draft
+  pub draft : Option InstrDraft
 
 -- what a line says that is cut at its `:`
 abbrev pub parts_say : Labels → ℕ → Option (List ℕ) × List ℕ → Result Line Why
@@ -121,6 +121,6 @@ parts_say labels pc parts = do
   draft ← body pc (without_indent parts.1)
   Ok (record { label = label; draft = draft })
 
--- what a line says after these labels, where its instruction is that of this pc
+-- what a line says after these labels, if its instruction is the one at this pc
 abbrev pub line_says : Labels → ℕ → List ℕ → Result Line Why
 line_says labels pc line = parts_say labels pc (label_and_rest (without_comment line))

@@ -4,7 +4,7 @@ use Rattle.std.specs.Cmp.Lexicographic.{slice_cmp}
 use Rattle.std.specs.BTreeMap as tree
 use Rattle.trlab_asm.specs.Reading.{Labels}
 use Rattle.trlab_asm.specs.Assembly.{Parts}
-use Rattle.trlab_asm.specs.declared.labels.Labels.{Labels as Map}
+use Rattle.trlab_asm.specs.declared.reading.Labels.{Labels as Map}
 use Rattle.trlab_asm.specs.declared.parts.Parts.{Parts as Lists}
 
 -- the pc of each name that a map has as a key

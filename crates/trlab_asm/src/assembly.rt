@@ -1,25 +1,24 @@
-//! The assembler: a first pass over the lines finds labels and instructions, a second one gives jumps
-//! the pcs of their labels.
+//! The assembler: the first pass collects labels and instructions, the second one resolves the labels.
 
 ghost use Rattle.std.specs.Prelude.{◌≡◌, ◌≤◌, ◌⊎◌, Ok, length, vec_len, All, map, MatchResult, IfOk};
 ghost use Rattle.trlab_code.specs.Program.{IsInRange};
-ghost use Rattle.trlab_bounds.specs.declared.programs.TheConstants.{MOST_INSTRUCTIONS};
+ghost use Rattle.trlab_bounds.specs.declared.programs.TheConstants.{MAX_INSTRUCTIONS};
 ghost use Rattle.trlab_lines.specs.Lines.{lines_of};
 ghost use Rattle.trlab_asm.specs.Stored.{pcs, stored_parts};
-ghost use Rattle.trlab_asm.specs.Assembly.{Parts as Found, nothing, first_pass, with_target, resolve, second_pass, instrs_of, code_of, line_numbers, IsOutOfMemory};
+ghost use Rattle.trlab_asm.specs.Assembly.{Parts as Found, no_parts, first_pass, with_target, resolve, second_pass, instrs_of, code_of, line_numbers, IsOutOfMemory};
 
 use crate::fault::{AsmFault, Why};
-use crate::labels::Labels;
 use crate::parts::{LineDraft, Parts};
+use crate::reading::Labels;
 use std::alloc::{AllocError, Global};
 use trlab_code::{Code, Instr, Kind};
 use trlab_lines::next_line;
 
-/// The first pass: the labels and the instructions that the lines say, or the first fault.
+/// The first pass: collects labels and instructions, or returns the first fault.
 fn read_parts(alloc: Global, text: &[u8]) -> Result<Parts<'_>, AsmFault>
     ensures { MatchResult result
-        (λ parts. first_pass nothing 1 (lines_of text.now) ≡ Ok (stored_parts parts))
-        (λ fault. (first_pass nothing 1 (lines_of text.now) ≡ Err fault) ⊎ IsOutOfMemory fault) }
+        (λ parts. first_pass no_parts 1 (lines_of text.now) ≡ Ok (stored_parts parts))
+        (λ fault. (first_pass no_parts 1 (lines_of text.now) ≡ Err fault) ⊎ IsOutOfMemory fault) }
 {
     let mut parts = Parts::new(alloc);
     let mut left = text;
@@ -33,7 +32,7 @@ fn read_parts(alloc: Global, text: &[u8]) -> Result<Parts<'_>, AsmFault>
     Ok(parts)
 }
 
-/// A jump with another target; other instructions have none.
+/// Replaces the target of a jump; other instructions stay as they are.
 fn with_target(pc: u32, instr: Instr) -> Instr
     ensures value { result ≡ with_target pc instr }
     ensures in_range { IsInRange instr → IsInRange result }
@@ -48,7 +47,7 @@ fn with_target(pc: u32, instr: Instr) -> Instr
     }
 }
 
-/// An instruction that was read, with the pc of its label, if it names one.
+/// The instruction of a draft, with the pc of its label, if it has one.
 fn resolve<'a>(labels: &Labels<'a>, read: &LineDraft<'a>) -> Result<Instr, AsmFault>
     ensures value { result ≡ resolve (pcs labels.now) read.now }
     ensures in_range { IfOk result IsInRange }
@@ -66,7 +65,7 @@ fn resolve<'a>(labels: &Labels<'a>, read: &LineDraft<'a>) -> Result<Instr, AsmFa
     }
 }
 
-/// The second pass: the instructions that were read with their targets, or the first fault.
+/// The second pass: resolves all labels, or returns the first fault.
 fn resolve_all<'a>(
     alloc: Global,
     labels: &Labels<'a>,
@@ -88,13 +87,13 @@ fn resolve_all<'a>(
     Ok(instrs)
 }
 
-/// The instructions of what was read, or the first fault; none is a fault.
+/// All instructions with their targets, or the first fault, which may be that there are none.
 fn instrs_of(alloc: Global, parts: &Parts<'_>) -> Result<Vec<Instr>, AsmFault>
     ensures told { MatchResult result
         (λ instrs. instrs_of (stored_parts parts.now) ≡ Ok instrs.items)
         (λ fault. (instrs_of (stored_parts parts.now) ≡ Err fault) ⊎ IsOutOfMemory fault) }
     ensures some { IfOk result (λ instrs. 1 ≤ vec_len instrs) }
-    ensures few { IfOk result (λ instrs. vec_len instrs ≤ MOST_INSTRUCTIONS) }
+    ensures few { IfOk result (λ instrs. vec_len instrs ≤ MAX_INSTRUCTIONS) }
     ensures in_range { IfOk result (λ instrs. All IsInRange instrs.items) }
 {
     let reads = parts.reads();
@@ -108,14 +107,14 @@ fn instrs_of(alloc: Global, parts: &Parts<'_>) -> Result<Vec<Instr>, AsmFault>
     }
 }
 
-/// The program of this kind that a text says, or the first fault of the text.
+/// Assembles the lines of a program.
 ///
-/// Each line has a label, an instruction, both or none; from `;` on it is a comment. Names may be
-/// used before the line that they label. Whether the kind allows an instruction is not judged here.
+/// A line has a label, an instruction, both or neither, and may end with a comment after `;`. A label may be
+/// used before the line that defines it. Whether the kind allows an instruction is left to the verifier.
 ///
 /// # Errors
 ///
-/// The first fault of the text, as `Why` orders them; or `Memory`, where memory ran out.
+/// The first fault of the text, in the order of `Why`, or `Why::Memory` if an allocation fails.
 pub fn assemble(alloc: Global, kind: Kind, text: &[u8]) -> Result<Code, AsmFault>
     ensures told { MatchResult result
         (λ code. code_of kind (lines_of text.now) ≡ Ok code)
@@ -129,24 +128,23 @@ pub fn assemble(alloc: Global, kind: Kind, text: &[u8]) -> Result<Code, AsmFault
     }
 }
 
-/// The numbers of the lines of instructions.
 fn numbers_of(alloc: Global, reads: &[LineDraft<'_>]) -> Result<Vec<usize>, AllocError>
     ensures { IfOk result (λ numbers. numbers.items ≡ map (λ read. read.line) reads.now) }
 {
     reads.iter().map(LineDraft::line).collect(alloc)
 }
 
-/// The numbers of the lines on which the instructions of a text stand, counted from 1.
+/// The line number of each instruction of a text, counted from 1.
 ///
 /// # Errors
 ///
-/// The first fault of the text, unless it is that no line has a jump's label; or `Memory`, where memory ran
-/// out.
+/// The first fault of the text, except missing labels (`NoLabel`), which are not looked up; or `Why::Memory` if
+/// an allocation fails.
 pub fn instruction_lines(alloc: Global, text: &[u8]) -> Result<Vec<usize>, AsmFault>
     ensures { MatchResult result
         (λ numbers. (parts : Found)
-        × (first_pass nothing 1 (lines_of text.now) ≡ Ok parts) × (numbers.items ≡ line_numbers parts))
-        (λ fault. (first_pass nothing 1 (lines_of text.now) ≡ Err fault) ⊎ IsOutOfMemory fault) }
+        × (first_pass no_parts 1 (lines_of text.now) ≡ Ok parts) × (numbers.items ≡ line_numbers parts))
+        (λ fault. (first_pass no_parts 1 (lines_of text.now) ≡ Err fault) ⊎ IsOutOfMemory fault) }
 {
     let parts = read_parts(alloc, text)?;
     numbers_of(alloc, parts.reads()).map_err(AsmFault::from)

@@ -1,4 +1,4 @@
-//! The faults of program texts, and which of several is the first.
+//! The faults of program texts and their order.
 
 ghost use Rattle.std.specs.Prelude.{◌≡◌};
 ghost use Rattle.trlab_asm.specs.declared.fault.Why.TheVariants.{Memory};
@@ -6,11 +6,11 @@ ghost use Rattle.trlab_asm.specs.declared.fault.Why.TheVariants.{Memory};
 use std::alloc::AllocError;
 use thiserror::Error;
 
-/// What is wrong, with its number.
+/// What is wrong with a program text, with its number.
 ///
-/// In a line, read from left to right, a label that is there twice or that is none comes first, then
-/// the instruction's name, then its room, then the form of all operands, then their ranges. Lines are
-/// read in order. `Empty` comes after all these, and then `NoLabel`, again in the order of lines.
+/// Lines are read in order. In a line, faults of the label come first, then an unknown instruction, then too
+/// many instructions, then the form of all operands, then their ranges. `Empty` comes after all lines, and then
+/// `NoLabel`, again in the order of lines.
 #[derive(Clone, Copy, Debug, PartialEq, Eq, Error)]
 pub enum Why {
     #[error("no instruction has this name, or no label can")]
@@ -31,7 +31,7 @@ pub enum Why {
     Memory = 8,
 }
 
-/// The first fault of a text. Lines are counted from 1; `Empty` and `Memory` stand at line 0.
+/// The first fault of a text. Lines are counted from 1; `Empty` and `Memory` have line 0.
 #[derive(Clone, Copy, Debug, PartialEq, Eq, Error)]
 #[error("line {line}: {why}")]
 pub struct AsmFault {

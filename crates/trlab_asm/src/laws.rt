@@ -1,30 +1,30 @@
-//! Laws of program texts, whichever code reads and prints them.
+//! Laws of program texts, independent of the code that reads and prints them.
 //!
-//! Each law is the contract of a function with nothing to do.
+//! Each law is the contract of a function with an empty body.
 
 ghost use Rattle.trlab_asm.specs.Laws.{CanonicalTextSaysTheProgram, OneProgramOfAText, TextsSaySomething};
 ghost use Rattle.trlab_asm.specs.Laws.{InputsAreNamed, InstructionsAreNamed, RegistersAreNamed};
 
-/// Registers, inputs and instructions are named by their texts, and by no other words.
+/// Each register, input and instruction has one name, which no other one has.
 pub fn names()
     ensures registers { RegistersAreNamed }
     ensures inputs { InputsAreNamed }
     ensures instructions { InstructionsAreNamed }
 {}
 
-/// Any text says a program, or has a first fault, which is never that memory ran out.
+/// Any text says a program or has a first fault, which is never `Memory`.
 #[tactic(auto, using(crate::proofs::Said::something))]
 pub fn texts_say_something()
     ensures { TextsSaySomething }
 {}
 
-/// The canonical text of a program says the program.
+/// The canonical text of a program says this program.
 #[tactic(auto, using(crate::proofs::Reread::again))]
 pub fn canonical_text_says_the_program()
     ensures { CanonicalTextSaysTheProgram }
 {}
 
-/// Two programs of one kind with one canonical text are one program.
+/// Two programs of one kind with the same canonical text are equal.
 #[tactic(auto, using(crate::proofs::Reread::one_program))]
 pub fn one_program_of_a_text()
     ensures { OneProgramOfAText }

@@ -1,4 +1,4 @@
-//! The names of registers, inputs and instructions: one table each, by which they are read and printed.
+//! The names of registers, inputs and instructions: one table each, for reading and for printing.
 
 ghost use Rattle.std.specs.Prelude.{◌≡◌, ℕ, List, bytes_eq};
 ghost use Rattle.std.specs.List.{find};
@@ -29,7 +29,7 @@ pub const INPUTS: [Input; 7] = [
     Input::Headspeed,
 ];
 
-/// The name of an instruction.
+/// An instruction without its operands.
 #[derive(Clone, Copy, PartialEq, Eq)]
 pub enum Mnemonic {
     Num,
@@ -56,7 +56,7 @@ pub enum Mnemonic {
     Stay,
 }
 
-/// All names of instructions.
+/// All instructions.
 pub const MNEMONICS: [Mnemonic; 22] = [
     Mnemonic::Num,
     Mnemonic::Get,
@@ -82,7 +82,7 @@ pub const MNEMONICS: [Mnemonic; 22] = [
     Mnemonic::Stay,
 ];
 
-/// The text of a register: `r0` to `r7`.
+/// `r0` to `r7`.
 pub fn register_text(register: Register) -> &'static [u8]
     ensures { result.now ≡ register_text register }
 {
@@ -98,7 +98,7 @@ pub fn register_text(register: Register) -> &'static [u8]
     }
 }
 
-/// The text of an input.
+/// The name of an input, for example `sidegap`.
 pub fn input_text(input: Input) -> &'static [u8]
     ensures { result.now ≡ input_text input }
 {
@@ -113,7 +113,7 @@ pub fn input_text(input: Input) -> &'static [u8]
     }
 }
 
-/// The text of an instruction's name.
+/// The name of an instruction, for example `jlt`.
 pub fn mnemonic_text(name: Mnemonic) -> &'static [u8]
     ensures { result.now ≡ mnemonic_text name }
 {
@@ -143,11 +143,10 @@ pub fn mnemonic_text(name: Mnemonic) -> &'static [u8]
     }
 }
 
-/// What is named by its text.
+/// A value with a name.
 trait Named: Copy {
     ghost said: { Self → List ℕ };
 
-    /// Its text.
     fn text(self) -> &'static [u8]
         ensures { result.now ≡ said self };
 }
@@ -176,28 +175,26 @@ impl Named for Mnemonic {
     }
 }
 
-/// The first of these that has a text.
+/// The first of these values with this name.
 fn first_named<X: Named>(all: &[X], word: &[u8]) -> Option<X>
     ensures { result ≡ find (λ x. bytes_eq (X.said x) word.now) all.now }
 {
     all.iter().copied().find(|x| x.text() == word)
 }
 
-/// The register of a text.
 pub(crate) fn register_named(word: &[u8]) -> Option<Register>
     ensures { result ≡ register_named word.now }
 {
     first_named(&REGISTERS, word)
 }
 
-/// The input of a text.
 pub(crate) fn input_named(word: &[u8]) -> Option<Input>
     ensures { result ≡ input_named word.now }
 {
     first_named(&INPUTS, word)
 }
 
-/// The instruction's name of a text.
+/// The instruction with this name.
 pub fn mnemonic_named(word: &[u8]) -> Option<Mnemonic>
     ensures { result ≡ mnemonic_named word.now }
 {

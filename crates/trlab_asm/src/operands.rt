@@ -1,49 +1,236 @@
-//! Operands: commas separate them, and an instruction has one of eleven shapes of them.
+//! The operands of an instruction, which commas separate: what each has to be, and how they are read.
 
-ghost use Rattle.std.specs.Prelude.{Ok, ◌≡◌, ◌≤◌, ◌<◌, true, IfOk, ok_or};
+ghost use Rattle.std.specs.Prelude.{◌≡◌, ◌≤◌, true, IfOk, option_map, Ok, ◌<◌, ok_or};
+ghost use Rattle.trlab_asm.specs.OperandKinds.{kinds_of, range_of, has_form};
+ghost use Rattle.trlab_asm.specs.Operands.{digits_of, value_within, Target as Goal, is_label, all_label_bytes, pc_named, target_named, word, register, input, numeral, two_numerals, number, jump_target, no_operand, two_registers, three_registers, register_input, register_and_number, two_registers_number, word_chance, register_word_chance, register_target, two_registers_target};
+ghost use Rattle.trlab_asm.specs.Results.{map_ok, ◌>>=◌ as ◌followed◌};
+ghost use Rattle.trlab_lines.specs.Numbers.{all_digits};
 ghost use Rattle.trlab_bounds.specs.declared.programs.TheConstants.{WORDS, CERTAIN};
 ghost use Rattle.trlab_lines.specs.Cutting.{cut};
-ghost use Rattle.trlab_lines.specs.Numbers.{all_digits};
-ghost use Rattle.trlab_asm.specs.Operands.{word, register, input, numeral, two_numerals, number, target, no_operand, two_registers, three_registers, register_input, register_number, two_registers_number, word_chance, register_word_chance, register_target, two_registers_target};
-ghost use Rattle.trlab_asm.specs.Results.{map_ok, ◌>>=◌ as ◌followed◌};
 
 use crate::fault::Why;
-use crate::names::{input_named, register_named};
-use crate::numbers::{digits_of, number_of, value_within};
-use crate::target::{Target, target_named};
-use trlab_bounds::programs::GREATEST_NUMBER;
+use crate::names::{Mnemonic, input_named, register_named};
+use std::marker::Model;
+use trlab_bounds::programs::{LONGEST_LABEL, MAX_DIGITS, MAX_NUMBER};
 use trlab_code::{CERTAIN, Input, Register, WORDS};
-use trlab_lines::{cut, only_word};
+use trlab_lines::{cut, digits_value, is_numeral, only_word};
 
-/// Two operands, or the fault of the first that has one.
+/// What an operand of an instruction has to be.
+#[derive(Clone, Copy, PartialEq, Eq)]
+pub enum OperandKind {
+    /// A register that is read.
+    Register,
+    /// The register to which the result is written.
+    Result,
+    /// Any number.
+    Number,
+    /// A number by which another one is divided.
+    Divisor,
+    /// The number of a random word.
+    Word,
+    /// A probability, times 2^31.
+    Chance,
+    /// An input.
+    Input,
+    /// The target of a jump.
+    Target,
+}
+
+impl OperandKind {
+    /// The smallest and the largest number that it may be; `None` if it is not a number.
+    pub fn range(self) -> Option<(u32, u32)>
+        ensures { result ≡ range_of self }
+    {
+        match self {
+            OperandKind::Number => Some((0, MAX_NUMBER)),
+            OperandKind::Divisor => Some((1, MAX_NUMBER)),
+            OperandKind::Word => Some((0, WORDS as u32 - 1)),
+            OperandKind::Chance => Some((0, CERTAIN)),
+            OperandKind::Register
+            | OperandKind::Result
+            | OperandKind::Input
+            | OperandKind::Target => None,
+        }
+    }
+
+    /// Whether a word has the form of this operand. A number may still be outside its range.
+    pub fn has_form(self, word: &[u8]) -> bool
+        ensures { result ≡ has_form self word.now }
+    {
+        match self {
+            OperandKind::Register | OperandKind::Result => register_named(word).is_some(),
+            OperandKind::Input => input_named(word).is_some(),
+            OperandKind::Target => match word.strip_prefix(b"@") {
+                Some(digits) => is_numeral(digits),
+                None => is_label(word),
+            },
+            OperandKind::Number | OperandKind::Divisor | OperandKind::Word | OperandKind::Chance =>
+                is_numeral(word),
+        }
+    }
+}
+
+/// What the operands of an instruction have to be, from left to right.
+pub fn operand_kinds(name: Mnemonic) -> &'static [OperandKind]
+    ensures { result.now ≡ kinds_of name }
+{
+    match name {
+        Mnemonic::Num => &[OperandKind::Result, OperandKind::Number],
+        Mnemonic::Get => &[OperandKind::Result, OperandKind::Input],
+        Mnemonic::Side => &[OperandKind::Result],
+        Mnemonic::Draw => &[OperandKind::Result, OperandKind::Word, OperandKind::Chance],
+        Mnemonic::Copy | Mnemonic::Not => &[OperandKind::Result, OperandKind::Register],
+        Mnemonic::Add
+        | Mnemonic::Sub
+        | Mnemonic::Min
+        | Mnemonic::Max
+        | Mnemonic::And
+        | Mnemonic::Or => &[
+            OperandKind::Result,
+            OperandKind::Register,
+            OperandKind::Register,
+        ],
+        Mnemonic::Mul => &[
+            OperandKind::Result,
+            OperandKind::Register,
+            OperandKind::Number,
+        ],
+        Mnemonic::Div => &[
+            OperandKind::Result,
+            OperandKind::Register,
+            OperandKind::Divisor,
+        ],
+        Mnemonic::Jump => &[OperandKind::Target],
+        Mnemonic::JumpLess | Mnemonic::JumpAtMost => &[
+            OperandKind::Register,
+            OperandKind::Register,
+            OperandKind::Target,
+        ],
+        Mnemonic::JumpTrue | Mnemonic::JumpFalse => &[OperandKind::Register, OperandKind::Target],
+        Mnemonic::Go => &[OperandKind::Register],
+        Mnemonic::Cross | Mnemonic::Stay => &[],
+    }
+}
+
+/// The word, if it has the form of a number.
+pub(crate) fn digits_of(text: &[u8]) -> Result<&[u8], Why>
+    ensures value { map_ok (λ digits. digits.now) result ≡ digits_of text.now }
+    ensures digits { IfOk result (λ digits. all_digits digits.now ≡ true) }
+{
+    if is_numeral(text) {
+        Ok(text)
+    } else {
+        Err(Why::Operand)
+    }
+}
+
+/// The value of digits, which must be from `low` to `high`.
+pub(crate) fn value_within(low: u32, high: u32, digits: &[u8]) -> Result<u32, Why>
+    requires { all_digits digits.now ≡ true }
+    ensures value { result ≡ value_within low high digits.now }
+    ensures low { IfOk result (λ n. low ≤ n) }
+    ensures high { IfOk result (λ n. n ≤ high) }
+{
+    if digits.len() > MAX_DIGITS {
+        return Err(Why::Number);
+    }
+    let n = digits_value(digits);
+    if u64::from(low) <= n && n <= u64::from(high) {
+        Ok(n as u32)
+    } else {
+        Err(Why::Number)
+    }
+}
+
+/// The number that a word writes, which must be from `low` to `MAX_NUMBER`.
+pub(crate) fn number_of(low: u32, word: &[u8]) -> Result<u32, Why>
+    ensures value { result ≡ digits_of word.now followed value_within low MAX_NUMBER }
+    ensures low { IfOk result (λ n. low ≤ n) }
+{
+    value_within(low, MAX_NUMBER, digits_of(word)?)
+}
+
+/// Where a jump goes: a pc, or a label, whose pc is not known yet and 0 here.
+#[derive(Drop)]
+pub(crate) struct Target<'a> {
+    pub pc: u32,
+    pub label: Option<&'a [u8]>,
+}
+
+impl<'a> Model for Target<'a> {
+    ghost Value = { Goal };
+
+    ghost view = { λ target. record { pc = target.pc; label = option_map (λ label. label.now) target.label } };
+}
+
+fn all_label_bytes(text: &[u8]) -> bool
+    ensures { result ≡ all_label_bytes text.now }
+{
+    text.iter()
+        .all(|byte| byte.is_ascii_alphanumeric() || *byte == b'_')
+}
+
+/// Whether a word can be a label: at most `LONGEST_LABEL` letters, digits and `_`, and the first is not a digit.
+pub fn is_label(text: &[u8]) -> bool
+    ensures { result ≡ is_label text.now }
+{
+    !text.is_empty()
+        && text.len() <= LONGEST_LABEL
+        && !text[0].is_ascii_digit()
+        && all_label_bytes(text)
+}
+
+/// The pc of a target such as `@12`.
+fn pc_named(text: &[u8]) -> Result<Target<'_>, Why>
+    ensures { result ≡ pc_named text.now }
+{
+    let Some(digits) = text.strip_prefix(b"@") else {
+        return Err(Why::Operand);
+    };
+    let pc = number_of(0, digits)?;
+    Ok(Target { pc, label: None })
+}
+
+pub(crate) fn target_named(text: &[u8]) -> Result<Target<'_>, Why>
+    ensures { result ≡ target_named text.now }
+{
+    if is_label(text) {
+        Ok(Target {
+            pc: 0,
+            label: Some(text),
+        })
+    } else {
+        pc_named(text)
+    }
+}
+
+/// Both operands, or the first fault.
 fn both<A: Drop, B: Drop>(first: Result<A, Why>, second: Result<B, Why>) -> Result<(A, B), Why>
     ensures { result ≡ first followed λ a. second followed λ b. Ok (a, b) }
 {
     Ok((first?, second?))
 }
 
-/// The one word of an operand.
+/// The only word of an operand, which may be empty.
 fn word(text: &[u8]) -> Result<&[u8], Why>
     ensures { map_ok (λ word. word.now) result ≡ word text.now }
 {
     only_word(text).ok_or(Why::Operand)
 }
 
-/// A register.
 pub(crate) fn register(text: &[u8]) -> Result<Register, Why>
     ensures { result ≡ register text.now }
 {
     register_named(word(text)?).ok_or(Why::Operand)
 }
 
-/// An input.
 fn input(text: &[u8]) -> Result<Input, Why>
     ensures { result ≡ input text.now }
 {
     input_named(word(text)?).ok_or(Why::Operand)
 }
 
-/// The digits of an operand that has the form of a number.
+/// The digits of an operand with the form of a number; its range is checked later.
 fn numeral(text: &[u8]) -> Result<&[u8], Why>
     ensures value { map_ok (λ digits. digits.now) result ≡ numeral text.now }
     ensures digits { IfOk result (λ digits. all_digits digits.now ≡ true) }
@@ -51,22 +238,20 @@ fn numeral(text: &[u8]) -> Result<&[u8], Why>
     digits_of(word(text)?)
 }
 
-/// A number that is at least low.
+/// A number from `low` to `MAX_NUMBER`.
 fn number(low: u32, text: &[u8]) -> Result<u32, Why>
-    ensures value { result ≡ number low GREATEST_NUMBER text.now }
+    ensures value { result ≡ number low MAX_NUMBER text.now }
     ensures low { IfOk result (λ n. low ≤ n) }
 {
     number_of(low, word(text)?)
 }
 
-/// A jump's operand.
-pub(crate) fn target(text: &[u8]) -> Result<Target<'_>, Why>
-    ensures { result ≡ target text.now }
+pub(crate) fn jump_target(text: &[u8]) -> Result<Target<'_>, Why>
+    ensures { result ≡ jump_target text.now }
 {
     target_named(word(text)?)
 }
 
-/// No operand.
 pub(crate) fn no_operand(text: &[u8]) -> Result<(), Why>
     ensures { result ≡ no_operand text.now }
 {
@@ -76,7 +261,6 @@ pub(crate) fn no_operand(text: &[u8]) -> Result<(), Why>
     }
 }
 
-/// Two registers.
 pub(crate) fn two_registers(text: &[u8]) -> Result<(Register, Register), Why>
     ensures { result ≡ two_registers text.now }
 {
@@ -86,7 +270,6 @@ pub(crate) fn two_registers(text: &[u8]) -> Result<(Register, Register), Why>
     }
 }
 
-/// Three registers.
 pub(crate) fn three_registers(text: &[u8]) -> Result<(Register, (Register, Register)), Why>
     ensures { result ≡ three_registers text.now }
 {
@@ -96,7 +279,6 @@ pub(crate) fn three_registers(text: &[u8]) -> Result<(Register, (Register, Regis
     }
 }
 
-/// A register and an input.
 pub(crate) fn register_input(text: &[u8]) -> Result<(Register, Input), Why>
     ensures { result ≡ register_input text.now }
 {
@@ -106,9 +288,8 @@ pub(crate) fn register_input(text: &[u8]) -> Result<(Register, Input), Why>
     }
 }
 
-/// A register and a number that is at least low.
-pub(crate) fn register_number(low: u32, text: &[u8]) -> Result<(Register, u32), Why>
-    ensures value { result ≡ register_number low text.now }
+pub(crate) fn register_and_number(low: u32, text: &[u8]) -> Result<(Register, u32), Why>
+    ensures value { result ≡ register_and_number low text.now }
     ensures low { IfOk result (λ operands. low ≤ operands.1) }
 {
     match cut(text, b',') {
@@ -117,7 +298,6 @@ pub(crate) fn register_number(low: u32, text: &[u8]) -> Result<(Register, u32), 
     }
 }
 
-/// Two registers and a number that is at least low.
 pub(crate) fn two_registers_number(
     low: u32,
     text: &[u8],
@@ -126,12 +306,11 @@ pub(crate) fn two_registers_number(
     ensures low { IfOk result (λ operands. low ≤ operands.1.1) }
 {
     match cut(text, b',') {
-        Some((first, rest)) => both(register(first), register_number(low, rest)),
+        Some((first, rest)) => both(register(first), register_and_number(low, rest)),
         None => Err(Why::Operand),
     }
 }
 
-/// The digits of two numbers.
 fn two_numerals(text: &[u8]) -> Result<(&[u8], &[u8]), Why>
     ensures value { map_ok (λ parts. (parts.0.now, parts.1.now)) result ≡ two_numerals text.now }
     ensures first { IfOk result (λ parts. all_digits parts.0.now ≡ true) }
@@ -143,9 +322,8 @@ fn two_numerals(text: &[u8]) -> Result<(&[u8], &[u8]), Why>
     }
 }
 
-/// The number of a random word, and a chance in parts of 2^31.
-///
-/// The forms of both are judged before the ranges of both.
+/// The number of a random word, and a probability times 2^31. The form of each is checked before the range of
+/// either.
 fn word_chance(text: &[u8]) -> Result<(u32, u32), Why>
     ensures value { result ≡ word_chance text.now }
     ensures word { IfOk result (λ operands. operands.0 < WORDS) }
@@ -158,7 +336,6 @@ fn word_chance(text: &[u8]) -> Result<(u32, u32), Why>
     )
 }
 
-/// A register, the number of a random word, and a chance in parts of 2^31.
 pub(crate) fn register_word_chance(text: &[u8]) -> Result<(Register, (u32, u32)), Why>
     ensures value { result ≡ register_word_chance text.now }
     ensures word { IfOk result (λ operands. operands.1.0 < WORDS) }
@@ -170,17 +347,15 @@ pub(crate) fn register_word_chance(text: &[u8]) -> Result<(Register, (u32, u32))
     }
 }
 
-/// A register and a target.
 pub(crate) fn register_target(text: &[u8]) -> Result<(Register, Target<'_>), Why>
     ensures { result ≡ register_target text.now }
 {
     match cut(text, b',') {
-        Some((first, rest)) => both(register(first), target(rest)),
+        Some((first, rest)) => both(register(first), jump_target(rest)),
         None => Err(Why::Operand),
     }
 }
 
-/// Two registers and a target.
 pub(crate) fn two_registers_target(text: &[u8]) -> Result<(Register, (Register, Target<'_>)), Why>
     ensures { result ≡ two_registers_target text.now }
 {

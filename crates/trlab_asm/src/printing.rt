@@ -1,16 +1,19 @@
-//! Instructions as they are printed: a name, a space, and operands with a comma and a space between.
+//! The disassembler: prints a program in its canonical form.
 
-ghost use Rattle.std.specs.Prelude.{◌≡◌, ◌++◌, decimal, OnOk};
+ghost use Rattle.std.specs.Prelude.{◌≡◌, ◌++◌, decimal, OnOk, Ok, IfOk};
 ghost use Rattle.trlab_code.specs.Laws.{HasWord};
-ghost use Rattle.trlab_asm.specs.Canonical.{operand_text, target_text, ◌comma◌, row_text, row_says, instr_text, line_text};
+ghost use Rattle.trlab_asm.specs.Canonical.{operand_text, target_text, ◌comma◌, row_text, row_says, instr_text, instr_line, is_pc, is_jumped_to, text_of};
+ghost use Rattle.trlab_code.specs.Flow.{target};
+ghost use Rattle.trlab_lines.specs.Lines.{lines_of};
+ghost use Rattle.trlab_asm.specs.Assembly.{code_of};
 
 use crate::names::{Mnemonic, input_text, mnemonic_text, register_text};
 use Operand::{Beyond, Input, Label, Number, Register};
-use Row::{Bare, One, Three, Two};
+use Operation::{Bare, One, Three, Two};
 use std::alloc::{AllocError, Global};
-use trlab_code::Instr;
+use trlab_code::{Code, Instr};
 
-/// An operand. A target is a label of the program, or a pc beyond it.
+/// An operand as it is printed. A target is `Label` inside the program and `Beyond` past its end.
 #[derive(Clone, Copy)]
 enum Operand {
     Register(trlab_code::Register),
@@ -20,16 +23,16 @@ enum Operand {
     Beyond(u32),
 }
 
-/// A name and its operands.
+/// An instruction as it is printed.
 #[derive(Clone, Copy)]
-enum Row {
+enum Operation {
     Bare(Mnemonic),
     One(Mnemonic, Operand),
     Two(Mnemonic, Operand, Operand),
     Three(Mnemonic, Operand, Operand, Operand),
 }
 
-/// A target in a program of so many instructions.
+/// The target of a jump in a program of `count` instructions.
 fn target(count: usize, pc: u32) -> Operand
     ensures { operand_text result ≡ target_text count pc }
 {
@@ -40,7 +43,6 @@ fn target(count: usize, pc: u32) -> Operand
     }
 }
 
-/// A text and decimal digits.
 fn push_number(alloc: Global, out: &mut Vec<u8>, prefix: &str, n: u32) -> Result<(), AllocError>
     ensures { OnOk result (out.new.items ≡ out.old.items ++ (prefix.now ++ decimal n)) }
 {
@@ -48,7 +50,6 @@ fn push_number(alloc: Global, out: &mut Vec<u8>, prefix: &str, n: u32) -> Result
     out.extend_from_slice(text.as_bytes())
 }
 
-/// A text and an operand.
 fn push_operand(
     alloc: Global,
     out: &mut Vec<u8>,
@@ -67,7 +68,6 @@ fn push_operand(
     }
 }
 
-/// A name and an operand.
 fn push_one(alloc: Global, out: &mut Vec<u8>, name: Mnemonic, a: Operand) -> Result<(), AllocError>
     ensures { OnOk result (out.new.items ≡ out.old.items ++ row_text name (operand_text a)) }
 {
@@ -75,7 +75,6 @@ fn push_one(alloc: Global, out: &mut Vec<u8>, name: Mnemonic, a: Operand) -> Res
     push_operand(alloc, out, b" ", a)
 }
 
-/// A name and two operands.
 fn push_two(
     alloc: Global,
     out: &mut Vec<u8>,
@@ -89,11 +88,11 @@ fn push_two(
     push_operand(alloc, out, b", ", b)
 }
 
-/// The row of an instruction, in a program of so many.
-fn row_of(count: usize, instr: Instr) -> Row
+/// The name and the operands of an instruction, in a program of `count` instructions.
+fn row_of(count: usize, instr: Instr) -> Operation
     ensures value { row_says result ≡ instr_text count instr }
 
-    // As each number of this type has.
+    // Holds for each `u32`.
     ensures word { HasWord instr }
 {
     match instr {
@@ -128,8 +127,7 @@ fn row_of(count: usize, instr: Instr) -> Row
     }
 }
 
-/// A row.
-fn push_row(alloc: Global, out: &mut Vec<u8>, row: Row) -> Result<(), AllocError>
+fn push_row(alloc: Global, out: &mut Vec<u8>, row: Operation) -> Result<(), AllocError>
     ensures { OnOk result (out.new.items ≡ out.old.items ++ row_says row) }
 {
     match row {
@@ -143,7 +141,7 @@ fn push_row(alloc: Global, out: &mut Vec<u8>, row: Row) -> Result<(), AllocError
     }
 }
 
-/// The line of an instruction in a program of so many, after its label if it is marked.
+/// The line of an instruction in a program of `count` instructions; `marked` puts its label in front.
 pub(crate) fn push_line(
     alloc: Global,
     out: &mut Vec<u8>,
@@ -152,9 +150,9 @@ pub(crate) fn push_line(
     pc: u32,
     instr: Instr,
 ) -> Result<(), AllocError>
-    ensures line { OnOk result (out.new.items ≡ out.old.items ++ line_text count marked pc instr) }
+    ensures line { OnOk result (out.new.items ≡ out.old.items ++ instr_line count marked pc instr) }
 
-    // As each number of this type has.
+    // Holds for each `u32`.
     ensures word { HasWord instr }
 {
     if marked {
@@ -162,4 +160,42 @@ pub(crate) fn push_line(
         out.extend_from_slice(b": ")?;
     }
     push_row(alloc, out, row_of(count, instr))
+}
+
+fn jumps_to(instr: Instr, pc: u32) -> bool
+    ensures { result ≡ is_pc pc (target instr) }
+{
+    match instr.target() {
+        Some(target) => target == pc,
+        None => false,
+    }
+}
+
+fn is_jumped_to(instrs: &[Instr], pc: u32) -> bool
+    ensures { result ≡ is_jumped_to instrs.now pc }
+{
+    instrs.iter().any(|instr| jumps_to(*instr, pc))
+}
+
+/// The canonical text of a program: one instruction per line, and each line ends with LF.
+///
+/// An instruction to which a jump goes has a label, `L` and its pc. A comma and a space separate operands. A
+/// target past the end of the program is `@` and the pc.
+///
+/// # Errors
+///
+/// If an allocation fails.
+pub fn disassemble(alloc: Global, code: &Code) -> Result<Vec<u8>, AllocError>
+    ensures canonical { IfOk result (λ text. text.items ≡ text_of code.now.instrs) }
+
+    ensures again { IfOk result (λ text. code_of code.now.kind (lines_of text.items) ≡ Ok code.now) }
+{
+    let instrs = code.instrs();
+    let mut text = Vec::new(alloc);
+    for (pc, instr) in instrs.iter().enumerate() {
+        let marked = is_jumped_to(instrs, pc as u32);
+        push_line(alloc, &mut text, instrs.len(), marked, pc as u32, *instr)?;
+        text.push(b'\n')?;
+    }
+    Ok(text)
 }

@@ -1,4 +1,4 @@
--- A desk goes on from call to call of its runners.
+-- The calls of runners at a desk, one after another.
 use Rattle.std.specs.Prelude.{Result, Ok, Err, OnOk, IsOk, ◌↔◌, ◌⊎◌}
 use Rattle.std.proofs.Common.{◌≡◌, cond, subst, inl, inr, ℕ, ◌+◌, ◌<◌, ◌≤◌, max, Bool, true, false, List, [], ◌∷◌, ◌++◌, refl, sym, ap, ◌∙◌, arith, append_assoc, append-nil, MatchBool}
 use Rattle.std.proofs.lemmas.List.Sums.{sum_by-append}
@@ -9,20 +9,20 @@ use Rattle.trlab_sequential_book.specs.declared.event.Reply.{Reply}
 use Rattle.trlab_sequential_book.specs.declared.event.Reply.TheVariants.{Refused}
 use Rattle.trlab_sequential_book.specs.declared.fault.BookFault.{BookFault}
 use Rattle.trlab_sequential_book.specs.declared.fault.BookFault.TheVariants.{Ended, Full, HistoryFull, LanesMismatch, Memory, NoSuchJob, SheetFull, StrangerLease}
-use Rattle.trlab_book.specs.declared.fault.RunFault.{RunFault}
-use Rattle.trlab_book.specs.declared.fault.RunFault.TheVariants as run
+use Rattle.trlab_book.specs.declared.running.RunFault.{RunFault}
+use Rattle.trlab_book.specs.declared.running.RunFault.TheVariants as run
 use Rattle.trlab_sequential_book.specs.Answers.{is_event}
 use Rattle.trlab_sequential_book.specs.Comparison.{OrderCall, offered}
 use Rattle.trlab_sequential_book.specs.Leases.{LeaseState}
-use Rattle.trlab_sequential_book.specs.Machine.{State}
+use Rattle.trlab_sequential_book.specs.Machine.{BookState}
 use Rattle.trlab_sequential_book.specs.Replay.{event}
-use Rattle.trlab_strands.specs.declared.ledger.Ledger.{Ghosts}
+use Rattle.trlab_strands.specs.declared.knowledge.Ledger.{Ghosts}
 use Rattle.trlab_strands.specs.declared.knowledge.Noted.{Noted}
 use Rattle.trlab_strands.specs.Knowledge.{noted, number_of}
 use Rattle.trlab_strands.specs.Tokens as strand
 use Rattle.trlab_book.specs.declared.desk.Desk.{Desk}
-use Rattle.trlab_book.specs.Desks.{AreOfRunners, GoesOn, HasEnded, HasSeen, IsNoEvent, IsOneEvent, MakesOf, subhistory_of, is_of_runner, finds_no_job, least_of, no_job_count, parts_of, tells_full}
-use Rattle.trlab_sequential_book.specs.declared.limits.TheConstants.{MOST_EVENTS}
+use Rattle.trlab_book.specs.Desks.{AreOfRunners, AddsRunnerCalls, HasEnded, HasSeen, IsNoEvent, IsOneEvent, MakesOf, subhistory_of, is_of_runner, finds_no_job, least_of, no_job_count, parts_of, tells_full}
+use Rattle.trlab_sequential_book.specs.declared.book.TheConstants.{MAX_EVENTS}
 
 -- calls within a span are within a wider one
 wider : (from to below above : ℕ) (numbered : List (Noted Event)) → below ≤ from → to ≤ above → AreOfRunners from to numbered → AreOfRunners below above numbered
@@ -38,7 +38,7 @@ both from to xs ys first second =
     All-append (λ (x : Noted Event). (from ≤ number_of x) × (number_of x < to) × (is_of_runner x.event.call ≡ true)) xs ys first second
 
 module _ {L : Type 0} {ledger : Ghosts L} where
-  pub goes_on : (a b c : Desk L ledger) → GoesOn a b → GoesOn b c → GoesOn a c
+  pub goes_on : (a b c : Desk L ledger) → AddsRunnerCalls a b → AddsRunnerCalls b c → AddsRunnerCalls a c
   goes_on a b c first second = record {
     parts = second.parts ∙ first.parts;
     least = let p = first.least in let q = second.least in omega arith;
@@ -53,12 +53,12 @@ module _ {L : Type 0} {ledger : Ghosts L} where
   is_none : (a b : Desk L ledger) (told : Reply) → IsNoEvent a told b → (subhistory_of b ≡ subhistory_of a) × (least_of a ≤ least_of b)
   is_none a b told none = by_full (tells_full told) none
     where
-      by_full : (whole : Bool) → MatchBool whole (HasSeen a MOST_EVENTS b) (strand.IsSame a.strand b.strand) → (subhistory_of b ≡ subhistory_of a) × (least_of a ≤ least_of b)
+      by_full : (whole : Bool) → MatchBool whole (HasSeen a MAX_EVENTS b) (strand.IsSame a.strand b.strand) → (subhistory_of b ≡ subhistory_of a) × (least_of a ≤ least_of b)
       by_full true seen = (seen.1, seen.2)
       by_full false kept = let q = kept.2 in (kept.1, omega arith)
 
-  -- a desk with the same calls goes on
-  stays : (a b : Desk L ledger) → parts_of b ≡ parts_of a → (subhistory_of b ≡ subhistory_of a) × (least_of a ≤ least_of b) → GoesOn a b
+  -- a desk with the same calls has added none
+  stays : (a b : Desk L ledger) → parts_of b ≡ parts_of a → (subhistory_of b ≡ subhistory_of a) × (least_of a ≤ least_of b) → AddsRunnerCalls a b
   stays a b same kept = record {
     parts = same;
     least = kept.1;
@@ -67,12 +67,12 @@ module _ {L : Type 0} {ledger : Ghosts L} where
     runners = All-nil _;
   }
 
-  -- a call of a runner goes on
-  pub makes_goes : (Holds : State → Type 0) (a b : Desk L ledger) (call : Call) (told : Reply) → MakesOf Holds a call told b → is_of_runner call ≡ true → GoesOn a b
+  -- a call of a runner is added
+  pub makes_goes : (Holds : BookState → Type 0) (a b : Desk L ledger) (call : Call) (told : Reply) → MakesOf Holds a call told b → is_of_runner call ≡ true → AddsRunnerCalls a b
   makes_goes Holds a b call told made of_runner = by_event (is_event told) made.0 made.1
     where
       by_event : (one : Bool) → parts_of b ≡ parts_of a
-          → MatchBool one ((book : State) × IsOneEvent a call told b book × Holds book) (IsNoEvent a told b) → GoesOn a b
+          → MatchBool one ((book : BookState) × IsOneEvent a call told b book × Holds book) (IsNoEvent a told b) → AddsRunnerCalls a b
       by_event true same one =
           let before = one.1.before in
           let adds = one.1.noted in
@@ -86,17 +86,17 @@ module _ {L : Type 0} {ledger : Ghosts L} where
           }
       by_event false same none = stays a b same (is_none a b told none)
 
-  -- so does an order, whatever is said of its lease
-  pub orders_on : (Holds : Bool → State → Type 0) (a b c : Desk L ledger) (lease : LeaseState) (told : Reply) → GoesOn a b
-      → (same : Bool) × MakesOf (Holds same) b (OrderCall (offered lease same)) told c → GoesOn a c
+  -- so is an order, for any value of `same`
+  pub orders_on : (Holds : Bool → BookState → Type 0) (a b c : Desk L ledger) (lease : LeaseState) (told : Reply) → AddsRunnerCalls a b
+      → (same : Bool) × MakesOf (Holds same) b (OrderCall (offered lease same)) told c → AddsRunnerCalls a c
   orders_on Holds a b c lease told on made = goes_on a b c on (makes_goes (Holds made.0) b c (OrderCall (offered lease made.0)) told made.1 refl)
 
-  -- a desk of which a part was split off, through both of which runners have called, is gathered again
+  -- runners have called through both parts of a desk that was split, and the parts are gathered again
   pub gathers : (old kept given mine theirs new : Desk L ledger) → parts_of kept + 1 ≡ parts_of old → parts_of given ≡ 1
       → subhistory_of kept ≡ subhistory_of old → subhistory_of given ≡ [] → least_of kept ≡ least_of old → least_of given ≡ least_of old
-      → GoesOn kept mine → GoesOn given theirs
+      → AddsRunnerCalls kept mine → AddsRunnerCalls given theirs
       → parts_of new ≡ parts_of mine + parts_of theirs → subhistory_of new ≡ subhistory_of mine ++ subhistory_of theirs → least_of new ≡ max (least_of mine) (least_of theirs)
-      → GoesOn old new
+      → AddsRunnerCalls old new
   gathers old kept given mine theirs new fewer one was free low least first second parts joined greater =
       let a = first.least in
       let b = second.least in
@@ -118,14 +118,14 @@ none_append : (xs ys : List (Noted Event)) → no_job_count (xs ++ ys) ≡ no_jo
 none_append xs ys = sum_by-append (λ (n : Noted Event). cond (finds_no_job n.event) 1 0) xs ys
 
 module _ {L : Type 0} {ledger : Ghosts L} where
-  -- a desk that goes on loses no such call
-  none_rises : (a b : Desk L ledger) → GoesOn a b → no_job_count (subhistory_of a) ≤ no_job_count (subhistory_of b)
+  -- a desk to which calls are added loses no such call
+  none_rises : (a b : Desk L ledger) → AddsRunnerCalls a b → no_job_count (subhistory_of a) ≤ no_job_count (subhistory_of b)
   none_rises a b on =
       let all = ap no_job_count on.subhistory ∙ none_append (subhistory_of a) on.more in
       omega arith
 
   -- runners end after other calls
-  pub ended_after : (runners : ℕ) (ended : Result (Unit {0}) RunFault) (a b c : Desk L ledger) → GoesOn a b → HasEnded runners ended b c → HasEnded runners ended a c
+  pub ended_after : (runners : ℕ) (ended : Result (Unit {0}) RunFault) (a b c : Desk L ledger) → AddsRunnerCalls a b → HasEnded runners ended b c → HasEnded runners ended a c
   ended_after runners ended a b c on end = record { on = goes_on a b c on end.on; no_job = by_end ended end.no_job; full = end.full }
     where
       by_end : (e : Result (Unit {0}) RunFault) → OnOk e (no_job_count (subhistory_of b) + runners ≤ no_job_count (subhistory_of c)) → OnOk e (no_job_count (subhistory_of a) + runners ≤ no_job_count (subhistory_of c))
@@ -133,11 +133,11 @@ module _ {L : Type 0} {ledger : Ghosts L} where
       by_end (Err fault) out = tt
 
   -- a runner that goes on has not ended with a fault
-  pub ended_none : (a b : Desk L ledger) → GoesOn a b → HasEnded 0 (Ok tt) a b
+  pub ended_none : (a b : Desk L ledger) → AddsRunnerCalls a b → HasEnded 0 (Ok tt) a b
   ended_none a b on = let rises = none_rises a b on in record { on = on; no_job = omega arith; full = λ e. absurd (cc e) }
 
   -- after a call that answers HistoryFull its desk has seen the whole history
-  pub full_seen : (Holds : State → Type 0) (a b : Desk L ledger) (call : Call) (fault : BookFault) → MakesOf Holds a call (Refused fault) b → fault ≡ HistoryFull → MOST_EVENTS ≤ least_of b
+  pub full_seen : (Holds : BookState → Type 0) (a b : Desk L ledger) (call : Call) (fault : BookFault) → MakesOf Holds a call (Refused fault) b → fault ≡ HistoryFull → MAX_EVENTS ≤ least_of b
   full_seen Holds a b call HistoryFull made is = made.1.3
   full_seen Holds a b call Memory made is = absurd (cc is)
   full_seen Holds a b call Ended made is = absurd (cc is)

@@ -1,4 +1,4 @@
--- What is noted at a desk is the last event of the history.
+-- A desk notes the last event of the history.
 use denote.Struct.Props.{props}
 use Rattle.std.proofs.Math.Logic.{∥∥₁_elim}
 use Rattle.std.proofs.lemmas.Bool.{MatchBool-at_false, ltb-false, not-true}
@@ -7,12 +7,12 @@ use Rattle.trlab_sequential_book.specs.declared.event.Call.{Call}
 use Rattle.trlab_sequential_book.specs.declared.event.Event.{Event}
 use Rattle.trlab_sequential_book.specs.declared.event.Reply.{Reply}
 use Rattle.trlab_sequential_book.specs.Answers.{is_event}
-use Rattle.trlab_sequential_book.specs.Machine.{State, is_full}
+use Rattle.trlab_sequential_book.specs.Machine.{BookState, is_full}
 use Rattle.trlab_sequential_book.specs.declared.fault.BookFault.TheVariants.{HistoryFull}
 use Rattle.trlab_sequential_book.specs.declared.event.Reply.TheVariants.{Refused}
-use Rattle.trlab_sequential_book.specs.declared.limits.TheConstants.{MOST_EVENTS}
+use Rattle.trlab_sequential_book.specs.declared.book.TheConstants.{MAX_EVENTS}
 use Rattle.trlab_sequential_book.specs.Replay.{Replays, event}
-use Rattle.trlab_strands.specs.declared.ledger.Ledger.{Ghosts}
+use Rattle.trlab_strands.specs.declared.knowledge.Ledger.{Ghosts}
 use Rattle.trlab_strands.specs.Tokens as strand
 use Rattle.trlab_book.specs.declared.desk.Desk.{Desk}
 use Rattle.trlab_book.specs.declared.kept.Kept.{Kept}
@@ -31,13 +31,13 @@ has_come old new call told list made full was = record {
   history = subst (λ (l : List Event). MatchBool (is_event told) (new.history.items ≡ l ++ event call told ∷ []) (new.history.items ≡ l)) was (appended old new call told (is_event told) made);
   full = λ none.
       let same : IsUnchanged old new = MatchBool-at_false (Appends old call told new) (IsUnchanged old new) none made in
-      subst (λ (b : State). (told ≡ Refused HistoryFull) ↔ (is_full b ≡ true)) (sym same.book) full;
+      subst (λ (b : BookState). (told ≡ Refused HistoryFull) ↔ (is_full b ≡ true)) (sym same.book) full;
 }
 
--- a full book has had MOST_EVENTS events
-history_is_full : (kept : Kept) → is_full kept.book ≡ true → MOST_EVENTS ≤ length kept.history.items
+-- a full book has had MAX_EVENTS events
+history_is_full : (kept : Kept) → is_full kept.book ≡ true → MAX_EVENTS ≤ length kept.history.items
 history_is_full kept full =
-    let most : MOST_EVENTS ≤ kept.book.count = ltb-false kept.book.count MOST_EVENTS (not-true _ full) in
+    let most : MAX_EVENTS ≤ kept.book.count = ltb-false kept.book.count MAX_EVENTS (not-true _ full) in
     ∥∥₁_elim kept.replays (hlevel props) (λ (r : Replays kept.history.items kept.book). omega (arith, r.count_is, most))
 
 full_reply : (told : Reply) → tells_full told ≡ true → told ≡ Refused HistoryFull
@@ -45,13 +45,13 @@ full_reply (Refused HistoryFull) is = refl
 full_reply told is = absurd (cc is)
 
 module _ {L : Type 0} {ledger : Ghosts L} where
-  -- a call that is no event
+  -- a call that is not an event
   pub is_none : (old : Kept) (told : Reply) (list : List Event) (from to : Desk L ledger) → parts_of to ≡ parts_of from → old.history.items ≡ list → TellsFull old told
       → MatchBool (tells_full told) (strand.HasSeen from.strand (length list) to.strand) (strand.IsSame from.strand to.strand) → IsNoEvent from told to
   is_none old told list from to parts was full down = by_full (tells_full told) refl down
     where
       by_full : (whole : Bool) → tells_full told ≡ whole → MatchBool whole (strand.HasSeen from.strand (length list) to.strand) (strand.IsSame from.strand to.strand)
-          → MatchBool whole ((parts_of to ≡ parts_of from) × (strand.subhistory_of to.strand ≡ strand.subhistory_of from.strand) × (least_of from ≤ least_of to) × (MOST_EVENTS ≤ least_of to)) (strand.IsSame from.strand to.strand)
+          → MatchBool whole ((parts_of to ≡ parts_of from) × (strand.subhistory_of to.strand ≡ strand.subhistory_of from.strand) × (least_of from ≤ least_of to) × (MAX_EVENTS ≤ least_of to)) (strand.IsSame from.strand to.strand)
       by_full true is seen =
           let most = history_is_full old (full.0 (full_reply told is)) in
           let long : length old.history.items ≡ length list = ap length was in
@@ -59,7 +59,7 @@ module _ {L : Type 0} {ledger : Ghosts L} where
       by_full false is same = same
 
   -- a call that is made under the lock, and put down at a desk, is one of this desk
-  pub is_made : (Holds : State → Type 0) (old new : Kept) (call : Call) (told : Reply) (list : List Event) (from to : Desk L ledger)
+  pub is_made : (Holds : BookState → Type 0) (old new : Kept) (call : Call) (told : Reply) (list : List Event) (from to : Desk L ledger)
       → Makes old call told new → old.history.items ≡ list → (is_event told ≡ true → Holds old.book) → TellsFull old told
       → PutsDown from list call told to → MakesOf Holds from call told to
   is_made Holds old new call told list from to made was holds full noted =
@@ -67,7 +67,7 @@ module _ {L : Type 0} {ledger : Ghosts L} where
     where
       by_event : (one : Bool) → is_event told ≡ one → MatchBool one (Appends old call told new) (IsUnchanged old new)
           → MatchBool one (strand.Adds from.strand list (event call told) to.strand) (MatchBool (tells_full told) (strand.HasSeen from.strand (length list) to.strand) (strand.IsSame from.strand to.strand))
-          → MatchBool one ((book : State) × IsOneEvent from call told to book × Holds book) (IsNoEvent from told to)
+          → MatchBool one ((book : BookState) × IsOneEvent from call told to book × Holds book) (IsNoEvent from told to)
       by_event true is appends adds = (
         old.book,
         record {

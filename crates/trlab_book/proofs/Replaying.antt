@@ -1,4 +1,4 @@
--- One event more is one call more to replay.
+-- One more event is one more call to replay.
 use Rattle.std.specs.List.{position}
 use Rattle.std.proofs.Common.{◌≡◌, ℕ, ◌+◌, ◌==◌, ◌||◌, inl, inr, max, ◌↔◌, IsTrue, Bool, List, [], ◌∷◌, ◌++◌, true, false, map, refl, sym, ap, subst, ◌∙◌, arith, length-append, MatchBool, Option, Some, None, slice_get, slice_set}
 use Rattle.std.specs.Prelude.{Result, Ok, Err, ◌⊎◌, is_some, not, ltb, length, if◌then◌else◌}
@@ -17,7 +17,7 @@ use Rattle.trlab_sequential_book.specs.declared.fault.BookFault.TheVariants.{End
 use Rattle.trlab_sequential_book.specs.Answers.{LeadsAs, RepliesAs, is_event, is_memory}
 use Rattle.trlab_sequential_book.specs.Comparison.{IsSame, LeaseCall, OrderCall, offered}
 use Rattle.trlab_sequential_book.specs.Leases.{LeaseState, suits}
-use Rattle.trlab_sequential_book.specs.Machine.{JobState, Outcome, Served, State, after, cancelling, giving_back, is_free, is_full, is_own, leasing, new_job, next_after, on_free, on_job, ordering, reading, refused, replacing, reply_of, revoking, served, start, submitting}
+use Rattle.trlab_sequential_book.specs.Machine.{JobState, Outcome, Served, BookState, after, cancelling, giving_back, is_free, is_full, is_own, leasing, new_job, next_after, on_free, on_job, ordering, reading, refused, replacing, reply_of, revoking, served, start, submitting}
 use Rattle.trlab_sequential_book.specs.Sheets.{begin_in_force, entered}
 use Rattle.trlab_sequential_book.specs.declared.seed.Seed.{Seed}
 use Rattle.trlab_rules.specs.Rules.{Programs}
@@ -25,21 +25,21 @@ use Rattle.trlab_sequential_book.specs.Replay.{Replays, call_of, event, replies_
 use Rattle.trlab_book.specs.declared.kept.Kept.{Kept}
 use Rattle.trlab_book.specs.Events.{Appends, IsUnchanged, Makes, TellsFull}
 
-replies_more : (s : State) (cs : List Call) (c : Call)
+replies_more : (s : BookState) (cs : List Call) (c : Call)
     → replies_from s (cs ++ c ∷ []) ≡ replies_from s cs ++ reply_of (state_from s cs) c ∷ []
 replies_more s [] c = refl
 replies_more s (d ∷ cs) c = ap (λ rs. reply_of s d ∷ rs) (replies_more (after s d) cs c)
 
-state_more : (s : State) (cs : List Call) (c : Call) → state_from s (cs ++ c ∷ []) ≡ after (state_from s cs) c
+state_more : (s : BookState) (cs : List Call) (c : Call) → state_from s (cs ++ c ∷ []) ≡ after (state_from s cs) c
 state_more s [] c = refl
 state_more s (d ∷ cs) c = state_more (after s d) cs c
 
-replays_more : (history : List Event) (s : State) (c : Call) → Replays history s → is_full s ≡ false
+replays_more : (history : List Event) (s : BookState) (c : Call) → Replays history s → is_full s ≡ false
     → Replays (history ++ event c (reply_of s c) ∷ []) (after s c)
 replays_more history s c r room =
     let calls : map call_of (history ++ event c (reply_of s c) ∷ []) ≡ map call_of history ++ c ∷ [] =
     map-append call_of history (event c (reply_of s c) ∷ []) in
-    let made : State =
+    let made : BookState =
     record { count = s.count + 1; next = next_after s.next (served s c).reply; jobs = (served s c).jobs } in
     let count : (after s c).count ≡ s.count + 1 = ap (λ t. t.count) (cond-false (is_full s) s made room) in
     let len = length-append history (event c (reply_of s c) ∷ []) in
@@ -55,17 +55,17 @@ replays_more history s c r room =
     }
 
 -- no event replays to the empty book
-pub replays_start : (items : List Event) (s : State) → items ≡ [] → s ≡ start → ∥ Replays items s ∥₁
+pub replays_start : (items : List Event) (s : BookState) → items ≡ [] → s ≡ start → ∥ Replays items s ∥₁
 replays_start items s none begun = rw (none, begun) (∣ record { replies = refl; state_is = refl; count_is = refl } ∣₁)
 
 -- a history with a call and its reply after it replays to the state after the call
-replays_on : (history items : List Event) (s t : State) (c : Call) (told : Reply)
+replays_on : (history items : List Event) (s t : BookState) (c : Call) (told : Reply)
     → ∥ Replays history s ∥₁ → is_full s ≡ false → items ≡ history ++ event c told ∷ []
     → told ≡ reply_of s c → t ≡ after s c → ∥ Replays items t ∥₁
 replays_on history items s t c told replays room items_are answered state_is =
     rw (items_are, answered, state_is) (∥∥₁_map replays (λ r. replays_more history s c r room))
 
--- the reply to a call is an event's, where the book is not full and its job's reply is one
+-- the reply to a call is that of an event, if the book is not full and the reply of its job is
 job_is_event : (jobs : List JobState) (i : ℕ) (made : JobState → Outcome) → ((job : JobState) → is_event (made job).reply ≡ true) → is_event (on_job jobs i made).reply ≡ true
 job_is_event jobs i made each = of_job (slice_get jobs i)
   where
@@ -79,11 +79,11 @@ job_is_event jobs i made each = of_job (slice_get jobs i)
     of_job None = refl
     of_job (Some job) = each job
 
-reply_is_event : (s : State) (call : Call) → is_full s ≡ false → is_event (served s call).reply ≡ true → is_event (reply_of s call) ≡ true
+reply_is_event : (s : BookState) (call : Call) → is_full s ≡ false → is_event (served s call).reply ≡ true → is_event (reply_of s call) ≡ true
 reply_is_event s call free is_one =
     ap is_event (cond-false (is_full s) (Refused HistoryFull) (served s call).reply free) ∙ is_one
 
-back_is_event : (s : State) (lease : Offered) → is_full s ≡ false → is_event (reply_of s (GiveBack lease)) ≡ true
+back_is_event : (s : BookState) (lease : Offered) → is_full s ≡ false → is_event (reply_of s (GiveBack lease)) ≡ true
 back_is_event s lease free = reply_is_event s (GiveBack lease) free (job_is_event s.jobs lease.job (giving_back lease) taken)
   where
     taken : (job : JobState) → is_event (giving_back lease job).reply ≡ true
@@ -91,7 +91,7 @@ back_is_event s lease free = reply_is_event s (GiveBack lease) free (job_is_even
         let done : Outcome = record { reply = Done; job = record job { done = lease.step; out = None } } in
         cond_both (is_own lease job) done (refused StrangerLease job) (λ (o : Outcome). is_event o.reply ≡ true) (λ _. refl) (λ _. refl)
 
-order_is_event : (s : State) (lease : Offered) → is_full s ≡ false → is_event (reply_of s (OrderCall lease)) ≡ true
+order_is_event : (s : BookState) (lease : Offered) → is_full s ≡ false → is_event (reply_of s (OrderCall lease)) ≡ true
 order_is_event s lease free = reply_is_event s (OrderCall lease) free (job_is_event s.jobs lease.job (ordering lease) taken)
   where
     taken : (job : JobState) → is_event (ordering lease job).reply ≡ true
@@ -106,7 +106,7 @@ order_is_event s lease free = reply_is_event s (OrderCall lease) free (job_is_ev
         cond_both (job.cancelled || (lease.step == job.steps)) (refused Ended job) going P (λ _. refl)
         (λ _. cond_both (is_own lease job) told refusal P (λ _. refl) (λ _. refl))
 
-revoke_is_event : (s : State) (i : ℕ) → is_full s ≡ false → is_event (reply_of s (Revoke i)) ≡ true
+revoke_is_event : (s : BookState) (i : ℕ) → is_full s ≡ false → is_event (reply_of s (Revoke i)) ≡ true
 revoke_is_event s i free = reply_is_event s (Revoke i) free (job_is_event s.jobs i revoking taken)
   where
     taken : (job : JobState) → is_event (revoking job).reply ≡ true
@@ -114,7 +114,7 @@ revoke_is_event s i free = reply_is_event s (Revoke i) free (job_is_event s.jobs
         let done : Outcome = record { reply = Done; job = record job { out = None } } in
         cond_both (is_some job.out) done (refused StrangerLease job) (λ (o : Outcome). is_event o.reply ≡ true) (λ _. refl) (λ _. refl)
 
-replace_is_event : (s : State) (i : ℕ) (rule : Programs) → is_full s ≡ false → is_event (reply_of s (Replace i rule)) ≡ true
+replace_is_event : (s : BookState) (i : ℕ) (rule : Programs) → is_full s ≡ false → is_event (reply_of s (Replace i rule)) ≡ true
 replace_is_event s i rule free = reply_is_event s (Replace i rule) free (job_is_event s.jobs i (replacing rule) taken)
   where
     taken : (job : JobState) → is_event (replacing rule job).reply ≡ true
@@ -128,7 +128,7 @@ replace_is_event s i rule free = reply_is_event s (Replace i rule) free (job_is_
         (λ _. cond_both (not (suits rule job.seed.road)) (refused LanesMismatch job) full P (λ _. refl)
         (λ _. cond_both (ltb 1024 (length sheet)) (refused SheetFull job) made P (λ _. refl) (λ _. refl)))
 
-submit_is_event : (s : State) (seed : Seed) (rule : Programs) (steps : ℕ) → is_full s ≡ false → is_event (reply_of s (Submit seed rule steps)) ≡ true
+submit_is_event : (s : BookState) (seed : Seed) (rule : Programs) (steps : ℕ) → is_full s ≡ false → is_event (reply_of s (Submit seed rule steps)) ≡ true
 submit_is_event s seed rule steps free = reply_is_event s (Submit seed rule steps) free taken
   where
     taken : is_event (submitting s.jobs seed rule steps).reply ≡ true
@@ -141,17 +141,17 @@ submit_is_event s seed rule steps free = reply_is_event s (Submit seed rule step
         cond_both (not (suits rule seed.road)) lanes some P (λ _. refl)
         (λ _. cond_both (ltb (length s.jobs) 256) made full P (λ _. refl) (λ _. refl))
 
-read_is_event : (s : State) (i : ℕ) → is_full s ≡ false → is_event (reply_of s (Read i)) ≡ true
+read_is_event : (s : BookState) (i : ℕ) → is_full s ≡ false → is_event (reply_of s (Read i)) ≡ true
 read_is_event s i free = reply_is_event s (Read i) free (job_is_event s.jobs i reading (λ _. refl))
 
-lease_is_event : (s : State) → is_full s ≡ false → is_event (reply_of s LeaseCall) ≡ true
+lease_is_event : (s : BookState) → is_full s ≡ false → is_event (reply_of s LeaseCall) ≡ true
 lease_is_event s free = reply_is_event s LeaseCall free (of_free (position is_free s.jobs))
   where
     of_free : (found : Option ℕ) → is_event (on_free s.jobs s.next found).reply ≡ true
     of_free None = refl
     of_free (Some i) = job_is_event s.jobs i (leasing i s.next) (λ _. refl)
 
-cancel_is_event : (s : State) (i : ℕ) → is_full s ≡ false → is_event (reply_of s (Cancel i)) ≡ true
+cancel_is_event : (s : BookState) (i : ℕ) → is_full s ≡ false → is_event (reply_of s (Cancel i)) ≡ true
 cancel_is_event s i free = reply_is_event s (Cancel i) free (job_is_event s.jobs i cancelling taken)
   where
     taken : (job : JobState) → is_event (cancelling job).reply ≡ true
@@ -159,7 +159,7 @@ cancel_is_event s i free = reply_is_event s (Cancel i) free (job_is_event s.jobs
         let done : Outcome = record { reply = Done; job = record job { cancelled = true; out = None } } in
         cond_both (job.cancelled || (job.done == job.steps)) (refused Ended job) done (λ (o : Outcome). is_event o.reply ≡ true) (λ _. refl) (λ _. refl)
 
-call_is_event : (s : State) (call : Call) → is_full s ≡ false → is_event (reply_of s call) ≡ true
+call_is_event : (s : BookState) (call : Call) → is_full s ≡ false → is_event (reply_of s call) ≡ true
 call_is_event s (Submit seed rule steps) free = submit_is_event s seed rule steps free
 call_is_event s (Replace job rule) free = replace_is_event s job rule free
 call_is_event s call.Lease free = lease_is_event s free
@@ -169,7 +169,7 @@ call_is_event s (Revoke job) free = revoke_is_event s job free
 call_is_event s (Cancel job) free = cancel_is_event s job free
 call_is_event s (Read job) free = read_is_event s job free
 
--- an answer that says that memory ran out
+-- an answer that reports a failed allocation
 pub memory_is : {A : Type 0} (answer : Result A BookFault) → is_memory answer ≡ true → answer ≡ Err Memory
 memory_is {A} (Ok done) is = absurd (false≢true is)
 memory_is {A} (Err fault) is = ap Err (by fault is)
@@ -184,13 +184,13 @@ memory_is {A} (Err fault) is = ap Err (by fault is)
     by StrangerLease is = absurd (false≢true is)
     by HistoryFull is = absurd (false≢true is)
 
--- an answer that says that memory ran out is not that of a full book
+-- a full book does not report a failed allocation
 pub memory_free : {A : Type 0} (answer : Result A BookFault) (full : Bool) → (full ≡ true → answer ≡ Err HistoryFull) → is_memory answer ≡ true → full ≡ false
 memory_free answer false says is = refl
 memory_free answer true says is = absurd (false≢true (sym (ap is_memory (says refl)) ∙ is))
 
--- a call of a book, its answer, and what its event has added to the history
-pub record IsPut (s t : State) (call : Call) (said : Reply) (history items : List Event) : Type 0 where
+-- a call of a book, its answer, and the history before and after it
+pub record IsPut (s t : BookState) (call : Call) (said : Reply) (history items : List Event) : Type 0 where
   pub ran_out : Bool
   pub free : ran_out ≡ true → is_full s ≡ false
   pub memory : ran_out ≡ true → said ≡ Refused Memory
@@ -198,8 +198,8 @@ pub record IsPut (s t : State) (call : Call) (said : Reply) (history items : Lis
   pub leads : LeadsAs ran_out s call t
   pub items_are : MatchBool (is_event said) (items ≡ history ++ event call said ∷ []) (items ≡ history)
 
--- it is what `put_event` leaves
-pub put : {s t : State} {call noted : Call} {told said : Reply} {history items : List Event} (ran_out : Bool) → (ran_out ≡ true → is_full s ≡ false)
+-- `put_event` establishes it
+pub put : {s t : BookState} {call noted : Call} {told said : Reply} {history items : List Event} (ran_out : Bool) → (ran_out ≡ true → is_full s ≡ false)
     → (ran_out ≡ true → said ≡ Refused Memory) → RepliesAs ran_out said s call → LeadsAs ran_out s call t → noted ≡ call → told ≡ said
     → MatchBool (is_event told) (items ≡ history ++ event noted told ∷ []) (items ≡ history) → IsPut s t call said history items
 put {s} {t} {call} {noted} {told} {said} {history} {items} ran_out free memory replies leads noted_is told_is ensured =
@@ -213,22 +213,22 @@ put {s} {t} {call} {noted} {told} {said} {history} {items} ran_out free memory r
       items_are = subst (λ (r : Reply). P call r) told_is (subst (λ (c : Call). P c told) noted_is ensured);
     }
 
--- where the book is full, or memory ran out, nothing has changed
-record Stays (s t : State) (said : Reply) (history items : List Event) : Type 0 where
+-- if the book is full, or an allocation failed, nothing has changed
+record Stays (s t : BookState) (said : Reply) (history items : List Event) : Type 0 where
   none : is_event said ≡ false
   full : (said ≡ Refused HistoryFull) ↔ (is_full s ≡ true)
   state : t ≡ s
   items_are : items ≡ history
 
--- else there is an event more
-record Grows (s t : State) (call : Call) (said : Reply) (history items : List Event) : Type 0 where
+-- otherwise there is one more event
+record Grows (s t : BookState) (call : Call) (said : Reply) (history items : List Event) : Type 0 where
   free : is_full s ≡ false
   reply : said ≡ reply_of s call
   is_one : is_event said ≡ true
   state : t ≡ after s call
   items_are : items ≡ history ++ event call said ∷ []
 
-settled : {s t : State} {call : Call} {said : Reply} {history items : List Event} → IsPut s t call said history items
+settled : {s t : BookState} {call : Call} {said : Reply} {history items : List Event} → IsPut s t call said history items
     → Stays s t said history items ⊎ Grows s t call said history items
 settled {s} {t} {call} {said} {history} {items} p = by p.ran_out p.free p.memory p.replies p.leads
   where
@@ -238,7 +238,7 @@ settled {s} {t} {call} {said} {history} {items} p = by p.ran_out p.free p.memory
     judged : said ≡ reply_of s call → t ≡ after s call → (full : Bool) → is_full s ≡ full
         → Stays s t said history items ⊎ Grows s t call said history items
     judged replies leads true is =
-        let made : State =
+        let made : BookState =
         record { count = s.count + 1; next = next_after s.next (served s call).reply; jobs = (served s call).jobs } in
         let refusal : said ≡ Refused HistoryFull =
         replies ∙ cond-true (is_full s) (Refused HistoryFull) (served s call).reply is in
@@ -264,7 +264,7 @@ settled {s} {t} {call} {said} {history} {items} p = by p.ran_out p.free p.memory
     by false free memory replies leads = judged replies leads (is_full s) refl
 
 -- the history replays to the book, as it did before
-pub replays_put : {s t : State} {call : Call} {said : Reply} {history items : List Event} → IsPut s t call said history items
+pub replays_put : {s t : BookState} {call : Call} {said : Reply} {history items : List Event} → IsPut s t call said history items
     → ∥ Replays history s ∥₁ → ∥ Replays items t ∥₁
 replays_put {s} {t} {call} {said} {history} {items} p replays = by (settled p)
   where
@@ -272,7 +272,7 @@ replays_put {s} {t} {call} {said} {history} {items} p replays = by (settled p)
     by (inl stays) = rw (stays.items_are, stays.state) replays
     by (inr grows) = replays_on history items s t call said replays grows.free grows.items_are grows.reply grows.state
 
--- what the call has done to the book and its history
+-- the effect of the call on the book and its history
 pub makes_put : (old ready new : Kept) (call : Call) (said : Reply) → IsUnchanged old ready
     → IsPut ready.book new.book call said ready.history.items new.history.items → Makes old call said new
 makes_put old ready new call said same p = by (settled p)
@@ -294,11 +294,11 @@ makes_put old ready new call said same p = by (settled p)
       answered = grows.reply ∙ ap (λ b. reply_of b call) same.book;
     })
 
--- its answer says that the history is full exactly where it is
-pub tells_put : {t : State} {call : Call} {items : List Event} (old ready : Kept) (said : Reply) → IsUnchanged old ready
+-- its answer says that the history is full exactly if it is
+pub tells_put : {t : BookState} {call : Call} {items : List Event} (old ready : Kept) (said : Reply) → IsUnchanged old ready
     → IsPut ready.book t call said ready.history.items items → TellsFull old said
 tells_put {t} {call} {items} old ready said same p =
-    subst (λ (b : State). (said ≡ Refused HistoryFull) ↔ (is_full b ≡ true)) same.book (by (settled p))
+    subst (λ (b : BookState). (said ≡ Refused HistoryFull) ↔ (is_full b ≡ true)) same.book (by (settled p))
   where
     by : Stays ready.book t said ready.history.items items ⊎ Grows ready.book t call said ready.history.items items
         → (said ≡ Refused HistoryFull) ↔ (is_full ready.book ≡ true)
@@ -315,11 +315,11 @@ one_answer false false P x y = refl
 one_answer true false P x y = absurd (false≢true (y.1 (x.0 refl)))
 one_answer false true P x y = absurd (false≢true (x.1 (y.0 refl)))
 
--- a call that offers a lease, whichever way it is told whether the lease runs its job's road
+-- a call that offers a lease, with any value of `same` that is right
 pub makes_offered : (call : Offered → Call) (old ready new : Kept) (lease : LeaseState) (same other : Bool) (said : Reply) → IsUnchanged old ready
     → IsTrue same ↔ IsSame ready.book.jobs lease → IsTrue other ↔ IsSame old.book.jobs lease
     → IsPut ready.book new.book (call (offered lease same)) said ready.history.items new.history.items → Makes old (call (offered lease other)) said new
 makes_offered call old ready new lease same other said unchanged is is_other p =
-    let mine = subst (λ (b : State). IsTrue other ↔ IsSame b.jobs lease) (sym unchanged.book) is_other in
+    let mine = subst (λ (b : BookState). IsTrue other ↔ IsSame b.jobs lease) (sym unchanged.book) is_other in
     let one = one_answer same other (IsSame ready.book.jobs lease) is mine in
     subst (λ (s : Bool). Makes old (call (offered lease s)) said new) one (makes_put old ready new (call (offered lease same)) said unchanged p)

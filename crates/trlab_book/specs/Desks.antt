@@ -1,10 +1,9 @@
--- What callers see of a desk: the calls that were made through it, each with all that stood before it in the
--- history.
+-- What callers see of a desk: the calls that were made through it, each with its predecessors in the history.
 use Rattle.std.specs.Prelude.{◌≡◌, ◌↔◌, ℕ, ◌+◌, ◌<◌, ◌≤◌, Bool, true, false, ◌&&◌, IsTrue, Result, Err, Option, IfOk, OnOk, count_by, List, length, ◌++◌, All, MatchBool}
 use Rattle.trlab_step.specs.Progress.{Progress}
 use Rattle.trlab_sequential_book.specs.declared.fault.BookFault.{BookFault}
 use Rattle.trlab_sequential_book.specs.declared.fault.BookFault.TheVariants.{HistoryFull}
-use Rattle.trlab_sequential_book.specs.declared.limits.TheConstants.{MOST_EVENTS}
+use Rattle.trlab_sequential_book.specs.declared.book.TheConstants.{MAX_EVENTS}
 use Rattle.trlab_sequential_book.specs.declared.order.Order.{Order}
 use Rattle.trlab_sequential_book.specs.Leases.{LeaseState}
 use Rattle.trlab_sequential_book.specs.Comparison.{IsLent, IsRuleAt, IsSeen}
@@ -14,42 +13,41 @@ use Rattle.trlab_sequential_book.specs.declared.event.Call.TheVariants as call
 use Rattle.trlab_sequential_book.specs.declared.event.Event.{Event}
 use Rattle.trlab_sequential_book.specs.declared.event.Reply.{Reply}
 use Rattle.trlab_sequential_book.specs.declared.event.Reply.TheVariants.{NoLease, Refused}
-use Rattle.trlab_sequential_book.specs.Machine.{State, reply_of}
+use Rattle.trlab_sequential_book.specs.Machine.{BookState, reply_of}
 use Rattle.trlab_sequential_book.specs.Answers.{is_event}
 use Rattle.trlab_sequential_book.specs.Replay.{Replays, event}
 use Rattle.trlab_strands.specs.declared.knowledge.Noted.{Noted}
 use Rattle.trlab_strands.specs.Knowledge.{number_of}
-use Rattle.trlab_strands.specs.declared.ledger.Ledger.{Ghosts}
+use Rattle.trlab_strands.specs.declared.knowledge.Ledger.{Ghosts}
 use Rattle.trlab_strands.specs.Tokens as strand
 use Rattle.trlab_book.specs.declared.desk.Desk.{Desk}
 use Rattle.trlab_book.specs.declared.desk.SharedBook.{SharedBook}
-use Rattle.trlab_book.specs.declared.fault.RunFault.{RunFault}
-use Rattle.trlab_book.specs.declared.fault.RunFault.TheVariants as run
+use Rattle.trlab_book.specs.declared.running.RunFault.{RunFault}
+use Rattle.trlab_book.specs.declared.running.RunFault.TheVariants as run
 
 -- it is the same book: no other book shares its list of events
 abbrev pub IsSameBook : {L : Type 0} {ledger : Ghosts L} → SharedBook L ledger → SharedBook L ledger → Type 0
 IsSameBook old new = new.strands.table.shared.table_id ≡ old.strands.table.shared.table_id
 
--- how many parts of the right to call it has
+-- the number of parts of the right to call
 abbrev pub parts_of : {L : Type 0} {ledger : Ghosts L} → Desk L ledger → ℕ
 parts_of d = d.parts
 
--- the subhistory of a desk: the events that were made through it, each with all that stood before it in the
--- history
+-- the subhistory of a desk: the events that were made through it, each with its predecessors in the history
 abbrev pub subhistory_of : {L : Type 0} {ledger : Ghosts L} → Desk L ledger → List (Noted Event)
 subhistory_of d = strand.subhistory_of d.strand
 
--- the clock of a desk: no event that is made through it from now on has a number below this
+-- the clock of a desk: each event that is made through it from now on has at least this number
 abbrev pub least_of : {L : Type 0} {ledger : Ghosts L} → Desk L ledger → ℕ
 least_of d = strand.least_of d.strand
 
--- the desk has now seen at least this many events; otherwise it is as it was
+-- the desk has now seen at least this many events, and is otherwise unchanged
 abbrev pub HasSeen : {L : Type 0} {ledger : Ghosts L} → Desk L ledger → ℕ → Desk L ledger → Type 0
 HasSeen old count new =
     (parts_of new ≡ parts_of old) × (subhistory_of new ≡ subhistory_of old)
     × (least_of old ≤ least_of new) × (count ≤ least_of new)
 
--- the desk lacks some event of the history: it has now seen more events than its own
+-- the desk lacks an event of the history: it has now seen more events than its own
 abbrev pub LacksSome : {L : Type 0} {ledger : Ghosts L} → Desk L ledger → Desk L ledger → Type 0
 LacksSome old new = HasSeen old (length (subhistory_of old) + 1) new
 
@@ -58,33 +56,32 @@ abbrev pub tells_full : Reply → Bool
 tells_full (Refused HistoryFull) = true
 tells_full _ = false
 
--- a call that is not an event leaves the desk as it was; but if the history was full, the desk has now seen
--- all of it
+-- a call that is not an event does not change the desk, except that it has now seen a full history
 abbrev pub IsNoEvent : {L : Type 0} {ledger : Ghosts L} → Desk L ledger → Reply → Desk L ledger → Type 0
 IsNoEvent old told new =
-    MatchBool (tells_full told) (HasSeen old MOST_EVENTS new) (strand.IsSame old.strand new.strand)
+    MatchBool (tells_full told) (HasSeen old MAX_EVENTS new) (strand.IsSame old.strand new.strand)
 
--- a call is one event: the book, as all events before replay to it, gave this reply, and the desk has noted
--- the event after them
+-- a call is one event: the events before it replay to a book, which gave this reply, and the desk has noted the
+-- event after them
 pub record IsOneEvent {L : Type 0} {ledger : Ghosts L} (old : Desk L ledger) (call : Call) (told : Reply)
-    (new : Desk L ledger) (book : State) : Type 0 where
+    (new : Desk L ledger) (book : BookState) : Type 0 where
   pub before : List Event
   pub replays : ∥ Replays before book ∥₁
   pub reply : told ≡ reply_of book call
   pub noted : strand.Adds old.strand before (event call told) new.strand
 
--- what a call does to its desk. The desk keeps its parts. If the reply makes the call an event, the desk has
+-- the effect of a call on its desk. The desk keeps its parts. If the reply makes the call an event, the desk has
 -- exactly this event more, of a book for which `Holds` is true. If not, nothing changes, except that the desk
--- sees a full history
-abbrev pub MakesOf : {L : Type 0} {ledger : Ghosts L} → (State → Type 0)
+-- has seen a full history
+abbrev pub MakesOf : {L : Type 0} {ledger : Ghosts L} → (BookState → Type 0)
     → Desk L ledger → Call → Reply → Desk L ledger → Type 0
 MakesOf Holds old call told new =
     (parts_of new ≡ parts_of old)
     × MatchBool (is_event told)
-    ((book : State) × IsOneEvent old call told new book × Holds book)
+    ((book : BookState) × IsOneEvent old call told new book × Holds book)
     (IsNoEvent old told new)
 
--- the same, of whatever book
+-- the effect of a call on its desk, for any book
 abbrev pub Makes : {L : Type 0} {ledger : Ghosts L}
     → Desk L ledger → Call → Reply → Desk L ledger → Type 0
 Makes old call told new = MakesOf (λ book. Unit {0}) old call told new
@@ -101,24 +98,24 @@ PutsDown old before call told new =
     (strand.HasSeen old.strand (length before) new.strand)
     (strand.IsSame old.strand new.strand))
 
--- it is told whether the lease runs its job's road
-abbrev pub TellsSame : LeaseState → Bool → State → Type 0
+-- `same` says whether the lease runs its job's road
+abbrev pub TellsSame : LeaseState → Bool → BookState → Type 0
 TellsSame lease same book = IsTrue same ↔ comparison.IsSame book.jobs lease
 
--- the lease that is answered is one of the book's jobs, if one went out
-abbrev pub IsOfLease : Result (Option LeaseState) BookFault → State → Type 0
+-- the lease that went out, if any, is one of the book's jobs
+abbrev pub IsOfLease : Result (Option LeaseState) BookFault → BookState → Type 0
 IsOfLease answer book = IfOk answer (λ lent. IsLent book.jobs book.next lent)
 
--- the order that is answered has the rule that is in force at its step
-abbrev pub IsOfOrder : LeaseState → Bool → Result Order BookFault → State → Type 0
+-- the order has the rule that is in force at its step
+abbrev pub IsOfOrder : LeaseState → Bool → Result Order BookFault → BookState → Type 0
 IsOfOrder lease same answer book =
     TellsSame lease same book × IfOk answer (λ order. IsRuleAt book.jobs order)
 
--- the snapshot that is answered is one of this job of the book
-abbrev pub IsOfRead : ℕ → Result Progress BookFault → State → Type 0
+-- the snapshot is one of this job of the book
+abbrev pub IsOfRead : ℕ → Result Progress BookFault → BookState → Type 0
 IsOfRead job answer book = IfOk answer (λ seen. IsSeen book.jobs job seen)
 
--- runners lease jobs, have steps ordered, and give leases back or end them
+-- runners lease jobs, order steps, and give leases back or revoke them
 abbrev pub is_of_runner : Call → Bool
 is_of_runner call.Lease = true
 is_of_runner (call.Order lease) = true
@@ -126,21 +123,21 @@ is_of_runner (call.GiveBack lease) = true
 is_of_runner (call.Revoke job) = true
 is_of_runner _ = false
 
--- calls of runners, at numbers from one up to below another
+-- calls of runners, with numbers from `from` to below `to`
 abbrev pub AreOfRunners : ℕ → ℕ → List (Noted Event) → Type 0
 AreOfRunners from to calls =
     All (λ n. (from ≤ number_of n) × (number_of n < to) × (is_of_runner n.event.call ≡ true)) calls
 
--- a desk through which runners have called: the same parts, and after its events those of the runners, which
--- stand in the history after all that the desk had seen, and before all that is made through it from now on
-pub record GoesOn {L : Type 0} {ledger : Ghosts L} (old new : Desk L ledger) : Type 0 where
+-- a desk through which runners have called: the same parts, and after its events those of the runners, which are
+-- in the history after all events that the desk had seen, and before all that are made through it from now on
+pub record AddsRunnerCalls {L : Type 0} {ledger : Ghosts L} (old new : Desk L ledger) : Type 0 where
   pub parts : parts_of new ≡ parts_of old
   pub least : least_of old ≤ least_of new
   pub more : List (Noted Event)
   pub subhistory : subhistory_of new ≡ subhistory_of old ++ more
   pub runners : AreOfRunners (least_of old) (least_of new) more
 
--- whether a call asks for a lease, and whether a reply says that no job is free
+-- whether a call is `lease`, and whether a reply says that no job is free
 abbrev pub is_lease : Call → Bool
 is_lease call.Lease = true
 is_lease _ = false
@@ -153,15 +150,15 @@ is_no_lease _ = false
 abbrev pub finds_no_job : Event → Bool
 finds_no_job e = is_lease e.call && is_no_lease e.reply
 
--- how many of these events are lease calls that found no free job
+-- the number of these events that are lease calls which found no free job
 abbrev pub no_job_count : List (Noted Event) → ℕ
 no_job_count events = count_by (λ n. finds_no_job n.event) events
 
--- so many runners have called through a desk and ended. If they ended well, at least as many of their lease
--- calls found no free job; if by a full history, the desk has seen all of it; if memory ran out, nothing more
--- is said
+-- runners have called through a desk and ended. If they succeeded, at least one lease call per runner found no
+-- free job; if they ended because the history was full, the desk has seen all of it; if an allocation failed,
+-- nothing more is known
 pub record HasEnded {L : Type 0} {ledger : Ghosts L} (runners : ℕ) (ended : Result (Unit {0}) RunFault)
     (old new : Desk L ledger) : Type 0 where
-  pub on : GoesOn old new
+  pub on : AddsRunnerCalls old new
   pub no_job : OnOk ended (no_job_count (subhistory_of old) + runners ≤ no_job_count (subhistory_of new))
-  pub full : ended ≡ Err run.HistoryFull → MOST_EVENTS ≤ least_of new
+  pub full : ended ≡ Err run.HistoryFull → MAX_EVENTS ≤ least_of new

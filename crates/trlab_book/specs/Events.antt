@@ -1,4 +1,4 @@
--- What a call does to a book with its history.
+-- The effect of a call on a book with its history.
 use Rattle.std.specs.Prelude.{◌≡◌, ◌↔◌, true, false, List, ◌++◌, ◌∷◌, [], MatchBool}
 use Rattle.trlab_sequential_book.specs.declared.fault.BookFault.TheVariants.{HistoryFull}
 use Rattle.trlab_sequential_book.specs.declared.event.Call.{Call}
@@ -10,7 +10,7 @@ use Rattle.trlab_sequential_book.specs.Machine.{after, is_full, reply_of}
 use Rattle.trlab_sequential_book.specs.Answers.{is_event}
 use Rattle.trlab_sequential_book.specs.Replay.{event}
 
--- one event more, which is this call with the machine's reply, and that reply is the answer
+-- one more event, this call with the reply of the machine, and this reply is the answer
 pub record Appends (old : Kept) (c : Call) (told : Reply) (new : Kept) : Type 0 where
   pub history : new.history.items ≡ old.history.items ++ event c (reply_of old.book c) ∷ []
   pub book : new.book ≡ after old.book c
@@ -21,17 +21,17 @@ pub record IsUnchanged (old new : Kept) : Type 0 where
   pub history : new.history.items ≡ old.history.items
   pub book : new.book ≡ old.book
 
--- a call that is an event appends it; another changes nothing
+-- a call that is an event appends it; any other changes nothing
 abbrev pub Makes : Kept → Call → Reply → Kept → Type 0
 Makes old c told new = MatchBool (is_event told) (Appends old c told new) (IsUnchanged old new)
 
--- a call with this reply has come to a book whose events were `before`: its history ends with this event, or
--- where the call is none has nothing more; then it is full exactly where the reply says so
+-- a call with this reply was made when the events were `before`: if it is an event, the history now ends with it.
+-- If not, the history is unchanged, and full exactly if the reply says so
 pub record HasCome (before : List Event) (c : Call) (told : Reply) (kept : Kept) : Type 0 where
   pub history : MatchBool (is_event told)
       (kept.history.items ≡ before ++ event c told ∷ []) (kept.history.items ≡ before)
   pub full : is_event told ≡ false → (told ≡ Refused HistoryFull) ↔ (is_full kept.book ≡ true)
 
--- the answer says that the history is full exactly where it is
+-- the answer says that the history is full exactly if it is
 abbrev pub TellsFull : Kept → Reply → Type 0
 TellsFull old told = (told ≡ Refused HistoryFull) ↔ (is_full old.book ≡ true)

@@ -1,39 +1,370 @@
-//! What threads share of a book, and the right to call it.
+//! A book that threads share, and the desks through which they call it.
 
-ghost use Rattle.std.specs.Prelude.{◌≡◌, ◌<◌, ◌≤◌, ◌-◌, ◌^◌, min, length};
-ghost use Rattle.trlab_strands.specs.Tokens.{subhistory_of, list_of, parts_of};
-ghost use Rattle.trlab_strands.specs.declared.limits.TheConstants.{ALL_PARTS};
+ghost use Rattle.std.specs.Prelude.{◌≡◌, ◌+◌, ◌-◌, ◌<◌, ◌≤◌, ◌^◌, ◌++◌, [], Bool, false, max, min, length, IfOk, IfErr, IsOk};
+ghost use Rattle.trlab_strands.specs.Knowledge.{IsLinearization};
+ghost use Rattle.trlab_strands.specs.Tokens as tokens;
+ghost use Rattle.trlab_strands.specs.declared.knowledge.TheConstants.{ALL_PARTS};
 
-use crate::kept::Kept;
-use std::sync::Mutex;
-use trlab_sequential_book::Event;
-use trlab_strands::{Keeper, Ledger, Strand, Strands};
+use crate::kept::{Kept, copied_replace, copied_submit};
+use std::alloc::Global;
+use std::sync::{Mutex, Wait};
+use trlab_rules::Rule;
+use trlab_sequential_book::{Book, BookFault, Event, Lease, Order, Seed, Snapshot};
+use trlab_strands::{ALL_PARTS, Blank, Keeper, Ledger, Strand, Strands};
 
-/// A book with its history, beside the keeper of the strands of its events.
+/// What the lock of a shared book protects: the book with its history, and the keeper of the strands of its
+/// events, who knows the same events.
 #[derive(Drop)]
-pub struct Locked<L: Ledger> {
-    pub(crate) kept: Kept,
-    pub(crate) keeper: Keeper<L, Event>,
-    ghost noted: { kept.history.items ≡ list_of keeper },
+struct Locked<L: Ledger> {
+    kept: Kept,
+    keeper: Keeper<L, Event>,
+    ghost noted: { kept.history.items ≡ tokens.list_of keeper },
 }
 
-/// A book that threads share: each of its calls is one event under its one lock, and is known to the desk
-/// through which it is made.
+/// A book that threads share. Each call takes its one lock once, is one event of the history, and is added to the
+/// calls of the desk through which it was made.
 #[derive(Drop)]
 pub struct SharedBook<L: Ledger> {
-    pub(crate) lock: Mutex<Locked<L>>,
-    pub(crate) strands: Strands<L, Event>,
+    lock: Mutex<Locked<L>>,
+    strands: Strands<L, Event>,
 }
 
-/// The right to call a shared book, in one part or more of 1024, with the calls that were made through it
-/// and their replies, which contracts alone see, and their count.
+/// The right to call a shared book, of 1 to 1024 parts. A desk counts the calls that were made through it; the calls
+/// and their replies are known to contracts only.
 #[derive(Drop)]
 pub struct Desk<L: Ledger> {
-    pub(crate) parts: u32,
-    pub(crate) count: u64,
-    pub(crate) strand: Strand<L, Event>,
-    ghost some: { 0 < parts },
-    ghost few: { parts ≤ ALL_PARTS },
-    ghost parts_are: { parts_of strand ≡ parts },
-    ghost count_is: { count ≡ min (length (subhistory_of strand)) (2 ^ 64 - 1) },
+    parts: u32,
+    count: u64,
+    strand: Strand<L, Event>,
+    ghost at_least_one: { 0 < parts },
+    ghost at_most_all: { parts ≤ ALL_PARTS },
+    ghost parts_are: { tokens.parts_of strand ≡ parts },
+    ghost count_is: { count ≡ min (length (tokens.subhistory_of strand)) (2 ^ 64 - 1) },
+}
+
+impl<L: Ledger> Desk<L> {
+    ghost use Rattle.trlab_sequential_book.specs.declared.event.Call.{Call};
+    ghost use Rattle.trlab_sequential_book.specs.declared.event.Reply.{Reply};
+    ghost use Rattle.trlab_book.specs.Events.{HasCome};
+    ghost use Rattle.trlab_book.specs.Desks.{PutsDown, parts_of};
+
+    /// The number of parts, from 1 to 1024.
+    pub fn parts(&self) -> u32
+        ensures { result ≡ parts_of self.now }
+    {
+        self.parts
+    }
+
+    /// Notes a call that has just been made, when the history had `before` events. If the history has grown, its new
+    /// event is added to the desk's subhistory. If not, and it is full, the desk has now seen all of it.
+    ///
+    /// A call breaks the invariant of `Locked` and this restores it, so it takes the parts of `Locked` one by one.
+    fn note_event(
+        &mut self,
+        keeper: &mut Keeper<L, Event>,
+        strands: &Strands<L, Event>,
+        kept: &Kept,
+        before: usize,
+    )
+        requires { before ≡ length (tokens.list_of keeper.old) }
+        ensures { (call : Call) (told : Reply) → HasCome (tokens.list_of keeper.old) call told kept.now
+            → (kept.now.history.items ≡ tokens.list_of keeper.new)
+            × PutsDown self.old (tokens.list_of keeper.old) call told self.new }
+    {
+        if let Some(event) = kept.history.get(before) {
+            keeper.note(strands, &mut self.strand, event);
+            self.count = self.count.saturating_add(1);
+        } else if kept.book.is_full() {
+            keeper.look(strands, &mut self.strand);
+        }
+    }
+}
+
+impl<L: Ledger> SharedBook<L> {
+    ghost use Rattle.trlab_sequential_book.specs.Answers.{back_reply, done_reply, is_event, lease_reply};
+    ghost use Rattle.trlab_sequential_book.specs.Answers.{number_reply, order_reply, seen_reply};
+    ghost use Rattle.trlab_sequential_book.specs.Comparison.{LeaseCall, OrderCall, offered};
+    ghost use Rattle.trlab_sequential_book.specs.Replay.{Replays};
+    ghost use Rattle.trlab_sequential_book.specs.declared.event.Call.TheVariants.{Cancel, GiveBack, Read};
+    ghost use Rattle.trlab_sequential_book.specs.declared.event.Call.TheVariants.{Replace, Revoke, Submit};
+    ghost use Rattle.trlab_sequential_book.specs.declared.event.Reply.TheVariants.{Refused};
+    ghost use Rattle.trlab_book.specs.Desks.{IsNoEvent, IsOfLease, IsOfOrder, IsOfRead, IsSameBook, LacksSome};
+    ghost use Rattle.trlab_book.specs.Desks.{Makes, MakesOf, TellsSame, least_of, parts_of, subhistory_of};
+
+    /// An empty book, and the desk with all 1024 parts. Only the blank takes memory.
+    pub fn start(alloc: Global, blank: Blank<Event>) -> (SharedBook<L>, Desk<L>)
+        requires { tokens.name_of blank ≡ L.name }
+        ensures parts { parts_of result.1 ≡ ALL_PARTS }
+        ensures events { (subhistory_of result.1 ≡ []) × (least_of result.1 ≡ 0) }
+    {
+        let (strands, keeper, strand) = blank.open::<L>();
+        let lock = Mutex::new(Locked {
+            kept: Kept::new(alloc),
+            keeper,
+        });
+        let desk = Desk {
+            parts: ALL_PARTS,
+            count: 0,
+            strand,
+        };
+        (SharedBook { lock, strands }, desk)
+    }
+
+    /// Ends the sharing, and returns the book with its history, a linearization of the desk's subhistory.
+    ///
+    /// # Errors
+    ///
+    /// The same book and the desk, if events were made at other desks that were not gathered into this one. The
+    /// desk has then seen that it lacks events. A desk with all parts always closes the book.
+    pub fn close(self, desk: Desk<L>) -> Result<(Book, Vec<Event>), (SharedBook<L>, Desk<L>)>
+        ensures order { IfOk result (λ r. IsLinearization r.1.items (subhistory_of desk)) }
+        ensures replays { IfOk result (λ r. ∥ Replays r.1.items r.0 ∥₁) }
+        ensures err { IfErr result (λ r. LacksSome desk r.1) }
+        ensures book { IfErr result (λ r. IsSameBook self r.0) }
+        ensures whole { parts_of desk ≡ ALL_PARTS → IsOk result }
+    {
+        let SharedBook { lock, strands } = self;
+        let Locked { kept, mut keeper } = lock.into_inner();
+        let mut desk = desk;
+        keeper.audit(&strands, &mut desk.strand);
+        if kept.history.len() as u64 == desk.count {
+            let Kept { book, history } = kept;
+            return Ok((book, history));
+        }
+        keeper.look(&strands, &mut desk.strand);
+        let lock = Mutex::new(Locked { kept, keeper });
+        Err((SharedBook { lock, strands }, desk))
+    }
+
+    /// Takes one part out of a desk with two or more, as a desk for another thread.
+    pub fn split(&self, desk: &mut Desk<L>) -> Desk<L>
+        requires { 1 < parts_of desk.old }
+        ensures parts { (parts_of desk.new + 1 ≡ parts_of desk.old) × (parts_of result ≡ 1) }
+        ensures events { (subhistory_of desk.new ≡ subhistory_of desk.old) × (subhistory_of result ≡ []) }
+        ensures least { (least_of desk.new ≡ least_of desk.old) × (least_of result ≡ least_of desk.old) }
+    {
+        let strand = self.strands.split(&mut desk.strand);
+        desk.parts -= 1;
+        Desk {
+            parts: 1,
+            count: 0,
+            strand,
+        }
+    }
+
+    /// Joins two desks: their parts, and the events of `one` followed by those of `other`.
+    pub fn gather(&self, one: Desk<L>, other: Desk<L>) -> Desk<L>
+        ensures parts { parts_of result ≡ parts_of one + parts_of other }
+        ensures events { subhistory_of result ≡ subhistory_of one ++ subhistory_of other }
+        ensures least { least_of result ≡ max (least_of one) (least_of other) }
+    {
+        let Desk {
+            parts,
+            count,
+            strand,
+        } = one;
+        let Desk {
+            parts: more,
+            count: others,
+            strand: joined,
+        } = other;
+        let strand = self.strands.gather(strand, joined);
+        Desk {
+            parts: parts + more,
+            count: count.saturating_add(others),
+            strand,
+        }
+    }
+
+    /// Adds a job, which runs `steps` steps from the seed, under the rule until it is replaced. Returns the job's
+    /// number. The history shares the seed with the job, and keeps a copy of the rule that is made before the lock
+    /// is taken.
+    ///
+    /// # Errors
+    ///
+    /// `Full`, `LanesMismatch`, `HistoryFull` or `Memory`; seed and rule are dropped.
+    pub fn submit<R: Wait>(
+        &self,
+        rt: &R,
+        alloc: Global,
+        desk: &mut Desk<L>,
+        seed: Seed,
+        rule: Rule,
+        steps: u32,
+    ) -> Result<u32, BookFault>
+        ensures { Makes desk.old (Submit seed rule steps) (number_reply result) desk.new }
+    {
+        let Ok((boxed, call)) = copied_submit(alloc, seed, &rule, steps) else {
+            return Err(self.refuse_without_memory(rt, desk));
+        };
+        let mut guard = self.lock.lock(rt);
+        let Locked { kept, keeper } = &mut *guard;
+        let before = kept.history.len();
+        let answer = kept.submit(alloc, boxed, rule, steps, call);
+        desk.note_event(keeper, &self.strands, kept, before);
+        answer
+    }
+
+    /// Refuses a call that was not made because an allocation failed.
+    fn refuse_without_memory<R: Wait>(&self, rt: &R, desk: &mut Desk<L>) -> BookFault
+        ensures none { is_event (Refused result) ≡ false }
+        ensures desk { (parts_of desk.new ≡ parts_of desk.old) × IsNoEvent desk.old (Refused result) desk.new }
+    {
+        let mut guard = self.lock.lock(rt);
+        let Locked { kept, keeper } = &mut *guard;
+        let before = kept.history.len();
+        desk.note_event(keeper, &self.strands, kept, before);
+        kept.fault_without_memory()
+    }
+
+    /// Replaces a job's rule from the first step on that was never ordered. Returns this step. The rule is copied
+    /// before the lock is taken.
+    ///
+    /// # Errors
+    ///
+    /// `NoSuchJob`, `Ended`, `LanesMismatch`, `SheetFull`, `HistoryFull` or `Memory`; the rule is dropped.
+    pub fn replace<R: Wait>(
+        &self,
+        rt: &R,
+        alloc: Global,
+        desk: &mut Desk<L>,
+        job: u32,
+        rule: Rule,
+    ) -> Result<u32, BookFault>
+        ensures { Makes desk.old (Replace job rule) (number_reply result) desk.new }
+    {
+        let Ok(call) = copied_replace(alloc, job, &rule) else {
+            return Err(self.refuse_without_memory(rt, desk));
+        };
+        let mut guard = self.lock.lock(rt);
+        let Locked { kept, keeper } = &mut *guard;
+        let before = kept.history.len();
+        let answer = kept.replace(job, rule, call);
+        desk.note_event(keeper, &self.strands, kept, before);
+        answer
+    }
+
+    /// Lends the job with the smallest number that is not out, not cancelled and has steps to do. Returns `None`
+    /// if there is no such job.
+    ///
+    /// # Errors
+    ///
+    /// `HistoryFull` or `Memory`.
+    pub fn lease<R: Wait>(
+        &self,
+        rt: &R,
+        alloc: Global,
+        desk: &mut Desk<L>,
+    ) -> Result<Option<Lease>, BookFault>
+        ensures { MakesOf (IsOfLease result) desk.old LeaseCall (lease_reply result) desk.new }
+    {
+        let mut guard = self.lock.lock(rt);
+        let Locked { kept, keeper } = &mut *guard;
+        let before = kept.history.len();
+        let answer = kept.lease(alloc);
+        desk.note_event(keeper, &self.strands, kept, before);
+        answer
+    }
+
+    /// Orders a lease's next step, and returns the rule in force there.
+    ///
+    /// # Errors
+    ///
+    /// `NoSuchJob`, `Ended`, `StrangerLease`, `HistoryFull` or `Memory`.
+    pub fn order<R: Wait>(
+        &self,
+        rt: &R,
+        alloc: Global,
+        desk: &mut Desk<L>,
+        lease: &Lease,
+    ) -> Result<Order, BookFault>
+        ensures { (same : Bool)
+            × MakesOf (IsOfOrder lease.now same result) desk.old
+            (OrderCall (offered lease.now same)) (order_reply result) desk.new }
+    {
+        let mut guard = self.lock.lock(rt);
+        let Locked { kept, keeper } = &mut *guard;
+        let before = kept.history.len();
+        let answer = kept.order(alloc, lease);
+        desk.note_event(keeper, &self.strands, kept, before);
+        answer
+    }
+
+    /// Takes a lease back: the job's road and its steps done become those of the lease.
+    ///
+    /// # Errors
+    ///
+    /// `NoSuchJob`, `StrangerLease`, `HistoryFull` or `Memory`, with the lease.
+    pub fn give_back<R: Wait>(
+        &self,
+        rt: &R,
+        desk: &mut Desk<L>,
+        lease: Lease,
+    ) -> Result<(), (Lease, BookFault)>
+        ensures made { (same : Bool)
+            × MakesOf (TellsSame lease same) desk.old
+            (GiveBack (offered lease same)) (back_reply result) desk.new }
+        ensures err { IfErr result (λ e. e.0 ≡ lease) }
+    {
+        let mut guard = self.lock.lock(rt);
+        let Locked { kept, keeper } = &mut *guard;
+        let before = kept.history.len();
+        let answer = kept.give_back(lease);
+        desk.note_event(keeper, &self.strands, kept, before);
+        answer
+    }
+
+    /// Ends the lease that is out for a job. The job keeps its rules and its steps done.
+    ///
+    /// # Errors
+    ///
+    /// `NoSuchJob`, `StrangerLease` if no lease is out, `HistoryFull` or `Memory`.
+    pub fn revoke<R: Wait>(&self, rt: &R, desk: &mut Desk<L>, job: u32) -> Result<(), BookFault>
+        ensures { Makes desk.old (Revoke job) (done_reply result) desk.new }
+    {
+        let mut guard = self.lock.lock(rt);
+        let Locked { kept, keeper } = &mut *guard;
+        let before = kept.history.len();
+        let answer = kept.revoke(job);
+        desk.note_event(keeper, &self.strands, kept, before);
+        answer
+    }
+
+    /// Ends a job and its lease.
+    ///
+    /// # Errors
+    ///
+    /// `NoSuchJob`, `Ended`, `HistoryFull` or `Memory`.
+    pub fn cancel<R: Wait>(&self, rt: &R, desk: &mut Desk<L>, job: u32) -> Result<(), BookFault>
+        ensures { Makes desk.old (Cancel job) (done_reply result) desk.new }
+    {
+        let mut guard = self.lock.lock(rt);
+        let Locked { kept, keeper } = &mut *guard;
+        let before = kept.history.len();
+        let answer = kept.cancel(job);
+        desk.note_event(keeper, &self.strands, kept, before);
+        answer
+    }
+
+    /// The state of a job at its steps done. A cancelled job can be read as well.
+    ///
+    /// # Errors
+    ///
+    /// `NoSuchJob`, `HistoryFull` or `Memory`.
+    pub fn read<R: Wait>(
+        &self,
+        rt: &R,
+        alloc: Global,
+        desk: &mut Desk<L>,
+        job: u32,
+    ) -> Result<Snapshot, BookFault>
+        ensures { MakesOf (IsOfRead job result) desk.old (Read job) (seen_reply result) desk.new }
+    {
+        let mut guard = self.lock.lock(rt);
+        let Locked { kept, keeper } = &mut *guard;
+        let before = kept.history.len();
+        let answer = kept.read(alloc, job);
+        desk.note_event(keeper, &self.strands, kept, before);
+        answer
+    }
 }

@@ -1,13 +1,349 @@
-//! A book with its history.
+//! A book with its history: each call adds one event, or changes nothing.
 
-ghost use Rattle.trlab_sequential_book.specs.Replay.{Replays};
+ghost use Rattle.std.specs.Prelude.{◌≡◌, ◌↔◌, ◌<◌, ◌++◌, ◌∷◌, [], Bool, true, false, IsTrue, MatchBool};
+ghost use Rattle.std.specs.Prelude.{IfOk, IfErr, OnOk, vec_len};
+ghost use Rattle.std.specs.Bool.{OnTrue};
+ghost use Rattle.std.specs.Vec.{vec_capacity};
+ghost use Rattle.trlab_sequential_book.specs.Answers.{back_reply, done_reply, is_event, lease_reply};
+ghost use Rattle.trlab_sequential_book.specs.Answers.{number_reply, order_reply, seen_reply};
+ghost use Rattle.trlab_sequential_book.specs.Comparison.{IsLent, IsRuleAt, IsSame, IsSeen};
+ghost use Rattle.trlab_sequential_book.specs.Comparison.{LeaseCall, OrderCall, offered};
+ghost use Rattle.trlab_sequential_book.specs.Machine.{is_full, start};
+ghost use Rattle.trlab_sequential_book.specs.Replay.{Replays, event};
+ghost use Rattle.trlab_sequential_book.specs.declared.event.Call.TheVariants.{Cancel, GiveBack, Read};
+ghost use Rattle.trlab_sequential_book.specs.declared.event.Call.TheVariants.{Replace, Revoke, Submit};
+ghost use Rattle.trlab_sequential_book.specs.declared.event.Reply.TheVariants.{Refused};
+ghost use Rattle.trlab_sequential_book.specs.declared.fault.BookFault.TheVariants.{HistoryFull};
 
-use trlab_sequential_book::{Book, Event};
+use std::alloc::{AllocError, Global};
+use trlab_rules::Rule;
+use trlab_sequential_book::{
+    Book, BookFault, BoxedRule, BoxedSeed, Call, Event, Lease, Offered, Order, Reply, Seed,
+    Snapshot,
+};
 
-/// A book, and the list of all its events: replaying them gives the book, always.
+/// A book and its history, the list of all its events. Replaying the history on an empty book gives this book.
 #[derive(Drop)]
 pub struct Kept {
     pub(crate) book: Book,
     pub(crate) history: Vec<Event>,
     ghost replays: { ∥ Replays history.items book ∥₁ },
+}
+
+impl Kept {
+    ghost use Rattle.trlab_book.specs.Events.{IsUnchanged, Makes, TellsFull};
+
+    /// An empty book with an empty history.
+    pub fn new(alloc: Global) -> Kept
+        ensures { (result.history.items ≡ []) × (result.book ≡ start) }
+    {
+        let book = Book::new(alloc);
+        Kept {
+            book,
+            history: Vec::new(alloc),
+        }
+    }
+
+    /// Makes room for one more event. It does not test whether the history is full: the book's answer to the call
+    /// says so.
+    fn make_room(&mut self) -> Result<(), BookFault>
+        ensures unchanged { IsUnchanged self.old self.new }
+        ensures room { OnOk result (vec_len self.new.history < vec_capacity self.new.history) }
+        ensures none { IfErr result (λ f. is_event (Refused f) ≡ false) }
+        ensures full { IfErr result (λ f.
+            (Refused f ≡ Refused HistoryFull) ↔ (is_full self.old.book ≡ true)) }
+    {
+        if self.history.reserve(1).is_err() {
+            return Err(self.fault_without_memory());
+        }
+        Ok(())
+    }
+
+    /// The fault of a call that was not made because an allocation failed: a full history comes first.
+    pub(crate) fn fault_without_memory(&self) -> BookFault
+        ensures none { is_event (Refused result) ≡ false }
+        ensures full { (Refused result ≡ Refused HistoryFull) ↔ (is_full self.now.book ≡ true) }
+    {
+        let is_full = self.book.is_full();
+        if is_full {
+            BookFault::HistoryFull
+        } else {
+            BookFault::Memory
+        }
+    }
+
+    /// Adds a job. The history keeps `call`, which `copied_submit` makes.
+    pub(crate) fn submit(
+        &mut self,
+        alloc: Global,
+        seed: BoxedSeed,
+        rule: Rule,
+        steps: u32,
+        call: Call,
+    ) -> Result<u32, BookFault>
+        requires { call ≡ Submit seed rule steps }
+        ensures made { Makes self.old (Submit seed rule steps) (number_reply result) self.new }
+        ensures full { TellsFull self.old (number_reply result) }
+    {
+        self.make_room()?;
+        let answer = self.book.submit_boxed(alloc, seed, rule, steps);
+        let reply = reply_to_number(&answer);
+        put_event(&mut self.history, call, reply);
+        answer
+    }
+
+    /// Replaces the rule of a job. The history keeps `call`, which `copied_replace` makes.
+    pub(crate) fn replace(&mut self, job: u32, rule: Rule, call: Call) -> Result<u32, BookFault>
+        requires { call ≡ Replace job rule }
+        ensures made { Makes self.old (Replace job rule) (number_reply result) self.new }
+        ensures full { TellsFull self.old (number_reply result) }
+    {
+        self.make_room()?;
+        let answer = self.book.replace(job, rule);
+        let reply = reply_to_number(&answer);
+        put_event(&mut self.history, call, reply);
+        answer
+    }
+
+    /// Lends the first job that is free, if any.
+    ///
+    /// # Errors
+    ///
+    /// Those of `Book::lease`; `Memory` also if the history cannot grow.
+    pub fn lease(&mut self, alloc: Global) -> Result<Option<Lease>, BookFault>
+        ensures made { Makes self.old LeaseCall (lease_reply result) self.new }
+        ensures lent { IfOk result (λ o. IsLent self.old.book.jobs self.old.book.next o) }
+        ensures full { TellsFull self.old (lease_reply result) }
+    {
+        self.make_room()?;
+        let answer = self.book.lease(alloc);
+        let reply = reply_to_lease(&answer);
+        put_event(&mut self.history, Call::Lease, reply);
+        answer
+    }
+
+    /// Orders the next step of a lease. The order shares its rule with the sheet, so the allocator is not used.
+    ///
+    /// # Errors
+    ///
+    /// Those of `Book::order`; `Memory` also if the history cannot grow.
+    pub fn order(&mut self, _: Global, lease: &Lease) -> Result<Order, BookFault>
+        ensures made { (same : Bool) → (IsTrue same ↔ IsSame self.old.book.jobs lease.now)
+            → Makes self.old (OrderCall (offered lease.now same)) (order_reply result) self.new }
+        ensures rule { IfOk result (λ o. IsRuleAt self.old.book.jobs o) }
+        ensures full { TellsFull self.old (order_reply result) }
+        ensures noted { (same : Bool)
+            × OnTrue (is_event (order_reply result)) (IsTrue same ↔ IsSame self.old.book.jobs lease.now)
+            × Makes self.old (OrderCall (offered lease.now same)) (order_reply result) self.new }
+    {
+        self.make_room()?;
+        let same = self.book.is_same(lease);
+        let call = Call::Order(parts_of_lease(lease, same));
+        let answer = self.book.order_as(lease, same);
+        let reply = reply_to_order(&answer);
+        put_event(&mut self.history, call, reply);
+        answer
+    }
+
+    /// Takes a lease back: the job's road and its steps done become those of the lease.
+    ///
+    /// # Errors
+    ///
+    /// Those of `Book::give_back`, or `Memory` if the history cannot grow, with the lease.
+    pub fn give_back(&mut self, lease: Lease) -> Result<(), (Lease, BookFault)>
+        ensures made { (same : Bool) → (IsTrue same ↔ IsSame self.old.book.jobs lease)
+            → Makes self.old (GiveBack (offered lease same)) (back_reply result) self.new }
+        ensures err { IfErr result (λ e. e.0 ≡ lease) }
+        ensures full { TellsFull self.old (back_reply result) }
+        ensures noted { (same : Bool)
+            × OnTrue (is_event (back_reply result)) (IsTrue same ↔ IsSame self.old.book.jobs lease)
+            × Makes self.old (GiveBack (offered lease same)) (back_reply result) self.new }
+    {
+        if let Err(fault) = self.make_room() {
+            return Err((lease, fault));
+        }
+        let same = self.book.is_same(&lease);
+        let call = Call::GiveBack(parts_of_lease(&lease, same));
+        let answer = self.book.give_back_as(lease, same);
+        let reply = reply_to_back(&answer);
+        put_event(&mut self.history, call, reply);
+        answer
+    }
+
+    /// Ends the lease of a job.
+    ///
+    /// # Errors
+    ///
+    /// Those of `Book::revoke`, or `Memory` if the history cannot grow.
+    pub fn revoke(&mut self, job: u32) -> Result<(), BookFault>
+        ensures made { Makes self.old (Revoke job) (done_reply result) self.new }
+        ensures full { TellsFull self.old (done_reply result) }
+    {
+        self.make_room()?;
+        let answer = self.book.revoke(job);
+        let reply = reply_to_done(&answer);
+        put_event(&mut self.history, Call::Revoke(job), reply);
+        answer
+    }
+
+    /// Ends a job and its lease.
+    ///
+    /// # Errors
+    ///
+    /// Those of `Book::cancel`, or `Memory` if the history cannot grow.
+    pub fn cancel(&mut self, job: u32) -> Result<(), BookFault>
+        ensures made { Makes self.old (Cancel job) (done_reply result) self.new }
+        ensures full { TellsFull self.old (done_reply result) }
+    {
+        self.make_room()?;
+        let answer = self.book.cancel(job);
+        let reply = reply_to_done(&answer);
+        put_event(&mut self.history, Call::Cancel(job), reply);
+        answer
+    }
+
+    /// The state of a job at its steps done.
+    ///
+    /// # Errors
+    ///
+    /// Those of `Book::read`; `Memory` also if the history cannot grow.
+    pub fn read(&mut self, alloc: Global, job: u32) -> Result<Snapshot, BookFault>
+        ensures made { Makes self.old (Read job) (seen_reply result) self.new }
+        ensures seen { IfOk result (λ s. IsSeen self.old.book.jobs job s) }
+        ensures full { TellsFull self.old (seen_reply result) }
+    {
+        self.make_room()?;
+        let answer = self.book.read(alloc, job);
+        let reply = reply_to_read(&answer);
+        put_event(&mut self.history, Call::Read(job), reply);
+        answer
+    }
+}
+
+/// Adds a call with its reply to the history, if they are an event.
+fn put_event(history: &mut Vec<Event>, call: Call, reply: Reply)
+    requires { vec_len history.old < vec_capacity history.old }
+    ensures { MatchBool (is_event reply)
+        (history.new.items ≡ history.old.items ++ event call reply ∷ [])
+        (history.new.items ≡ history.old.items) }
+{
+    if is_event(reply) {
+        history.push_reserved(Event { call, reply });
+    }
+}
+
+/// What `submit` needs besides the book: the seed, shared by the job and the history, and the call that the history
+/// keeps, with a copy of the rule.
+pub(crate) fn copied_submit(
+    alloc: Global,
+    seed: Seed,
+    rule: &Rule,
+    steps: u32,
+) -> Result<(BoxedSeed, Call), AllocError>
+    ensures seed { IfOk result (λ made. made.0 ≡ seed) }
+    ensures call { IfOk result (λ made. made.1 ≡ Submit made.0 rule.now steps) }
+{
+    let shared = BoxedSeed::new(alloc, seed)?;
+    let kept = shared.share()?;
+    let rule_kept = BoxedRule::copy_of(alloc, rule)?;
+    Ok((shared, Call::Submit(kept, rule_kept, steps)))
+}
+
+/// The call `replace` that the history keeps, with a copy of the rule.
+pub(crate) fn copied_replace(alloc: Global, job: u32, rule: &Rule) -> Result<Call, AllocError>
+    ensures { IfOk result (λ call. call ≡ Replace job rule.now) }
+{
+    let rule_kept = BoxedRule::copy_of(alloc, rule)?;
+    Ok(Call::Replace(job, rule_kept))
+}
+
+/// The parts of a lease that the history keeps.
+fn parts_of_lease(lease: &Lease, same: bool) -> Offered
+    ensures { result ≡ offered lease.now same }
+{
+    Offered {
+        job: lease.job(),
+        number: lease.number(),
+        base: lease.base_step(),
+        step: lease.step(),
+        same,
+    }
+}
+
+/// Whether a call with this reply is an event: unless it failed for memory or a full history.
+fn is_event(reply: Reply) -> bool
+    ensures { result ≡ is_event reply }
+{
+    !matches!(
+        reply,
+        Reply::Refused(BookFault::Memory | BookFault::HistoryFull)
+    )
+}
+
+fn reply_to_number(answer: &Result<u32, BookFault>) -> Reply
+    ensures { result ≡ number_reply answer.now }
+{
+    match answer {
+        Ok(number) => Reply::Number(*number),
+        Err(fault) => Reply::Refused(*fault),
+    }
+}
+
+fn reply_to_done(answer: &Result<(), BookFault>) -> Reply
+    ensures { result ≡ done_reply answer.now }
+{
+    match answer {
+        Ok(()) => Reply::Done,
+        Err(fault) => Reply::Refused(*fault),
+    }
+}
+
+fn reply_to_lease(answer: &Result<Option<Lease>, BookFault>) -> Reply
+    ensures { result ≡ lease_reply answer.now }
+{
+    match answer {
+        Ok(Some(lease)) => Reply::Leased {
+            job: lease.job(),
+            number: lease.number(),
+            step: lease.step(),
+            steps: lease.steps(),
+        },
+        Ok(None) => Reply::NoLease,
+        Err(fault) => Reply::Refused(*fault),
+    }
+}
+
+fn reply_to_order(answer: &Result<Order, BookFault>) -> Reply
+    ensures { result ≡ order_reply answer.now }
+{
+    match answer {
+        Ok(order) => Reply::Ordered {
+            job: order.job(),
+            number: order.lease(),
+            step: order.step(),
+            from: order.from(),
+        },
+        Err(fault) => Reply::Refused(*fault),
+    }
+}
+
+fn reply_to_back(answer: &Result<(), (Lease, BookFault)>) -> Reply
+    ensures { result ≡ back_reply answer.now }
+{
+    match answer {
+        Ok(()) => Reply::Done,
+        Err((_, fault)) => Reply::Refused(*fault),
+    }
+}
+
+fn reply_to_read(answer: &Result<Snapshot, BookFault>) -> Reply
+    ensures { result ≡ seen_reply answer.now }
+{
+    match answer {
+        Ok(seen) => Reply::Seen {
+            step: seen.step(),
+            entries: seen.sheet().len() as u32,
+        },
+        Err(fault) => Reply::Refused(*fault),
+    }
 }

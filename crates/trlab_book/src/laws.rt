@@ -1,5 +1,4 @@
-//! What lies under the lock, the book with its history, where each call is one event; and which of two
-//! runners' faults is told.
+//! What the lock of a shared book protects, a book with its history; and how the results of two runners are joined.
 
-pub use crate::fault::first_fault;
 pub use crate::kept::Kept;
+pub use crate::running::first_fault;

@@ -1,26 +1,30 @@
-//! The shared job book: a book under one lock, with the history of all its calls, desks through which
-//! threads call it, each of which knows its own of these calls, and runners that take its jobs.
+//! A book of jobs that threads share, with the history of all its calls, and runners that run the jobs.
+//!
+//! Two runners run a job of 200 steps to its end:
+//!
+//! ```
+//! let blank = Blank::new(alloc).ok()?;
+//! let (book, mut desk) = SharedBook::<L>::start(alloc, blank);
+//! let job = book.submit(rt, alloc, &mut desk, seed, rule, 200).ok()?;
+//! let mut desk = run_jobs(rt, alloc, &book, desk, 2, 1, &OpenGate).ok()?;
+//! let snapshot = book.read(rt, alloc, &mut desk, job).ok()?;
+//! let (book, history) = book.close(desk).ok()?;
+//! ```
+//!
+//! Each thread calls the book through a [`Desk`] of its own, which knows its own events of the history. The crate
+//! `trlab_embedding` is a whole program with a shared book.
 #![tactic(auto)]
 
-mod alone;
-mod calls;
 mod desk;
-mod events;
-mod fault;
 mod kept;
 pub mod laws;
-mod ordered;
-mod replies;
 mod running;
-mod sharing;
 mod team;
-mod turn;
 
 pub use desk::{Desk, SharedBook};
-pub use fault::RunFault;
-pub use ordered::advance;
-pub use running::run_jobs;
-pub use trlab_bounds::runs::MOST_RUNNERS;
+pub use running::{RunFault, run_jobs};
+pub use team::advance;
+pub use trlab_bounds::runs::MAX_RUNNERS;
 pub use trlab_sequential_book::{
     Book, BookFault, BoxedRule, BoxedSeed, Call, Event, Lease, LeaseFault, Offered, Order, Reply,
     Seed, Sheet, Snapshot,

@@ -1,25 +1,40 @@
-//! Runners that share a book.
+//! Runners, which take the jobs of a book, one lease after the other.
 
-ghost use Rattle.std.specs.Prelude.{◌<◌, ◌≤◌, Ok, Err, MatchResult};
+ghost use Rattle.std.specs.Prelude.{◌≡◌, ◌↔◌, ◌⊎◌, ◌<◌, ◌≤◌, Ok, Err, IsOk, MatchOption, MatchResult};
 ghost use Rattle.std.specs.Thread.{IsSend, IsSync};
-ghost use Rattle.trlab_bounds.specs.declared.runs.TheConstants.{MOST_RUNNERS, MOST_WORKERS};
-ghost use Rattle.trlab_book.specs.Desks.{HasEnded, parts_of};
+ghost use Rattle.trlab_bounds.specs.declared.runs.TheConstants.{MAX_RUNNERS, MAX_WORKERS};
+ghost use Rattle.trlab_sequential_book.specs.declared.book.TheConstants.{MAX_EVENTS};
+ghost use Rattle.trlab_sequential_book.specs.declared.fault.BookFault.TheVariants.{HistoryFull};
+ghost use Rattle.trlab_book.specs.Desks.{AddsRunnerCalls, HasEnded, least_of, parts_of};
+ghost use Rattle.trlab_book.specs.declared.running.RunFault.TheVariants as run;
 
 use crate::desk::{Desk, SharedBook};
-use crate::fault::{RunFault, first_fault};
-use crate::turn::run_one;
+use crate::team::Team;
 use std::alloc::Global;
+use std::fmt::Debug;
 use std::sync::Wait;
 use std::thread::{Threads, join};
+use thiserror::Error;
 use trlab_segments::Gate;
+use trlab_sequential_book::{BookFault, Lease, LeaseFault};
 use trlab_strands::Ledger;
 
-/// Runs the jobs of a book by 1 to 16 runners, each until it finds no job free, and gives the desk back, with
-/// all their calls after its own, those of one runner after those of another. Each step is taken by 1 to 16
-/// workers, who pass the gate.
+/// Why a runner ended although jobs may be left.
+#[derive(Clone, Copy, PartialEq, Eq, Debug, Error)]
+pub enum RunFault {
+    /// An allocation failed.
+    #[error("out of memory")]
+    Memory,
+    /// The book has had 1,000,000 events.
+    #[error("the book's history is full")]
+    HistoryFull,
+}
+
+/// Runs the jobs of a book with 1 to 16 runners, each until it finds no free job. Each runner has 1 to 16 workers,
+/// who pass the gate. Returns the desk, with the calls of the runners after its own, one runner after the other.
 ///
-/// The desk has a part for each runner. The calling thread is runner 0; it begins once the others were
-/// started, and does the work of those that can't be started.
+/// The desk needs a part for each runner. The calling thread is one of the runners. It begins after the others were
+/// started, and does the work of those that cannot be started.
 ///
 /// # Errors
 ///
@@ -33,8 +48,8 @@ pub fn run_jobs<L: Ledger + Send + Sync, R: Threads + Wait + Sync, G: Gate + Syn
     workers: u32,
     gate: &G,
 ) -> Result<Desk<L>, (Desk<L>, RunFault)>
-    requires workers { (0 < workers) × (workers ≤ MOST_WORKERS) }
-    requires runners { (0 < runners) × (runners ≤ MOST_RUNNERS) × (runners ≤ parts_of desk) }
+    requires workers { (0 < workers) × (workers ≤ MAX_WORKERS) }
+    requires runners { (0 < runners) × (runners ≤ MAX_RUNNERS) × (runners ≤ parts_of desk) }
     ensures { MatchResult result
         (λ d. HasEnded runners (Ok tt) desk d)
         (λ e. HasEnded runners (Err e.1) desk e.0) }
@@ -46,7 +61,7 @@ pub fn run_jobs<L: Ledger + Send + Sync, R: Threads + Wait + Sync, G: Gate + Syn
     }
 }
 
-/// Gives one part to each other runner, and the rest to this thread.
+/// `run_jobs`, with the result apart from the desk. Each other runner takes one part of it, this thread the rest.
 fn run_all<L: Ledger + Send + Sync, R: Threads + Wait + Sync, G: Gate + Sync>(
     rt: &R,
     alloc: Global,
@@ -56,7 +71,7 @@ fn run_all<L: Ledger + Send + Sync, R: Threads + Wait + Sync, G: Gate + Sync>(
     workers: u32,
     gate: &G,
 ) -> (Desk<L>, Result<(), RunFault>)
-    requires workers { (0 < workers) × (workers ≤ MOST_WORKERS) }
+    requires workers { (0 < workers) × (workers ≤ MAX_WORKERS) }
     requires runners { (0 < runners) × (runners ≤ parts_of desk) }
     ensures { HasEnded runners result.1 desk result.0 }
 {
@@ -70,7 +85,7 @@ fn run_all<L: Ledger + Send + Sync, R: Threads + Wait + Sync, G: Gate + Sync>(
     let ((theirs, one), (mine, other)) = join(
         rt,
         move || -> (Desk<L>, Result<(), RunFault>)
-            requires { IsSync R.row × IsSync G.row × (0 < workers) × (workers ≤ MOST_WORKERS) }
+            requires { IsSync R.row × IsSync G.row × (0 < workers) × (workers ≤ MAX_WORKERS) }
             ensures { HasEnded 1 result.1 theirs result.0 }
         {
             let ended = run_one(rt, alloc, book, &mut theirs, workers, gate);
@@ -78,9 +93,143 @@ fn run_all<L: Ledger + Send + Sync, R: Threads + Wait + Sync, G: Gate + Sync>(
         },
         move || -> (Desk<L>, Result<(), RunFault>)
             requires { IsSync R.row × IsSync G.row × IsSend L.row × IsSync L.row
-                × (0 < workers) × (workers ≤ MOST_WORKERS) × (0 < others) × (others ≤ parts_of desk) }
+                × (0 < workers) × (workers ≤ MAX_WORKERS) × (0 < others) × (others ≤ parts_of desk) }
             ensures { HasEnded others result.1 desk result.0 }
         { run_all(rt, alloc, book, desk, others, workers, gate) },
     );
     (book.gather(mine, theirs), first_fault(one, other))
+}
+
+/// The result of two runners: that of the first that failed, but `HistoryFull` before `Memory`.
+pub fn first_fault(one: Result<(), RunFault>, other: Result<(), RunFault>) -> Result<(), RunFault>
+    ensures fine { IsOk result ↔ (IsOk one × IsOk other) }
+    ensures full { (result ≡ Err run.HistoryFull) ↔ ((one ≡ Err run.HistoryFull) ⊎ (other ≡ Err run.HistoryFull)) }
+{
+    match (one, other) {
+        (Err(RunFault::HistoryFull), _) | (_, Err(RunFault::HistoryFull)) => {
+            Err(RunFault::HistoryFull)
+        }
+        (Err(fault), _) | (_, Err(fault)) => Err(fault),
+        (Ok(()), Ok(())) => Ok(()),
+    }
+}
+
+/// After this many steps a runner gives its lease back.
+const STEPS_PER_TURN: u32 = 32;
+
+/// Runs jobs until none is free. The workers live as long as the runner.
+fn run_one<L: Ledger, R: Threads + Wait + Sync, G: Gate + Sync>(
+    rt: &R,
+    alloc: Global,
+    book: &SharedBook<L>,
+    desk: &mut Desk<L>,
+    workers: u32,
+    gate: &G,
+) -> Result<(), RunFault>
+    requires { (0 < workers) × (workers ≤ MAX_WORKERS) }
+    ensures { HasEnded 1 result desk.old desk.new }
+{
+    let runner = Runner {
+        rt,
+        alloc,
+        book,
+        team: Team::new(rt, workers, gate),
+    };
+    runner.team.pool.run(
+        alloc,
+        &mut || -> Result<(), RunFault>
+            ensures { HasEnded 1 result desk.entry.now desk.exit.now }
+        { runner.take_leases(desk) },
+    )
+}
+
+/// One runner: the book whose jobs it runs, and its workers.
+#[derive(Drop)]
+struct Runner<'a, L: Ledger, R, G> {
+    rt: &'a R,
+    alloc: Global,
+    book: &'a SharedBook<L>,
+    team: Team<'a, R, G>,
+}
+
+impl<'a, L: Ledger, R: Threads + Wait + Sync, G: Gate + Sync> Runner<'a, L, R, G> {
+    /// Takes leases until no job is free.
+    fn take_leases(&self, desk: &mut Desk<L>) -> Result<(), RunFault>
+        ensures { HasEnded 1 result desk.old desk.new }
+    {
+        for _ in self.rt.forever() {
+            if let Some(ended) = self.take_free(desk) {
+                return ended;
+            }
+        }
+        Ok(())
+    }
+
+    /// Leases a free job for one turn. Returns how the runner ends, if no job is free or after a fault.
+    fn take_free(&self, desk: &mut Desk<L>) -> Option<Result<(), RunFault>>
+        ensures { MatchOption result (AddsRunnerCalls desk.old desk.new) (λ ended. HasEnded 1 ended desk.old desk.new) }
+    {
+        match self.book.lease(self.rt, self.alloc, desk) {
+            Ok(Some(lease)) => match self.take_turn(desk, lease) {
+                Ok(()) => None,
+                Err(fault) => Some(Err(fault)),
+            },
+            Ok(None) => Some(Ok(())),
+            Err(BookFault::HistoryFull) => Some(Err(RunFault::HistoryFull)),
+            Err(_) => Some(Err(RunFault::Memory)),
+        }
+    }
+
+    /// Runs a lease for some steps and gives it back.
+    fn take_turn(&self, desk: &mut Desk<L>, lease: Lease) -> Result<(), RunFault>
+        ensures { HasEnded 0 result desk.old desk.new }
+    {
+        let mut lease = lease;
+        match self.run_steps(desk, &mut lease) {
+            Ok(()) => match self.book.give_back(self.rt, desk, lease) {
+                Ok(()) => Ok(()),
+                Err((lease, fault)) => self.end_lease(desk, lease, fault),
+            },
+            Err(fault) => self.end_lease(desk, lease, fault),
+        }
+    }
+
+    /// Orders steps and runs them. The lock is free while a step runs.
+    fn run_steps(&self, desk: &mut Desk<L>, lease: &mut Lease) -> Result<(), BookFault>
+        ensures on { AddsRunnerCalls desk.old desk.new }
+        ensures full { result ≡ Err HistoryFull → MAX_EVENTS ≤ least_of desk.new }
+    {
+        for _ in 0..STEPS_PER_TURN {
+            if lease.step() >= lease.steps() {
+                return Ok(());
+            }
+            let order = self.book.order(self.rt, self.alloc, desk, lease)?;
+            let ran = self.team.take_step(self.alloc, lease, &order);
+            drop(order);
+            match ran {
+                Ok(()) => {}
+                Err(LeaseFault::WrongOrder) => return Err(BookFault::StrangerLease),
+                Err(LeaseFault::Memory) => return Err(BookFault::Memory),
+            }
+        }
+        Ok(())
+    }
+
+    /// Drops a lease after a fault. If an allocation failed, the lease is revoked, so that others can take the job.
+    /// If the book no longer accepts the lease, the runner goes on.
+    fn end_lease(&self, desk: &mut Desk<L>, lease: Lease, fault: BookFault) -> Result<(), RunFault>
+        requires seen { fault ≡ HistoryFull → MAX_EVENTS ≤ least_of desk.old }
+        ensures { HasEnded 0 result desk.old desk.new }
+    {
+        let job = lease.job();
+        drop(lease);
+        match fault {
+            BookFault::HistoryFull => Err(RunFault::HistoryFull),
+            BookFault::Memory => match self.book.revoke(self.rt, desk, job) {
+                Err(BookFault::HistoryFull) => Err(RunFault::HistoryFull),
+                _ => Err(RunFault::Memory),
+            },
+            _ => Ok(()),
+        }
+    }
 }

@@ -1,28 +1,115 @@
-//! The workers of one runner, who take the steps of its leases together.
+//! Who runs the ordered steps of leases: one worker, the team of a runner, or workers that are started for a step.
 
-ghost use Rattle.std.specs.Prelude.{◌<◌, ◌≤◌};
-ghost use Rattle.trlab_bounds.specs.declared.runs.TheConstants.{MOST_WORKERS};
+ghost use Rattle.std.specs.Prelude.{◌≡◌, ◌↔◌, ◌<◌, ◌≤◌, OnOk, OnErr};
+ghost use Rattle.trlab_bounds.specs.declared.runs.TheConstants.{MAX_WORKERS};
+ghost use Rattle.trlab_segments.specs.Answered.{HasTwoLanes};
+ghost use Rattle.trlab_sequential_book.specs.Leases.{FitsOrder, HasRun};
+ghost use Rattle.trlab_sequential_book.specs.declared.lease.LeaseFault.TheVariants.{WrongOrder};
 
-use crate::alone::Alone;
-use std::alloc::Global;
+use std::alloc::{AllocError, Global};
 use std::sync::Wait;
 use std::thread::Threads;
-use trlab_segments::{Gate, Pool};
+use trlab_machine::Dice;
+use trlab_road::Road;
+use trlab_segments::{Asked, Calls, Crew, Gate, Pool, segment_count};
 use trlab_sequential_book::{Lease, LeaseFault, Order};
+use trlab_step::{Caller, Executor, StepObserver};
+use trlab_verify::{Change, Motion};
 
-/// 1 to 16 workers and their gate.
+/// Runs the ordered step of a lease with 1 to 16 workers, who pass the gate. It needs no book, and no lock is held
+/// meanwhile.
+///
+/// # Errors
+///
+/// Those of `Lease::advance`. Then nothing changes.
+pub fn advance<R: Threads + Sync, G: Gate + Sync>(
+    rt: &R,
+    alloc: Global,
+    lease: &mut Lease,
+    order: &Order,
+    workers: u32,
+    gate: &G,
+) -> Result<(), LeaseFault>
+    requires { (0 < workers) × (workers ≤ MAX_WORKERS) }
+    ensures ok { OnOk result (HasRun lease.old order.now lease.new) }
+    ensures err { OnErr result (lease.new ≡ lease.old) }
+    ensures wrong { (result ≡ Err WrongOrder) ↔ (FitsOrder lease.old order.now → ⊥) }
+{
+    let crew = Crew::new(rt, workers, gate);
+    let calls = Calls::new(
+        |alloc: Global, road: &Road, motion: &Motion, dice: &Dice| crew.speeds(
+            alloc, road, motion, dice,
+        ),
+        |alloc: Global, road: &Road, change: &Change, dice: &Dice| -> Result<Vec<bool>, AllocError>
+            requires { HasTwoLanes road.now }
+        { crew.crossings(alloc, road, change, dice) },
+    );
+    lease.advance(&calls, alloc, order)
+}
+
+/// A single worker and its gate. Before it computes the answers of a phase, it passes the gate for each of the
+/// segments that several workers would take.
+#[derive(Drop)]
+struct Alone<'a, G> {
+    gate: &'a G,
+}
+
+impl<'a, G: Gate> Alone<'a, G> {
+    fn new(gate: &'a G) -> Alone<'a, G> {
+        Alone { gate }
+    }
+
+    /// Passes the gate for each segment of a phase.
+    fn pass(&self, road: &Road, dice: &Dice, phase: u32) {
+        let segments = segment_count(road.cars(), 1);
+        for segment in 0..segments {
+            self.gate.pass(dice.road, 0, phase, segment);
+        }
+    }
+}
+
+impl<'a, G: Gate> Executor for Alone<'a, G> {
+    ghost is_ready = { λ _. Unit {0} };
+
+    fn speeds<O: StepObserver>(
+        &self,
+        alloc: Global,
+        answers: &mut Vec<u8>,
+        road: &mut Road,
+        motion: &Motion,
+        dice: &Dice,
+        observer: &mut O,
+    ) -> Result<(), AllocError> {
+        self.pass(road, dice, <Motion as Asked<u8>>::PHASE);
+        Caller.speeds(alloc, answers, road, motion, dice, observer)
+    }
+
+    fn crossings<O: StepObserver>(
+        &self,
+        alloc: Global,
+        answers: &mut Vec<bool>,
+        road: &mut Road,
+        change: &Change,
+        dice: &Dice,
+        observer: &mut O,
+    ) -> Result<(), AllocError> {
+        self.pass(road, dice, <Change as Asked<bool>>::PHASE);
+        Caller.crossings(alloc, answers, road, change, dice, observer)
+    }
+}
+
+/// The 1 to 16 workers of one runner, who take the steps of its leases together, and their gate.
 #[derive(Drop)]
 pub struct Team<'a, R, G> {
     gate: &'a G,
-    /// Its helpers wait for the phases of the steps while a run is driven by it.
+    /// Its helpers wait for the phases of the steps while `run` runs.
     pub pool: Pool<'a, R, G>,
     is_one: bool,
 }
 
 impl<'a, R: Threads + Wait + Sync, G: Gate + Sync> Team<'a, R, G> {
-    /// So many workers.
     pub fn new(rt: &'a R, workers: u32, gate: &'a G) -> Team<'a, R, G>
-        requires { (0 < workers) × (workers ≤ MOST_WORKERS) }
+        requires { (0 < workers) × (workers ≤ MAX_WORKERS) }
     {
         Team {
             gate,
@@ -31,12 +118,11 @@ impl<'a, R: Threads + Wait + Sync, G: Gate + Sync> Team<'a, R, G> {
         }
     }
 
-    /// Runs the ordered step of a lease. One worker passes the gate as several do; by the pool it would pass
-    /// none.
+    /// Runs the ordered step of a lease. A single worker passes the gate as well, which it would not in the pool.
     ///
     /// # Errors
     ///
-    /// Those of `advance`.
+    /// Those of `Lease::advance`.
     pub fn take_step(
         &self,
         alloc: Global,
@@ -44,9 +130,9 @@ impl<'a, R: Threads + Wait + Sync, G: Gate + Sync> Team<'a, R, G> {
         order: &Order,
     ) -> Result<(), LeaseFault> {
         if self.is_one {
-            lease.advance_by(&Alone::new(self.gate), alloc, order)
+            lease.advance(&Alone::new(self.gate), alloc, order)
         } else {
-            lease.advance_by(&self.pool, alloc, order)
+            lease.advance(&self.pool, alloc, order)
         }
     }
 }

@@ -1,14 +1,15 @@
-//! Calls through one desk: the history that they leave, each call with its reply, in order, and what the
-//! reads among them show.
+//! Calls at one desk: the history that they leave, each call with its reply, in order, and the results of the
+//! reads among them.
 
 ghost use Rattle.std.specs.Prelude.{◌≡◌};
 ghost use Rattle.trlab_strands.specs.Tokens.{name_of};
 
 use crate::common::books::new_blank;
-use crate::common::histories::{Made, is_history};
+use crate::common::expected::{
+    Difference, Made, Shown, compare_history, compare_reads, has_picture, is_rule,
+};
 use crate::common::jobs::{ALWAYS, NEVER};
 use crate::common::replies::{ordered, own, seen, went_out};
-use crate::common::shown::{Shown, are_shown, has_picture, is_rule};
 use crate::common::table::Table;
 use std::alloc::Global;
 use std::marker::Brand;
@@ -16,8 +17,8 @@ use std::sync::Wait;
 use trlab_sequential_book::{BookFault, Call, Event, Offered, Reply};
 use trlab_strands::{Blank, Ledger};
 
-/// Whether a submission is of the two cars under the rule by which no car brakes, and a replacement by the
-/// one by which each does.
+/// Whether a submit has the two cars and the rule under which no car brakes, and a replacement the one under which
+/// all do.
 fn has_rule(alloc: Global, call: &Call) -> bool {
     match call {
         Call::Submit(from, rule, _) => {
@@ -28,7 +29,7 @@ fn has_rule(alloc: Global, call: &Call) -> bool {
     }
 }
 
-/// Whether a history has the seeds and the rules that were given; false where memory ran out.
+/// Whether a history has the seeds and the rules of the calls; false if an allocation fails.
 fn is_given(alloc: Global, history: &[Event]) -> bool {
     for event in history {
         if !has_rule(alloc, &event.call) {
@@ -38,35 +39,39 @@ fn is_given(alloc: Global, history: &[Event]) -> bool {
     true
 }
 
-/// Whether a history has these calls, with the seeds and the rules that they were given. Where memory ran out
-/// it is looked at once more.
-fn is_as_made(alloc: Global, history: &[Event], calls: &[(Made, Reply)]) -> bool {
-    is_history(history, calls) && (is_given(alloc, history) || is_given(alloc, history))
-}
-
-/// Whether calls of a new book answer the replies beside them, read this, and leave these calls and these
-/// replies as its history.
+/// Makes calls of a new book, and compares their replies, the reads among them, and the history with the seeds and the
+/// rules of the calls. Those are compared twice if an allocation fails.
 fn leave_in<L: Ledger, R: Wait>(
     rt: &R,
     alloc: Global,
     blank: Blank<Event>,
     calls: &[(Made, Reply)],
     wanted: &[Shown],
-) -> bool
+) -> Result<(), Difference>
     requires name { name_of blank ≡ L.name }
 {
     let mut table = Table::<L>::start(alloc, blank, b"0.0.......", 0);
-    let made = table.make_all(rt, alloc, calls) && are_shown(alloc, &table.reads, wanted);
-    match table.close() {
-        Some(history) => made && is_as_made(alloc, &history, calls),
-        None => false,
+    table.make_all(rt, alloc, calls)?;
+    compare_reads(alloc, &table.reads, wanted)?;
+    let Some(history) = table.close() else {
+        return Err(Difference::Book);
+    };
+    compare_history(&history, calls)?;
+    if is_given(alloc, &history) || is_given(alloc, &history) {
+        Ok(())
+    } else {
+        Err(Difference::Given)
     }
 }
 
-/// The same, of a book with one desk.
-fn leave(rt: &(impl AllocGlobal + Wait), calls: &[(Made, Reply)], wanted: &[Shown]) -> bool {
+/// `leave_in`, with a new blank.
+fn leave(
+    rt: &(impl AllocGlobal + Wait),
+    calls: &[(Made, Reply)],
+    wanted: &[Shown],
+) -> Result<(), Difference> {
     let Ok(blank) = new_blank(rt.alloc()) else {
-        return false;
+        return Err(Difference::Book);
     };
     leave_in::<Brand, _>(rt, rt.alloc(), blank, calls, wanted)
 }
@@ -92,7 +97,7 @@ const REPLACED_READS: [Shown; 2] = [
 
 #[test]
 fn a_history_has_each_call_in_order(rt: HostRuntime) {
-    assert!(rt; leave(&rt, &REPLACED, &REPLACED_READS));
+    assert_eq!(rt; leave(&rt, &REPLACED, &REPLACED_READS), Ok(()));
 }
 
 const REVOKED: [(Made, Reply); 9] = [
@@ -112,7 +117,7 @@ const REVOKED: [(Made, Reply); 9] = [
 
 #[test]
 fn a_revoked_lease_is_not_taken_back(rt: HostRuntime) {
-    assert!(rt; leave(&rt, &REVOKED, &[]));
+    assert_eq!(rt; leave(&rt, &REVOKED, &[]), Ok(()));
 }
 
 const CANCELLED: [(Made, Reply); 8] = [
@@ -131,7 +136,10 @@ const CANCELLED: [(Made, Reply); 8] = [
 
 #[test]
 fn a_cancelled_job_refuses_its_lease(rt: HostRuntime) {
-    assert!(rt; leave(&rt, &CANCELLED, &[(0, b"0.0.......", &[(0, false)])]));
+    assert_eq!(rt;
+        leave(&rt, &CANCELLED, &[(0, b"0.0.......", &[(0, false)])]),
+        Ok(())
+    );
 }
 
 const TWO_JOBS: [(Made, Reply); 8] = [
@@ -147,7 +155,10 @@ const TWO_JOBS: [(Made, Reply); 8] = [
 
 #[test]
 fn a_call_is_of_the_job_that_it_names(rt: HostRuntime) {
-    assert!(rt; leave(&rt, &TWO_JOBS, &[(0, b"0.0.......", &[(0, false)])]));
+    assert_eq!(rt;
+        leave(&rt, &TWO_JOBS, &[(0, b"0.0.......", &[(0, false)])]),
+        Ok(())
+    );
 }
 
 const REPLACED_AGAIN: [(Made, Reply); 9] = [
@@ -169,7 +180,7 @@ const REPLACED_AGAIN_READS: [Shown; 2] = [
 
 #[test]
 fn the_last_rule_of_a_step_stays(rt: HostRuntime) {
-    assert!(rt; leave(&rt, &REPLACED_AGAIN, &REPLACED_AGAIN_READS));
+    assert_eq!(rt; leave(&rt, &REPLACED_AGAIN, &REPLACED_AGAIN_READS), Ok(()));
 }
 
 const EMPTY: [(Made, Reply); 5] = [
@@ -182,7 +193,7 @@ const EMPTY: [(Made, Reply); 5] = [
 
 #[test]
 fn an_empty_book_has_no_job(rt: HostRuntime) {
-    assert!(rt; leave(&rt, &EMPTY, &[]));
+    assert_eq!(rt; leave(&rt, &EMPTY, &[]), Ok(()));
 }
 
 const ONE_STEP: Reply = Reply::Leased {
@@ -203,10 +214,10 @@ const NO_STEPS: [(Made, Reply); 6] = [
 
 #[test]
 fn a_job_of_no_steps_has_ended(rt: HostRuntime) {
-    assert!(rt; leave(&rt, &NO_STEPS, &[]));
+    assert_eq!(rt; leave(&rt, &NO_STEPS, &[]), Ok(()));
 }
 
-// The first lease has taken the step when its next one is ordered.
+// The first lease has run its step before the next one is ordered.
 const TAKEN_TWICE: [(Made, Reply); 10] = [
     (Made::Submit(4), Reply::Number(0)),
     (Made::Lease, went_out!(0, 0)),
@@ -225,5 +236,8 @@ const TAKEN_TWICE: [(Made, Reply); 10] = [
 
 #[test]
 fn a_step_that_two_leases_took_counts_once(rt: HostRuntime) {
-    assert!(rt; leave(&rt, &TAKEN_TWICE, &[(1, b".1.1......", &[(0, false)])]));
+    assert_eq!(rt;
+        leave(&rt, &TAKEN_TWICE, &[(1, b".1.1......", &[(0, false)])]),
+        Ok(())
+    );
 }

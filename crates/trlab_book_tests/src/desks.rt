@@ -1,15 +1,13 @@
-//! Desks in several threads, and books that are closed with some of them.
+//! Desks in several threads, and books that are closed with some of the desks.
 
 ghost use Rattle.std.specs.Prelude.{◌≡◌, ◌<◌, ◌≤◌};
 ghost use Rattle.std.specs.Thread.{IsSend, IsSync};
 ghost use Rattle.trlab_book.specs.Desks.{parts_of};
 ghost use Rattle.trlab_strands.specs.Tokens.{name_of};
 
-use crate::common::books::{events_of, history_of, new_blank};
-use crate::common::calls::{reads, replace, submit};
-use crate::common::histories::{Made, is_event, is_history};
+use crate::common::books::{events_of, history_of, new_blank, reads, replace, submit};
+use crate::common::expected::{Made, Shown, compare_history, is_event};
 use crate::common::jobs::{NEVER, two_cars};
-use crate::common::shown::Shown;
 use std::alloc::Global;
 use std::marker::Brand;
 use std::sync::Wait;
@@ -18,14 +16,14 @@ use trlab_book::{Desk, SharedBook};
 use trlab_sequential_book::{BookFault, Call, Event, Reply};
 use trlab_strands::{Blank, Ledger};
 
-/// How many calls each of four threads makes.
+/// The number of calls of each of four threads.
 const CALLS: u32 = 50;
 
-/// What a read shows of a job that has taken no step.
+/// A read of a job of which no step is done.
 const NEW_JOB: Shown = (0, b"0.0.......", &[(0, false)]);
 
-/// The call with a number that a thread makes on its job, and the reply to it: it submits the job, and
-/// then replaces its rule and reads it by turns.
+/// The call with this number of a thread, and its reply. The thread submits a job, and then replaces its rule and
+/// reads it in turn.
 fn wanted(number: u32, job: u32) -> (Made, Reply) {
     if number == 0 {
         (Made::Submit(4), Reply::Number(job))
@@ -42,7 +40,7 @@ fn wanted(number: u32, job: u32) -> (Made, Reply) {
     }
 }
 
-/// Makes the call with a number, which is not the first, on the job of a thread.
+/// Makes the call with this number, from 1 on. Returns whether it has the expected answer.
 fn makes<L: Ledger, R: Wait>(
     rt: &R,
     alloc: Global,
@@ -58,7 +56,7 @@ fn makes<L: Ledger, R: Wait>(
     }
 }
 
-/// Makes the calls of one thread.
+/// Makes the calls of one thread. Returns whether all have the expected answers.
 fn makes_all<L: Ledger, R: Wait>(
     rt: &R,
     alloc: Global,
@@ -87,7 +85,7 @@ fn at_desk<L: Ledger, R: Wait>(
     (desk, made)
 }
 
-/// Makes the calls of so many threads, each at its own desk, and gathers the desks.
+/// Makes the calls of `threads` threads, each at its own desk, and gathers the desks.
 fn at_desks<L: Ledger + Send + Sync, R: Threads + Wait + Sync>(
     rt: &R,
     alloc: Global,
@@ -138,7 +136,7 @@ fn has_threads(history: &[Event]) -> bool {
         && has_thread(history, 3)
 }
 
-/// Whether an event is of a job: its call is on the job, or has submitted it.
+/// Whether an event is of a job: its call names the job, or has submitted it.
 fn is_of(event: &Event, job: u32) -> bool {
     match &event.call {
         Call::Submit(..) => event.reply == Reply::Number(job),
@@ -172,8 +170,7 @@ fn four_threads_have_their_calls_in_order(rt: HostRuntime) {
     );
 }
 
-/// The parts of two desks, and the history when both close the book, which one of them could not close; before
-/// that, a job is read.
+/// Reads a job, gathers two desks and closes the book. Returns the parts of the desks, and the history.
 fn closed_by_both<L: Ledger, R: Wait>(
     rt: &R,
     alloc: Global,
@@ -189,8 +186,8 @@ fn closed_by_both<L: Ledger, R: Wait>(
     Some((some, one, history_of(book, desk)?))
 }
 
-/// A job is submitted at one desk and revoked at another, and the first tries to close the book: the parts of
-/// the two, and the history when both close it.
+/// Submits a job at one desk and revokes its lease at another. The first desk cannot close the book. Returns the parts
+/// of both desks, and the history when both close it.
 fn half_a_desk<L: Ledger, R: Wait>(
     rt: &R,
     alloc: Global,
@@ -208,8 +205,8 @@ fn half_a_desk<L: Ledger, R: Wait>(
     }
 }
 
-/// Whether two desks have the parts of one that was split, and the history has the submit, the other's revoke and the
-/// read after the close that was refused.
+/// Whether two desks have the parts of one that was split, and the history has the submit, the revoke of the other desk
+/// and the read after the first close.
 fn stayed(some: u32, one: u32, history: &[Event]) -> bool {
     let read = Reply::Seen {
         step: 0,
@@ -220,7 +217,7 @@ fn stayed(some: u32, one: u32, history: &[Event]) -> bool {
         (Made::Revoke(0), Reply::Refused(BookFault::StrangerLease)),
         (Made::Read(0), read),
     ];
-    some == 1023 && one == 1 && is_history(history, &wanted)
+    some == 1023 && one == 1 && compare_history(history, &wanted).is_ok()
 }
 
 #[test]
@@ -237,8 +234,7 @@ fn a_book_that_does_not_close_stays_as_it_was(rt: HostRuntime) {
     assert!(rt; stays);
 }
 
-/// The parts of a desk without a call, and how many events the history has when another desk, which has
-/// made all calls, closes the book.
+/// The parts of a desk without calls, and the number of events when the desk of all calls closes the book.
 fn a_quiet_desk<L: Ledger, R: Wait>(
     rt: &R,
     alloc: Global,
@@ -259,5 +255,5 @@ fn a_desk_of_all_calls_closes_the_book(rt: HostRuntime) {
         rt.alloc(),
         new_blank(rt.alloc()).expect(&rt, "memory"),
     );
-    assert!(rt; closed == (1, Some(1)));
+    assert_eq!(rt; closed, (1, Some(1)));
 }

@@ -4,10 +4,9 @@ ghost use Rattle.std.specs.Prelude.{◌≡◌, ◌≤◌};
 ghost use Rattle.trlab_book.specs.Desks.{parts_of};
 ghost use Rattle.trlab_strands.specs.Tokens.{name_of};
 
-use crate::common::answers::snapshot_told;
-use crate::common::books::{ended, history_of, new_blank};
-use crate::common::calls::{replace, submit};
+use crate::common::books::{ended, history_of, new_blank, replace, submit};
 use crate::common::jobs::{ALWAYS, is_road_alone, two_cars};
+use crate::common::replies::seen_reply;
 use std::alloc::Global;
 use std::marker::Brand;
 use std::sync::Wait;
@@ -17,8 +16,8 @@ use trlab_segments::OpenGate;
 use trlab_sequential_book::{Event, Reply, Snapshot};
 use trlab_strands::{Blank, Ledger};
 
-/// Replaces the rule of job 0, whose steps are perhaps all ordered by then: the step from which the rule
-/// holds, if it entered.
+/// Replaces the rule of job 0. Returns the step from which the new rule is in force, or `None` if all steps were
+/// ordered by then.
 fn replace_late<L: Ledger, R: Wait>(
     rt: &R,
     alloc: Global,
@@ -40,7 +39,7 @@ fn submit_two<L: Ledger, R: Wait>(
         && submit(rt, alloc, book, desk, &two_cars(1, 100)) == Ok(1)
 }
 
-/// Runs the jobs of a book by two runners, and says whether all went well.
+/// Runs the jobs of a book with two runners. Returns whether they succeeded.
 fn run_two<L: Ledger + Send + Sync, R: Threads + Wait + Sync>(
     rt: &R,
     alloc: Global,
@@ -52,8 +51,8 @@ fn run_two<L: Ledger + Send + Sync, R: Threads + Wait + Sync>(
     ended(run_jobs(rt, alloc, book, desk, 2, 1, &OpenGate))
 }
 
-/// Runs the jobs of a book by two runners, while the rule of job 0 is replaced: whether all went well, and
-/// the step from which the rule holds, if it entered.
+/// Runs the jobs of a book with two runners, while the rule of job 0 is replaced. Returns whether they succeeded, and
+/// the step from which the new rule is in force, if it entered.
 fn run_and_replace<L: Ledger + Send + Sync, R: Threads + Wait + Sync>(
     rt: &R,
     alloc: Global,
@@ -74,7 +73,7 @@ fn run_and_replace<L: Ledger + Send + Sync, R: Threads + Wait + Sync>(
     (book.gather(mine, theirs), ran, entered)
 }
 
-/// Whether the sheet of a snapshot has a second rule just where one entered, from that step on.
+/// Whether the sheet of a snapshot has a second rule exactly if one entered, from that step on.
 fn has_entered(seen: &Snapshot, entered: Option<u32>) -> bool {
     let sheet = seen.sheet();
     match entered {
@@ -83,12 +82,12 @@ fn has_entered(seen: &Snapshot, entered: Option<u32>) -> bool {
     }
 }
 
-/// Whether a snapshot is of step 100, of the road of one worker, and of the rule that entered.
+/// Whether a snapshot is of step 100, with the road of one worker and the rule that entered.
 fn is_end(alloc: Global, seen: &Snapshot, entered: Option<u32>) -> bool {
     seen.step() == 100 && has_entered(seen, entered) && is_road_alone(alloc, seen)
 }
 
-/// Reads job 0, and answers what this is in the history, if the job has come to its end.
+/// Reads job 0. Returns the reply in the history, if the job has come to its end.
 fn read_end<L: Ledger, R: Wait>(
     rt: &R,
     alloc: Global,
@@ -97,7 +96,7 @@ fn read_end<L: Ledger, R: Wait>(
     entered: Option<u32>,
 ) -> Option<Reply> {
     match book.read(rt, alloc, desk, 0) {
-        Ok(seen) => is_end(alloc, &seen, entered).then_some(snapshot_told(&seen)),
+        Ok(seen) => is_end(alloc, &seen, entered).then_some(seen_reply(&seen)),
         Err(_) => None,
     }
 }
@@ -110,8 +109,8 @@ fn is_last(history: &[Event], reply: Option<Reply>) -> bool {
     }
 }
 
-/// Whether a replaced rule is in the sheet of a job that two runners have run meanwhile, and the read of it
-/// is the last event.
+/// Whether the new rule is in the sheet of a job that two runners run meanwhile, and the read of this job is the last
+/// event.
 fn is_in_the_sheet<L: Ledger + Send + Sync, R: Threads + Wait + Sync>(
     rt: &R,
     alloc: Global,

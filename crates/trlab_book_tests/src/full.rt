@@ -1,11 +1,10 @@
-//! Full books: a book that has had all its jobs, a sheet that has had all its rules, and a history that has had all
-//! its events.
+//! Limits: a book with 256 jobs, a sheet with 1024 rules, and a history with 1,000,000 events.
 
 ghost use Rattle.std.specs.Prelude.{◌≡◌, ◌<◌, ◌≤◌};
 ghost use Rattle.trlab_strands.specs.Tokens.{name_of};
 
 use crate::common::books::new_blank;
-use crate::common::histories::Made;
+use crate::common::expected::{Difference, Made};
 use crate::common::jobs::{crossing, seed_of, two_cars};
 use crate::common::replies::{ordered, own, seen, went_out};
 use crate::common::table::Table;
@@ -18,7 +17,7 @@ use trlab_segments::OpenGate;
 use trlab_sequential_book::{BookFault, Event, Offered, Reply};
 use trlab_strands::{Blank, Ledger};
 
-/// Whether so many calls on a job that is not there are events.
+/// Makes `calls` calls on a job that does not exist. Returns whether all have the expected reply.
 fn hears<L: Ledger, R: Wait>(rt: &R, alloc: Global, table: &mut Table<L>, calls: u32) -> bool {
     let refused = Reply::Refused(BookFault::NoSuchJob);
     for _ in 0..calls {
@@ -29,7 +28,7 @@ fn hears<L: Ledger, R: Wait>(rt: &R, alloc: Global, table: &mut Table<L>, calls:
     true
 }
 
-/// Each call of a book.
+/// One call of each kind.
 const EACH: [Made; 8] = [
     Made::Submit(4),
     Made::Replace(0),
@@ -41,7 +40,7 @@ const EACH: [Made; 8] = [
     Made::Read(0),
 ];
 
-/// Whether each call of a book is told that its history is full.
+/// Whether each call is refused because the history is full.
 fn is_full<L: Ledger, R: Wait>(rt: &R, alloc: Global, table: &mut Table<L>) -> bool {
     let refused = Reply::Refused(BookFault::HistoryFull);
     for call in &EACH {
@@ -52,7 +51,7 @@ fn is_full<L: Ledger, R: Wait>(rt: &R, alloc: Global, table: &mut Table<L>) -> b
     true
 }
 
-/// Has so many runners take the jobs of a book, and says whether they ended because the history was full.
+/// Runs the jobs of a book. Returns whether the runners ended because the history was full.
 fn run<L: Ledger + Send + Sync, R: Threads + Wait + Sync>(
     rt: &R,
     alloc: Global,
@@ -77,13 +76,13 @@ const BEFORE: [(Made, Reply); 3] = [
     (Made::Submit(4), Reply::Number(1)),
 ];
 
-/// Fills the history of a book but for its last event; whether it has.
+/// Fills the history of a book, except for its last event. Returns whether all replies are as expected.
 fn fills<L: Ledger, R: Wait>(rt: &R, alloc: Global, table: &mut Table<L>) -> bool {
-    table.make_all(rt, alloc, &BEFORE) && hears(rt, alloc, table, 999995)
+    table.make_all(rt, alloc, &BEFORE).is_ok() && hears(rt, alloc, table, 999995)
 }
 
-/// The length of the history of a book in which a runner has come to the last event, by the first order of
-/// a lease, and each call after that is refused, those of three runners too.
+/// The length of a history whose last event is a lease of a runner: its first order is refused, and so is each later
+/// call, also those of three more runners.
 fn full_history<L: Ledger + Send + Sync, R: Threads + Wait + Sync>(
     rt: &R,
     alloc: Global,
@@ -109,21 +108,24 @@ fn a_full_history_closes(rt: HostRuntime) {
         rt.alloc(),
         new_blank(rt.alloc()).expect(&rt, "memory"),
     );
-    assert!(rt; found == Some(1000000));
+    assert_eq!(rt; found, Some(1000000));
 }
 
-/// Whether the rule of a job is replaced after each of its first ordered steps.
-fn replaces<L: Ledger, R: Wait>(rt: &R, alloc: Global, table: &mut Table<L>, steps: u32) -> bool {
+/// Orders the first steps of a job, and replaces its rule after each.
+fn replaces<L: Ledger, R: Wait>(
+    rt: &R,
+    alloc: Global,
+    table: &mut Table<L>,
+    steps: u32,
+) -> Result<(), Difference> {
     for step in 0..steps {
         let calls = [
             (Made::Order(own!(0, 0, step)), ordered!(0, step, step)),
             (Made::Replace(0), Reply::Number(step + 1)),
         ];
-        if !table.make_all(rt, alloc, &calls) {
-            return false;
-        }
+        table.make_all(rt, alloc, &calls)?;
     }
-    true
+    Ok(())
 }
 
 const LONG: Reply = Reply::Leased {
@@ -141,28 +143,31 @@ const LAST: [(Made, Reply); 3] = [
     (Made::Read(0), seen!(0, 1024)),
 ];
 
-/// Whether a sheet has 1024 entries, and no more.
-fn has_full_sheet<L: Ledger, R: Wait>(rt: &R, alloc: Global, blank: Blank<Event>) -> bool
+/// Fills a sheet with 1024 entries, after which a replacement is refused.
+fn fill_sheet<L: Ledger, R: Wait>(
+    rt: &R,
+    alloc: Global,
+    blank: Blank<Event>,
+) -> Result<(), Difference>
     requires name { name_of blank ≡ L.name }
 {
     let mut table = Table::<L>::start(alloc, blank, b"0", 0);
-    table.make_all(rt, alloc, &FIRST)
-        && replaces(rt, alloc, &mut table, 1023)
-        && table.make_all(rt, alloc, &LAST)
+    table.make_all(rt, alloc, &FIRST)?;
+    replaces(rt, alloc, &mut table, 1023)?;
+    table.make_all(rt, alloc, &LAST)
 }
 
 #[test]
 fn a_sheet_has_1024_entries(rt: HostRuntime) {
-    assert!(rt;
-        has_full_sheet::<Brand, HostRuntime>(
-            &rt,
-            rt.alloc(),
-            new_blank(rt.alloc()).expect(&rt, "memory")
-        )
+    let filled = fill_sheet::<Brand, HostRuntime>(
+        &rt,
+        rt.alloc(),
+        new_blank(rt.alloc()).expect(&rt, "memory"),
     );
+    assert_eq!(rt; filled, Ok(()));
 }
 
-/// Whether a book takes jobs of these numbers.
+/// Submits jobs with these numbers. Returns whether the book accepts them.
 fn takes<L: Ledger, R: Wait>(
     rt: &R,
     alloc: Global,
@@ -178,7 +183,7 @@ fn takes<L: Ledger, R: Wait>(
     true
 }
 
-/// Whether a rule of two lanes is refused, for a new job and in place of the rule of job 0.
+/// Whether a rule for two lanes is refused, for a new job and as a replacement for job 0.
 fn refuses_two_lanes<L: Ledger, R: Wait>(
     rt: &R,
     alloc: Global,
@@ -194,7 +199,7 @@ fn refuses_two_lanes<L: Ledger, R: Wait>(
     Some(replaced == refused && submitted == refused)
 }
 
-/// Whether a book takes 256 jobs and no more, and refuses a rule of two lanes after the first and after the last.
+/// Whether a book takes 256 jobs and no more, and refuses a rule for two lanes after the first and after the last.
 fn has_256_jobs<L: Ledger, R: Wait>(rt: &R, alloc: Global, blank: Blank<Event>) -> bool
     requires name { name_of blank ≡ L.name }
 {

@@ -1,13 +1,12 @@
-//! A runner that is held by a gate: its book can be called meanwhile.
+//! A book can be called while a gate holds its runner.
 
 ghost use Rattle.std.specs.Prelude.{◌≡◌};
 ghost use Rattle.trlab_strands.specs.Tokens.{name_of};
 
-use crate::common::books::{ended, history_of, new_blank};
-use crate::common::calls::{reads, replace, submit};
+use crate::common::books::{ended, history_of, new_blank, reads, replace, submit};
+use crate::common::expected::Shown;
 use crate::common::jobs::{ALWAYS, two_cars};
 use crate::common::meeting::waits_for;
-use crate::common::shown::Shown;
 use std::alloc::Global;
 use std::marker::Brand;
 use std::sync::Wait;
@@ -18,7 +17,7 @@ use trlab_segments::Gate;
 use trlab_sequential_book::{BookFault, Call, Event, Reply};
 use trlab_strands::{Blank, Ledger};
 
-/// Tells that a segment has come, and holds it until it may go on.
+/// Sets `came` when a segment comes, and holds it until `goes_on` is set.
 #[derive(Drop)]
 struct Barrier {
     came: AtomicBool,
@@ -32,9 +31,9 @@ impl Gate for Barrier {
     }
 }
 
-/// How the lease of a runner ends that is held at the barrier.
+/// How the lease of the runner at the barrier ends.
 #[derive(Clone, Copy)]
-enum Ending {
+enum LeaseEnd {
     /// It is revoked, and the rule of its job replaced.
     Revoked,
     /// Its job is cancelled.
@@ -47,32 +46,32 @@ fn end_lease<L: Ledger, R: Wait>(
     alloc: Global,
     book: &SharedBook<L>,
     desk: &mut Desk<L>,
-    ending: Ending,
+    end: LeaseEnd,
 ) -> bool {
-    match ending {
-        Ending::Revoked => {
+    match end {
+        LeaseEnd::Revoked => {
             book.revoke(rt, desk, 0) == Ok(()) && replace(rt, alloc, book, desk, 0, ALWAYS) == Ok(1)
         }
-        Ending::Cancelled => book.cancel(rt, desk, 0) == Ok(()),
+        LeaseEnd::Cancelled => book.cancel(rt, desk, 0) == Ok(()),
     }
 }
 
-/// Ends the lease of a runner that is held at the barrier, and lets it go on.
+/// Ends the lease of the runner at the barrier, and opens the barrier.
 fn end_held<L: Ledger, R: Wait>(
     rt: &R,
     alloc: Global,
     book: &SharedBook<L>,
     mut desk: Desk<L>,
     gate: &Barrier,
-    ending: Ending,
+    end: LeaseEnd,
 ) -> (Desk<L>, bool) {
     let came = waits_for(&gate.came);
-    let ended = end_lease(rt, alloc, book, &mut desk, ending);
+    let ended = end_lease(rt, alloc, book, &mut desk, end);
     gate.goes_on.store(true, Ordering::SeqCst);
     (desk, came && ended)
 }
 
-/// Runs the jobs of a book by one runner, who passes the barrier.
+/// Runs the jobs of a book with one runner, who passes the barrier.
 fn run_one<L: Ledger + Send + Sync, R: Threads + Wait + Sync>(
     rt: &R,
     alloc: Global,
@@ -83,14 +82,14 @@ fn run_one<L: Ledger + Send + Sync, R: Threads + Wait + Sync>(
     ended(run_jobs(rt, alloc, book, desk, 1, 1, gate))
 }
 
-/// Runs the jobs of a book by a runner who is held while its lease ends, and says whether the runner and
-/// the calls meanwhile are answered as they have to be.
+/// Runs the jobs of a book with a runner who is held while its lease ends. Returns whether the runner and the calls
+/// meanwhile have the expected answers.
 fn run_held<L: Ledger + Send + Sync, R: Threads + Wait + Sync>(
     rt: &R,
     alloc: Global,
     book: &SharedBook<L>,
     mut mine: Desk<L>,
-    ending: Ending,
+    end: LeaseEnd,
 ) -> (Desk<L>, bool) {
     if mine.parts() < 2 {
         return (mine, false);
@@ -102,58 +101,57 @@ fn run_held<L: Ledger + Send + Sync, R: Threads + Wait + Sync>(
     let theirs = book.split(&mut mine);
     let ((theirs, ended), (mine, ran)) = join(
         rt,
-        || end_held(rt, alloc, book, theirs, &gate, ending),
+        || end_held(rt, alloc, book, theirs, &gate, end),
         || -> (Desk<L>, bool) { run_one(rt, alloc, book, mine, &gate) },
     );
     (book.gather(mine, theirs), ended && ran)
 }
 
-/// What is to be read of the job at the end: it has come to its end under two rules, or has taken no step since it was
-/// cancelled.
-fn end_of(ending: Ending) -> Shown {
-    match ending {
-        Ending::Revoked => (4, b".0....1...", &[(0, false), (1, true)]),
-        Ending::Cancelled => (0, b"0.0.......", &[(0, false)]),
+/// The expected read: all steps are done under two rules, or none because the job was cancelled.
+fn end_of(end: LeaseEnd) -> Shown {
+    match end {
+        LeaseEnd::Revoked => (4, b".0....1...", &[(0, false), (1, true)]),
+        LeaseEnd::Cancelled => (0, b"0.0.......", &[(0, false)]),
     }
 }
 
-/// Has a runner held while the lease of a job ends, and says whether all is as it has to be.
+/// Submits a job, runs it with `run_held` and reads it. Returns whether all answers are as expected.
 fn hold<L: Ledger + Send + Sync, R: Threads + Wait + Sync>(
     rt: &R,
     alloc: Global,
     book: &SharedBook<L>,
     mut desk: Desk<L>,
-    ending: Ending,
+    end: LeaseEnd,
 ) -> (Desk<L>, bool) {
     let submitted = submit(rt, alloc, book, &mut desk, &two_cars(0, 4)) == Ok(0);
-    let (mut desk, ended) = run_held(rt, alloc, book, desk, ending);
-    let right = reads(rt, alloc, book, &mut desk, 0, end_of(ending));
+    let (mut desk, ended) = run_held(rt, alloc, book, desk, end);
+    let right = reads(rt, alloc, book, &mut desk, 0, end_of(end));
     (desk, submitted && ended && right)
 }
 
-/// How many orders are refused to a runner whose lease ends while it takes the first step, where all else
-/// is as it has to be.
+/// The number of orders that are refused to a runner whose lease ends during its first step. `None` if anything else is
+/// not as expected.
 fn refused_to_held<L: Ledger + Send + Sync, R: Threads + Wait + Sync>(
     rt: &R,
     alloc: Global,
     blank: Blank<Event>,
-    ending: Ending,
+    end: LeaseEnd,
 ) -> Option<u32>
     requires name { name_of blank ≡ L.name }
 {
     let (book, desk) = SharedBook::<L>::start(alloc, blank);
-    let (desk, held) = hold(rt, alloc, &book, desk, ending);
+    let (desk, held) = hold(rt, alloc, &book, desk, end);
     match history_of(book, desk) {
-        Some(history) => held.then_some(refused_orders(&history, ending)),
+        Some(history) => held.then_some(refused_orders(&history, end)),
         None => None,
     }
 }
 
-/// How many events refuse an order since a lease has ended so.
-fn refused_orders(history: &[Event], ending: Ending) -> u32 {
-    let fault = match ending {
-        Ending::Revoked => BookFault::StrangerLease,
-        Ending::Cancelled => BookFault::Ended,
+/// The number of events that refuse an order because of this end.
+fn refused_orders(history: &[Event], end: LeaseEnd) -> u32 {
+    let fault = match end {
+        LeaseEnd::Revoked => BookFault::StrangerLease,
+        LeaseEnd::Cancelled => BookFault::Ended,
     };
     let mut refused = 0u32;
     for event in history {
@@ -167,9 +165,9 @@ fn refused_orders(history: &[Event], ending: Ending) -> u32 {
 
 #[test]
 fn a_lease_ends_while_its_runner_is_held(rt: HostRuntime) {
-    for ending in &[Ending::Revoked, Ending::Cancelled] {
+    for end in &[LeaseEnd::Revoked, LeaseEnd::Cancelled] {
         let blank = new_blank(rt.alloc()).expect(&rt, "memory");
-        let found = refused_to_held::<Brand, HostRuntime>(&rt, rt.alloc(), blank, *ending);
-        assert!(rt; found == Some(1));
+        let found = refused_to_held::<Brand, HostRuntime>(&rt, rt.alloc(), blank, *end);
+        assert_eq!(rt; found, Some(1));
     }
 }

@@ -1,6 +1,6 @@
-//! Tests of the book of jobs by public calls, with values worked out by hand: what calls at a desk of a shared book
-//! answer and leave in the history, leases of another book, and full books; and by several threads: desks, runners,
-//! runners that are held by gates, and the example of the guide to the book.
+//! Tests of the book of jobs through its public calls, with values worked out by hand. At one desk: the answers of
+//! calls and the history that they leave, leases of another book, and full books. With several threads: desks, runners,
+//! runners that gates hold, and the example of the guide to the book.
 #![tactic(auto)]
 
 #[cfg(test)]

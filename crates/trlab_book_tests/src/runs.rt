@@ -1,17 +1,16 @@
-//! Jobs that several runners take: a new book is filled and run, its jobs are looked at, and it is closed.
+//! Several runners run the jobs of a new book. Then the jobs are read, and the book is closed.
 //!
-//! A submission or a read for which memory ran out is made once more, and runners for whom it did are sent
-//! again: so a test whose runners don't wait for each other passes even where one allocation is refused,
-//! whichever it is. A lease that a runner had dropped without a revoke would stay out, and its job unfinished.
+//! A submit or a read is made once more if an allocation failed, and runners run again. So a test whose runners do not
+//! wait for each other passes even if one allocation fails, whichever it is. If a runner dropped a lease without a
+//! revoke, the lease would stay out and its job unfinished.
 
 ghost use Rattle.std.specs.Prelude.{◌≡◌, ◌<◌, ◌≤◌};
 ghost use Rattle.trlab_strands.specs.Tokens.{name_of};
 
-use crate::common::books::{ended, events_of, new_blank};
-use crate::common::calls::{reads, submit};
-use crate::common::jobs::{BY_HALF, Job, is_road_alone, two_cars};
+use crate::common::books::{ended, events_of, new_blank, reads, submit};
+use crate::common::expected::Shown;
+use crate::common::jobs::{BY_HALF, TestJob, is_road_alone, two_cars};
 use crate::common::meeting::Meeting;
-use crate::common::shown::Shown;
 use std::alloc::Global;
 use std::marker::Brand;
 use std::sync::Wait;
@@ -21,22 +20,21 @@ use trlab_segments::{Gate, OpenGate};
 use trlab_sequential_book::Event;
 use trlab_strands::{Blank, Ledger};
 
-/// How many steps each job has.
+/// The steps of each job.
 const STEPS: u32 = 40;
 
-/// The two cars at the last step: since the fifth each goes 4 cells a step, and has as many empty ones ahead.
+/// The two cars at the last step: from the fifth step on, each drives 4 cells per step, with a gap of 4 cells.
 const LAST: Shown = (STEPS, b".4....4...", &[(0, false)]);
 
-/// The job with a number: of two cars who never brake by chance, or of three, one or none who brake with a chance of
-/// a half.
-fn job_of(number: u32) -> Job {
+/// The job with this number: two cars who never brake at random, or three, one or none who brake with probability 1/2.
+fn job_of(number: u32) -> TestJob {
     let picture: &[u8] = match number % 4 {
         0 => return two_cars(number, STEPS),
         1 => b"0.00......",
         2 => b"0.........",
         _ => b"..........",
     };
-    Job {
+    TestJob {
         picture,
         byte: 0,
         number,
@@ -45,7 +43,7 @@ fn job_of(number: u32) -> Job {
     }
 }
 
-/// Submits so many jobs.
+/// Submits `jobs` jobs. Returns whether the book accepts them.
 fn fill<L: Ledger, R: Wait>(
     rt: &R,
     alloc: Global,
@@ -64,27 +62,27 @@ fn fill<L: Ledger, R: Wait>(
     true
 }
 
-/// So many runners, with so many workers each.
+/// How many runners there are, and how many workers each of them has.
 #[derive(Clone, Copy)]
-struct Runners {
+struct Workforce {
     count: u32,
     workers: u32,
 }
 
-/// Has runners, whose workers pass a gate, run the jobs of a book, and says whether all went well. Where memory ran
-/// out they are sent once more.
+/// Runs the jobs of a book with runners whose workers pass a gate, again if an allocation failed. Returns whether the
+/// runners succeeded.
 fn run<L: Ledger + Send + Sync, R: Threads + Wait + Sync, G: Gate + Sync>(
     rt: &R,
     alloc: Global,
     book: &SharedBook<L>,
     desk: Desk<L>,
-    runners: Runners,
+    runners: Workforce,
     gate: &G,
 ) -> (Desk<L>, bool)
     requires workers { (0 < runners.workers) × (runners.workers ≤ 16) }
     requires count { (0 < runners.count) × (runners.count ≤ 16) }
 {
-    let Runners { count, workers } = runners;
+    let Workforce { count, workers } = runners;
     if desk.parts() < count {
         return (desk, false);
     }
@@ -110,7 +108,7 @@ fn reads_alone<L: Ledger, R: Wait>(
     }
 }
 
-/// Whether a read of a job shows that it has come to its end.
+/// Whether a read of a job shows the expected end.
 fn is_right<L: Ledger, R: Wait>(
     rt: &R,
     alloc: Global,
@@ -125,7 +123,7 @@ fn is_right<L: Ledger, R: Wait>(
     }
 }
 
-/// Whether so many jobs have come to their ends.
+/// Whether reads of all jobs show the expected ends. Each job is read twice if an allocation fails.
 fn are_right<L: Ledger, R: Wait>(
     rt: &R,
     alloc: Global,
@@ -141,13 +139,12 @@ fn are_right<L: Ledger, R: Wait>(
     true
 }
 
-/// Whether so many jobs of a new book come to their ends by runners whose workers pass a gate, and the gathered desk
-/// closes the book.
+/// Whether runners whose workers pass a gate bring the jobs of a new book to their ends, and their desk closes the book.
 fn passes<L: Ledger + Send + Sync, R: AllocGlobal + Threads + Wait + Sync, G: Gate + Sync>(
     rt: &R,
     blank: Blank<Event>,
     jobs: u32,
-    runners: Runners,
+    runners: Workforce,
     gate: &G,
 ) -> bool
     requires name { name_of blank ≡ L.name }
@@ -165,7 +162,7 @@ fn passes<L: Ledger + Send + Sync, R: AllocGlobal + Threads + Wait + Sync, G: Ga
 #[test]
 fn runners_run_all_jobs(rt: HostRuntime) {
     let blank = new_blank(rt.alloc()).expect(&rt, "memory");
-    let runners = Runners {
+    let runners = Workforce {
         count: 4,
         workers: 2,
     };
@@ -175,7 +172,7 @@ fn runners_run_all_jobs(rt: HostRuntime) {
 #[test]
 fn many_runners_come_to_the_roads_of_one(rt: HostRuntime) {
     let blank = new_blank(rt.alloc()).expect(&rt, "memory");
-    let runners = Runners {
+    let runners = Workforce {
         count: 16,
         workers: 16,
     };
@@ -185,7 +182,7 @@ fn many_runners_come_to_the_roads_of_one(rt: HostRuntime) {
 #[test]
 fn two_runners_run_at_once(rt: HostRuntime) {
     let blank = new_blank(rt.alloc()).expect(&rt, "memory");
-    let runners = Runners {
+    let runners = Workforce {
         count: 2,
         workers: 1,
     };

@@ -1,13 +1,12 @@
-//! Leases of another book: one of a job under another key is a stranger, and one of the same run is taken
-//! as soon as its step is ordered.
+//! Leases of another book: a lease of a job with another key is refused, and one of the same run is accepted as soon as
+//! its step is ordered.
 
 ghost use Rattle.std.specs.Prelude.{◌≡◌};
 ghost use Rattle.trlab_strands.specs.Tokens.{name_of};
 
 use crate::common::books::new_blank;
-use crate::common::histories::Made;
+use crate::common::expected::{Difference, Made, Shown, compare_reads};
 use crate::common::replies::{ordered, own, seen, went_out};
-use crate::common::shown::{Shown, are_shown};
 use crate::common::table::Table;
 use std::alloc::Global;
 use std::marker::Brand;
@@ -15,20 +14,20 @@ use std::sync::Wait;
 use trlab_sequential_book::{BookFault, Event, Offered, Reply};
 use trlab_strands::{Blank, Ledger};
 
-/// What is done with one of two books, or with both.
+/// An action on one of two books, or on both.
 #[derive(Clone, Copy)]
 enum Action {
-    /// A call of the one answers this.
+    /// This call of the first book has this reply.
     Own(Made, Reply),
-    /// A call of the other answers this.
+    /// This call of the other book has this reply.
     Other(Made, Reply),
-    /// The lease of a place goes from the one to the other, at a step.
+    /// The lease of a place, at a step, moves from the first book to the other.
     Over(usize, u32),
-    /// The lease of a place goes from the other to the one, at a step.
+    /// The lease of a place, at a step, moves from the other book to the first.
     Back(usize, u32),
 }
 
-/// Whether an action is done.
+/// Takes an action. Returns whether the result is as expected.
 fn is_done<P: Ledger, Q: Ledger, R: Wait>(
     rt: &R,
     alloc: Global,
@@ -44,58 +43,62 @@ fn is_done<P: Ledger, Q: Ledger, R: Wait>(
     }
 }
 
-/// Whether actions are done, one after the other.
-fn are_done<P: Ledger, Q: Ledger, R: Wait>(
+/// Takes actions in order, as long as each result is as expected.
+fn take_all<P: Ledger, Q: Ledger, R: Wait>(
     rt: &R,
     alloc: Global,
     own: &mut Table<P>,
     other: &mut Table<Q>,
     actions: &[Action],
-) -> bool {
-    for action in actions {
+) -> Result<(), Difference> {
+    for (index, action) in actions.iter().enumerate() {
         if !is_done(rt, alloc, own, other, *action) {
-            return false;
+            return Err(Difference::Reply(index));
         }
     }
-    true
+    Ok(())
 }
 
-/// What is done with two new books, and what the other shows after that.
+/// Actions on two new books, and what reads of the other book show.
 #[derive(Clone, Copy)]
 struct Exchange {
     actions: &'static [Action],
-    /// The byte of which the key of the other's jobs is.
+    /// Each byte of the key in the other book.
     byte: u8,
-    /// What reads of the other show.
+    /// What reads of the other book show.
     shown: &'static [Shown],
 }
 
-/// Whether its actions are done, the other book shows what it says, and both books close after that.
+/// Takes the actions of an exchange, compares the reads of the other book, and closes both books.
 fn passes<P: Ledger, Q: Ledger, R: AllocGlobal + Wait>(
     rt: &R,
     first: Blank<Event>,
     second: Blank<Event>,
     exchange: &Exchange,
-) -> bool
+) -> Result<(), Difference>
     requires first { name_of first ≡ P.name }
     requires second { name_of second ≡ Q.name }
 {
     let alloc = rt.alloc();
     let mut own = Table::<P>::start(alloc, first, b"0.0.......", 0);
     let mut other = Table::<Q>::start(alloc, second, b"0.0.......", exchange.byte);
-    let done = are_done(rt, alloc, &mut own, &mut other, exchange.actions)
-        && are_shown(alloc, &other.reads, exchange.shown);
+    take_all(rt, alloc, &mut own, &mut other, exchange.actions)?;
+    compare_reads(alloc, &other.reads, exchange.shown)?;
     let closed = own.events().is_some();
-    other.events().is_some() && closed && done
+    if other.events().is_some() && closed {
+        Ok(())
+    } else {
+        Err(Difference::Book)
+    }
 }
 
-/// The same, with blanks of the allocator.
-fn passes_anew(rt: &(impl AllocGlobal + Wait), exchange: &Exchange) -> bool {
+/// `passes`, with new blanks.
+fn passes_anew(rt: &(impl AllocGlobal + Wait), exchange: &Exchange) -> Result<(), Difference> {
     let Ok(first) = new_blank(rt.alloc()) else {
-        return false;
+        return Err(Difference::Book);
     };
     let Ok(second) = new_blank(rt.alloc()) else {
-        return false;
+        return Err(Difference::Book);
     };
     passes::<Brand, Brand, _>(rt, first, second, exchange)
 }
@@ -119,10 +122,10 @@ const ANOTHER_KEY: Exchange = Exchange {
 
 #[test]
 fn a_lease_of_a_job_under_another_key_is_a_stranger(rt: HostRuntime) {
-    assert!(rt; passes_anew(&rt, &ANOTHER_KEY));
+    assert_eq!(rt; passes_anew(&rt, &ANOTHER_KEY), Ok(()));
 }
 
-// Which book lent a lease of the same run can't be told.
+// Nothing shows which book lent a lease of the same run.
 const SAME_RUN: Exchange = Exchange {
     actions: &[
         Action::Own(Made::Submit(4), Reply::Number(0)),
@@ -142,5 +145,5 @@ const SAME_RUN: Exchange = Exchange {
 
 #[test]
 fn a_lease_of_the_same_run_is_taken(rt: HostRuntime) {
-    assert!(rt; passes_anew(&rt, &SAME_RUN));
+    assert_eq!(rt; passes_anew(&rt, &SAME_RUN), Ok(()));
 }

@@ -1,4 +1,8 @@
-//! The numbers of the laboratory, each once: how large roads, programs, texts and runs may be.
+//! The limits of roads, programs, inputs and runs, each defined once.
+//!
+//! ```text
+//! use trlab_bounds::roads::MAX_LENGTH; // 100,000 cells
+//! ```
 #![tactic(auto)]
 
 pub mod laws;

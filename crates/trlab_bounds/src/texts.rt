@@ -1,6 +1,6 @@
-//! How long texts and their numbers are.
+//! The limits of input files.
 
-/// How many bytes a text has at most.
+/// The maximum number of bytes of an input.
 pub const TEXT_LIMIT: usize = 4194304;
 
 /// The largest number that an input can contain: ten digits.

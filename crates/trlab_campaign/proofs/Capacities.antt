@@ -8,12 +8,11 @@ use Rattle.trlab_road.specs.Cells.{Cells, Lane, cars}
 use Rattle.trlab_road.specs.Spreading.{CanSpread, IsEven}
 use Rattle.trlab_road.proofs.EvenRoads.{even_count, even_legal}
 use Rattle.trlab_texts.specs.Reading.{Fault}
-use Rattle.trlab_jobs.specs.declared.shape.Shape.{Shape}
+use Rattle.trlab_jobs.specs.declared.sweep.Shape.{Shape}
 use Rattle.trlab_jobs.specs.Shapes.{all_steps}
 use Rattle.trlab_jobs.specs.Stored.{IsStoredSweep, Spreads}
 use Rattle.trlab_jobs.specs.Sweep.{Setup, Sweep, SweepText}
-use Rattle.trlab_jobs.proofs.OneSweep.{one_thing}
-use Rattle.trlab_jobs.proofs.SomeSweep.{says_stored}
+use Rattle.trlab_jobs.proofs.OneSweep.{one_thing, says_stored}
 use Rattle.trlab_traffic.specs.Capacity.{all_cells as cells_of_road, capacity, empty_cells, lane_cells}
 use Rattle.trlab_traffic.proofs.Capacities.{run_keeps_to_capacity}
 use Rattle.trlab_traffic.proofs.EvenFlows.{even_cars_flow_at_capacity}

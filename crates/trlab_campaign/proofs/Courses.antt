@@ -5,8 +5,8 @@ use Rattle.std.proofs.lemmas.Nat.{div-add-mod', le-div, mul-le}
 use Rattle.std.proofs.lemmas.List.FromFn.{sum_by-map-range_with_len_more}
 use Rattle.std.specs.Prelude.{Some, sum_by, nat_le}
 use Rattle.trlab_diagram.specs.declared.point.Point.{Point}
-use Rattle.trlab_diagram.specs.declared.window.LaneCount.{LaneCount}
-use Rattle.trlab_diagram.specs.declared.window.Window.{Window}
+use Rattle.trlab_diagram.specs.declared.point.LaneCount.{LaneCount}
+use Rattle.trlab_diagram.specs.declared.point.Window.{Window}
 use Rattle.trlab_road.specs.Cells.{Cells, cars, lane_of}
 use Rattle.trlab_road.specs.Legal.{IsLegal}
 use Rattle.trlab_rules.specs.Rules.{Programs}

@@ -1,12 +1,12 @@
 -- What is known where an output was not written whole.
 use Rattle.std.proofs.Common.{◌≡◌, ◌↔◌, Bool, true, false, sym, ◌∙◌}
 use Rattle.std.proofs.lemmas.Bool.{false≢true}
-use Rattle.trlab_campaign.specs.declared.pooled.WriteFault.{WriteFault}
-use Rattle.trlab_campaign.specs.declared.pooled.WriteFault.TheVariants.{Memory, Device}
+use Rattle.trlab_campaign.specs.declared.end.Failure.{Failure}
+use Rattle.trlab_campaign.specs.declared.end.Failure.TheVariants.{Memory, Device}
 
 memory≢device : Memory ≡ Device → ⊥
 memory≢device e = cc e
 
 -- memory ran out, and the writer works
-pub by_memory : (fault : WriteFault) (failed : Bool) → fault ≡ Memory → failed ≡ false → (fault ≡ Device) ↔ (failed ≡ true)
+pub by_memory : (fault : Failure) (failed : Bool) → fault ≡ Memory → failed ≡ false → (fault ≡ Device) ↔ (failed ≡ true)
 by_memory fault failed is works = (λ e. absurd (memory≢device (sym is ∙ e)), λ fails. absurd (false≢true (sym works ∙ fails)))

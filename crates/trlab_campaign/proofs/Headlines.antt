@@ -12,12 +12,12 @@ use Rattle.trlab_step.proofs.RunLaws.{run_comes_to_road}
 use Rattle.trlab_texts.specs.Reading.{Fault}
 use Rattle.trlab_jobs.specs.Job.{Job, JobText, seed_of, sheet_of}
 use Rattle.trlab_jobs.specs.Shapes.{all_steps}
-use Rattle.trlab_jobs.specs.Stored.{IsStored, IsStoredSweep, Spreads}
+use Rattle.trlab_jobs.specs.Stored.{IsStoredJob, IsStoredSweep, Spreads}
 use Rattle.trlab_jobs.specs.Sweep.{Setup, Sweep, SweepText}
 use Rattle.trlab_jobs.proofs.OneText as jobs
 use Rattle.trlab_jobs.proofs.OneSweep as sweeps
-use Rattle.trlab_jobs.proofs.SomeSweep.{says_stored}
-use Rattle.trlab_jobs.proofs.SomeText.{says_plain}
+use Rattle.trlab_jobs.proofs.OneSweep.{says_stored}
+use Rattle.trlab_jobs.proofs.OneText.{says_plain}
 use Rattle.trlab_campaign.specs.Headline.{IsDrivenJob, IsDrivenPoint, IsDrivenSweep, JobTextsAreDriven, SweepTextsAreDriven}
 use Rattle.trlab_campaign.specs.Output.{JobOutput}
 use Rattle.trlab_campaign.specs.Refusal.{OutputFor}
@@ -27,7 +27,7 @@ use Rattle.trlab_campaign.proofs.Points.{suits}
 use Rattle.trlab_campaign.proofs.Sheets.{plain_sheet}
 use Rattle.trlab_campaign.proofs.SomePoints.{even_some}
 
-drives_job : (shown : ℕ → Bool) (text out : List ℕ) (says : Result Job Fault) → JobText text says → IfOk says IsStored → OutputFor (JobOutput shown) says false out → IsDrivenJob shown text out
+drives_job : (shown : ℕ → Bool) (text out : List ℕ) (says : Result Job Fault) → JobText text says → IfOk says IsStoredJob → OutputFor (JobOutput shown) says false out → IsDrivenJob shown text out
 drives_job shown text out (Ok job) says stored output =
     let roads = output.1.0 in
     let is = output.1.1 in

@@ -1,7 +1,9 @@
 -- The bytes of a reader, over several calls: first those that it tells.
-use Rattle.std.proofs.Common.{◌≡◌, ℕ, ◌<◌, List, [], ◌++◌, length, take, refl, arith, append_assoc, sym, ◌∙◌, ap, length-append, append-nil, subst}
+use Rattle.std.proofs.Common.{◌≡◌, ℕ, ◌<◌, List, [], ◌++◌, length, take, refl, arith, append_assoc, sym, ◌∙◌, ap, length-append, append-nil, subst, inl, inr}
 use Rattle.std.specs.Prelude.{Option, None, Some, IfSome}
 use Rattle.std.specs.Io.KnownBytes.{Consumes, IsAtEnd, Keeps}
+use Rattle.trlab_bounds.specs.declared.texts.TheConstants.{TEXT_LIMIT}
+use Rattle.trlab_campaign.specs.Device.{IsReadOf}
 
 pub consumes_none : (a : Option (List ℕ)) → Consumes a a []
 consumes_none None = tt
@@ -25,16 +27,16 @@ pub consumes_last : (a b c : Option (List ℕ)) (xs part : List ℕ) (count : �
 consumes_last a b c xs part count is p q = subst (λ (t : List ℕ). Consumes a c t) (append-nil xs) (consumes_more a b c xs [] p (rw is at q))
 
 -- all bytes that there were
-pub consumes_whole : (P : List ℕ → Type 0) (a b : Option (List ℕ)) (xs : List ℕ) → Consumes a b xs → IsAtEnd b → P xs → IfSome a P
-consumes_whole P None b xs p end holds = tt
-consumes_whole P (Some x) None xs p end holds = absurd p
-consumes_whole P (Some x) (Some y) xs p end holds = subst P (sym (p ∙ (ap (λ t. xs ++ t) end ∙ append-nil xs))) holds
+pub read_whole : (a b : Option (List ℕ)) (xs : List ℕ) → Consumes a b xs → IsAtEnd b → IfSome a (IsReadOf xs)
+read_whole None b xs p end = tt
+read_whole (Some x) None xs p end = absurd p
+read_whole (Some x) (Some y) xs p end = inl (sym (p ∙ (ap (λ t. xs ++ t) end ∙ append-nil xs)))
 
--- more bytes were there than a number
-pub consumes_over : (a b : Option (List ℕ)) (xs : List ℕ) (least : ℕ) → least < length xs → Consumes a b xs → IfSome a (λ all. least < length all)
-consumes_over None b xs least over p = tt
-consumes_over (Some x) None xs least over p = absurd p
-consumes_over (Some x) (Some y) xs least over p = omega (arith, ap length p, length-append xs y)
+-- more bytes than a text may have
+pub read_over : (a b : Option (List ℕ)) (xs : List ℕ) → TEXT_LIMIT < length xs → Consumes a b xs → IfSome a (IsReadOf xs)
+read_over None b xs over p = tt
+read_over (Some x) None xs over p = absurd p
+read_over (Some x) (Some y) xs over p = inr (over, omega (arith, ap length p, length-append xs y))
 
 -- all bytes that a reader has given: a call gave more, none, and none since it counted 0
 pub given_more : (a b c xs ys : List ℕ) → b ≡ a ++ xs → c ≡ b ++ ys → c ≡ a ++ (xs ++ ys)

@@ -3,7 +3,7 @@ use Rattle.std.proofs.Common.{◌≡◌, ℕ, zero, suc, ◌+◌, ◌*◌, ◌<�
 use Rattle.std.proofs.lemmas.List.Sums.{sum_by-cons}
 use Rattle.std.proofs.lemmas.List.FromFn.{get_or-map-range_with_len, length-map-range_with_len}
 use Rattle.std.specs.Prelude.{All, sum_by, Ok}
-use Rattle.trlab_diagram.specs.declared.window.Window.{Window}
+use Rattle.trlab_diagram.specs.declared.point.Window.{Window}
 use Rattle.trlab_road.specs.declared.car.Car.{Car}
 use Rattle.trlab_road.specs.Cells.{Cells, cars}
 use Rattle.trlab_road.specs.Legal.{IsLegal}
@@ -16,9 +16,8 @@ use Rattle.trlab_step.specs.Next.{stopped_cars, total_speed}
 use Rattle.trlab_step.specs.Run.{Seed, Sheet}
 use Rattle.trlab_step.proofs.RunLaws.{run_comes_to_road, road_at_is_one}
 use Rattle.trlab_jobs.specs.Job.{Job, seed_of, sheet_of}
-use Rattle.trlab_jobs.specs.Stored.{IsStored}
-use Rattle.trlab_jobs.proofs.OneText.{one_thing}
-use Rattle.trlab_jobs.proofs.SomeText.{says_plain}
+use Rattle.trlab_jobs.specs.Stored.{IsStoredJob}
+use Rattle.trlab_jobs.proofs.OneText.{one_thing, says_plain}
 use Rattle.trlab_campaign.specs.SeriesLaws.{LanesAddUp, LanesOfSeriesAddUp}
 use Rattle.trlab_campaign.specs.SeriesOutput.{AreRoads, IsCourse, IsSeries, cars_on, first_windows, is_on, lane_count, nth_window, roads_after, speed_on, stopped_on, tallies_from, window_of}
 use Rattle.trlab_campaign.proofs.LaneCounts.{both_tests, ones, same_sum}
@@ -115,12 +114,12 @@ module _ (seed : Seed) (sheet : Sheet) (roads : ℕ → Cells) (tallies : ℕ �
       subst LanesAddUp (sym here) (window_adds_up (from + k * every) every)
 
 -- each road of a run is like its first
-like_first : (job : Job) (roads : ℕ → Cells) → IsStored job → AreRoads (seed_of job) (sheet_of job) roads → (step : ℕ) → IsLegalLike job.road (roads step)
+like_first : (job : Job) (roads : ℕ → Cells) → IsStoredJob job → AreRoads (seed_of job) (sheet_of job) roads → (step : ℕ) → IsLegalLike job.road (roads step)
 like_first job roads stored each step =
     let at = run_comes_to_road (seed_of job) (sheet_of job) step stored.legal (plain_sheet job stored) in
     subst (λ (road : Cells). IsLegalLike job.road road) (road_at_is_one (seed_of job) (sheet_of job) step at.0 (roads step) (at.1, at.2) (each step)) at.3
 
-series_add_up : (job : Job) (every from : ℕ) (windows : List Window) → IsStored job → IsSeries job every from windows → All LanesAddUp windows
+series_add_up : (job : Job) (every from : ℕ) (windows : List Window) → IsStoredJob job → IsSeries job every from windows → All LanesAddUp windows
 series_add_up job every from windows stored is =
     let like = like_first job is.roads stored is.course.road_at in
     rw is.told (windows_add_up (seed_of job) (sheet_of job) is.roads is.tallies is.course (λ step. (like step).legal) (cars job.road) (λ step. (like step).same_count) every from is.count)
@@ -129,5 +128,5 @@ pub lanes_of_series_add_up : LanesOfSeriesAddUp
 lanes_of_series_add_up text job every from windows says is =
     let found = says_plain text in
     let same = one_thing text found.0 (Ok job) found.1.0 says in
-    let stored : IsStored job = rw same at found.1.1 in
+    let stored : IsStoredJob job = rw same at found.1.1 in
     series_add_up job every from windows stored is

@@ -17,7 +17,6 @@ pub mod Shown
 pub mod OneVerdict
 pub mod SomeVerdict
 pub mod OneEntry
-pub mod Evenness
 pub mod Points
 pub mod Milestones
 pub mod OnePoints

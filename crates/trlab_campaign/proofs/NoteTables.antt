@@ -8,8 +8,8 @@ use Rattle.trlab_code.specs.declared.instruction.Register.{Register}
 use Rattle.trlab_code.specs.Machine.{register_number}
 use Rattle.trlab_code.specs.Program.{Program}
 use Rattle.trlab_notes.specs.Notes.{with_side}
-use Rattle.trlab_verify.specs.declared.table.note.Mark.TheVariants.{Unset}
-use Rattle.trlab_verify.specs.declared.table.note.Note.{Note as Form}
+use Rattle.trlab_verify.specs.declared.note.Mark.TheVariants.{Unset}
+use Rattle.trlab_verify.specs.declared.note.Note.{Note as Form}
 use Rattle.trlab_verify.specs.TableForm.{empty_form, meaning, meaning_at, said_of, table_of}
 use Rattle.trlab_verify.specs.Incoming.{note_at}
 use Rattle.trlab_verify.specs.Tables.{AreVerdictNotes, blank}

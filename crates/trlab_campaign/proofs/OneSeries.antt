@@ -3,7 +3,7 @@ use Rattle.std.proofs.Common.{◌≡◌, ◌↔◌, ℕ, ◌+◌, ◌-◌, ◌*�
 use Rattle.std.proofs.lemmas.Bool.{cases_lt}
 use Rattle.std.specs.List.{range_with_len}
 use Rattle.std.specs.Prelude.{Result, Ok, Err, IfOk}
-use Rattle.trlab_diagram.specs.declared.window.Window.{Window}
+use Rattle.trlab_diagram.specs.declared.point.Window.{Window}
 use Rattle.trlab_diagram.specs.Series.{series_text}
 use Rattle.trlab_road.specs.Cells.{Cells}
 use Rattle.trlab_step.specs.declared.tally.StepTally.{StepTally}
@@ -11,9 +11,8 @@ use Rattle.trlab_step.specs.Run.{Seed, Sheet}
 use Rattle.trlab_step.proofs.RunLaws.{road_at_is_one}
 use Rattle.trlab_texts.specs.Reading.{Fault}
 use Rattle.trlab_jobs.specs.Job.{Job, seed_of, sheet_of}
-use Rattle.trlab_jobs.specs.Stored.{IsStored}
-use Rattle.trlab_jobs.proofs.OneText.{one_thing}
-use Rattle.trlab_jobs.proofs.SomeText.{says_plain}
+use Rattle.trlab_jobs.specs.Stored.{IsStoredJob}
+use Rattle.trlab_jobs.proofs.OneText.{one_thing, says_plain}
 use Rattle.trlab_campaign.specs.Refusal.{OutputFor, fault_line}
 use Rattle.trlab_campaign.specs.SeriesLaws.{SeriesHasOneOutput, SeriesHasSomeOutput}
 use Rattle.trlab_campaign.specs.SeriesOutput.{IsCourse, IsSeries, SeriesOutput, first_windows, nth_window, window_of}
@@ -76,7 +75,7 @@ one_output every from text refused also out other p q =
     let same = one_thing text p.0 q.0 p.1.0 q.1.0 in
     output_one every from q.0 refused also out other (subst (λ (says : Result Job Fault). OutputFor (SeriesOutput every from) says refused out) same p.1.1) q.1.1
 
-output_some : (every from : ℕ) → 1 ≤ every → (says : Result Job Fault) → IfOk says IsStored → (refused : Bool) × (out : List ℕ) × OutputFor (SeriesOutput every from) says refused out
+output_some : (every from : ℕ) → 1 ≤ every → (says : Result Job Fault) → IfOk says IsStoredJob → (refused : Bool) × (out : List ℕ) × OutputFor (SeriesOutput every from) says refused out
 output_some every from some (Ok job) stored =
     let course = course_of (seed_of job) (sheet_of job) stored.legal (plain_sheet job stored) in
     let count = (job.steps - from) / every in

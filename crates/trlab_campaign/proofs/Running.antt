@@ -7,7 +7,7 @@ use Rattle.trlab_step.specs.Run.{IsRoadAt}
 use Rattle.trlab_step.proofs.RunLaws.{run_comes_to_road, road_at_is_one}
 use Rattle.trlab_step.specs.Progress.{Progress, IsOneStepOn, at_start}
 use Rattle.trlab_jobs.specs.Job.{Job, seed_of, sheet_of}
-use Rattle.trlab_jobs.specs.Stored.{IsStored}
+use Rattle.trlab_jobs.specs.Stored.{IsStoredJob}
 use Rattle.trlab_campaign.specs.Output.{JobOutput, shown_text, steps_text}
 use Rattle.trlab_campaign.specs.Ending.{WroteAll, WroteBy, WrotePrefix}
 use Rattle.trlab_campaign.specs.Writers.{Adds, AddsBy, AddsPrefix, SinkBytes}
@@ -44,7 +44,7 @@ pub record Drives (job : Job) (step : ℕ) (run : Progress) : Type 0 where
 
 -- a run of so many steps is that of a job, and has not gone on yet
 pub record Begins (job : Job) (steps : ℕ) (run : Progress) : Type 0 where
-  pub stored : IsStored job
+  pub stored : IsStoredJob job
   pub starts : run ≡ at_start (seed_of job) (sheet_of job)
   pub ends : steps ≡ job.steps
 
@@ -53,13 +53,13 @@ abbrev pub Writes : (ℕ → Bool) → ℕ → Progress → ℕ → ℕ → Prog
 Writes shown steps start step left run old now = (job : Job) → Begins job steps start → Underway shown job step left old now × Drives job step run
 
 -- a job that was read has a road at each step of its run
-pub roads_of : (job : Job) → IsStored job → (roads : ℕ → Cells) × Roads job roads
+pub roads_of : (job : Job) → IsStoredJob job → (roads : ℕ → Cells) × Roads job roads
 roads_of job plain =
     let at = λ (s : ℕ). run_comes_to_road (seed_of job) (sheet_of job) s plain.legal (plain_sheet job plain) in
     (λ s. (at s).0, λ s. ((at s).1, (at s).2))
 
 -- before the first step
-begin : (shown : ℕ → Bool) (job : Job) (old : SinkBytes) → IsStored job → Underway shown job 0 job.steps old old
+begin : (shown : ℕ → Bool) (job : Job) (old : SinkBytes) → IsStoredJob job → Underway shown job 0 job.steps old old
 begin shown job old plain =
     let found = roads_of job plain in
     record {

@@ -16,7 +16,7 @@ use Rattle.trlab_texts.specs.Reading.{Fault}
 use Rattle.trlab_jobs.specs.Shapes.{all_steps}
 use Rattle.trlab_jobs.specs.Sweep.{Setup, Sweep}
 use Rattle.trlab_jobs.specs.Stored.{Spreads, IsStoredSweep}
-use Rattle.trlab_jobs.proofs.SomeSweep.{says_stored}
+use Rattle.trlab_jobs.proofs.OneSweep.{says_stored}
 use Rattle.trlab_campaign.specs.Refusal.{OutputFor, fault_line}
 use Rattle.trlab_campaign.specs.SweepOutput.{IsPoint, ArePoints, SweepOutput, point_of, seed_of, sheet_of, IsSweepOutput}
 use Rattle.trlab_campaign.specs.Laws.{HasSomeOutput}

@@ -4,7 +4,7 @@ use Rattle.std.specs.Prelude.{Result, Ok, Err, IfOk}
 use Rattle.trlab_jobs.specs.Check.{Check}
 use Rattle.trlab_verify.proofs.Judged.{accepted_or_refused, some_budget}
 use Rattle.trlab_texts.specs.Reading.{Fault}
-use Rattle.trlab_jobs.proofs.SomeCheck.{HasProgram, says_program}
+use Rattle.trlab_jobs.proofs.OneCheck.{HasProgram, says_program}
 use Rattle.trlab_campaign.specs.Refusal.{OutputFor, fault_line}
 use Rattle.trlab_campaign.specs.CheckOutput.{answer_text, refused_line, VerdictOutput, IsCheckOutput}
 use Rattle.trlab_campaign.specs.Laws.{HasSomeOutput}

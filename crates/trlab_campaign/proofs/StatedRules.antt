@@ -10,15 +10,15 @@ use Rattle.trlab_rules.proofs.NaschRuns.{nasch_moves}
 use Rattle.trlab_bounds.specs.declared.texts.TheConstants.{TEXT_LIMIT}
 use Rattle.trlab_texts.specs.declared.fault.Cause.{Cause}
 use Rattle.trlab_texts.specs.Lines.{Rest, start}
-use Rattle.trlab_texts.specs.Reading.{Fault, GoesOn, LineSays, Reading, SizedTextSays, at_line, before, exactly, in_line, line, say, ◌>>=◌}
+use Rattle.trlab_texts.specs.Reading.{Fault, Continues, LineSays, Reading, SizedTextSays, at_line, before, exactly, line_with_rest, line, say, ◌>>=◌}
 use Rattle.trlab_jobs.specs.declared.rule_line.RuleLine.{RuleLine}
 use Rattle.trlab_jobs.specs.declared.rule_line.RuleLine.TheVariants.{Nasch}
 use Rattle.trlab_jobs.specs.Counts.{counts}
 use Rattle.trlab_jobs.specs.Job.{key_line, limit_line}
 use Rattle.trlab_jobs.specs.RuleLines.{rule_line}
 use Rattle.trlab_jobs.specs.RuleParts.{MotionSays, rule, rule_from}
-use Rattle.trlab_jobs.specs.Shapes.{all_cells, all_steps, lanes_line, length_line, shape, span}
-use Rattle.trlab_jobs.specs.Sweep.{Setup, Sweep, SweepLinesSay, SweepText, heading, setup, sweep_line, with_counts}
+use Rattle.trlab_jobs.specs.Shapes.{cell_count, all_steps, lanes_line, length_line, shape, span}
+use Rattle.trlab_jobs.specs.Sweep.{Setup, Sweep, SweepLinesSay, SweepText, sweep_heading, setup, sweep_line, with_counts}
 use Rattle.trlab_jobs.proofs.SweepLines.{after_cells, after_key, after_limit, after_rule, after_shape}
 use Rattle.trlab_asm.specs.Results.{map_ok}
 use Rattle.trlab_campaign.specs.Capacity.{rule_stated}
@@ -34,7 +34,7 @@ record Both {A B : Type 0} (first : Reading A) (next : A → Reading B) (rest : 
   one : first rest (Ok (x, after))
   two : next x after (Ok out)
 
-both : {A B : Type 0} (first : Reading A) (next : A → Reading B) (rest : Rest) (out : B × Rest) (found : Result (A × Rest) Fault) → first rest found → GoesOn next found (Ok out) → Both first next rest out
+both : {A B : Type 0} (first : Reading A) (next : A → Reading B) (rest : Rest) (out : B × Rest) (found : Result (A × Rest) Fault) → first rest found → Continues next found (Ok out) → Both first next rest out
 both first next rest out (Ok found) one two = record { x = found.0; after = found.1; one = one; two = two }
 both first next rest out (Err fault) one two = absurd (cc two)
 
@@ -51,7 +51,7 @@ one_line : {A : Type 0} (says : List ℕ → Result A Cause) (number : ℕ) (lef
 one_line says number [] x after told = absurd (cc told)
 one_line {A = A} says number (text ∷ left) x after told = of_said told.0 told.1.0 told.1.1
   where
-    of_said : (said : Result A Cause) → said ≡ says text → Ok (x, after) ≡ in_line number left said → Line says (text ∷ left) x after
+    of_said : (said : Result A Cause) → said ≡ says text → Ok (x, after) ≡ line_with_rest number left said → Line says (text ∷ left) x after
     of_said (Ok y) is out =
         let behind_it : Rest = record { number = number + 1; left = left } in
         let parts = ok_parts x y after behind_it out in
@@ -83,7 +83,7 @@ say_takes x = record {
 }
 
 -- the lines before the rule
-heading_takes : Takes heading 2
+heading_takes : Takes sweep_heading 2
 heading_takes = then_takes (line (exactly sweep_line)) (λ _. line (exactly key_line)) 1 1 (line_takes sweep_line) (λ _. line_takes key_line)
 
 shape_takes : Takes shape 3
@@ -120,7 +120,7 @@ rule_is p lanes rest after first stated told =
 setup_is : (p : ℕ) (rest after : Rest) (common : Setup) → rule_line (get_or rest.left 5 []) ≡ Ok (Nasch p) → setup rest (Ok (common, after)) → IsNasch p common.rule
 unfolding setup
 setup_is p rest after common stated told =
-    let key = both heading after_key rest (common, after) told.0 told.1.0 told.1.1 in
+    let key = both sweep_heading after_key rest (common, after) told.0 told.1.0 told.1.1 in
     let roads = both shape (after_shape key.x) key.after (common, after) key.two.0 key.two.1.0 key.two.1.1 in
     let first = both (rule roads.x.lanes) (after_rule key.x roads.x) roads.after (common, after) roads.two.0 roads.two.1.0 roads.two.1.1 in
     let steps = both span (λ steps. say (record { key = key.x; shape = roads.x; rule = first.x; span = steps })) first.after (common, after) first.two.0 first.two.1.0 first.two.1.1 in
@@ -139,7 +139,7 @@ lines_are p text sweep stated says = of_found says.0 says.1.0 says.1.1
 
     of_found : (found : Result (Setup × Rest) Fault) → setup (start text) found → Ok sweep ≡ with_counts found → IsNasch p sweep.setup.rule
     of_found (Ok found) told out =
-        of_counts found.0 (counts (all_cells found.0.shape) (all_steps found.0.span) found.1.number found.1.left) (setup_is p (start text) found.1 found.0 stated told) out
+        of_counts found.0 (counts (cell_count found.0.shape) (all_steps found.0.span) found.1.number found.1.left) (setup_is p (start text) found.1 found.0 stated told) out
     of_found (Err fault) told out = absurd (cc out)
 
 pub stated_nasch : (p : ℕ) (text : List ℕ) (sweep : Sweep) → rule_stated text ≡ Ok (Nasch p) → SweepText text (Ok sweep) → IsNasch p sweep.setup.rule

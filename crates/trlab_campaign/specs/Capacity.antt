@@ -1,4 +1,4 @@
--- The capacity at the points of a sweep: each is under a triangle of the fundamental diagram, or on it.
+-- The capacity at the points of a sweep: each point is under a triangle of the fundamental diagram, or on it.
 use Rattle.std.specs.Prelude.{◌≡◌, ℕ, ◌+◌, ◌-◌, ◌*◌, ◌/◌, ◌≤◌, min, List, [], All, Ok, Result, slice_index_or}
 use Rattle.trlab_diagram.specs.declared.point.Point.{Point}
 use Rattle.trlab_diagram.specs.Flow.{flow_of}
@@ -14,18 +14,18 @@ use Rattle.trlab_campaign.specs.SweepOutput.{ArePoints}
 abbrev pub empty_cells_at : Point → ℕ
 empty_cells_at point = point.cells - point.cars
 
--- the capacity at a point, the greatest distance of a step: each car goes by the limit, or each empty cell
--- is gone onto
+-- the capacity at a point, which is the largest distance of a step: each car moves at the limit, or a car passes
+-- each empty cell
 abbrev pub capacity_at : ℕ → Point → ℕ
 capacity_at limit point = min (limit * point.cars) (empty_cells_at point)
 
--- the flow at a point where this is the distance of each step, in millionths and rounded down
+-- the flow at a point if each step has this distance, in millionths and rounded down
 abbrev pub steady_flow : Point → ℕ → ℕ
 steady_flow point distance = distance * 1000000 / point.cells
 
--- a point under the triangle: as a mean over its steps, the cars went over no more cells than its road has
--- empty ones, and no further than the limit each; so the flow is at most one less the density, and at most
--- the limit times the density
+-- a point under the triangle: as a mean over its steps, the cars went over no more cells than the road has
+-- empty cells, and each no further than the limit; so the flow is at most 1 minus the density, and at most the
+-- limit times the density
 pub record IsUnderTriangle (limit : ℕ) (point : Point) : Type 0 where
   pub room : point.cars ≤ point.cells
   pub by_empty_cells : point.distance ≤ point.steps * empty_cells_at point
@@ -33,7 +33,7 @@ pub record IsUnderTriangle (limit : ℕ) (point : Point) : Type 0 where
   pub flow_by_empty_cells : flow_of point ≤ steady_flow point (empty_cells_at point)
   pub flow_by_limit : flow_of point ≤ steady_flow point (limit * point.cars)
 
--- each point of the table for a sweep text is so, under any rule that the text may state
+-- each point of the table for a sweep text is under the triangle, under any rule that the text may state
 abbrev pub SweepsKeepToCapacity : Type 0
 SweepsKeepToCapacity =
     (text : List ℕ) (sweep : Sweep) (points : List Point)
@@ -57,7 +57,7 @@ pub record PointGoesByMovingCars (limit : ℕ) (point : Point) : Type 0 where
   pub cell_each : point.steps * point.cars ≤ point.distance + point.stopped
   pub limit_each : point.distance + limit * point.stopped ≤ point.steps * (limit * point.cars)
 
--- so did those of each point of a table, under any rule that a sweep text may state
+-- the same for each point of a table, under any rule that a sweep text may state
 abbrev pub SweepsGoByMovingCars : Type 0
 SweepsGoByMovingCars =
     (text : List ℕ) (sweep : Sweep) (points : List Point)
@@ -73,15 +73,14 @@ pub record IsOnTriangle (limit : ℕ) (point : Point) : Type 0 where
 abbrev pub rule_stated : List ℕ → Result (RuleLine ℕ) Cause
 rule_stated text = rule_line (slice_index_or (lines_of text) 5 [])
 
--- a sweep text asks for the triangle: it states the rule of 1992 without randomization, by the line `rule
--- nasch 0`, has one lane, and counts from no earlier step on than that in which cars could come to the
--- limit
+-- a sweep text asks for the triangle: it states the rule of 1992 without randomization, by the line `rule nasch 0`,
+-- has one lane, and counts no step before cars could reach the limit
 pub record AsksForTriangle (text : List ℕ) (common : Setup) : Type 0 where
   pub rule : rule_stated text ≡ Ok (Nasch 0)
   pub lanes : common.shape.lanes ≡ 1
   pub warm : common.shape.limit ≤ common.span.warm + 1
 
--- then each point of its table is on it
+-- then each point of its table is on the triangle
 abbrev pub DiagramIsTriangle : Type 0
 DiagramIsTriangle =
     (text : List ℕ) (sweep : Sweep) (points : List Point)

@@ -1,31 +1,30 @@
 -- What is written for a check text.
-use Rattle.std.specs.Prelude.{◌≡◌, ℕ, true, false, List, [], ◌∷◌, ◌++◌, decimal, codes, Result}
+use Rattle.std.specs.Prelude.{◌≡◌, ℕ, true, false, List, [], ◌∷◌, ◌++◌, decimal, codes}
 use Rattle.trlab_code.specs.Program.{Program}
 use Rattle.trlab_asm.specs.Canonical.{text_of}
 use Rattle.trlab_verify.specs.Longest.{IsLongest}
 use Rattle.trlab_verify.specs.Verdict.{IsAccepted, IsRefused}
-use Rattle.trlab_texts.specs.Reading.{Fault}
 use Rattle.trlab_jobs.specs.declared.check.Question.{Question}
 use Rattle.trlab_jobs.specs.declared.check.Question.TheVariants.{Verdict, Notes}
 use Rattle.trlab_jobs.specs.Check.{Check, CheckText}
 use Rattle.trlab_campaign.specs.NoteLines.{notes_text}
-use Rattle.trlab_campaign.specs.Refusal.{Outputs, OutputFor}
+use Rattle.trlab_campaign.specs.Refusal.{Outputs, OutputOfText}
 
 -- what is written for an accepted program: its budget, and its canonical text
 abbrev pub accepted_text : ℕ → Program → List ℕ
 accepted_text budget program = codes "accepted budget " ++ (decimal budget ++ (10 ∷ text_of program.instrs))
 
--- what is written for an accepted program of which this is asked
+-- what is written for an accepted program, by the question of the check
 abbrev pub answer_text : Question → ℕ → Program → List ℕ
 answer_text Verdict budget program = accepted_text budget program
 answer_text Notes budget program = accepted_text budget program ++ notes_text program
 
--- what is written for a refused program: where it is refused, and why
+-- what is written for a refused program: the instruction and the reason
 abbrev pub refused_line : ℕ → ℕ → List ℕ
 refused_line at reason =
     codes "refused at " ++ (decimal at ++ (codes " reason " ++ (decimal reason ++ (10 ∷ []))))
 
--- what is written for a check, by what the verifier says of its program as one of its own kind
+-- what is written for a check, by the verdict on its program as a program of its own kind
 abbrev pub VerdictOutput : Check → Outputs
 VerdictOutput check false out = IsAccepted check.program.kind check.program × ((budget : ℕ)
     × (IsLongest check.program.instrs 0 budget × (out ≡ answer_text check.question budget check.program)))
@@ -34,5 +33,4 @@ VerdictOutput check true out = (at reason : ℕ)
 
 -- the whole output for a check text, and whether it is a refusal
 abbrev pub IsCheckOutput : List ℕ → Outputs
-IsCheckOutput text refused out =
-    (says : Result Check Fault) × (CheckText text says × OutputFor VerdictOutput says refused out)
+IsCheckOutput text refused out = OutputOfText CheckText VerdictOutput text refused out

@@ -1,22 +1,23 @@
 -- How the windows of a series are counted.
 use Rattle.std.specs.Prelude.{◌≡◌, ℕ, ◌+◌, ◌*◌, ◌≤◌, List, length, sum_by, count_by, nat_eq}
+use Rattle.trlab_bounds.specs.declared.roads.TheConstants.{MAX_LENGTH, MAX_LIMIT}
 use Rattle.trlab_road.specs.LaneCars.{LaneCar}
 use Rattle.trlab_step.specs.Progress.{Progress}
-use Rattle.trlab_diagram.specs.declared.window.LaneCount.{LaneCount}
+use Rattle.trlab_diagram.specs.declared.point.LaneCount.{LaneCount}
 
--- the same run, so many steps later
+-- the same run, `count` steps later
 pub record IsStepsOn (count : ℕ) (old new : Progress) : Type 0 where
   pub same_seed : new.seed ≡ old.seed
   pub same_sheet : new.sheet ≡ old.sheet
   pub later : new.step ≡ old.step + count
 
--- no more than a lane can have on so many roads, one after each step
+-- no more than a lane can have, summed over the roads after `steps` steps
 pub record IsFewCars (steps : ℕ) (count : LaneCount) : Type 0 where
-  pub cars : count.cars ≤ 200000 * steps
-  pub distance : count.distance ≤ 7000000 * steps
-  pub stopped : count.stopped ≤ 200000 * steps
+  pub cars : count.cars ≤ MAX_LENGTH * steps
+  pub distance : count.distance ≤ MAX_LIMIT * MAX_LENGTH * steps
+  pub stopped : count.stopped ≤ MAX_LENGTH * steps
 
--- of a line of cars, how many there are, the sum of their speeds, and how many are stopped
+-- the count of the cars on a lane: their number, the sum of their speeds, and the number of stopped cars
 abbrev pub line_count : List LaneCar → LaneCount
 line_count line = record {
   cars = length line;

@@ -1,16 +1,21 @@
--- What calls of readers and writers hand over, and the bytes that a reader has given.
-use Rattle.std.specs.Prelude.{◌≡◌, ℕ, ◌≤◌, List, [], ◌++◌, length, take, Option, Result, Ok, Err}
+-- The bytes that calls of readers and writers transfer, and what is read of an input.
+use Rattle.std.specs.Prelude.{◌≡◌, ◌⊎◌, ℕ, ◌<◌, ◌≤◌, List, [], ◌++◌, length, take, Option, Result, Ok, Err}
 use Rattle.std.specs.Io.KnownBytes.{Consumes}
+use Rattle.trlab_bounds.specs.declared.texts.TheConstants.{TEXT_LIMIT}
 
--- the bytes that a call handed over: as many of the first as it counts, and none where it failed
+-- the bytes that a call transferred: the first ones, as many as it returns, and none if it failed
 abbrev pub handed_over : {E : Type 0} → Result ℕ E → List ℕ → List ℕ
 handed_over (Ok count) bytes = take count bytes
 handed_over (Err fault) bytes = []
 
--- between these two times the calls of a reader gave just some bytes of which this holds
+-- between these two times the calls of a reader gave exactly some bytes with this property
 abbrev pub Gave : (List ℕ → Type 0) → List ℕ → List ℕ → Type 0
 Gave Holds before after = (bytes : List ℕ) × ((after ≡ before ++ bytes) × Holds bytes)
 
--- the bytes left to read lose a prefix of at most so many
+-- a prefix of at most `most` bytes is no longer left to read
 abbrev pub ConsumesUpTo : ℕ → Option (List ℕ) → Option (List ℕ) → Type 0
 ConsumesUpTo most old new = (read : List ℕ) × (length read ≤ most) × Consumes old new read
+
+-- what was read of an input: all of it, or enough to know that it is too long
+abbrev pub IsReadOf : List ℕ → List ℕ → Type 0
+IsReadOf text input = (text ≡ input) ⊎ ((TEXT_LIMIT < length text) × (TEXT_LIMIT < length input))

@@ -1,20 +1,20 @@
--- How an engine ends: what it has written by then, how that was handed on, and what its reader gave.
-use Rattle.std.specs.Prelude.{◌≡◌, ◌+◌, ◌<◌, ◌≤◌, ◌||◌, ◌⊎◌, ◌↔◌, ℕ, Bool, true, false}
+-- How an engine ends: what it has written, whether that was flushed, and what its reader gave.
+use Rattle.std.specs.Prelude.{◌≡◌, ◌+◌, ◌≤◌, ◌||◌, ◌⊎◌, ◌↔◌, ℕ, Bool, true, false}
 use Rattle.std.specs.Prelude.{List, length, IfSome, Result, Ok, Err, IfErr, OnOk}
 use Rattle.trlab_bounds.specs.declared.texts.TheConstants.{TEXT_LIMIT}
 use Rattle.trlab_campaign.specs.declared.device.Sink as Sink
 use Rattle.trlab_campaign.specs.declared.device.Source as Source
-use Rattle.trlab_campaign.specs.declared.device.flushes.Flushes.{Flushes}
+use Rattle.trlab_campaign.specs.declared.device.Flushes.{Flushes}
 use Rattle.trlab_campaign.specs.declared.end.End.{End}
 use Rattle.trlab_campaign.specs.declared.end.End.TheVariants.{Done, Refused, Memory, DeviceFault}
-use Rattle.trlab_campaign.specs.declared.pooled.WriteFault.{WriteFault}
-use Rattle.trlab_campaign.specs.declared.pooled.WriteFault.TheVariants.{Device}
+use Rattle.trlab_campaign.specs.declared.end.Failure.{Failure}
+use Rattle.trlab_campaign.specs.declared.end.Failure.TheVariants.{Device}
 use Rattle.trlab_campaign.specs.Device.{ConsumesUpTo, Gave}
 use Rattle.trlab_campaign.specs.Flushes.{AtMostOnce, HandedOnce}
 use Rattle.trlab_campaign.specs.Refusal.{Outputs}
 use Rattle.trlab_campaign.specs.Writers.{Adds, AddsNone, AddsPrefix, SinkBytes, bytes_of}
 
--- a whole output was written, which is a refusal or is none
+-- a whole output was written, which is a refusal or not
 abbrev pub WroteAll : Outputs → Bool → SinkBytes → SinkBytes → Type 0
 WroteAll IsWhole refused old new = (out : List ℕ) × (IsWhole refused out × Adds old new out)
 
@@ -24,44 +24,45 @@ WrotePrefix IsWhole old new =
     AddsNone old new
     ⊎ ((refused : Bool) × ((out : List ℕ) × (IsWhole refused out × AddsPrefix old new out)))
 
--- by its result, a writing wrote a whole output that is no refusal, or a prefix of one
+-- by its result, a call wrote a whole output that is not a refusal, or a prefix of an output
 abbrev pub WroteBy : {A E : Type 0} → Outputs → Result A E
     → SinkBytes → SinkBytes → Type 0
 WroteBy IsWhole (Ok done) old new = WroteAll IsWhole false old new
 WroteBy IsWhole (Err fault) old new = WrotePrefix IsWhole old new
 
--- an engine ended so: a text with a fault, or a program that is refused, has an output that is a refusal
+-- what an engine has written, by its end: the output for a text with a fault, or for a refused program, is a
+-- refusal
 abbrev pub EndsSo : Outputs → End → SinkBytes → SinkBytes → Type 0
 EndsSo IsWhole Done old new = WroteAll IsWhole false old new
 EndsSo IsWhole Refused old new = WroteAll IsWhole true old new
 EndsSo IsWhole Memory old new = WrotePrefix IsWhole old new
 EndsSo IsWhole DeviceFault old new = WrotePrefix IsWhole old new
 
--- an engine left its writer so: a whole output was handed on by one flush, there was none where memory
--- ran out, and one or none where a device failed
+-- how an engine has flushed its writer, by its end: a whole output by one flush, not at all if an allocation
+-- failed, and at most once if a device failed
 abbrev pub HandsOn : End → Bool → Flushes → Flushes → Type 0
 HandsOn Done handed_on old new = HandedOnce handed_on old new
 HandsOn Refused handed_on old new = HandedOnce handed_on old new
 HandsOn Memory handed_on old new = new ≡ old
 HandsOn DeviceFault handed_on old new = AtMostOnce old new
 
--- the writing of one whole output ended so
+-- what was written of one whole output, by the end
 abbrev pub OutputEnds : Bool → List ℕ → End → SinkBytes → SinkBytes → Type 0
 OutputEnds refused out Done old new = (refused ≡ false) × Adds old new out
 OutputEnds refused out Refused old new = (refused ≡ true) × Adds old new out
 OutputEnds refused out Memory old new = AddsNone old new
 OutputEnds refused out DeviceFault old new = AddsPrefix old new out
 
--- a writing that hands nothing on yet left its writer so: it works where all was written, it has failed
--- exactly where that is the fault, and it was not flushed
-pub record WritesOn {A K : Type 0} (sink : Sink.Ghosts K) (result : Result A WriteFault)
+-- the writer after a call that does not flush it: it works if everything was written, and it has failed exactly
+-- if that is the failure
+pub record WritesOn {A K : Type 0} (sink : Sink.Ghosts K) (result : Result A Failure)
     (old new : K) : Type 0 where
   pub works : OnOk result (sink.failed new ≡ false)
   pub fails : IfErr result (λ fault. (fault ≡ Device) ↔ (sink.failed new ≡ true))
   pub flushed : sink.flushes new ≡ sink.flushes old
 
--- a call ended so, and left its writer so: by this end so much was written, what was written whole was handed
--- on by one flush, and it ended in a device fault exactly where the writer has failed
+-- the writer after a call that flushes it: `Wrote` says what was written by this end, a whole output was
+-- flushed once, and the end is a device fault exactly if the writer has failed
 pub record LeavesWriter {K : Type 0} (sink : Sink.Ghosts K)
     (Wrote : End → SinkBytes → SinkBytes → Type 0)
     (end : End) (old new : K) : Type 0 where
@@ -69,26 +70,21 @@ pub record LeavesWriter {K : Type 0} (sink : Sink.Ghosts K)
   pub handed : HandsOn end (sink.handed_on new) (sink.flushes old) (sink.flushes new)
   pub device : (end ≡ DeviceFault) ↔ (sink.failed new ≡ true)
 
--- an engine ended so on a text that is too long, of which no more is known
-abbrev pub EndsTooBig : (List ℕ → Outputs) → End → SinkBytes → SinkBytes → Type 0
-EndsTooBig outputs end old new =
-    (text : List ℕ) → TEXT_LIMIT < length text → EndsSo (outputs text) end old new
-
--- an engine ended so, which reads a text and writes one of the outputs that there may be for it: `before` and
+-- how an engine ends that reads an input and writes one of the outputs that there may be for it: `before` and
 -- `after` are its reader, `old` and `new` its writer
 pub record EngineEnds {S K : Type 0} (source : Source.Ghosts S) (sink : Sink.Ghosts K)
     (outputs : List ℕ → Outputs) (end : End) (before after : S) (old new : K) : Type 0 where
-  -- whatever bytes the calls of the reader gave, the bytes that the calls of the writer took are the output
-  -- for exactly these, or the prefix of it that the end allows
+  -- the bytes that the calls of the writer took are the output for exactly the bytes that the calls of the
+  -- reader gave, or the prefix of it that the end allows
   pub exact : Gave (λ text. EndsSo (outputs text) end (bytes_of sink old) (bytes_of sink new))
       (source.given before) (source.given after)
-  -- the same for all bytes that are left to a reader that tells them
+  -- the same for all bytes that were left to read, if they are known
   pub answer : IfSome (source.left before)
       (λ text. EndsSo (outputs text) end (bytes_of sink old) (bytes_of sink new))
-  -- nothing was written where the text was not read
+  -- nothing was written if the input was not read
   pub silent : source.failed after ≡ true → AddsNone (bytes_of sink old) (bytes_of sink new)
   pub handed : HandsOn end (sink.handed_on new) (sink.flushes old) (sink.flushes new)
   pub device : (end ≡ DeviceFault) ↔ ((source.failed after || sink.failed new) ≡ true)
-  -- at most one byte more was read than a text may have
+  -- at most one byte more was read than an input may have
   pub read : ConsumesUpTo (TEXT_LIMIT + 1) (source.left before) (source.left after)
   pub stops : Gave (λ bytes. length bytes ≤ TEXT_LIMIT + 1) (source.given before) (source.given after)

@@ -1,15 +1,15 @@
 -- How often a writer was flushed, counted up to the second time.
 use Rattle.std.specs.Prelude.{◌≡◌, ◌⊎◌, Bool, true}
-use Rattle.trlab_campaign.specs.declared.device.flushes.Flushes.{Flushes}
-use Rattle.trlab_campaign.specs.declared.device.flushes.Flushes.TheVariants.{Never, Once, Often}
+use Rattle.trlab_campaign.specs.declared.device.Flushes.{Flushes}
+use Rattle.trlab_campaign.specs.declared.device.Flushes.TheVariants.{Never, Once, Often}
 
--- how often, after one flush more
+-- the count after one more flush
 abbrev pub once_more : Flushes → Flushes
 once_more Never = Once
 once_more Once = Often
 once_more Often = Often
 
--- one flush handed all on
+-- everything was flushed, by one flush
 abbrev pub HandedOnce : Bool → Flushes → Flushes → Type 0
 HandedOnce handed_on old new = (handed_on ≡ true) × (new ≡ once_more old)
 

@@ -1,4 +1,4 @@
--- What comes of a text that is not refused: one worker drives its roads.
+-- The output for a text that is not refused: one worker drives its roads.
 use Rattle.std.specs.Prelude.{◌≡◌, ◌+◌, ◌<◌, ℕ, Bool, false, List, Ok, length, slice_index_or}
 use Rattle.trlab_diagram.specs.declared.point.Point.{Point}
 use Rattle.trlab_diagram.specs.Table.{points_text}
@@ -14,8 +14,8 @@ use Rattle.trlab_campaign.specs.Output.{IsShownOutput, steps_text}
 use Rattle.trlab_campaign.specs.SweepOutput.{IsSweepOutput, point_of}
 use Rattle.trlab_campaign.specs.SweepOutput as sweep
 
--- the output for a job text: it says a job, one worker drives the job's road, and the pictures are of
--- the roads on the way, at the steps that are shown
+-- the output for a job text: the text says a job, one worker drives the job's road, and the pictures show the
+-- roads on the way, at the steps that are shown
 pub record IsDrivenJob (shown : ℕ → Bool) (text out : List ℕ) : Type 0 where
   pub job : Job
   pub says : JobText text (Ok job)
@@ -23,14 +23,14 @@ pub record IsDrivenJob (shown : ℕ → Bool) (text out : List ℕ) : Type 0 whe
   pub driven : IsDriven (seed_of job) (sheet_of job) job.steps roads
   pub pictures : out ≡ steps_text shown roads (job.steps + 1)
 
--- each output for a job text that is no refusal is so, whichever steps are shown
+-- every output for a job text that is not a refusal is of a driven job, whichever steps are shown
 abbrev pub JobTextsAreDriven : Type 0
 JobTextsAreDriven =
     (shown : ℕ → Bool) (text out : List ℕ)
     → IsShownOutput shown text false out → IsDrivenJob shown text out
 
--- a point of a sweep: one worker drives its road, whose cars are evenly spread at the start, and what is
--- told of them is what was counted on the way
+-- a point of a sweep: one worker drives its road, whose cars are evenly spread at the start, and its numbers
+-- are the counts on the way
 pub record IsDrivenPoint (setup : Setup) (number cars : ℕ) (point : Point) : Type 0 where
   pub start : Cells
   pub tally : StepTally
@@ -42,7 +42,7 @@ pub record IsDrivenPoint (setup : Setup) (number cars : ℕ) (point : Point) : T
       (all_steps setup.span) tally
   pub told : point ≡ point_of setup cars tally
 
--- the output for a sweep text: it says a sweep, and the table has its points, in their order
+-- the output for a sweep text: the text says a sweep, and the table has its points, in their order
 pub record IsDrivenSweep (text out : List ℕ) : Type 0 where
   pub said : Sweep
   pub says : SweepText text (Ok said)
@@ -52,6 +52,6 @@ pub record IsDrivenSweep (text out : List ℕ) : Type 0 where
       → IsDrivenPoint said.setup i (slice_index_or said.cars i cars) (slice_index_or points i point)
   pub table : out ≡ points_text points
 
--- each output for a sweep text that is no refusal is so
+-- every output for a sweep text that is not a refusal is of a driven sweep
 abbrev pub SweepTextsAreDriven : Type 0
 SweepTextsAreDriven = (text out : List ℕ) → IsSweepOutput text false out → IsDrivenSweep text out

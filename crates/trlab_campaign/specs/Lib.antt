@@ -3,18 +3,16 @@ pub mod Flushes
 pub mod Device
 pub mod Writers
 pub mod Watched
--- what is written for texts
+-- what is written
 pub mod Refusal
 pub mod Output
 pub mod NoteLines
 pub mod CheckOutput
-pub mod Evenness
 pub mod SweepOutput
 pub mod SeriesOutput
 pub mod Capacity
 pub mod Headline
-pub mod TooBig
--- how far a work is
+-- progress
 pub mod Hundredths
 -- how engines end, and laws
 pub mod Ending

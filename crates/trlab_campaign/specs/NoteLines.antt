@@ -7,8 +7,8 @@ use Rattle.trlab_code.specs.declared.instruction.Variable.TheVariants as variabl
 use Rattle.trlab_code.specs.Program.{Program}
 use Rattle.trlab_asm.specs.Names.{register_text}
 use Rattle.trlab_asm.specs.declared.names.TheConstants.{REGISTERS}
-use Rattle.trlab_notes.specs.declared.note.Said.{Said}
-use Rattle.trlab_notes.specs.declared.note.Said.TheVariants.{Nothing, Between, Implies}
+use Rattle.trlab_notes.specs.declared.note.AbstractValue.{AbstractValue}
+use Rattle.trlab_notes.specs.declared.note.AbstractValue.TheVariants.{Nothing, Between, Implies}
 use Rattle.trlab_notes.specs.Notes.{Note, with_side}
 use Rattle.trlab_verify.specs.Incoming.{note_at}
 
@@ -16,24 +16,24 @@ use Rattle.trlab_verify.specs.Incoming.{note_at}
 abbrev pub register_entry : Register → List ℕ → List ℕ
 register_entry register held = 32 ∷ (register_text register ++ (32 ∷ held))
 
--- what is said of a register, nothing where it may be unset: the least and the greatest number, or that it
--- holds a flag, which is `side` where its truth says that the side cell is empty
-abbrev pub said_text : Register → Said → List ℕ
+-- the text for a register: nothing if it may be unset, the smallest and the largest number, or `flag`, which is
+-- `side` if a true flag implies that the side cell is empty
+abbrev pub said_text : Register → AbstractValue → List ℕ
 said_text register Nothing = []
 said_text register (Between lo hi) = register_entry register (decimal lo ++ (32 ∷ decimal hi))
 said_text register (Implies true) = register_entry register (codes "side")
 said_text register (Implies false) = register_entry register (codes "flag")
 
--- what a note says of a register; where the side cell is known to be empty, each flag says so
+-- the text for a register of a note; if the side cell is known to be empty, each flag is `side`
 abbrev pub said_of_register : Note → Register → List ℕ
 said_of_register note register =
     said_text register (with_side note.side (note.said (variable.Register register)))
 
--- what a note says of the registers
+-- the text for the registers of a note
 abbrev pub registers_text : Note → List ℕ
 registers_text note = flat_map (said_of_register note) REGISTERS
 
--- that the side cell is known to be empty
+-- the word for a side cell that is known to be empty
 abbrev pub side_text : Bool → List ℕ
 side_text side = if side then codes " side" else []
 
@@ -47,7 +47,8 @@ abbrev pub maybe_note_line : ℕ → Option Note → List ℕ
 maybe_note_line pc None = []
 maybe_note_line pc (Some note) = note_line pc note
 
--- the lines of the notes of a program, as one of its own kind; in an accepted one each instruction has a note
+-- the lines of the notes of a program, as a program of its own kind; in an accepted program each instruction
+-- has a note
 abbrev pub notes_text : Program → List ℕ
 notes_text program =
     flat_map (λ pc. maybe_note_line pc (note_at program.kind program.instrs pc))

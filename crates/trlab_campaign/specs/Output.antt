@@ -1,12 +1,11 @@
 -- What is written for a job text.
 use Rattle.std.specs.Prelude.{◌≡◌, ℕ, ◌+◌, ◌-◌, ◌%◌, ◌≤◌, ◌&&◌, Bool, true, false, nat_eq, nat_le, if◌then◌else◌}
-use Rattle.std.specs.Prelude.{List, [], ◌∷◌, ◌++◌, flat_map, decimal, codes, Result}
+use Rattle.std.specs.Prelude.{List, [], ◌∷◌, ◌++◌, flat_map, decimal, codes}
 use Rattle.std.specs.List.{range_with_len}
 use Rattle.trlab_road.specs.Cells.{Cells}
 use Rattle.trlab_road.specs.Pictures.{picture}
 use Rattle.trlab_step.specs.Run.{IsRoadAt}
-use Rattle.trlab_texts.specs.Reading.{Fault}
-use Rattle.trlab_campaign.specs.Refusal.{Outputs, OutputFor}
+use Rattle.trlab_campaign.specs.Refusal.{Outputs, OutputOfText}
 use Rattle.trlab_jobs.specs.Job.{Job, JobText, seed_of, sheet_of}
 
 -- a picture, and the LF that ends its line
@@ -18,18 +17,18 @@ abbrev pub step_text : ℕ → Cells → List ℕ
 step_text step road =
     codes "step " ++ (decimal step ++ (10 ∷ flat_map (λ lane. picture_line (picture lane)) road.lanes))
 
--- which steps are shown: each, or every so many from one on, that is `from`, `from + every` and so on
+-- the steps that are shown: each one, or `from`, `from + every`, `from + 2 * every` and so on
 abbrev pub each_step : ℕ → Bool
 each_step step = true
 
 abbrev pub every_from : ℕ → ℕ → ℕ → Bool
 every_from every from step = nat_le from step && nat_eq ((step - from) % every) 0
 
--- the text of a step that is shown; for another step there is none
+-- the text of a step that is shown; empty for another step
 abbrev pub shown_text : (ℕ → Bool) → ℕ → Cells → List ℕ
 shown_text shown step road = if shown step then step_text step road else []
 
--- the text of a run's first steps, as far as they are shown, where its road at each step is known
+-- the text of a run's first steps, as far as they are shown, by its road at each step
 abbrev pub steps_text : (ℕ → Bool) → (ℕ → Cells) → ℕ → List ℕ
 steps_text shown roads count = flat_map (λ step. shown_text shown step (roads step)) (range_with_len 0 count)
 
@@ -39,20 +38,19 @@ pub record IsRunText (job : Job) (shown : ℕ → Bool) (roads : ℕ → Cells) 
       → IsRoadAt (seed_of job) (sheet_of job) step (roads step)
   pub pictures : out ≡ steps_text shown roads (job.steps + 1)
 
--- what is written for a job, which is no refusal
+-- what is written for a job, which is not a refusal
 abbrev pub JobOutput : (ℕ → Bool) → Job → Outputs
 JobOutput shown job refused out =
     (refused ≡ false) × ((roads : ℕ → Cells) × IsRunText job shown roads out)
 
 -- the whole output for a job text, by what is written for a job, and whether it is a refusal
 abbrev pub IsOutputOf : (Job → Outputs) → List ℕ → Outputs
-IsOutputOf Output text refused out =
-    (says : Result Job Fault) × (JobText text says × OutputFor Output says refused out)
+IsOutputOf Output text refused out = OutputOfText JobText Output text refused out
 
 -- the whole output for a text by the steps that are shown, and whether it is a refusal
 abbrev pub IsShownOutput : (ℕ → Bool) → List ℕ → Outputs
 IsShownOutput shown text refused out = IsOutputOf (JobOutput shown) text refused out
 
--- the same where each step is shown
+-- the same with each step shown
 abbrev pub IsOutput : List ℕ → Outputs
 IsOutput text refused out = IsShownOutput each_step text refused out

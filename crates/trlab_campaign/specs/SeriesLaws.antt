@@ -1,27 +1,27 @@
 -- Laws of series, whichever code counts them.
 use Rattle.std.specs.Prelude.{◌≡◌, ℕ, ◌+◌, ◌*◌, ◌≤◌, All, List, Ok}
-use Rattle.trlab_diagram.specs.declared.window.Window.{Window}
+use Rattle.trlab_diagram.specs.declared.point.Window.{Window}
 use Rattle.trlab_jobs.specs.Job.{Job, JobText}
 use Rattle.trlab_campaign.specs.Laws.{HasOneOutput, HasSomeOutput}
 use Rattle.trlab_campaign.specs.SeriesOutput.{IsSeries, IsSeriesOutput}
 
--- what was counted on the lanes of a window is together all cars in each of its steps, all cells that they
--- went, and all that were stopped
+-- the counts of the lanes of a window add up to the counts of the road: the cars once per step, the cells that
+-- they went, and the stopped cars
 pub record LanesAddUp (window : Window) : Type 0 where
   pub cars : window.lane0.cars + window.lane1.cars ≡ window.point.steps * window.point.cars
   pub distance : window.lane0.distance + window.lane1.distance ≡ window.point.distance
   pub stopped : window.lane0.stopped + window.lane1.stopped ≡ window.point.stopped
 
--- so it is in each window of the series of a job text
+-- they do in each window of the series of a job text
 abbrev pub LanesOfSeriesAddUp : Type 0
 LanesOfSeriesAddUp =
     (text : List ℕ) (job : Job) (every from : ℕ) (windows : List Window)
     → JobText text (Ok job) → IsSeries job every from windows → All LanesAddUp windows
 
--- with windows of one step or more, each job text has a series, or a refusal
+-- with windows of one step or more, each job text has a series or a refusal
 abbrev pub SeriesHasSomeOutput : Type 0
 SeriesHasSomeOutput = (every from : ℕ) → 1 ≤ every → HasSomeOutput (IsSeriesOutput every from)
 
--- and only one
+-- and at most one
 abbrev pub SeriesHasOneOutput : Type 0
 SeriesHasOneOutput = (every from : ℕ) → HasOneOutput (IsSeriesOutput every from)

@@ -1,10 +1,10 @@
 -- What is written for a job text as a series: the table of the windows of its run.
 use Rattle.std.specs.Prelude.{◌≡◌, ◌↔◌, ℕ, ◌+◌, ◌*◌, ◌<◌, ◌≤◌, ◌&&◌, Bool, false, cond, Some}
-use Rattle.std.specs.Prelude.{List, map, length, sum_by, count_by, nat_eq, Result}
+use Rattle.std.specs.Prelude.{List, map, length, sum_by, count_by, nat_eq}
 use Rattle.std.specs.List.{range_with_len}
 use Rattle.trlab_diagram.specs.declared.point.Point.{Point}
-use Rattle.trlab_diagram.specs.declared.window.LaneCount.{LaneCount}
-use Rattle.trlab_diagram.specs.declared.window.Window.{Window}
+use Rattle.trlab_diagram.specs.declared.point.LaneCount.{LaneCount}
+use Rattle.trlab_diagram.specs.declared.point.Window.{Window}
 use Rattle.trlab_diagram.specs.Series.{series_text}
 use Rattle.trlab_road.specs.declared.car.Car.{Car}
 use Rattle.trlab_road.specs.Cells.{Cells, cars, lane_of}
@@ -13,11 +13,11 @@ use Rattle.trlab_rules.specs.Rules.{Programs}
 use Rattle.trlab_step.specs.declared.tally.StepTally.{StepTally}
 use Rattle.trlab_step.specs.Next.{IsNext}
 use Rattle.trlab_step.specs.Run.{Seed, Sheet, IsRoadAt, dice_at, in_force}
-use Rattle.trlab_texts.specs.Reading.{Fault}
-use Rattle.trlab_jobs.specs.Job.{Job, JobText, seed_of, sheet_of}
-use Rattle.trlab_campaign.specs.Refusal.{Outputs, OutputFor}
+use Rattle.trlab_jobs.specs.Job.{Job, seed_of, sheet_of}
+use Rattle.trlab_campaign.specs.Output.{IsOutputOf}
+use Rattle.trlab_campaign.specs.Refusal.{Outputs}
 
--- a step of a run, under the rule in force: from one road to the next, with what is counted on the way
+-- a step of a run under the rule in force: from one road to the next, with its tally
 pub record IsStepAt (seed : Seed) (sheet : Sheet) (step : ℕ) (before after : Cells)
     (tally : StepTally) : Type 0 where
   pub rule : Programs
@@ -35,11 +35,11 @@ pub record IsCourse (seed : Seed) (sheet : Sheet) (roads : ℕ → Cells)
   pub step_at : (step : ℕ)
       → IsStepAt seed sheet step (roads step) (roads (step + 1)) (tallies step)
 
--- is a car on this lane?
+-- whether a car is on this lane
 abbrev pub is_on : ℕ → Car → Bool
 is_on lane car = nat_eq car.lane lane
 
--- of the cars on a lane of a road, how many there are, the sum of their speeds, and how many are stopped
+-- the counts of a lane of a road: its cars, the sum of their speeds, and its stopped cars
 abbrev pub cars_on : ℕ → Cells → ℕ
 cars_on lane road = count_by (is_on lane) (standing road)
 
@@ -49,7 +49,7 @@ speed_on lane road = sum_by (λ (car : Car). cond (is_on lane car) car.speed 0) 
 abbrev pub stopped_on : ℕ → Cells → ℕ
 stopped_on lane road = count_by (λ (car : Car). is_on lane car && nat_eq car.speed 0) (standing road)
 
--- these numbers of a lane, summed over some roads
+-- these counts of a lane, summed over some roads
 abbrev pub lane_count : ℕ → List Cells → LaneCount
 lane_count lane roads = record {
   cars = sum_by (cars_on lane) roads;
@@ -57,7 +57,7 @@ lane_count lane roads = record {
   stopped = sum_by (stopped_on lane) roads;
 }
 
--- the tallies of so many steps of a course, from one on
+-- the tallies of `count` steps of a course, from the step `first` on
 abbrev pub tallies_from : (ℕ → StepTally) → ℕ → ℕ → List StepTally
 tallies_from tallies first count = map tallies (range_with_len first count)
 
@@ -65,7 +65,7 @@ tallies_from tallies first count = map tallies (range_with_len first count)
 abbrev pub roads_after : (ℕ → Cells) → ℕ → ℕ → List Cells
 roads_after roads first count = map roads (range_with_len (first + 1) count)
 
--- what was counted in so many steps by their tallies, of the cars of a road
+-- the counts of a road in some steps, by their tallies
 abbrev pub sum_point : Cells → ℕ → List StepTally → Point
 sum_point road steps tallies = record {
   cars = cars road;
@@ -76,7 +76,7 @@ sum_point road steps tallies = record {
   changes = sum_by (λ (tally : StepTally). tally.changes) tallies;
 }
 
--- the window of these steps: what was counted in them, and on each lane after them
+-- the window of these steps: the counts of the road in them, and of each lane after them
 abbrev pub window_of : (ℕ → Cells) → (ℕ → StepTally) → ℕ → ℕ → Window
 window_of roads tallies first count = record {
   step = first + count;
@@ -85,7 +85,7 @@ window_of roads tallies first count = record {
   lane1 = lane_count 1 (roads_after roads first count);
 }
 
--- window k of a series, whose windows are so many steps each, from a step on
+-- window k of a series, whose windows have `every` steps each, from the step `from` on
 abbrev pub nth_window : (ℕ → Cells) → (ℕ → StepTally) → ℕ → ℕ → ℕ → Window
 nth_window roads tallies every from k = window_of roads tallies (from + k * every) every
 
@@ -94,12 +94,11 @@ abbrev pub first_windows : (ℕ → Cells) → (ℕ → StepTally) → ℕ → �
 first_windows roads tallies every from count =
     map (nth_window roads tallies every from) (range_with_len 0 count)
 
--- a run of so many steps goes to the end of so many windows: window k is one of them where it goes to the end
--- of this window
+-- a run of `steps` steps completes `count` windows: window k is one of them exactly if the run reaches its end
 abbrev pub HasWindows : ℕ → ℕ → ℕ → ℕ → Type 0
 HasWindows every from steps count = (k : ℕ) → (k < count) ↔ (from + (k + 1) * every ≤ steps)
 
--- the series of a job: the windows to whose ends its run goes
+-- the series of a job: the windows that its run completes
 pub record IsSeries (job : Job) (every from : ℕ) (windows : List Window) : Type 0 where
   pub roads : ℕ → Cells
   pub tallies : ℕ → StepTally
@@ -108,7 +107,7 @@ pub record IsSeries (job : Job) (every from : ℕ) (windows : List Window) : Typ
   pub whole : HasWindows every from job.steps count
   pub told : windows ≡ first_windows roads tallies every from count
 
--- what is written for a job, which is no refusal
+-- what is written for a job, which is not a refusal
 abbrev pub SeriesOutput : ℕ → ℕ → Job → Outputs
 SeriesOutput every from job refused out =
     (refused ≡ false)
@@ -116,5 +115,4 @@ SeriesOutput every from job refused out =
 
 -- the whole output for a text, and whether it is a refusal
 abbrev pub IsSeriesOutput : ℕ → ℕ → List ℕ → Outputs
-IsSeriesOutput every from text refused out =
-    (says : Result Job Fault) × (JobText text says × OutputFor (SeriesOutput every from) says refused out)
+IsSeriesOutput every from text refused out = IsOutputOf (SeriesOutput every from) text refused out

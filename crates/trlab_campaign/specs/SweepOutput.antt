@@ -9,12 +9,11 @@ use Rattle.trlab_road.specs.Cells.{Cells}
 use Rattle.trlab_road.specs.Spreading.{IsEven}
 use Rattle.trlab_step.specs.declared.tally.StepTally.{StepTally}
 use Rattle.trlab_step.specs.Run.{Seed, Sheet, IsTallyAt}
-use Rattle.trlab_texts.specs.Reading.{Fault}
-use Rattle.trlab_jobs.specs.Shapes.{all_cells, all_steps}
+use Rattle.trlab_jobs.specs.Shapes.{cell_count, all_steps}
 use Rattle.trlab_jobs.specs.Sweep.{Setup, Sweep, SweepText}
-use Rattle.trlab_campaign.specs.Refusal.{Outputs, OutputFor}
+use Rattle.trlab_campaign.specs.Refusal.{Outputs, OutputOfText}
 
--- where the run of a point starts, whose road has this number: the steps of `warm` are not counted
+-- where the run of a point starts, whose road has this number: the first `warm` steps are not counted
 abbrev pub seed_of : Setup → ℕ → Cells → Seed
 seed_of setup number road =
     record { road = road; key = setup.key; number = number; warm = setup.span.warm }
@@ -23,19 +22,19 @@ seed_of setup number road =
 abbrev pub sheet_of : Setup → Sheet
 sheet_of setup = (0, setup.rule) ∷ []
 
--- the point of the diagram at which so much was counted of so many cars
+-- the point of the diagram with these cars and this sum of tallies
 abbrev pub point_of : Setup → ℕ → StepTally → Point
 point_of setup cars tally = record {
   cars = cars;
-  cells = all_cells setup.shape;
+  cells = cell_count setup.shape;
   steps = setup.span.measure;
   distance = tally.distance;
   stopped = tally.stopped;
   changes = tally.changes;
 }
 
--- a point of a sweep: its cars are evenly spread at the start, and what is told of them is what was
--- counted after all steps of the run
+-- a point of a sweep: its cars are evenly spread at the start, and its numbers are the counts after all steps
+-- of the run
 pub record IsPoint (setup : Setup) (number cars : ℕ) (point : Point) : Type 0 where
   pub start : Cells
   pub tally : StepTally
@@ -43,31 +42,29 @@ pub record IsPoint (setup : Setup) (number cars : ℕ) (point : Point) : Type 0 
   pub counted : IsTallyAt (seed_of setup number start) (sheet_of setup) (all_steps setup.span) tally
   pub told : point ≡ point_of setup cars tally
 
--- the points of a sweep, in the order of its counts of cars; the road of a point has its number among
--- them, which counts from 0
+-- the points of a sweep, in the order of its numbers of cars; roads are numbered in this order, from 0
 pub record ArePoints (sweep : Sweep) (points : List Point) : Type 0 where
   pub one_each : length points ≡ length sweep.cars
   pub each : (i cars : ℕ) (point : Point) → i < length sweep.cars
       → IsPoint sweep.setup i (slice_index_or sweep.cars i cars) (slice_index_or points i point)
 
--- the first points of a sweep, in the same order, each of which was measured
+-- the first points of a sweep, in the same order, each with at least one cell and one step
 pub record AreFirstPoints (sweep : Sweep) (points : List Point) : Type 0 where
   pub few : length points ≤ length sweep.cars
   pub each : (i cars : ℕ) (point : Point) → i < length points
       → IsPoint sweep.setup i (slice_index_or sweep.cars i cars) (slice_index_or points i point)
   pub measured : All IsMeasured points
 
--- what is written for a sweep, which is no refusal
+-- what is written for a sweep, which is not a refusal
 abbrev pub SweepOutput : Sweep → Outputs
 SweepOutput sweep refused out =
     (refused ≡ false) × ((points : List Point) × (ArePoints sweep points × (out ≡ points_text points)))
 
 -- the whole output for a sweep text, and whether it is a refusal
 abbrev pub IsSweepOutput : List ℕ → Outputs
-IsSweepOutput text refused out =
-    (says : Result Sweep Fault) × (SweepText text says × OutputFor SweepOutput says refused out)
+IsSweepOutput text refused out = OutputOfText SweepText SweepOutput text refused out
 
--- a call that can be made for any sweep, and tells the table of its points, if memory was there
+-- a call that can be made for any sweep, and returns its table unless an allocation fails
 abbrev pub TellsTable : {A B E : Type 0} → (A → Bor Sweep → Type 0)
     → (A → Bor Sweep → Result (Vec ℕ B) E → Type 0) → Type 0
 TellsTable pre post = (alloc : _) (sweep : Bor Sweep) → pre alloc sweep

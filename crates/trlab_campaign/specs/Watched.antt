@@ -1,6 +1,6 @@
--- Readers and writers of std that remember what came of their calls.
+-- Readers and writers of std that remember their calls.
 use Rattle.std.specs.Prelude.{ℕ, List, Bool}
-use Rattle.trlab_campaign.specs.declared.device.flushes.Flushes.{Flushes}
+use Rattle.trlab_campaign.specs.declared.device.Flushes.{Flushes}
 use Rattle.trlab_campaign.specs.declared.device.watched.Watched.{Watched}
 
 -- the reader or writer
@@ -19,7 +19,7 @@ given_of watched = watched.given.bytes
 abbrev pub accepted_of : {X : Type 0} → Watched X → List ℕ
 accepted_of watched = watched.accepted.bytes
 
--- whether all that was written has been handed on
+-- whether everything that was written has been flushed
 abbrev pub has_handed_on : {X : Type 0} → Watched X → Bool
 has_handed_on watched = watched.handed_on
 

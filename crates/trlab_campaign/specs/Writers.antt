@@ -1,9 +1,9 @@
--- The bytes that were written, both as the calls of a writer took them and as the writer tells them.
+-- The bytes that were written: those that the calls of a writer took, and those that it makes known.
 use Rattle.std.specs.Prelude.{◌≡◌, ℕ, List, ◌++◌, take, Option, Result, Ok, Err}
 use Rattle.std.specs.Io.KnownBytes.{Appends, Keeps}
 use Rattle.trlab_campaign.specs.declared.device.Sink as Sink
 
--- the bytes of a writer: all that its calls have taken, and those that it tells it has, if it tells any
+-- the bytes of a writer: all that its calls have taken, and those that it makes known, if it does
 pub record SinkBytes : Type 0 where
   pub accepted : List ℕ
   pub told : Option (List ℕ)
@@ -11,7 +11,7 @@ pub record SinkBytes : Type 0 where
 abbrev pub bytes_of : {K : Type 0} → Sink.Ghosts K → K → SinkBytes
 bytes_of sink writer = record { accepted = sink.accepted writer; told = sink.written writer }
 
--- just these bytes were written
+-- exactly these bytes were written
 pub record Adds (old new : SinkBytes) (bytes : List ℕ) : Type 0 where
   pub accepted : new.accepted ≡ old.accepted ++ bytes
   pub told : Appends old.told new.told bytes
@@ -26,7 +26,7 @@ pub record AddsPrefix (old new : SinkBytes) (text : List ℕ) : Type 0 where
   pub count : ℕ
   pub prefix : Adds old new (take count text)
 
--- by its result, a writing wrote a text, or a prefix of it
+-- by its result, a call wrote a text or a prefix of it
 abbrev pub AddsBy : {A E : Type 0} → Result A E → SinkBytes → SinkBytes → List ℕ → Type 0
 AddsBy (Ok done) old new text = Adds old new text
 AddsBy (Err fault) old new text = AddsPrefix old new text

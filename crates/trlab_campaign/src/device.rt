@@ -1,7 +1,6 @@
-//! Devices: what a text is read from, and what one is written to. One that has failed stays failed.
+//! Devices: an input is read from a `Source`, and an output is written to a `Sink`. A device that has failed stays
+//! failed.
 
-mod flushes;
-mod transcript;
 mod watched;
 mod whole;
 
@@ -10,32 +9,52 @@ ghost use Rattle.std.specs.Prelude.{true, false, IfOk, OnOk, is_err};
 ghost use Rattle.std.specs.Io.KnownBytes.{ReadConsumes, WriteAppends, Keeps};
 ghost use Rattle.trlab_campaign.specs.Device.{handed_over};
 ghost use Rattle.trlab_campaign.specs.Flushes.{once_more};
-ghost use Rattle.trlab_campaign.specs.declared.device.flushes.Flushes.{Flushes};
+ghost use Rattle.trlab_campaign.specs.declared.device.Flushes.{Flushes};
 
-pub use flushes::Flushes;
 use thiserror::Error;
 pub use watched::Watched;
-pub use whole::{ReadFault, read_text, write_last, write_text};
+pub use whole::{read_text, write_last, write_text};
 
 /// A call of a reader or a writer has failed.
 #[derive(Clone, Copy, Debug, PartialEq, Eq, Error)]
 #[error("a device failed")]
 pub struct DeviceError;
 
-/// What a text is read from.
+/// How often a writer was flushed, counted up to the second time.
+#[derive(Clone, Copy)]
+pub enum Flushes {
+    Never,
+    Once,
+    /// Twice or more often.
+    Often,
+}
+
+impl Flushes {
+    /// The count after one more flush.
+    pub fn once_more(self) -> Flushes
+        ensures { result ≡ once_more self }
+    {
+        match self {
+            Flushes::Never => Flushes::Once,
+            Flushes::Once | Flushes::Often => Flushes::Often,
+        }
+    }
+}
+
+/// The reader of an input.
 pub trait Source {
-    // The bytes that are left to read, where they are told.
+    // The bytes that are left to read, if this reader makes them known.
     ghost left: { Self → Option (List ℕ) };
-    // All bytes that its calls have given so far, also of a reader that tells none.
+    // All bytes that its calls have given so far, known or not.
     ghost given: { Self → List ℕ };
     // Whether a call has failed.
     ghost failed: { Self → Bool };
 
-    /// Reads into the beginning of the buffer, and answers how many bytes; none only at the end.
+    /// Reads bytes into the beginning of the buffer and returns their number, which is 0 at the end of the input.
     ///
     /// # Errors
     ///
-    /// `DeviceError` where the reader failed.
+    /// `DeviceError` if the reader fails.
     fn take(&mut self, buffer: &mut [u8]) -> Result<usize, DeviceError>
         ensures count { IfOk result (λ n. n ≤ length buffer.new) }
         ensures bytes { ReadConsumes (left self.old) (left self.new) result buffer.new }
@@ -43,24 +62,24 @@ pub trait Source {
         ensures fails { failed self.new ≡ (failed self.old || is_err result) };
 }
 
-/// What a text is written to.
+/// The writer of an output.
 pub trait Sink {
-    // The bytes that were written, where they are told.
+    // The bytes that were written, if this writer makes them known.
     ghost written: { Self → Option (List ℕ) };
-    // All bytes that its calls have taken so far, also of a writer that tells none.
+    // All bytes that its calls have taken so far, known or not.
     ghost accepted: { Self → List ℕ };
-    // Whether all that was written has been handed on.
+    // Whether everything that was written has been flushed.
     ghost handed_on: { Self → Bool };
     // How often it was flushed.
     ghost flushes: { Self → Flushes };
     // Whether a call has failed.
     ghost failed: { Self → Bool };
 
-    /// Writes a prefix of the bytes, and answers how many; at least one where there is one.
+    /// Writes a prefix of the bytes and returns its length, which is at least 1 unless there are no bytes.
     ///
     /// # Errors
     ///
-    /// `DeviceError` where the writer failed, or took none.
+    /// `DeviceError` if the writer fails, or takes none of the bytes.
     fn put(&mut self, bytes: &[u8]) -> Result<usize, DeviceError>
         ensures count { IfOk result (λ n. n ≤ length bytes.now) }
         ensures some { IfOk result (λ n. 0 < length bytes.now → 0 < n) }
@@ -70,11 +89,11 @@ pub trait Sink {
         ensures flushed { flushes self.new ≡ flushes self.old }
         ensures fails { failed self.new ≡ (failed self.old || is_err result) };
 
-    /// Hands on what was written.
+    /// Flushes everything that was written.
     ///
     /// # Errors
     ///
-    /// `DeviceError` where the writer failed.
+    /// `DeviceError` if the writer fails.
     fn flush(&mut self) -> Result<(), DeviceError>
         ensures bytes { Keeps (written self.old) (written self.new) }
         ensures accepts { accepted self.new ≡ accepted self.old }

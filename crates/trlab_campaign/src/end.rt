@@ -1,14 +1,55 @@
-//! Ends: how an engine has ended, by the number that is its exit status.
+//! How an engine ends, and the writing of one whole output, with which most engines end.
 
-/// How an engine ended.
+ghost use Rattle.std.specs.Prelude.{◌≡◌, true, false};
+ghost use Rattle.trlab_campaign.specs.Ending.{LeavesWriter, OutputEnds};
+ghost use Rattle.trlab_campaign.specs.Refusal.{fault_line};
+
+use crate::device::{Sink, write_last};
+use crate::output::fault_page;
+use std::alloc::Global;
+use trlab_texts::Cause;
+
+/// How an engine ended. The discriminant is the exit status of the program.
 #[derive(Clone, Copy, Debug, PartialEq, Eq)]
 pub enum End {
-    /// The whole output was written.
+    /// The whole output was written and flushed.
     Done = 0,
-    /// The text has a fault, or its program is refused, and the line that says so was written.
+    /// The input has a fault, or its program is refused, and the line that says so was written and flushed.
     Refused = 1,
-    /// Memory ran out.
+    /// An allocation failed.
     Memory = 3,
     /// A call of the reader or the writer failed.
     DeviceFault = 4,
+}
+
+/// Why an input was not read to its end, or an output not written to its end.
+#[derive(Clone, Copy)]
+pub enum Failure {
+    /// An allocation failed.
+    Memory,
+    /// The reader or the writer failed.
+    Device,
+}
+
+/// Writes a whole output and flushes the writer. `refused` is whether the output is a refusal.
+pub fn write_output<K: Sink>(refused: bool, text: &[u8], writer: &mut K) -> End
+    requires { K.failed writer.old ≡ false }
+    ensures { LeavesWriter K.Sink (OutputEnds refused text.now) result writer.old writer.new }
+{
+    match write_last(writer, text) {
+        Ok(()) => { if refused { End::Refused } else { End::Done } }
+        Err(_) => End::DeviceFault,
+    }
+}
+
+/// Writes the line of a refused input and flushes the writer.
+pub fn refuse<K: Sink>(alloc: Global, line: u32, cause: Cause, writer: &mut K) -> End
+    requires { K.failed writer.old ≡ false }
+    ensures { LeavesWriter K.Sink (OutputEnds true (fault_line (record { line = line; cause = cause })))
+        result writer.old writer.new }
+{
+    match fault_page(alloc, line, cause) {
+        Ok(page) => write_output(true, page.text(), writer),
+        Err(_) => End::Memory,
+    }
 }

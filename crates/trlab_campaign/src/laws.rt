@@ -1,7 +1,7 @@
-//! Laws of the outputs of texts, whichever code writes them: that one worker drives the roads, that a text
-//! has one output, and what the tables of sweeps and series keep to.
+//! Laws of outputs, whichever code writes them: one worker drives the roads, a text has one output, and what is
+//! true of the tables of sweeps and series.
 //!
-//! Each law is the contract of a function with nothing to do.
+//! Each law is the contract of a function with an empty body.
 
 ghost use Rattle.trlab_campaign.specs.Capacity.{DiagramIsTriangle, SweepsGoByMovingCars, SweepsKeepBelowPeak};
 ghost use Rattle.trlab_campaign.specs.Capacity.{SweepsKeepToCapacity};
@@ -12,40 +12,40 @@ ghost use Rattle.trlab_campaign.specs.SeriesLaws.{LanesOfSeriesAddUp, SeriesHasO
 ghost use Rattle.trlab_campaign.specs.ShownLaws.{EverySoManyAreShown, EveryStepFromStartIsEach, ShownHasOneOutput, ShownHasSomeOutput};
 ghost use Rattle.trlab_campaign.specs.SweepOutput.{IsSweepOutput};
 
-/// The output for a job text that is not refused has the pictures of the roads through which one worker
-/// drives, at the steps that are shown from the road of the text to that after its last step: each step is
-/// under the rule in force, its programs end within their budgets, no car goes onto or through another, and
-/// none is lost or made.
+/// The output for a job text that is not refused has the pictures of the roads through which one worker drives,
+/// at the steps that are shown, from the road of the text to the road after its last step. Each step is under
+/// the rule in force, its programs end within their budgets, no car goes onto or through another, and none is
+/// lost or made.
 pub fn job_texts_are_driven()
     ensures { JobTextsAreDriven }
 {}
 
-/// The table for a sweep text that is not refused has a point for each count of cars, in their order, of
-/// a road that one worker drives so, whose cars are evenly spread at the start.
+/// The table for a sweep text that is not refused has a point for each number of cars, in their order. One
+/// worker drives the road of a point in this way, and its cars are evenly spread at the start.
 pub fn sweep_texts_are_driven()
     ensures { SweepTextsAreDriven }
 {}
 
-/// Any job text has just one output, whichever steps are shown, and it is a refusal or it is none.
+/// Any job text has exactly one output, whichever steps are shown, and it is either a refusal or not.
 pub fn text_has_one_output()
     ensures some_output { ShownHasSomeOutput }
     ensures one_output { ShownHasOneOutput }
 {}
 
-/// The steps that are shown are so many steps apart, from the first one on. Every step from step 0 on is each
-/// step.
+/// The steps that are shown are `from`, `from` + `every`, `from` + 2 * `every` and so on. With 1 and 0 each
+/// step is shown.
 pub fn steps_are_shown_apart()
     ensures apart { EverySoManyAreShown }
     ensures each { EveryStepFromStartIsEach }
 {}
 
-/// Any check text has just one output, and it is a refusal or it is none.
+/// Any check text has exactly one output, and it is either a refusal or not.
 pub fn check_has_one_output()
     ensures some_output { HasSomeOutput IsCheckOutput }
     ensures one_output { HasOneOutput IsCheckOutput }
 {}
 
-/// Any sweep text has just one output, and it is a refusal or it is none.
+/// Any sweep text has exactly one output, and it is either a refusal or not.
 pub fn sweep_has_one_output()
     ensures some_output { HasSomeOutput IsSweepOutput }
     ensures one_output { HasOneOutput IsSweepOutput }
@@ -53,9 +53,9 @@ pub fn sweep_has_one_output()
 
 /// Each point of the table for a sweep text is below a triangle: the flow is at most 1 minus the density, and
 /// at most the limit times the density. So it is at most limit / (limit + 1), the peak of the triangle. The
-/// cars that are not stopped in a step go at least one cell each, and at most the limit. On one lane, under
-/// the Nagel-Schreckenberg rule without randomization, the fundamental diagram is the triangle itself, if no
-/// step is counted before cars could have reached the limit.
+/// cars that are not stopped in a step go at least one cell each, and at most the limit. On one lane, in the
+/// Nagel-Schreckenberg model without randomization, the fundamental diagram is the triangle itself, if no step
+/// is counted before cars can reach the limit.
 pub fn sweeps_keep_to_capacity()
     ensures within { SweepsKeepToCapacity }
     ensures peak { SweepsKeepBelowPeak }
@@ -63,15 +63,15 @@ pub fn sweeps_keep_to_capacity()
     ensures triangle { DiagramIsTriangle }
 {}
 
-/// Any job text has just one output as a series of windows, each of a step or more, and it is a refusal
-/// or it is none.
+/// Any job text has exactly one output as a series of windows of one step or more, and it is either a refusal
+/// or not.
 pub fn series_has_one_output()
     ensures some_output { SeriesHasSomeOutput }
     ensures one_output { SeriesHasOneOutput }
 {}
 
-/// In each window of a series, what was counted on lane 0 and on lane 1 is together what the road has: the
-/// cars once in each step, the cells that they went, and those that were stopped.
+/// In each window of a series, the counts of lane 0 and lane 1 add up to the counts of the road: the cars, once
+/// per step, the cells that they went, and the cars that were stopped.
 pub fn lanes_of_series_add_up()
     ensures { LanesOfSeriesAddUp }
 {}

@@ -15,7 +15,7 @@ use trlab_asm::{REGISTERS, register_text};
 use trlab_code::{Code, Register};
 use trlab_verify::{Mark, Note, NotesFault, notes};
 
-/// Adds the name of a register and what it holds, each after a space.
+/// Adds a space, the name of a register, a space and what the register holds.
 fn push_entry(out: &mut Vec<u8>, register: Register, held: &[u8]) -> Result<(), AllocError>
     ensures { OnOk result (out.new.items ≡ out.old.items ++ register_entry register held.now) }
 {
@@ -25,7 +25,7 @@ fn push_entry(out: &mut Vec<u8>, register: Register, held: &[u8]) -> Result<(), 
     out.extend_from_slice(held)
 }
 
-/// Adds what a mark says of a register, where the side cell is known to be empty or is not.
+/// Adds what a mark says of a register. `side` is whether the side cell is known to be empty.
 fn push_mark(
     alloc: Global,
     out: &mut Vec<u8>,
@@ -62,7 +62,7 @@ fn push_registers(alloc: Global, out: &mut Vec<u8>, note: &Note) -> Result<(), A
     Ok(())
 }
 
-/// The end of a note's line: the word by which the side cell is known to be empty, and the LF.
+/// The end of a note's line: ` side` if the side cell is known to be empty, and an LF.
 fn line_end(side: bool) -> &'static [u8]
     ensures { result.now ≡ side_text side ++ (10 ∷ []) }
 {
@@ -80,7 +80,7 @@ fn push_note(alloc: Global, out: &mut Vec<u8>, pc: usize, note: &Note) -> Result
     out.extend_from_slice(line_end(note.side))
 }
 
-/// Adds the lines of notes, the first being that of the first instruction.
+/// Adds a line for each note.
 fn push_table(alloc: Global, out: &mut Vec<u8>, table: &[Note]) -> Result<(), AllocError>
     ensures { (kind : Kind) → OnOk result (out.new.items ≡ out.old.items
         ++ flat_map (λ pc. note_line pc (meaning_at kind table.now pc))
@@ -96,7 +96,7 @@ fn push_table(alloc: Global, out: &mut Vec<u8>, table: &[Note]) -> Result<(), Al
 ///
 /// # Errors
 ///
-/// `AllocError` where memory ran out.
+/// If an allocation fails.
 pub fn push_notes(alloc: Global, out: &mut Vec<u8>, code: &Code) -> Result<(), AllocError>
     requires { IsAccepted code.now.kind code.now }
     ensures { OnOk result (out.new.items ≡ out.old.items ++ notes_text code.now) }

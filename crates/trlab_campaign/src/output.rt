@@ -1,5 +1,4 @@
-//! The lines of outputs: those of a step with its pictures, and those of a refused text and a refused
-//! program.
+//! The lines of outputs: of a step with its pictures, of a refused text and of a refused program.
 
 ghost use Rattle.std.specs.Prelude.{◌≡◌, ◌∷◌, ◌++◌, ℕ, List, [], IfOk, OnOk, codes, decimal};
 ghost use Rattle.std.specs.String.{string_bytes};
@@ -13,11 +12,11 @@ use trlab_lines::Page;
 use trlab_road::Road;
 use trlab_texts::Cause;
 
-/// Adds a text, where it was made.
+/// Adds a text, if it was made.
 ///
 /// # Errors
 ///
-/// `AllocError` where it was not made, or memory ran out.
+/// If it was not made, or an allocation fails.
 pub fn push_text(out: &mut Vec<u8>, text: Result<String, AllocError>) -> Result<(), AllocError>
     ensures { (bytes : List ℕ) → IfOk text (λ text. string_bytes text ≡ bytes)
         → OnOk result (out.new.items ≡ out.old.items ++ bytes) }
@@ -28,7 +27,7 @@ pub fn push_text(out: &mut Vec<u8>, text: Result<String, AllocError>) -> Result<
     }
 }
 
-/// Adds the line of a step, whose digits need no memory of their own.
+/// Adds the line of a step. Its digits need no allocation.
 fn push_step_line(out: &mut Vec<u8>, step: u32) -> Result<(), AllocError>
     ensures { OnOk result
         (out.new.items ≡ out.old.items ++ (codes "step " ++ (decimal step ++ (10 ∷ [])))) }
@@ -44,7 +43,7 @@ fn push_step_line(out: &mut Vec<u8>, step: u32) -> Result<(), AllocError>
 ///
 /// # Errors
 ///
-/// `AllocError` where memory ran out.
+/// If an allocation fails.
 pub fn push_step(out: &mut Vec<u8>, step: u32, road: &Road) -> Result<(), AllocError>
     ensures { OnOk result (out.new.items ≡ out.old.items ++ step_text step road.now) }
 {
@@ -56,11 +55,12 @@ pub fn push_step(out: &mut Vec<u8>, step: u32, road: &Road) -> Result<(), AllocE
     Ok(())
 }
 
-/// Adds the line of a refused text: where its first fault is, and the number of the cause.
+/// Adds `fault line N cause K`, the line of a refused text: the line of its first fault (0 if the text is too
+/// long) and the number of the cause.
 ///
 /// # Errors
 ///
-/// `AllocError` where memory ran out.
+/// If an allocation fails.
 pub fn push_fault_line(page: &mut Page, line: u32, cause: Cause) -> Result<(), AllocError>
     ensures { OnOk result (page.new ≡ page.old ++ fault_line (record { line = line; cause = cause })) }
 {
@@ -71,11 +71,11 @@ pub fn push_fault_line(page: &mut Page, line: u32, cause: Cause) -> Result<(), A
     page.end_line()
 }
 
-/// The page on a refused text, which has that line alone.
+/// A page with only the line of a refused text.
 ///
 /// # Errors
 ///
-/// `AllocError` where memory ran out.
+/// If an allocation fails.
 pub fn fault_page(alloc: Global, line: u32, cause: Cause) -> Result<Page, AllocError>
     ensures { IfOk result (λ page. page ≡ fault_line (record { line = line; cause = cause })) }
 {
@@ -84,11 +84,12 @@ pub fn fault_page(alloc: Global, line: u32, cause: Cause) -> Result<Page, AllocE
     Ok(page)
 }
 
-/// Adds the line of a refused program: where it is refused, and why.
+/// Adds `refused at N reason K`, the line of a refused program: the instruction, counted from 0, and the number
+/// of the verifier's reason.
 ///
 /// # Errors
 ///
-/// `AllocError` where memory ran out.
+/// If an allocation fails.
 pub fn push_refused_line(page: &mut Page, at: u32, reason: u32) -> Result<(), AllocError>
     ensures { OnOk result (page.new ≡ page.old ++ refused_line at reason) }
 {

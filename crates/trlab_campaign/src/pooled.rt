@@ -1,9 +1,9 @@
-//! The engine that runs and series share: a pool of workers asks the cars of a job's run, and an observer is
-//! told of its steps. What is written meanwhile is the account.
+//! The engine of job texts, which runs and series share: a pool of workers asks the cars of the job's run, and
+//! progress is reported. What is written meanwhile is the account.
 
 ghost use Rattle.std.specs.Thread.{IsSync};
 ghost use Rattle.std.specs.Prelude.{◌≡◌, ◌<◌, ◌≤◌, false, IfSome, IsSome};
-ghost use Rattle.trlab_bounds.specs.declared.runs.TheConstants.{MOST_WORKERS};
+ghost use Rattle.trlab_bounds.specs.declared.runs.TheConstants.{MAX_WORKERS};
 ghost use Rattle.trlab_jobs.specs.Job.{Job as Told, seed_of, sheet_of};
 ghost use Rattle.trlab_step.specs.Progress.{at_start};
 ghost use Rattle.trlab_campaign.specs.Ending.{EndsSo, EngineEnds, LeavesWriter, WritesOn, WroteBy};
@@ -12,84 +12,73 @@ ghost use Rattle.trlab_campaign.specs.Refusal.{Outputs};
 ghost use Rattle.trlab_campaign.specs.Writers.{bytes_of};
 
 use crate::device::{Sink, Source};
-use crate::end::End;
+use crate::end::{End, Failure, refuse};
 use crate::engine::{Engine, run_engine};
-use crate::observed::Observed;
-use crate::progress::Observer;
-use crate::refusal::refuse;
+use crate::progress::{ProgressObserver, WithProgress};
 use std::alloc::{AllocGlobal, Global};
 use std::sync::Wait;
 use std::thread::Threads;
-use trlab_bounds::runs::MOST_WORKERS;
+use trlab_bounds::runs::MAX_WORKERS;
 use trlab_jobs::{Job, read_job};
 use trlab_segments::{Gate, OpenGate, Pool};
-use trlab_step::{Asker, Run, Sheet};
-use trlab_texts::{Cause, TextFault};
+use trlab_step::{Executor, Run, Schedule};
+use trlab_texts::TextFault;
 
-/// Why an account was not written whole.
-#[derive(Clone, Copy)]
-pub enum WriteFault {
-    /// Memory ran out.
-    Memory,
-    /// The writer failed.
-    Device,
-}
-
-/// What is written for a job while its run is taken.
+/// The kind of output that is written for a job: pictures or a series.
 pub trait Account {
     // The whole outputs that there may be for a job.
     ghost outputs: { Self → Told → Outputs };
 
-    /// How many steps of a job's run it takes.
+    /// The number of steps that it takes of a job's run.
     fn steps(&self, job: &Job) -> u32;
 
-    /// Takes the run of a job, in which the asker asks the cars, and writes the output.
-    fn write_job<A: Asker, K: Sink>(
+    /// Runs a job and writes the output, without flushing the writer.
+    fn write_job<A: Executor, K: Sink>(
         &self,
-        asker: &A,
+        executor: &A,
         alloc: Global,
         job: Job,
         writer: &mut K,
-    ) -> Result<(), WriteFault>
-        requires ready { A.is_ready asker.now }
+    ) -> Result<(), Failure>
+        requires ready { A.is_ready executor.now }
         requires works { K.failed writer.old ≡ false }
         ensures wrote { WroteBy (outputs self.now job) result
             (bytes_of K.Sink writer.old) (bytes_of K.Sink writer.new) }
         ensures writer { WritesOn K.Sink result writer.old writer.new };
 }
 
-/// Writes the account of a job, and hands it on.
-fn write_account<C: Account, A: Asker, K: Sink>(
+/// Writes the account of a job and flushes the writer.
+fn write_account<C: Account, A: Executor, K: Sink>(
     account: &C,
-    asker: &A,
+    executor: &A,
     alloc: Global,
     job: Job,
     writer: &mut K,
 ) -> End
-    requires ready { A.is_ready asker.now }
+    requires ready { A.is_ready executor.now }
     requires works { K.failed writer.old ≡ false }
     ensures { LeavesWriter K.Sink (EndsSo (C.outputs account.now job)) result writer.old writer.new }
 {
-    match account.write_job(asker, alloc, job, writer) {
+    match account.write_job(executor, alloc, job, writer) {
         Ok(()) => match writer.flush() {
             Ok(()) => End::Done,
             Err(_) => End::DeviceFault,
         },
-        Err(WriteFault::Memory) => End::Memory,
-        Err(WriteFault::Device) => End::DeviceFault,
+        Err(Failure::Memory) => End::Memory,
+        Err(Failure::Device) => End::DeviceFault,
     }
 }
 
-/// Writes the account of a job, and hands it on, while the helpers of a pool wait for the phases of its run.
-fn write_by_pool<'x, R: Threads + Wait + Sync, G: Gate + Sync, C: Account, A: Asker, K: Sink>(
+/// Writes the account of a job and flushes the writer, while the helpers of a pool wait for the phases of the run.
+fn write_by_pool<'x, R: Threads + Wait + Sync, G: Gate + Sync, C: Account, A: Executor, K: Sink>(
     alloc: Global,
     pool: &'x Pool<'x, R, G>,
     account: &'x C,
-    asker: &'x A,
+    executor: &'x A,
     job: Job,
     writer: &mut K,
 ) -> End
-    requires ready { A.is_ready asker.now }
+    requires ready { A.is_ready executor.now }
     requires works { K.failed writer.old ≡ false }
     ensures { LeavesWriter K.Sink (EndsSo (C.outputs account.now job)) result writer.old writer.new }
 {
@@ -98,51 +87,51 @@ fn write_by_pool<'x, R: Threads + Wait + Sync, G: Gate + Sync, C: Account, A: As
         alloc,
         &mut || -> End
             requires taken { IsSome job }
-            requires ready { A.is_ready asker.now }
+            requires ready { A.is_ready executor.now }
             requires works { K.failed writer.now ≡ false }
             ensures { IfSome job.entry (λ told. LeavesWriter K.Sink
                 (EndsSo (C.outputs account.entry.now told)) result writer.entry.now writer.exit.now) }
         {
             match job.take() {
-                Some(job) => write_account(account, asker, alloc, job, writer),
+                Some(job) => write_account(account, executor, alloc, job, writer),
                 None => unreachable!(),
             }
         },
     )
 }
 
-/// The engine of job texts: what it writes for a job, the most workers that ask its cars, and who is told how far
-/// it is.
+/// The engine of job texts, with at most `workers` workers.
 #[derive(Drop)]
-struct Driver<'a, R, C, O> {
+struct JobEngine<'a, R, C, O> {
     rt: &'a R,
     account: &'a C,
     workers: u32,
-    observer: &'a O,
-    ghost some: { 0 < workers },
-    ghost few: { workers ≤ MOST_WORKERS },
+    progress: &'a O,
+    ghost some_worker: { 0 < workers },
+    ghost few_workers: { workers ≤ MAX_WORKERS },
 }
 
-impl<'a, R: Threads + Wait + Sync, C: Account, O: Observer> Driver<'a, R, C, O> {
-    /// Writes the account of a job, and hands it on. Only now is a pool made, with as many workers as make the work
-    /// faster on the job's road.
+impl<'a, R: Threads + Wait + Sync, C: Account, O: ProgressObserver> JobEngine<'a, R, C, O> {
+    /// Writes the account of a job and flushes the writer. The pool, which is made now, has only the workers
+    /// that make the job's road faster.
     fn drive<K: Sink>(&self, alloc: Global, job: Job, writer: &mut K) -> End
         requires works { K.failed writer.old ≡ false }
         ensures { LeavesWriter K.Sink (EndsSo (C.outputs self.now.account.now job)) result writer.old writer.new }
     {
         let gate = OpenGate;
         let pool = Pool::new(self.rt, self.workers, &gate).sparing(job.road.cars());
-        let observed = Observed::new(&pool, self.observer, self.account.steps(&job));
-        let end = write_by_pool(alloc, &pool, self.account, &observed, job, writer);
-        observed.ended(end);
+        let with_progress = WithProgress::new(&pool, self.progress, self.account.steps(&job));
+        let end = write_by_pool(alloc, &pool, self.account, &with_progress, job, writer);
+        with_progress.ended(end);
         end
     }
 }
 
-impl<'a, R: Threads + Wait + Sync, C: Account, O: Observer> Engine for Driver<'a, R, C, O> {
+impl<'a, R: Threads + Wait + Sync, C: Account, O: ProgressObserver> Engine
+    for JobEngine<'a, R, C, O> {
     ghost is_ready = { λ _. IsSync R.row };
 
-    ghost outputs = { λ driver text. IsOutputOf (C.outputs driver.account.now) text };
+    ghost outputs = { λ engine text. IsOutputOf (C.outputs engine.account.now) text };
 
     ghost at_once = { false };
 
@@ -153,10 +142,6 @@ impl<'a, R: Threads + Wait + Sync, C: Account, O: Observer> Engine for Driver<'a
             Err(TextFault::Memory) => return End::Memory,
         };
         self.drive(alloc, job, writer)
-    }
-
-    fn write_too_big<K: Sink>(self, alloc: Global, writer: &mut K) -> End {
-        refuse(alloc, 0, Cause::TooBig, writer)
     }
 }
 
@@ -171,34 +156,32 @@ pub fn run_of(alloc: Global, job: Job) -> Run
         later,
         steps: _,
     } = job;
-    Run::new(alloc, key, 0, 0, road, Sheet::new(first, later))
+    Run::new(alloc, key, 0, 0, road, Schedule::new(first, later))
 }
 
-/// Reads a job text, and writes the account of its run, or the line of the text's first fault.
-///
-/// A pool of at most so many workers asks the cars. It is made once the text has been judged, and has no more workers
-/// than make the run faster.
+/// Reads a job text, and writes the account of its run, or the line of the text's first fault. A pool of at most
+/// `workers` workers asks the cars.
 pub fn run_pooled<
     R: AllocGlobal + Threads + Wait + Sync,
     C: Account,
     S: Source,
     K: Sink,
-    O: Observer,
->(rt: &R, account: &C, reader: &mut S, writer: &mut K, workers: u32, observer: &O) -> End
+    O: ProgressObserver,
+>(rt: &R, account: &C, reader: &mut S, writer: &mut K, workers: u32, progress: &O) -> End
     requires reader_works { S.failed reader.old ≡ false }
     requires writer_works { K.failed writer.old ≡ false }
     requires some_worker { 1 ≤ workers }
-    requires few_workers { workers ≤ MOST_WORKERS }
+    requires few_workers { workers ≤ MAX_WORKERS }
     ensures { EngineEnds S.Source K.Sink (IsOutputOf (C.outputs account.now)) result
         reader.old reader.new writer.old writer.new }
 {
     run_engine(
         rt.alloc(),
-        Driver {
+        JobEngine {
             rt,
             account,
             workers,
-            observer,
+            progress,
         },
         reader,
         writer,

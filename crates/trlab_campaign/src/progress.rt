@@ -1,37 +1,44 @@
-//! How far a command's work is, and who is told. What an observer does has no part in any output.
+//! Progress: how far a command's work is, and who observes it. It never changes an output.
 
-ghost use Rattle.std.specs.Prelude.{◌≡◌, ◌↔◌, ◌<◌, ◌≤◌, None, IfSome};
+ghost use Rattle.std.specs.Prelude.{◌≡◌, ◌↔◌, ◌-◌, ◌<◌, ◌≤◌, None, IfSome};
 ghost use Rattle.trlab_campaign.specs.Hundredths.{hundredths};
 
-/// Who is told how far a command's work is. Nothing is promised of what it does with that.
-pub trait Observer {
-    /// Whether it wants to be told: where it does not, nothing is counted.
+use crate::end::End;
+use std::alloc::{AllocError, Global};
+use trlab_machine::Dice;
+use trlab_road::Road;
+use trlab_step::{Executor, StepObserver};
+use trlab_verify::{Change, Motion};
+
+/// Observes how far a command's work is. Contracts say nothing of what it does with that.
+pub trait ProgressObserver {
+    /// Whether it observes the work. If not, nothing is counted.
     fn is_watching(&self) -> bool;
 
-    /// So much of the work is done. It may be called by any worker.
+    /// Another hundredth of the work is done. Any worker may call this.
     fn reached(&self, milestone: Milestone);
 }
 
-/// How far the work is: each value has numbers in these ranges.
+/// How far the work is.
 #[derive(Clone, Copy, Debug, PartialEq, Eq)]
 pub struct Milestone {
-    /// How many hundredths of the work are done, 1 to 100.
+    /// The hundredths of the work that are done, 1 to 100.
     pub hundredths: u32,
-    /// The number of the step (of a run or a series) or point (of a sweep) that is at hand, from 1 on.
+    /// The current step (of a run or a series) or point (of a sweep), from 1 on.
     pub number: u32,
-    /// How many steps or points there are.
+    /// The number of steps or points.
     pub count: u32,
-    pub ghost some: { 1 ≤ hundredths },
-    pub ghost few: { hundredths ≤ 100 },
+    pub ghost at_least_one: { 1 ≤ hundredths },
+    pub ghost at_most_all: { hundredths ≤ 100 },
     pub ghost from_one: { 1 ≤ number },
     pub ghost to_last: { number ≤ count },
 }
 
-/// An observer that wants nothing.
+/// Ignores progress.
 #[derive(Clone, Copy)]
-pub struct Unobserved;
+pub struct NoProgress;
 
-impl Observer for Unobserved {
+impl ProgressObserver for NoProgress {
     fn is_watching(&self) -> bool {
         false
     }
@@ -39,7 +46,7 @@ impl Observer for Unobserved {
     fn reached(&self, _milestone: Milestone) {}
 }
 
-/// How many whole hundredths of the work are done, where so many of its parts are.
+/// The whole hundredths of the work that are done with `done` of its `whole` parts.
 fn hundredths(done: u64, whole: u64) -> u32
     ensures { result ≡ hundredths done whole }
 {
@@ -50,8 +57,8 @@ fn hundredths(done: u64, whole: u64) -> u32
     }
 }
 
-/// The milestone to which its last parts have brought the work, while the step or point of a number is at hand:
-/// none where the work has come to no other hundredth by them.
+/// The milestone that the work has reached with its parts from `before` to `after`, if that is another
+/// hundredth than before. `number` is the current step or point of `count`.
 pub fn newly_reached(
     before: u64,
     after: u64,
@@ -60,7 +67,7 @@ pub fn newly_reached(
     count: u32,
 ) -> Option<Milestone>
     requires rises { before ≤ after }
-    // While parts are left and some are done, a step or point is at hand.
+    // While parts are left and some are done, there is a current step or point.
     requires at_hand { before < after → before < whole → (1 ≤ number) × (number ≤ count) }
     ensures hundredths { IfSome result (λ milestone. milestone.hundredths ≡ hundredths after whole) }
     ensures number { IfSome result (λ milestone. milestone.number ≡ number) }
@@ -76,5 +83,96 @@ pub fn newly_reached(
             number,
             count,
         })
+    }
+}
+
+/// An executor that reports progress: before the motion of each step the steps before it, and all steps once
+/// the run has ended well.
+#[derive(Drop)]
+pub struct WithProgress<'a, A, O> {
+    executor: &'a A,
+    progress: &'a O,
+    is_watching: bool,
+    /// The number of steps of the run.
+    steps: u32,
+}
+
+impl<'a, A, O: ProgressObserver> WithProgress<'a, A, O> {
+    /// An executor of a run of `steps` steps.
+    pub fn new(executor: &'a A, progress: &'a O, steps: u32) -> WithProgress<'a, A, O>
+        ensures { result.executor.now ≡ executor.now }
+    {
+        WithProgress {
+            executor,
+            progress,
+            is_watching: progress.is_watching(),
+            steps,
+        }
+    }
+
+    /// The milestone that the run has reached with the last of `taken` steps, if that is another hundredth than
+    /// before.
+    fn milestone(&self, taken: u32) -> Option<Milestone>
+        ensures hundredths { IfSome result (λ milestone. milestone.hundredths ≡ hundredths taken self.now.steps) }
+        ensures number { IfSome result (λ milestone. milestone.number ≡ taken) }
+        ensures count { IfSome result (λ milestone. milestone.count ≡ self.now.steps) }
+        ensures silent { (result ≡ None)
+            ↔ (hundredths (taken - 1) self.now.steps ≡ hundredths taken self.now.steps) }
+    {
+        let before = u64::from(taken.saturating_sub(1));
+        newly_reached(
+            before,
+            u64::from(taken),
+            u64::from(self.steps),
+            taken,
+            self.steps,
+        )
+    }
+
+    /// Reports that `taken` steps are taken, one more than in the last call.
+    fn report_step(&self, taken: u32) {
+        if self.is_watching
+            && let Some(milestone) = self.milestone(taken)
+        {
+            self.progress.reached(milestone);
+        }
+    }
+
+    /// Reports the end of the run.
+    pub fn ended(&self, end: End) {
+        if end == End::Done {
+            self.report_step(self.steps);
+        }
+    }
+}
+
+impl<'a, A: Executor, O: ProgressObserver> Executor for WithProgress<'a, A, O> {
+    ghost is_ready = { λ with_progress. A.is_ready with_progress.executor.now };
+
+    fn speeds<L: StepObserver>(
+        &self,
+        alloc: Global,
+        answers: &mut Vec<u8>,
+        road: &mut Road,
+        motion: &Motion,
+        dice: &Dice,
+        observer: &mut L,
+    ) -> Result<(), AllocError> {
+        self.report_step(dice.step);
+        self.executor
+            .speeds(alloc, answers, road, motion, dice, observer)
+    }
+
+    fn crossings<L: StepObserver>(
+        &self,
+        alloc: Global,
+        answers: &mut Vec<bool>,
+        road: &mut Road,
+        change: &Change,
+        dice: &Dice,
+        observer: &mut L,
+    ) -> Result<(), AllocError> {
+        self.executor
+            .crossings(alloc, answers, road, change, dice, observer)
     }
 }

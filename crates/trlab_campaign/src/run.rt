@@ -1,28 +1,194 @@
-//! The engine of runs: job texts in, pictures out. The whole text is judged before the first picture is
-//! written. The pictures are those of each step, or of the steps that are shown.
+//! The engine of runs: job texts in, pictures out. The whole text is checked before the first picture is
+//! written. The picture of a road is made while its cars are asked, and written once they have moved.
 
-mod pictures;
-mod shown;
-mod step_text;
+ghost use Rattle.std.specs.Prelude.{◌≡◌, ℕ, ◌+◌, ◌<◌, ◌≤◌, ◌^◌, List, [], false, OnOk, if◌then◌else◌};
+ghost use Rattle.trlab_jobs.specs.Job.{Job as Told, seed_of, sheet_of};
+ghost use Rattle.trlab_jobs.specs.Stored.{IsStoredJob};
+ghost use Rattle.trlab_step.specs.Progress.{IsOneStepOn, at_start};
+ghost use Rattle.trlab_step.specs.Run.{IsRoadAt};
+ghost use Rattle.trlab_campaign.specs.Ending.{EngineEnds, WritesOn, WroteBy};
+ghost use Rattle.trlab_campaign.specs.Output.{IsOutput, IsShownOutput, JobOutput, every_from, shown_text, step_text};
+ghost use Rattle.trlab_campaign.specs.Writers.{AddsBy, bytes_of};
 
-ghost use Rattle.std.specs.Prelude.{◌≡◌, ◌≤◌, false};
-ghost use Rattle.trlab_campaign.specs.Ending.{EngineEnds};
-ghost use Rattle.trlab_campaign.specs.Output.{IsOutput, IsShownOutput, JobOutput, every_from};
-
-use crate::device::{Sink, Source};
-use crate::end::End;
-use crate::pooled::{Account, WriteFault, run_pooled};
-use crate::progress::{Observer, Unobserved};
-use crate::run::pictures::write_pictures;
-pub use shown::ShownSteps;
-use std::alloc::{AllocGlobal, Global};
+use crate::device::{Sink, Source, write_text};
+use crate::end::{End, Failure};
+use crate::output::push_step;
+use crate::pooled::{Account, run_of, run_pooled};
+use crate::progress::{NoProgress, ProgressObserver};
+use std::alloc::{AllocError, AllocGlobal, Global};
 use std::sync::Wait;
 use std::thread::Threads;
-use trlab_bounds::runs::MOST_WORKERS;
+use trlab_bounds::runs::MAX_WORKERS;
 use trlab_jobs::Job;
-use trlab_step::Asker;
+use trlab_road::Road;
+use trlab_step::{Executor, Run, StepObserver};
 
-/// The pictures of the road of a run.
+/// The steps of a run that are shown: `from`, `from` + `every`, `from` + 2 * `every` and so on.
+#[derive(Drop)]
+pub struct ShownSteps {
+    pub every: u32,
+    pub from: u32,
+    ghost some_steps: { 1 ≤ every },
+}
+
+impl ShownSteps {
+    /// Every `every` steps, 1 or more, from the step `from` on.
+    pub fn new(every: u32, from: u32) -> ShownSteps
+        requires some_steps { 1 ≤ every }
+        ensures every { result.every ≡ every }
+        ensures from { result.from ≡ from }
+    {
+        ShownSteps { every, from }
+    }
+
+    /// Whether a step is shown.
+    pub fn has(&self, step: u32) -> bool
+        ensures { result ≡ every_from self.now.every self.now.from step }
+    {
+        self.from <= step && (step - self.from) % self.every == 0
+    }
+
+    /// The last step that is shown in a run of `steps` steps, or 0 if none is.
+    pub fn last(&self, steps: u32) -> u32
+        ensures within { result ≤ steps }
+        ensures none_later { (step : ℕ) → result < step → step ≤ steps
+            → every_from self.now.every self.now.from step ≡ false }
+    {
+        if self.from <= steps {
+            steps - (steps - self.from) % self.every
+        } else {
+            0
+        }
+    }
+}
+
+/// The text of a step, which is made while the cars are asked. Its memory is reused from step to step.
+#[derive(Drop)]
+struct StepText {
+    step: u32,
+    /// Whether the step is shown. The text of any other step is empty, and no picture is made of its road.
+    is_shown: bool,
+    bytes: Vec<u8>,
+    /// Whether the bytes are the whole text.
+    made: Result<(), AllocError>,
+}
+
+impl StepText {
+    /// No text yet.
+    fn new(alloc: Global) -> StepText {
+        StepText {
+            step: 0,
+            is_shown: false,
+            bytes: Vec::new(alloc),
+            made: Ok(()),
+        }
+    }
+}
+
+impl StepObserver for StepText {
+    ghost observes = { λ before road text. OnOk text.made
+        (text.bytes.items ≡ if before.is_shown then step_text before.step road else []) };
+
+    fn observe(&mut self, road: &Road) {
+        self.bytes.clear();
+        self.made = if self.is_shown {
+            push_step(&mut self.bytes, self.step, road)
+        } else {
+            Ok(())
+        };
+    }
+}
+
+/// Writes the text of a step, if it was made.
+fn write_made<K: Sink>(text: &StepText, writer: &mut K) -> Result<(), Failure>
+    requires { K.failed writer.old ≡ false }
+    ensures wrote { (bytes : List ℕ) → OnOk text.now.made (text.now.bytes.items ≡ bytes)
+        → AddsBy result (bytes_of K.Sink writer.old) (bytes_of K.Sink writer.new) bytes }
+    ensures writer { WritesOn K.Sink result writer.old writer.new }
+{
+    match text.made {
+        Ok(()) => match write_text(writer, &text.bytes) {
+            Ok(()) => Ok(()),
+            Err(_) => Err(Failure::Device),
+        },
+        Err(_) => Err(Failure::Memory),
+    }
+}
+
+/// Advances a run by one step, and writes the text of the road before it if that step is shown.
+fn show_step<A: Executor, K: Sink>(
+    executor: &A,
+    alloc: Global,
+    shown: &ShownSteps,
+    text: &mut StepText,
+    run: &mut Run,
+    writer: &mut K,
+) -> Result<(), Failure>
+    requires ready { A.is_ready executor.now }
+    requires works { K.failed writer.old ≡ false }
+    requires steps { run.old.step + 1 < 2 ^ 32 }
+    ensures road { IsRoadAt run.old.seed run.old.sheet run.old.step run.old.road }
+    ensures wrote { AddsBy result (bytes_of K.Sink writer.old) (bytes_of K.Sink writer.new)
+        (shown_text (every_from shown.now.every shown.now.from) run.old.step run.old.road) }
+    ensures on { OnOk result (IsOneStepOn run.old run.new) }
+    ensures writer { WritesOn K.Sink result writer.old writer.new }
+{
+    text.step = run.step();
+    text.is_shown = shown.has(text.step);
+    let advanced = run.advance_showing(executor, alloc, text);
+    write_made(text, writer)?;
+    match advanced {
+        Ok(()) => Ok(()),
+        Err(_) => Err(Failure::Memory),
+    }
+}
+
+/// Writes the text of the road that a run has reached, if its step is shown.
+fn show_last<K: Sink>(
+    shown: &ShownSteps,
+    text: &mut StepText,
+    run: &Run,
+    writer: &mut K,
+) -> Result<(), Failure>
+    requires { K.failed writer.old ≡ false }
+    ensures road { IsRoadAt run.now.seed run.now.sheet run.now.step run.now.road }
+    ensures wrote { AddsBy result (bytes_of K.Sink writer.old) (bytes_of K.Sink writer.new)
+        (shown_text (every_from shown.now.every shown.now.from) run.now.step run.now.road) }
+    ensures writer { WritesOn K.Sink result writer.old writer.new }
+{
+    text.step = run.step();
+    text.is_shown = shown.has(text.step);
+    text.observe(run.road());
+    write_made(text, writer)
+}
+
+/// Writes the pictures of a run from its start to the last step that is shown.
+fn write_run<A: Executor, K: Sink>(
+    executor: &A,
+    alloc: Global,
+    shown: &ShownSteps,
+    run: &mut Run,
+    steps: u32,
+    writer: &mut K,
+) -> Result<(), Failure>
+    requires ready { A.is_ready executor.now }
+    requires works { K.failed writer.old ≡ false }
+    requires start { run.old.step ≡ 0 }
+    ensures wrote { (job : Told) → IsStoredJob job
+        → run.old ≡ at_start (seed_of job) (sheet_of job) → steps ≡ job.steps
+        → WroteBy (JobOutput (every_from shown.now.every shown.now.from) job) result
+        (bytes_of K.Sink writer.old) (bytes_of K.Sink writer.new) }
+    ensures writer { WritesOn K.Sink result writer.old writer.new }
+{
+    let last = shown.last(steps);
+    let mut text = StepText::new(alloc);
+    for _ in 0..last {
+        show_step(executor, alloc, shown, &mut text, run, writer)?;
+    }
+    show_last(shown, &mut text, run, writer)
+}
+
+/// The pictures of a run.
 #[derive(Drop)]
 struct StepPictures<'a> {
     shown: &'a ShownSteps,
@@ -35,24 +201,23 @@ impl<'a> Account for StepPictures<'a> {
         self.shown.last(job.steps)
     }
 
-    fn write_job<A: Asker, K: Sink>(
+    fn write_job<A: Executor, K: Sink>(
         &self,
-        asker: &A,
+        executor: &A,
         alloc: Global,
         job: Job,
         writer: &mut K,
-    ) -> Result<(), WriteFault> {
-        write_pictures(asker, alloc, self.shown, job, writer)
+    ) -> Result<(), Failure> {
+        let steps = job.steps;
+        let mut run = run_of(alloc, job);
+        let written = write_run(executor, alloc, self.shown, &mut run, steps, writer);
+        drop(run);
+        written
     }
 }
 
-/// Reads a job text, and writes the picture of its road at each step, or the line of the text's
-/// first fault.
-///
-/// The whole text is read and judged before a byte is written. Where memory runs out or a call of
-/// the reader or writer fails, what was written is a prefix of the whole output. The output does
-/// not depend on the number of workers, 1 to 16, of whom only those are started that make the
-/// run faster, once for the whole run.
+/// Reads a job text, and writes the picture of its road at each step: `run_shown_text` with every step and without
+/// reports of progress.
 pub fn run_job_text<R: AllocGlobal + Threads + Wait + Sync, S: Source, K: Sink>(
     rt: &R,
     reader: &mut S,
@@ -62,67 +227,37 @@ pub fn run_job_text<R: AllocGlobal + Threads + Wait + Sync, S: Source, K: Sink>(
     requires reader_works { S.failed reader.old ≡ false }
     requires writer_works { K.failed writer.old ≡ false }
     requires some_worker { 1 ≤ workers }
-    requires few_workers { workers ≤ MOST_WORKERS }
+    requires few_workers { workers ≤ MAX_WORKERS }
     ensures { EngineEnds S.Source K.Sink IsOutput result
         reader.old reader.new writer.old writer.new }
 {
-    run_job_text_observed(rt, reader, writer, workers, &Unobserved)
-}
-
-/// Does what `run_job_text` does, and tells an observer of the steps.
-pub fn run_job_text_observed<
-    R: AllocGlobal + Threads + Wait + Sync,
-    S: Source,
-    K: Sink,
-    O: Observer,
->(rt: &R, reader: &mut S, writer: &mut K, workers: u32, observer: &O) -> End
-    requires reader_works { S.failed reader.old ≡ false }
-    requires writer_works { K.failed writer.old ≡ false }
-    requires some_worker { 1 ≤ workers }
-    requires few_workers { workers ≤ MOST_WORKERS }
-    ensures { EngineEnds S.Source K.Sink IsOutput result
-        reader.old reader.new writer.old writer.new }
-{
-    run_shown_text_observed(
+    run_shown_text(
         rt,
         reader,
         writer,
         workers,
         &ShownSteps::new(1, 0),
-        observer,
+        &NoProgress,
     )
 }
 
-/// Does what `run_job_text` does, but writes the pictures of the steps that are shown only. The other steps cost no
-/// picture, and those after the last one are not taken.
-pub fn run_shown_text<R: AllocGlobal + Threads + Wait + Sync, S: Source, K: Sink>(
-    rt: &R,
-    reader: &mut S,
-    writer: &mut K,
-    workers: u32,
-    shown: &ShownSteps,
-) -> End
-    requires reader_works { S.failed reader.old ≡ false }
-    requires writer_works { K.failed writer.old ≡ false }
-    requires some_worker { 1 ≤ workers }
-    requires few_workers { workers ≤ MOST_WORKERS }
-    ensures { EngineEnds S.Source K.Sink (IsShownOutput (every_from shown.now.every shown.now.from)) result
-        reader.old reader.new writer.old writer.new }
-{
-    run_shown_text_observed(rt, reader, writer, workers, shown, &Unobserved)
-}
-
-/// Does what `run_shown_text` does, and tells an observer of the steps that it takes.
-pub fn run_shown_text_observed<
+/// Reads a job text, and writes the picture of its road at each step that is `shown`, or the line of the text's
+/// first fault. Steps after the last shown step are not taken. `progress` observes the steps.
+///
+/// The whole text is read and checked before a byte is written. If an allocation fails, or a call of the reader
+/// or writer fails, a prefix of the whole output has been written. The output does not depend on `workers`, 1
+/// to 16: the most threads that ask the cars. Only those that make the run faster are started, once for the
+/// whole run.
+pub fn run_shown_text<
     R: AllocGlobal + Threads + Wait + Sync,
     S: Source,
     K: Sink,
-    O: Observer,
->(rt: &R, reader: &mut S, writer: &mut K, workers: u32, shown: &ShownSteps, observer: &O) -> End
+    O: ProgressObserver,
+>(rt: &R, reader: &mut S, writer: &mut K, workers: u32, shown: &ShownSteps, progress: &O) -> End
     requires reader_works { S.failed reader.old ≡ false }
     requires writer_works { K.failed writer.old ≡ false }
     requires some_worker { 1 ≤ workers }
-    requires few_workers { workers ≤ MOST_WORKERS }
+    requires few_workers { workers ≤ MAX_WORKERS }
     ensures { EngineEnds S.Source K.Sink (IsShownOutput (every_from shown.now.every shown.now.from)) result
         reader.old reader.new writer.old writer.new }
 {
@@ -132,6 +267,6 @@ pub fn run_shown_text_observed<
         reader,
         writer,
         workers,
-        observer,
+        progress,
     )
 }

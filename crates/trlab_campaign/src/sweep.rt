@@ -1,41 +1,65 @@
-//! The engine of sweeps: sweep texts in, tables of points out. All points are there before the first line of
-//! their table is written.
+//! The engine of sweeps: sweep texts in, tables of points out. All points are there before the first line of their
+//! table is written.
 
-mod batches;
-mod evenness;
 mod points;
 mod runners;
-mod snapshots;
-mod table;
 mod work;
 
 ghost use Rattle.std.specs.Prelude.{◌≡◌, ◌<◌, ◌≤◌, true, false, IfOk};
 ghost use Rattle.trlab_campaign.specs.declared.end.End.TheVariants.{Memory};
-ghost use Rattle.trlab_bounds.specs.declared.runs.TheConstants.{MOST_RUNNERS, MOST_WORKERS};
+ghost use Rattle.trlab_bounds.specs.declared.runs.TheConstants.{MAX_RUNNERS, MAX_WORKERS};
 ghost use Rattle.trlab_campaign.specs.Ending.{EndsSo, EngineEnds, LeavesWriter};
 ghost use Rattle.trlab_campaign.specs.SweepOutput.{IsSweepOutput, SweepOutput, TellsTable};
 ghost use Rattle.trlab_campaign.specs.Writers.{AddsNone, bytes_of};
 
 use crate::device::{Sink, Source};
-use crate::end::End;
+use crate::end::{End, refuse, write_output};
 use crate::engine::{Engine, run_engine};
-use crate::progress::{Observer, Unobserved};
-use crate::refusal::{refuse, write_output};
-use crate::sweep::table::table;
+use crate::progress::{NoProgress, ProgressObserver};
+use crate::sweep::runners::Runners;
+use crate::sweep::work::WorkGate;
 use std::alloc::{AllocError, AllocGlobal, Global};
 use std::sync::Wait;
 use std::thread::Threads;
+use trlab_diagram::points_text;
 use trlab_jobs::{Sweep, read_sweep};
-use trlab_texts::{Cause, TextFault};
+use trlab_texts::TextFault;
 
-/// The engine of sweep texts, which writes the table of their points.
-#[derive(Drop)]
-struct Surveyor<T> {
-    /// Makes the table of a sweep: an engine may not start threads that tell an observer, a call may.
-    table: T,
+/// The table of a sweep, made once all its points are there.
+///
+/// # Errors
+///
+/// If an allocation fails.
+fn table<R: Threads + Wait + Sync, O: ProgressObserver + Sync>(
+    rt: &R,
+    alloc: Global,
+    sweep: &Sweep,
+    progress: &O,
+    runners: u32,
+    workers: u32,
+) -> Result<Vec<u8>, AllocError>
+    requires runners { (0 < runners) × (runners ≤ MAX_RUNNERS) }
+    requires workers { (0 < workers) × (workers ≤ MAX_WORKERS) }
+    ensures { IfOk result (λ text. SweepOutput sweep.now false text.items) }
+{
+    let gate = WorkGate::new(sweep, progress);
+    let runners = Runners {
+        rt,
+        alloc,
+        sweep,
+        gate: &gate,
+        count: runners,
+        workers,
+    };
+    let points = runners.points()?;
+    gate.finished();
+    match points_text(alloc, &points) {
+        Ok(text) => Ok(text),
+        Err(_) => Err(AllocError),
+    }
 }
 
-/// Writes the table of the points of a sweep, where it was made.
+/// Writes the table of a sweep, if it was made.
 fn write_table<K: Sink>(sweep: &Sweep, table: Result<Vec<u8>, AllocError>, writer: &mut K) -> End
     requires made { IfOk table (λ table. SweepOutput sweep.now false table.items) }
     requires works { K.failed writer.old ≡ false }
@@ -48,8 +72,16 @@ fn write_table<K: Sink>(sweep: &Sweep, table: Result<Vec<u8>, AllocError>, write
     }
 }
 
-impl<T: Fn(Global, &Sweep) -> Result<Vec<u8>, AllocError> + Drop> Engine for Surveyor<T> {
-    ghost is_ready = { λ surveyor. TellsTable (T.pre surveyor.table) (T.post surveyor.table) };
+/// The engine of sweep texts.
+#[derive(Drop)]
+struct SweepEngine<T> {
+    /// Makes the table of a sweep. It is a closure because a method of an engine may not start threads that report
+    /// progress.
+    table: T,
+}
+
+impl<T: Fn(Global, &Sweep) -> Result<Vec<u8>, AllocError> + Drop> Engine for SweepEngine<T> {
+    ghost is_ready = { λ engine. TellsTable (T.pre engine.table) (T.post engine.table) };
 
     ghost outputs = { λ _ text. IsSweepOutput text };
 
@@ -66,18 +98,9 @@ impl<T: Fn(Global, &Sweep) -> Result<Vec<u8>, AllocError> + Drop> Engine for Sur
         drop(sweep);
         end
     }
-
-    fn write_too_big<K: Sink>(self, alloc: Global, writer: &mut K) -> End {
-        refuse(alloc, 0, Cause::TooBig, writer)
-    }
 }
 
-/// Reads a sweep text, and writes the table of its points, or the line of the text's first fault.
-///
-/// The whole text is read and judged, and all points are there, before a byte is written. Where
-/// memory runs out nothing is written, and where a call of the reader or writer fails, a prefix of
-/// the whole output. The roads are the jobs of a book, which so many runners take, each with so many
-/// workers, 1 to 16; the output depends on neither number.
+/// Reads a sweep text, and writes the table of its points: `run_sweep_with_progress` without reports of progress.
 pub fn run_sweep_text<R: AllocGlobal + Threads + Wait + Sync, S: Source, K: Sink>(
     rt: &R,
     reader: &mut S,
@@ -88,38 +111,44 @@ pub fn run_sweep_text<R: AllocGlobal + Threads + Wait + Sync, S: Source, K: Sink
     requires reader_works { S.failed reader.old ≡ false }
     requires writer_works { K.failed writer.old ≡ false }
     requires some_runner { 1 ≤ runners }
-    requires few_runners { runners ≤ MOST_RUNNERS }
+    requires few_runners { runners ≤ MAX_RUNNERS }
     requires some_worker { 1 ≤ workers }
-    requires few_workers { workers ≤ MOST_WORKERS }
+    requires few_workers { workers ≤ MAX_WORKERS }
     ensures ends { EngineEnds S.Source K.Sink IsSweepOutput result
         reader.old reader.new writer.old writer.new }
     ensures kept { result ≡ Memory → AddsNone (bytes_of K.Sink writer.old) (bytes_of K.Sink writer.new) }
 {
-    run_sweep_text_observed(rt, reader, writer, runners, workers, &Unobserved)
+    run_sweep_with_progress(rt, reader, writer, runners, workers, &NoProgress)
 }
 
-/// Does what `run_sweep_text` does, and tells an observer of the work on the points.
-pub fn run_sweep_text_observed<
+/// Reads a sweep text, and writes the table of its points, or the line of the text's first fault. `progress`
+/// observes the work on the points.
+///
+/// The whole text is read and checked, and all points are there, before a byte is written. If an allocation
+/// fails, nothing is written; if a call of the reader or writer fails, a prefix of the whole output. The roads
+/// are the jobs of a book, which `runners` runners take, 1 to 16, each with `workers` workers, 1 to 16. The
+/// output depends on neither number.
+pub fn run_sweep_with_progress<
     R: AllocGlobal + Threads + Wait + Sync,
     S: Source,
     K: Sink,
-    O: Observer + Sync,
->(rt: &R, reader: &mut S, writer: &mut K, runners: u32, workers: u32, observer: &O) -> End
+    O: ProgressObserver + Sync,
+>(rt: &R, reader: &mut S, writer: &mut K, runners: u32, workers: u32, progress: &O) -> End
     requires reader_works { S.failed reader.old ≡ false }
     requires writer_works { K.failed writer.old ≡ false }
     requires some_runner { 1 ≤ runners }
-    requires few_runners { runners ≤ MOST_RUNNERS }
+    requires few_runners { runners ≤ MAX_RUNNERS }
     requires some_worker { 1 ≤ workers }
-    requires few_workers { workers ≤ MOST_WORKERS }
+    requires few_workers { workers ≤ MAX_WORKERS }
     ensures ends { EngineEnds S.Source K.Sink IsSweepOutput result
         reader.old reader.new writer.old writer.new }
     ensures kept { result ≡ Memory → AddsNone (bytes_of K.Sink writer.old) (bytes_of K.Sink writer.new) }
 {
-    let surveyor = Surveyor {
+    let engine = SweepEngine {
         table: |alloc: Global, sweep: &Sweep| -> Result<Vec<u8>, AllocError>
-            requires runners { (0 < runners) × (runners ≤ MOST_RUNNERS) }
-            requires workers { (0 < workers) × (workers ≤ MOST_WORKERS) }
-        { table(rt, alloc, sweep, observer, runners, workers) },
+            requires runners { (0 < runners) × (runners ≤ MAX_RUNNERS) }
+            requires workers { (0 < workers) × (workers ≤ MAX_WORKERS) }
+        { table(rt, alloc, sweep, progress, runners, workers) },
     };
-    run_engine(rt.alloc(), surveyor, reader, writer)
+    run_engine(rt.alloc(), engine, reader, writer)
 }

@@ -1,34 +1,33 @@
-//! Writes the lines of its input again, and after each call that stands there the answer: `done` or
-//! `refused`, and what is written. A line `WORDS | TEXT` begins a call, `| TEXT` is one more line of its
-//! text, and `?` stands where the answer is wanted; other lines are titles and comments. The calls are:
+//! Makes the calls in its input, and prints the input with their answers.
 //!
-//! - `motion` or `change`, a program's lines, which are assembled: out come its bytes in hexadecimal,
-//!   eight on a line, and its canonical text, or `line N why K`;
-//! - `code`, a program's bytes in hexadecimal, which are decoded: out come its kind and its canonical
-//!   text, or the fault;
-//! - `notes motion` or `notes change`, a program's lines: out come its notes, one on a line, which check
-//!   as a table;
-//! - `road`, a limit and the pictures of lanes, or `even`, a count of lanes, a length, a limit and a count
-//!   of cars that are spread: out comes the road, or the fault;
-//! - `step`, a job text: out comes its first step.
+//! A line `WORDS | TEXT` begins a call, and a line `| TEXT` adds a line to its text. A line `?` is replaced by the
+//! answer: `done` or `refused`, and the output. All other lines are comments. The calls are:
+//!
+//! - `motion` and `change` assemble the lines of a program, and print its bytes in hexadecimal, eight per line, and its
+//!   canonical text, or `line N why K`;
+//! - `code` decodes the bytes of a program, given in hexadecimal, and prints its kind and its canonical text, or the
+//!   fault;
+//! - `notes motion` and `notes change` assemble the lines of a program, check its notes as a table, and print them, one
+//!   note per line;
+//! - `road` reads a limit and the pictures of lanes, `even` a number of lanes, a length, a limit and a number of evenly
+//!   spaced cars; both print the road, or the fault;
+//! - `step` prints the first step of a job.
 #![tactic(auto)]
 
-mod answer;
-mod asked;
-mod notes;
-mod page;
+mod calls;
 mod programs;
+mod report;
 mod roads;
 mod steps;
 
-use crate::asked::Asked;
+use crate::calls::PendingCall;
 use std::io;
 
 fn main(rt: HostRuntime) -> io::Result<()> {
     let text = io::read_to_string(rt.alloc(), rt.stdin())?;
-    let mut asked = Asked::new(rt.alloc());
+    let mut call = PendingCall::new(rt.alloc());
     for line in text.lines() {
-        asked.take(&rt, line)?;
+        call.take(&rt, line)?;
     }
     Ok(())
 }

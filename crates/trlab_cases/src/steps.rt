@@ -1,8 +1,8 @@
-//! The first steps of jobs, as lines of text.
+//! The call `step`: the first step of a job, phase by phase.
 
 ghost use Rattle.std.specs.Prelude.{◌≡◌, length};
 
-use crate::page::{End, Page};
+use crate::report::{Outcome, Report};
 use crate::roads::add_pictures;
 use std::alloc::AllocError;
 use trlab_jobs::{Job, read_job};
@@ -12,98 +12,98 @@ use trlab_step::{
 };
 use trlab_verify::Change;
 
-/// The first step of a job, phase by phase, and its tally; or that its first rule is none for its road.
-pub fn stepped(page: &mut Page, text: &[u8]) -> End {
-    match read_job(page.alloc, text) {
-        Ok(job) => step(page, &job),
-        Err(_) => page.told(End::Refused, "no job\n"),
+/// Writes the first step of a job and its tally, or that the rule does not suit the road.
+pub fn stepped(report: &mut Report, text: &[u8]) -> Outcome {
+    match read_job(report.alloc, text) {
+        Ok(job) => step(report, &job),
+        Err(_) => report.finish(Outcome::Refused, "no job\n"),
     }
 }
 
-/// The phases of the first step of a job, and its tally.
-fn step(page: &mut Page, job: &Job) -> End {
+/// Writes the phases of the first step and the tally.
+fn step(report: &mut Report, job: &Job) -> Outcome {
     match job.first.change() {
-        Some(change) if job.road.lanes() == 2 => sideways(page, job, change),
-        _ => motion(page, job, &job.road),
+        Some(change) if job.road.lanes() == 2 => sideways(report, job, change),
+        _ => motion(report, job, &job.road),
     }
 }
 
-/// The sideways phase by this program: who crosses, and the road; then the rest of the step.
-fn sideways(page: &mut Page, job: &Job, change: &Change) -> End
+/// Writes the lane change: which cars cross, and the road after it; then the rest of the step.
+fn sideways(report: &mut Report, job: &Job, change: &Change) -> Outcome
     requires { length job.now.road.lanes ≡ 2 }
 {
-    match crossed(page, job, change) {
+    match crossed(report, job, change) {
         Ok(middle) => {
-            add_road(page, &middle);
-            motion(page, job, &middle)
+            add_road(report, &middle);
+            motion(report, job, &middle)
         }
-        Err(_) => page.fail(),
+        Err(_) => report.fail(),
     }
 }
 
-/// The road after the sideways phase by this program; adds who crosses.
-fn crossed(page: &mut Page, job: &Job, change: &Change) -> Result<Road, AllocError>
+/// The road after the lane change. Writes which cars cross.
+fn crossed(report: &mut Report, job: &Job, change: &Change) -> Result<Road, AllocError>
     requires { length job.now.road.lanes ≡ 2 }
 {
     let road = &job.road;
-    let crosses = choose_part(page.alloc, road, change, &job.key, 0, 0, 0, road.cars())?;
-    page.add("crosses");
+    let crosses = choose_part(report.alloc, road, change, &job.key, 0, 0, 0, road.cars())?;
+    report.add("crosses");
     for cross in &crosses {
-        page.add(if *cross { " yes" } else { " no" });
+        report.add(if *cross { " yes" } else { " no" });
     }
-    commit_change(page.alloc, road, &crosses)
+    commit_change(report.alloc, road, &crosses)
 }
 
-/// The motion phase from a road: how fast the cars are, and the road; then the tally.
-fn motion(page: &mut Page, job: &Job, road: &Road) -> End {
-    match moved(page, job, road) {
+/// Writes the motion from a road: the new speeds, and the road after it; then the tally.
+fn motion(report: &mut Report, job: &Job, road: &Road) -> Outcome {
+    match moved(report, job, road) {
         Ok(next) => {
-            add_road(page, &next);
-            tally(page, job, &next)
+            add_road(report, &next);
+            tally(report, job, &next)
         }
-        Err(_) => page.fail(),
+        Err(_) => report.fail(),
     }
 }
 
-/// The road after the motion phase; adds how fast the cars are.
-fn moved(page: &mut Page, job: &Job, road: &Road) -> Result<Road, AllocError> {
+/// The road after the motion. Writes the new speeds.
+fn moved(report: &mut Report, job: &Job, road: &Road) -> Result<Road, AllocError> {
     let motion = job.first.motion();
-    let speeds = move_part(page.alloc, road, motion, &job.key, 0, 0, 0, road.cars())?;
-    page.add("speeds");
+    let speeds = move_part(report.alloc, road, motion, &job.key, 0, 0, 0, road.cars())?;
+    report.add("speeds");
     for speed in &speeds {
-        page.add_number(" ", *speed);
+        report.add_number(" ", *speed);
     }
-    commit_motion(page.alloc, road, &speeds)
+    commit_motion(report.alloc, road, &speeds)
 }
 
-/// Adds the pictures of a road, and the numbers of its cars in standing order.
-fn add_road(page: &mut Page, road: &Road) {
-    page.add("\n");
-    add_pictures(page, road);
-    page.add("cars");
+/// Writes the pictures of a road, and the numbers of its cars in standing order.
+fn add_road(report: &mut Report, road: &Road) {
+    report.add("\n");
+    add_pictures(report, road);
+    report.add("cars");
     for k in 0..road.cars() {
-        page.add_number(" ", road.standing(k).number);
+        report.add_number(" ", road.standing(k).number);
     }
-    page.add("\n");
+    report.add("\n");
 }
 
-/// The tally of the first step of a job, which leads to this road.
-fn tally(page: &mut Page, job: &Job, wanted: &Road) -> End {
-    match step_road(page.alloc, &job.road, &job.first, &job.key, 0, 0) {
-        Ok((next, tally)) => counts(page, next.equals(wanted), tally),
-        Err(StepFault::Memory) => page.fail(),
-        Err(StepFault::LanesMismatch) => page.told(End::Done, "another count of lanes\n"),
+/// Writes the tally of the first step, which has to lead to the same road.
+fn tally(report: &mut Report, job: &Job, wanted: &Road) -> Outcome {
+    match step_road(report.alloc, &job.road, &job.first, &job.key, 0, 0) {
+        Ok((next, tally)) => counts(report, next.equals(wanted), tally),
+        Err(StepFault::Memory) => report.fail(),
+        Err(StepFault::LanesMismatch) => report.finish(Outcome::Done, "another count of lanes\n"),
     }
 }
 
-/// A tally, where the step led to the same road.
-fn counts(page: &mut Page, is_same: bool, tally: StepTally) -> End {
+/// Writes a tally, or that the step led to another road.
+fn counts(report: &mut Report, is_same: bool, tally: StepTally) -> Outcome {
     if !is_same {
-        return page.told(End::Done, "another road\n");
+        return report.finish(Outcome::Done, "another road\n");
     }
     let (distance, stopped, changes) = (tally.distance, tally.stopped, tally.changes);
-    page.add_text(format!(in page.alloc;
+    report.add_text(format!(in report.alloc;
         "distance {distance} stopped {stopped} changes {changes}\n"
     ));
-    End::Done
+    Outcome::Done
 }

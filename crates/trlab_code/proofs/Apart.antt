@@ -4,7 +4,7 @@ use Rattle.std.proofs.lemmas.Bool.{cases_order}
 use Rattle.trlab_code.specs.declared.fault.CodeFault.{CodeFault}
 use Rattle.trlab_code.specs.declared.fault.CodeFault.TheVariants as fault
 use Rattle.trlab_code.specs.Faults.{HasOpcode, IsFirstFault, bytes_at}
-use Rattle.trlab_code.proofs.Spelt.{opcode_of_row}
+use Rattle.trlab_code.proofs.EncodedCode.{opcode_of_row}
 
 -- the order in which faults are met; those of rows are told apart by their rows
 rank : CodeFault → ℕ

@@ -1,4 +1,4 @@
--- The spelling of a program is of bytes.
+-- The encoding of a program is of bytes.
 use Rattle.std.proofs.Common.{ℕ, Bool, true, false, cond, ◌/◌, ◌%◌, ◌^◌, ◌<◌, ◌≤◌, List, [], ◌∷◌, All, length, arith}
 use Rattle.std.specs.List.{flat_map}
 use Rattle.std.proofs.lemmas.List.Elements.{All-cons, All-append, All-head, All-tail}
@@ -12,8 +12,8 @@ use Rattle.trlab_code.specs.declared.instruction.Instr.{Instr}
 use Rattle.trlab_code.specs.declared.instruction.Instr.TheVariants.{Num, Get, Side, Draw, Copy, Add, Sub, Mul, Div, Min, Max, Not, And, Or, Jump, JumpLess, JumpAtMost, JumpTrue, JumpFalse, Go, Cross, Stay}
 use Rattle.trlab_code.specs.Program.{Program, IsInRange, version_of}
 use Rattle.trlab_code.specs.Machine.{register_number, input_number}
-use Rattle.trlab_code.specs.Spelling.{kind_byte, row, row_bytes, instr_bytes, header, spelling}
-use Rattle.trlab_code.specs.Laws.{AreBytes, HasWord, IsStored}
+use Rattle.trlab_code.specs.Encoding.{kind_byte, row, row_bytes, instr_bytes, header, encoding}
+use Rattle.trlab_code.specs.Laws.{AreBytes, HasWord, IsRepresentable}
 
 -- the same, so that the list is told by the type
 record Small (bytes : List ℕ) : Type 0 where
@@ -94,8 +94,8 @@ header_small version kind count low few =
     more 84 (omega arith) (more 82 (omega arith) (more 76 (omega arith) (more 66 (omega arith) (more version low
     (more (kind_byte kind) (kind_byte_small kind) (more (count % 256) (omega arith) (more (count / 256) (omega arith) none)))))))
 
-pub spelling_bytes : (program : Program) → IsStored program → AreBytes (spelling program)
-unfolding spelling
+pub spelling_bytes : (program : Program) → IsRepresentable program → AreBytes (encoding program)
+unfolding encoding
 spelling_bytes program stored =
     All-append (λ b. b < 2 ^ 8) (header (version_of program) program.kind (length program.instrs)) (flat_map instr_bytes program.instrs)
     (header_small (version_of program) program.kind (length program.instrs) (version_small _) stored.is_program.few).all

@@ -1,4 +1,4 @@
--- Different programs have different spellings.
+-- Different programs have different encodings.
 use Rattle.std.proofs.Common.{◌≡◌, ◌∙◌, ℕ, ◌+◌, ◌*◌, ◌/◌, ◌%◌, ◌^◌, ◌&&◌, List, [], ◌∷◌, drop, get_or, Bool, true, false, refl, sym, ap, subst, arith, nat_eq}
 use Rattle.std.specs.List.{flat_map}
 use Rattle.std.specs.Bool.{Decides}
@@ -11,11 +11,11 @@ use Rattle.trlab_code.specs.declared.instruction.Input.{Input}
 use Rattle.trlab_code.specs.declared.instruction.Input.TheVariants.{Speed, Limit, Gap, SideGap, SideBack, Lane, Headspeed}
 use Rattle.trlab_code.specs.declared.instruction.Instr.{Instr}
 use Rattle.trlab_code.specs.declared.instruction.Instr.TheVariants.{Num, Get, Side, Draw, Copy, Add, Sub, Mul, Div, Min, Max, Not, And, Or, Jump, JumpLess, JumpAtMost, JumpTrue, JumpFalse, Go, Cross, Stay}
-use Rattle.trlab_code.specs.declared.row.Row.{Row}
+use Rattle.trlab_code.specs.declared.row.InstructionRow.{InstructionRow}
 use Rattle.trlab_code.specs.contracts.row.InstrPartialEq.TheImpl.{eq-value as same}
 use Rattle.trlab_code.specs.Program.{Program}
 use Rattle.trlab_code.specs.Machine.{register_number, input_number}
-use Rattle.trlab_code.specs.Spelling.{kind_byte, row_of, row_bytes, instr_bytes, spelling}
+use Rattle.trlab_code.specs.Encoding.{kind_byte, row_of, row_bytes, instr_bytes, encoding}
 
 same_kind : (k l : Kind) → kind_byte k ≡ kind_byte l → k ≡ l
 same_kind Motion Motion h = refl
@@ -109,7 +109,7 @@ and_true : (p q : Bool) → p ≡ true → q ≡ true → (p && q) ≡ true
 and_true p q e f = rw (e, f) refl
 
 -- rows are one where their fields are
-same_row : (r s : Row) → r.opcode ≡ s.opcode → r.a ≡ s.a → r.b ≡ s.b → r.c ≡ s.c → r.number ≡ s.number → r ≡ s
+same_row : (r s : InstructionRow) → r.opcode ≡ s.opcode → r.a ≡ s.a → r.b ≡ s.b → r.c ≡ s.c → r.number ≡ s.number → r ≡ s
 same_row r s o a b c n = λ i. record { opcode = o i; a = a i; b = b i; c = c i; number = n i }
 
 from_same : (x y : Instr) → same.it x y ≡ true → x ≡ y
@@ -139,12 +139,12 @@ same_instrs [] (y ∷ ys) h = cc
 same_instrs (x ∷ xs) [] h = cc
 same_instrs (x ∷ xs) (y ∷ ys) h = let first = same_first x y xs ys h in let rest = same_instrs xs ys (ap (drop 8) h) in λ z. first z ∷ rest z
 
--- a program is known by its spelling
+-- a program is known by its encoding
 same_parts : {k l : Kind} {xs ys : List Instr} → k ≡ l → xs ≡ ys → ◌≡◌ {A = Program} (record { kind = k; instrs = xs }) (record { kind = l; instrs = ys })
 same_parts e f = cc
 
-pub same_program : (p q : Program) → spelling p ≡ spelling q → p ≡ q
-unfolding spelling
+pub same_program : (p q : Program) → encoding p ≡ encoding q → p ≡ q
+unfolding encoding
 same_program p q h =
     let rest = ap (drop 8) h in
     let byte = ap (λ bytes. get_or bytes 5 0) h in

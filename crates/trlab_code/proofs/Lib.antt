@@ -1,6 +1,6 @@
 pub mod Rows
 pub mod Injective
-pub mod Spelt
+pub mod EncodedCode
 pub mod Versions
 pub mod Apart
 pub mod Whole

@@ -5,7 +5,7 @@ use Rattle.trlab_code.specs.declared.instruction.Input.TheVariants.{Speed}
 use Rattle.trlab_code.specs.declared.instruction.Register.TheVariants.{R0}
 use Rattle.trlab_code.specs.declared.instruction.Instr.{Instr}
 use Rattle.trlab_code.specs.declared.instruction.Instr.TheVariants.{Num, Get, Side, Draw, Copy, Add, Sub, Mul, Div, Min, Max, Not, And, Or, Jump, JumpLess, JumpAtMost, JumpTrue, JumpFalse, Go, Cross, Stay}
-use Rattle.trlab_code.specs.Spelling.{IsOpcode, row_of}
+use Rattle.trlab_code.specs.Encoding.{IsOpcode, row_of}
 
 -- an instruction of each opcode
 pub opcode_of_one : (n : ℕ) → 1 ≤ n → n ≤ 22 → IsOpcode n

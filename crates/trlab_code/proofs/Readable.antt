@@ -20,7 +20,7 @@ use Rattle.trlab_code.specs.declared.fault.CodeFault.{CodeFault}
 use Rattle.trlab_code.specs.declared.fault.CodeFault.TheVariants as fault
 use Rattle.trlab_code.specs.Program.{Program, IsInRange, IsProgram, IsOfVersion, reads_headspeed, version_of}
 use Rattle.trlab_code.specs.Machine.{register_number, input_number}
-use Rattle.trlab_code.specs.Spelling.{kind_byte, header, instr_bytes, spelling}
+use Rattle.trlab_code.specs.Encoding.{kind_byte, header, instr_bytes, encoding}
 use Rattle.trlab_code.specs.Faults.{HasRoom, HasVersion, SpellsInstr, HasGoodHeader, IsGoodBefore, NeedsVersion, IsFirstFault, stated_count, stated_version, bytes_at}
 use Rattle.trlab_code.specs.Laws.{Says}
 use Rattle.trlab_code.proofs.Opcodes.{opcode_or_not}
@@ -251,7 +251,7 @@ needs_or_not bytes good =
     ]
 
 -- the program that bytes with a good header and good rows of a version that they need spell
-spelt : (bytes : List ℕ) → All (λ byte. byte < 2 ^ 8) bytes → IsGoodBefore bytes (stated_count bytes) → NeedsVersion bytes → length bytes ≤ 8 + 8 * stated_count bytes → (program : Program) × ((bytes ≡ spelling program) × IsProgram program)
+spelt : (bytes : List ℕ) → All (λ byte. byte < 2 ^ 8) bytes → IsGoodBefore bytes (stated_count bytes) → NeedsVersion bytes → length bytes ≤ 8 + 8 * stated_count bytes → (program : Program) × ((bytes ≡ encoding program) × IsProgram program)
 spelt bytes small good needs short =
     let kind = good.header.kind in
     let rows = rows_of bytes (stated_count bytes) good in

@@ -5,7 +5,7 @@ use Rattle.std.proofs.lemmas.List.{drop-drop}
 use Rattle.std.proofs.lemmas.List.Concat.{flat_map-append}
 use Rattle.std.specs.List.{flat_map}
 use Rattle.trlab_code.specs.declared.instruction.Instr.{Instr}
-use Rattle.trlab_code.specs.Spelling.{instr_bytes, Spells}
+use Rattle.trlab_code.specs.Encoding.{instr_bytes, Spells}
 use Rattle.trlab_code.specs.Faults.{IsGoodBefore, SpellsInstr, stated_version, bytes_at}
 
 -- one more instruction

@@ -2,11 +2,11 @@
 use Rattle.std.proofs.Common.{◌≡◌, ◌↔◌, ℕ, List, Result, Ok, Err, refl, sym, ap, ◌∙◌, subst}
 use Rattle.trlab_code.specs.declared.fault.CodeFault.{CodeFault}
 use Rattle.trlab_code.specs.Program.{Program, IsProgram}
-use Rattle.trlab_code.specs.Spelling.{spelling}
+use Rattle.trlab_code.specs.Encoding.{encoding}
 use Rattle.trlab_code.specs.Faults.{IsFirstFault}
 use Rattle.trlab_code.specs.Laws.{Says}
 use Rattle.trlab_code.proofs.Injective.{same_program}
-use Rattle.trlab_code.proofs.Spelt.{no_fault}
+use Rattle.trlab_code.proofs.EncodedCode.{no_fault}
 use Rattle.trlab_code.proofs.Apart.{one_fault}
 
 -- bytes that spell a program have no first fault
@@ -21,7 +21,7 @@ one_thing bytes (Ok p) (Err f) s t = absurd (not_both bytes p f s t)
 one_thing bytes (Err f) (Ok p) s t = absurd (not_both bytes p f t s)
 one_thing bytes (Err f) (Err g) s t = ap Err (one_fault bytes f g s.0 t.0 s.1 t.1)
 
-pub same_again : (program : Program) (said : Result Program CodeFault) → IsProgram program → Says (spelling program) said ↔ (said ≡ Ok program)
+pub same_again : (program : Program) (said : Result Program CodeFault) → IsProgram program → Says (encoding program) said ↔ (said ≡ Ok program)
 same_again program said is =
-    let itself : Says (spelling program) (Ok program) = (refl, is) in
-    (λ s. one_thing (spelling program) said (Ok program) s itself, λ e. rw e itself)
+    let itself : Says (encoding program) (Ok program) = (refl, is) in
+    (λ s. one_thing (encoding program) said (Ok program) s itself, λ e. rw e itself)

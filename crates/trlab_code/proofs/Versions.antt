@@ -7,10 +7,10 @@ use Rattle.std.proofs.lemmas.List.Folds.{Any-from_list_any, list_any_at}
 use Rattle.trlab_code.specs.declared.instruction.Instr.{Instr}
 use Rattle.trlab_code.specs.declared.instruction.Instr.TheVariants.{Stay}
 use Rattle.trlab_code.specs.Program.{Program, reads_headspeed, version_of}
-use Rattle.trlab_code.specs.Spelling.{instr_bytes}
+use Rattle.trlab_code.specs.Encoding.{instr_bytes}
 use Rattle.trlab_code.specs.Faults.{IsGoodBefore, HasHeadspeed, NeedsVersion, stated_count, stated_version, bytes_at}
 use Rattle.trlab_code.proofs.Injective.{same_instr}
-use Rattle.trlab_code.proofs.Spelt.{row_is}
+use Rattle.trlab_code.proofs.EncodedCode.{row_is}
 
 -- the row of an instruction, where the rows of bytes are those of instructions
 row_at : (bytes : List ℕ) (instrs : List Instr) (count : ℕ) → length instrs ≡ count → flat_map instr_bytes instrs ≡ take (8 * count) (drop 8 bytes) → (k : ℕ) (d : Instr) → k < length instrs → bytes_at bytes k ≡ instr_bytes (get_or instrs k d)

@@ -1,29 +1,29 @@
--- What is known of a reader's answer from the one spelling and the one first fault.
+-- What is known of a reader's answer from the one encoding and the one first fault.
 use Rattle.std.proofs.Common.{◌≡◌, ◌≢◌, ℕ, ◌+◌, ◌*◌, ◌≤◌, ◌⊎◌, List, ◌++◌, length, take, drop, Result, Ok, Err, sym, ap, ◌∙◌, subst, arith, inl, inr, length-drop}
 use Rattle.std.proofs.lemmas.List.{take-append-drop, take_all}
 use Rattle.std.specs.List.{flat_map}
 use Rattle.trlab_code.specs.declared.fault.CodeFault.{CodeFault}
 use Rattle.trlab_code.specs.declared.fault.CodeFault.TheVariants as fault
 use Rattle.trlab_code.specs.Program.{Program, IsProgram, version_of}
-use Rattle.trlab_code.specs.Spelling.{header, instr_bytes, spelling}
+use Rattle.trlab_code.specs.Encoding.{header, instr_bytes, encoding}
 use Rattle.trlab_code.specs.Faults.{IsFirstFault}
 use Rattle.trlab_code.proofs.Injective.{same_program}
-use Rattle.trlab_code.proofs.Spelt.{no_fault}
+use Rattle.trlab_code.proofs.EncodedCode.{no_fault}
 use Rattle.trlab_code.proofs.Apart.{one_fault, cases_memory}
 
 abbrev Answer : Type 0
 Answer = Result Program CodeFault
 
--- bytes are the spelling of the program that their header and their rows spell
-pub spelling_of_parts : (bytes : List ℕ) (code : Program) (version count : ℕ) → version_of code ≡ version → length code.instrs ≡ count → take 8 bytes ≡ header version code.kind count → flat_map instr_bytes code.instrs ≡ take (8 * count) (drop 8 bytes) → length bytes ≤ 8 + 8 * count → bytes ≡ spelling code
-unfolding spelling
+-- bytes are the encoding of the program that their header and their rows spell
+pub spelling_of_parts : (bytes : List ℕ) (code : Program) (version count : ℕ) → version_of code ≡ version → length code.instrs ≡ count → take 8 bytes ≡ header version code.kind count → flat_map instr_bytes code.instrs ≡ take (8 * count) (drop 8 bytes) → length bytes ≤ 8 + 8 * count → bytes ≡ encoding code
+unfolding encoding
 spelling_of_parts bytes code version count needed many head rows short =
     let all = take_all (8 * count) (drop 8 bytes) (omega (arith, length-drop 8 bytes)) in
     let cut = take-append-drop 8 bytes in
     let start : take 8 bytes ≡ header (version_of code) code.kind (length code.instrs) = rw (many, needed) head in
     sym cut ∙ ap (λ front. front ++ drop 8 bytes) start ∙ ap (λ rest. header (version_of code) code.kind (length code.instrs) ++ rest) (sym (rows ∙ all))
 
-pub found_fault : (bytes : List ℕ) (f : CodeFault) → IsFirstFault bytes f → (program : Program) → IsProgram program → bytes ≡ spelling program → (◌≡◌ {A = Answer} (Err f) (Ok program)) ⊎ (◌≡◌ {A = Answer} (Err f) (Err fault.Memory))
+pub found_fault : (bytes : List ℕ) (f : CodeFault) → IsFirstFault bytes f → (program : Program) → IsProgram program → bytes ≡ encoding program → (◌≡◌ {A = Answer} (Err f) (Ok program)) ⊎ (◌≡◌ {A = Answer} (Err f) (Err fault.Memory))
 found_fault bytes f first program is spelt =
     let P : List ℕ → Type 0 = λ b. IsFirstFault b f in
     inr (ap Err (no_fault program f is (subst P spelt first)))
@@ -32,10 +32,10 @@ pub told_fault : (bytes : List ℕ) (f : CodeFault) → IsFirstFault bytes f →
 told_fault bytes f first g other some =
     elim (cases_memory f) [ inl none ↦ inr (ap Err none) | inr not ↦ inl (ap Err (one_fault bytes f g first other not some)) ]
 
-pub found_program : (bytes : List ℕ) (code : Program) → bytes ≡ spelling code → (program : Program) → IsProgram program → bytes ≡ spelling program → (◌≡◌ {A = Answer} (Ok code) (Ok program)) ⊎ (◌≡◌ {A = Answer} (Ok code) (Err fault.Memory))
+pub found_program : (bytes : List ℕ) (code : Program) → bytes ≡ encoding code → (program : Program) → IsProgram program → bytes ≡ encoding program → (◌≡◌ {A = Answer} (Ok code) (Ok program)) ⊎ (◌≡◌ {A = Answer} (Ok code) (Err fault.Memory))
 found_program bytes code spelt program is other = inl (ap Ok (same_program code program (sym spelt ∙ other)))
 
-pub told_program : (bytes : List ℕ) (code : Program) → IsProgram code → bytes ≡ spelling code → (g : CodeFault) → IsFirstFault bytes g → g ≢ fault.Memory → (◌≡◌ {A = Answer} (Ok code) (Err g)) ⊎ (◌≡◌ {A = Answer} (Ok code) (Err fault.Memory))
+pub told_program : (bytes : List ℕ) (code : Program) → IsProgram code → bytes ≡ encoding code → (g : CodeFault) → IsFirstFault bytes g → g ≢ fault.Memory → (◌≡◌ {A = Answer} (Ok code) (Err g)) ⊎ (◌≡◌ {A = Answer} (Ok code) (Err fault.Memory))
 told_program bytes code is spelt g first some =
     let P : List ℕ → Type 0 = λ b. IsFirstFault b g in
     absurd (some (no_fault code g is (subst P spelt first)))

@@ -6,9 +6,9 @@ use Rattle.trlab_code.specs.declared.fault.CodeFault.{CodeFault}
 use Rattle.trlab_code.specs.declared.fault.CodeFault.TheVariants as fault
 use Rattle.trlab_bounds.specs.declared.programs.TheConstants.{MAGIC, PLAIN_VERSION, HEADSPEED_VERSION, HEADER_BYTES}
 use Rattle.trlab_bounds.specs.declared.programs.TheConstants.{INSTR_BYTES}
-use Rattle.trlab_bounds.specs.declared.programs.TheConstants.{MOST_INSTRUCTIONS}
+use Rattle.trlab_bounds.specs.declared.programs.TheConstants.{MAX_INSTRUCTIONS}
 use Rattle.trlab_code.specs.Program.{reads_headspeed}
-use Rattle.trlab_code.specs.Spelling.{kind_byte, instr_bytes, Spells, IsOpcode}
+use Rattle.trlab_code.specs.Encoding.{kind_byte, instr_bytes, Spells, IsOpcode}
 
 -- the version that a header states
 abbrev pub stated_version : List ℕ → ℕ
@@ -40,7 +40,7 @@ HasKind bytes = (kind : Kind) × (slice_index bytes 5 ≡ kind_byte kind)
 
 -- then the number of instructions, which a program may have
 abbrev pub HasCount : List ℕ → Type 0
-HasCount bytes = (1 ≤ stated_count bytes) × (stated_count bytes ≤ MOST_INSTRUCTIONS)
+HasCount bytes = (1 ≤ stated_count bytes) × (stated_count bytes ≤ MAX_INSTRUCTIONS)
 
 -- the bytes have room for the stated instructions
 abbrev pub HasRoom : List ℕ → Type 0

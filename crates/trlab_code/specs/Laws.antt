@@ -1,7 +1,7 @@
 -- Laws of bytes and the programs that they spell.
 use Rattle.std.specs.Prelude.{◌≡◌, ◌≢◌, ◌↔◌, ℕ, ◌<◌, ◌^◌, List, All, Result, Ok, Err}
 use Rattle.trlab_code.specs.Program.{Program, IsProgram}
-use Rattle.trlab_code.specs.Spelling.{row_of, spelling}
+use Rattle.trlab_code.specs.Encoding.{row_of, encoding}
 use Rattle.trlab_code.specs.Faults.{IsFirstFault}
 use Rattle.trlab_code.specs.declared.instruction.Instr.{Instr}
 use Rattle.trlab_code.specs.declared.fault.CodeFault.{CodeFault}
@@ -16,13 +16,13 @@ abbrev pub HasWord : Instr → Type 0
 HasWord instr = (row_of instr).number < 2 ^ 32
 
 -- a program that a machine can hold
-pub record IsStored (program : Program) : Type 0 where
+pub record IsRepresentable (program : Program) : Type 0 where
   pub is_program : IsProgram program
   pub has_words : All HasWord program.instrs
 
 -- the meaning of bytes: the program that they encode, or their first fault
 abbrev pub Says : List ℕ → Result Program CodeFault → Type 0
-Says bytes (Ok program) = (bytes ≡ spelling program) × IsProgram program
+Says bytes (Ok program) = (bytes ≡ encoding program) × IsProgram program
 Says bytes (Err fault) = IsFirstFault bytes fault × (fault ≢ Memory)
 
 -- any bytes have a meaning
@@ -37,8 +37,8 @@ BytesSayOneThing = (bytes : List ℕ) (said other : Result Program CodeFault)
 -- the bytes that encode a program mean this program, and nothing else
 abbrev pub SpellingSaysTheProgram : Type 0
 SpellingSaysTheProgram = (program : Program) (said : Result Program CodeFault)
-    → IsProgram program → Says (spelling program) said ↔ (said ≡ Ok program)
+    → IsProgram program → Says (encoding program) said ↔ (said ≡ Ok program)
 
--- each program can be written down: its spelling is of bytes
+-- each program can be written down: its encoding is of bytes
 abbrev pub SpellingIsBytes : Type 0
-SpellingIsBytes = (program : Program) → IsStored program → AreBytes (spelling program)
+SpellingIsBytes = (program : Program) → IsRepresentable program → AreBytes (encoding program)

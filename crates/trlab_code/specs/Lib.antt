@@ -2,6 +2,6 @@ pub mod Program
 pub mod Views
 pub mod Flow
 pub mod Machine
-pub mod Spelling
+pub mod Encoding
 pub mod Faults
 pub mod Laws

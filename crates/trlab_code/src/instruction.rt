@@ -89,13 +89,13 @@ impl Variable {
 pub enum Instr {
     /// A number.
     Num(Register, u32),
-    /// A number that the car sees.
+    /// An input: a number that the car sees.
     Get(Register, Input),
-    /// Whether the car's side cell is empty.
+    /// A flag: is the car's side cell empty?
     Side(Register),
-    /// Whether an event of a probability, given times 2^31, happens on a random word, 0 to 15.
+    /// A flag: does an event of a probability, given times 2^31, happen on a random word, 0 to 15?
     Draw(Register, u8, u32),
-    /// A register, number or flag.
+    /// The number or flag in a register.
     Copy(Register, Register),
     /// The sum of two registers.
     Add(Register, Register, Register),
@@ -107,13 +107,13 @@ pub enum Instr {
     Div(Register, Register, u32),
     /// The smaller of two registers.
     Min(Register, Register, Register),
-    /// The greater of two registers.
+    /// The larger of two registers.
     Max(Register, Register, Register),
-    /// The other truth value.
+    /// The opposite of a flag.
     Not(Register, Register),
-    /// Whether two flags are true.
+    /// Are both flags true?
     And(Register, Register, Register),
-    /// Whether one of two flags is true.
+    /// Is one of two flags true?
     Or(Register, Register, Register),
     /// A jump.
     Jump(u32),
@@ -159,7 +159,7 @@ impl Instr {
         }
     }
 
-    /// The instruction to which a jump can go.
+    /// The target of a jump: the index of an instruction.
     pub fn target(self) -> Option<u32>
         ensures { result ≡ target self }
     {
@@ -173,7 +173,7 @@ impl Instr {
         }
     }
 
-    /// Whether the next instruction may follow.
+    /// May the next instruction follow?
     pub fn falls(self) -> bool
         ensures { result ≡ falls self }
     {

@@ -1,28 +1,28 @@
-//! Laws of programs, spellings and their faults, whichever code reads and writes them.
+//! Laws of programs, encodings and their faults, whatever code reads and writes them.
 //!
-//! Each law is the contract of a function with nothing to do.
+//! Each law is the contract of a function with an empty body.
 
 ghost use Rattle.std.specs.Prelude.{◌≡◌, ◌≢◌, ℕ, List};
 ghost use Rattle.trlab_code.specs.Program.{Program, IsProgram};
-ghost use Rattle.trlab_code.specs.Spelling.{spelling};
+ghost use Rattle.trlab_code.specs.Encoding.{encoding};
 ghost use Rattle.trlab_code.specs.Faults.{IsFirstFault};
 ghost use Rattle.trlab_code.specs.Laws.{BytesSayOneThing, BytesSaySomething, SpellingIsBytes, SpellingSaysTheProgram};
 ghost use Rattle.trlab_code.specs.declared.fault.CodeFault.{CodeFault};
 
-/// Two programs with one spelling are one program.
+/// Two programs with the same encoding are equal.
 #[tactic(auto, using(crate::proofs::Injective::same_program))]
 pub fn one_spelling()
-    ensures { (first second : Program) → spelling first ≡ spelling second → first ≡ second }
+    ensures { (first second : Program) → encoding first ≡ encoding second → first ≡ second }
 {}
 
 /// The encoding of a program has no fault, unless allocation fails.
-#[tactic(auto, using(crate::proofs::Spelt::no_fault))]
+#[tactic(auto, using(crate::proofs::EncodedCode::no_fault))]
 pub fn no_fault()
     ensures { (program : Program) (fault : CodeFault) → IsProgram program
-        → IsFirstFault (spelling program) fault → fault ≡ CodeFault.Memory }
+        → IsFirstFault (encoding program) fault → fault ≡ CodeFault.Memory }
 {}
 
-/// Bytes have one first fault, unless allocation fails.
+/// Bytes have at most one first fault, unless allocation fails.
 #[tactic(auto, using(crate::proofs::Apart::one_fault))]
 pub fn one_fault()
     ensures { (bytes : List ℕ) (first second : CodeFault) → IsFirstFault bytes first → IsFirstFault bytes second
@@ -41,7 +41,7 @@ pub fn spelling_says_the_program()
     ensures { SpellingSaysTheProgram }
 {}
 
-/// Each program can be written down.
+/// The encoding of a program consists of bytes.
 #[tactic(auto, using(crate::proofs::Bytes::spelling_bytes))]
 pub fn spelling_is_bytes()
     ensures { SpellingIsBytes }

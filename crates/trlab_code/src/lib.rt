@@ -1,10 +1,15 @@
-//! Driver programs: their instructions and bytes, and the views of cars.
+//! Driver programs: their instructions, their bytes, and the views of cars.
+//!
+//! ```text
+//! let instrs = vec![in alloc; Instr::Get(R0, Input::Gap), Instr::Go(R0)]?;
+//! let code = Code::new(Kind::Motion, instrs)?;
+//! let bytes = encode(alloc, &code).ok()?; // 8 for the header, and 8 for each instruction
+//! let same = decode(alloc, &bytes).ok()?;
+//! ```
 #![tactic(auto)]
 
-mod decoding;
 mod encoding;
 mod fault;
-mod header;
 mod instruction;
 mod kind;
 pub mod laws;
@@ -12,12 +17,11 @@ mod program;
 mod row;
 mod view;
 
-pub use decoding::decode;
-pub use encoding::encode;
+pub use encoding::{decode, encode};
 pub use fault::CodeFault;
 pub use instruction::{Input, Instr, Register, Variable};
 pub use kind::Kind;
 pub use program::Code;
-pub use trlab_bounds::programs::{CERTAIN, MOST_INSTRUCTIONS, VARIABLES, WORDS};
-pub use trlab_bounds::roads::{GREATEST_GAP, GREATEST_LIMIT};
+pub use trlab_bounds::programs::{CERTAIN, MAX_INSTRUCTIONS, VARIABLES, WORDS};
+pub use trlab_bounds::roads::{MAX_GAP, MAX_LIMIT};
 pub use view::{ChangeView, MotionView, View};

@@ -1,4 +1,4 @@
-//! Programs whose fields are in range.
+//! Programs: a kind and a list of instructions.
 
 ghost use Rattle.std.specs.Prelude.{◌≡◌, ◌↔◌, ◌≤◌, IsTrue, MatchOption, IfSome};
 ghost use Rattle.std.specs.List.{list_any};
@@ -7,7 +7,7 @@ ghost use Rattle.trlab_code.specs.Program.{Program, IsInRange, IsProgram, IsOfVe
 use crate::instruction::{Input, Instr};
 use crate::kind::Kind;
 use std::marker::Model;
-use trlab_bounds::programs::{CERTAIN, HEADSPEED_VERSION, MOST_INSTRUCTIONS, PLAIN_VERSION, WORDS};
+use trlab_bounds::programs::{CERTAIN, HEADSPEED_VERSION, MAX_INSTRUCTIONS, PLAIN_VERSION, WORDS};
 
 /// A program of 1 to 128 instructions whose fields are in range.
 #[derive(Drop)]
@@ -26,7 +26,7 @@ impl Model for Code {
     ghost invariant = { λ code. IsProgram (record { kind = code.kind; instrs = code.instrs.items }) };
 }
 
-/// Whether the fields of an instruction are in range.
+/// Are the fields of an instruction in range?
 pub(crate) fn is_in_range(instr: Instr) -> bool
     ensures { IsTrue result ↔ IsInRange instr }
 {
@@ -37,21 +37,21 @@ pub(crate) fn is_in_range(instr: Instr) -> bool
     }
 }
 
-/// Whether an instruction reads the speed of the next car ahead.
+/// Does an instruction read the speed of the next car ahead?
 fn reads_headspeed(instr: Instr) -> bool
     ensures { result ≡ reads_headspeed instr }
 {
     matches!(instr, Instr::Get(_, Input::Headspeed))
 }
 
-/// Whether one of the instructions does.
+/// Does one of the instructions read it?
 fn some_reads_headspeed(instrs: &[Instr]) -> bool
     ensures { result ≡ list_any reads_headspeed instrs.now }
 {
     instrs.iter().any(|instr| reads_headspeed(*instr))
 }
 
-/// Whether spellings of a version may have an instruction.
+/// May an encoding of this version contain the instruction?
 pub(crate) fn is_of_version(instr: Instr, version: u8) -> bool
     ensures { IsTrue result ↔ IsOfVersion version instr }
 {
@@ -65,7 +65,7 @@ impl Code {
             MatchOption result (¬ (IsProgram program)) (λ code. code ≡ program) }
         ensures program { IfSome result IsProgram }
     {
-        if instrs.is_empty() || instrs.len() > MOST_INSTRUCTIONS {
+        if instrs.is_empty() || instrs.len() > MAX_INSTRUCTIONS {
             return None;
         }
         if instrs.iter().all(|instr| is_in_range(*instr)) {
@@ -83,7 +83,7 @@ impl Code {
         Code { kind, instrs }
     }
 
-    /// The program's kind.
+    /// The kind of the program.
     pub fn kind(&self) -> Kind
         ensures { result ≡ self.now.kind }
     {

@@ -1,9 +1,9 @@
-//! The rows of bytes that spell instructions.
+//! Instructions as rows of eight bytes.
 
 ghost use Rattle.std.specs.Prelude.{◌≡◌, ◌+◌, ◌≤◌, ◌↔◌, length, take, drop, IsTrue, IsNone, IfSome, ℕ};
 ghost use Rattle.trlab_code.specs.Machine.{register_number, input_number};
 ghost use Rattle.trlab_code.specs.Program.{IsInRange, IsOfVersion};
-ghost use Rattle.trlab_code.specs.Spelling.{row, row_of, row_bytes, IsOpcode};
+ghost use Rattle.trlab_code.specs.Encoding.{row, row_of, row_bytes, IsOpcode};
 
 use crate::instruction::{Input, Instr, Register};
 use crate::program::{is_in_range, is_of_version};
@@ -11,7 +11,7 @@ use trlab_bounds::programs::INSTR_BYTES;
 
 /// The opcode of an instruction and its fields, 0 for those that the instruction does not have.
 #[derive(Clone, Copy, PartialEq)]
-pub(crate) struct Row {
+pub(crate) struct InstructionRow {
     pub opcode: u8,
     pub a: u8,
     pub b: u8,
@@ -19,14 +19,14 @@ pub(crate) struct Row {
     pub number: u32,
 }
 
-impl Row {
+impl InstructionRow {
     /// The row in the bytes from an index on.
-    pub(crate) fn read(bytes: &[u8], start: usize) -> Row
+    pub(crate) fn read(bytes: &[u8], start: usize) -> InstructionRow
         requires { start + INSTR_BYTES ≤ length bytes.now }
         ensures { row_bytes result ≡ take INSTR_BYTES (drop start bytes.now) }
     {
         let row = &bytes[start..start + INSTR_BYTES];
-        Row {
+        InstructionRow {
             opcode: row[0],
             a: row[1],
             b: row[2],
@@ -53,7 +53,7 @@ impl Row {
     }
 }
 
-/// The register of a byte; any register for a byte of none.
+/// The register with this number; any register if there is none.
 fn register_of(byte: u8) -> Register
     ensures { (register : Register) → byte ≡ register_number register → result ≡ register }
 {
@@ -69,7 +69,7 @@ fn register_of(byte: u8) -> Register
     }
 }
 
-/// The input of a byte; any input for a byte of none.
+/// The input with this number; any input if there is none.
 fn input_of(byte: u8) -> Input
     ensures { (input : Input) → byte ≡ input_number input → result ≡ input }
 {
@@ -84,11 +84,11 @@ fn input_of(byte: u8) -> Input
     }
 }
 
-/// A row of no registers.
-fn no_registers(opcode: u8, number: u32) -> Row
+/// A row without registers.
+fn no_registers(opcode: u8, number: u32) -> InstructionRow
     ensures { result ≡ row opcode 0 0 0 number }
 {
-    Row {
+    InstructionRow {
         opcode,
         a: 0,
         b: 0,
@@ -97,48 +97,48 @@ fn no_registers(opcode: u8, number: u32) -> Row
     }
 }
 
-/// A row of one register.
-fn one_register(opcode: u8, a: Register, number: u32) -> Row
+/// A row with one register.
+fn one_register(opcode: u8, a: Register, number: u32) -> InstructionRow
     ensures { result ≡ row opcode (register_number a) 0 0 number }
 {
-    Row {
+    InstructionRow {
         a: a.number() as u8,
         ..no_registers(opcode, number)
     }
 }
 
-/// A row of two registers.
-fn two_registers(opcode: u8, a: Register, b: Register, number: u32) -> Row
+/// A row with two registers.
+fn two_registers(opcode: u8, a: Register, b: Register, number: u32) -> InstructionRow
     ensures { result ≡ row opcode (register_number a) (register_number b) 0 number }
 {
-    Row {
+    InstructionRow {
         b: b.number() as u8,
         ..one_register(opcode, a, number)
     }
 }
 
-/// A row of three registers.
-fn three_registers(opcode: u8, a: Register, b: Register, c: Register) -> Row
+/// A row with three registers.
+fn three_registers(opcode: u8, a: Register, b: Register, c: Register) -> InstructionRow
     ensures { result ≡ row opcode (register_number a) (register_number b) (register_number c) 0 }
 {
-    Row {
+    InstructionRow {
         c: c.number() as u8,
         ..two_registers(opcode, a, b, 0)
     }
 }
 
-/// A row of a register and a byte.
-fn register_and_byte(opcode: u8, a: Register, b: u8, number: u32) -> Row
+/// A row with a register and a byte.
+fn register_and_byte(opcode: u8, a: Register, b: u8, number: u32) -> InstructionRow
     ensures { result ≡ row opcode (register_number a) b 0 number }
 {
-    Row {
+    InstructionRow {
         b,
         ..one_register(opcode, a, number)
     }
 }
 
 /// The row of an instruction.
-pub(crate) fn row_of(instr: Instr) -> Row
+pub(crate) fn row_of(instr: Instr) -> InstructionRow
     ensures { result ≡ row_of instr }
 {
     match instr {
@@ -172,7 +172,7 @@ impl PartialEq for Instr {
     ghost use Rattle.std.specs.Prelude.{nat_eq};
     ghost use Rattle.std.specs.Ordering.{on, eq_of_both};
     ghost use Rattle.std.specs.Cmp.Rules.{comparing};
-    ghost use Rattle.trlab_code.specs.Spelling.{row_of};
+    ghost use Rattle.trlab_code.specs.Encoding.{row_of};
 
     ghost eq = { on row_of (eq_of_both (on (λ row. row.opcode) nat_eq) (eq_of_both (on (λ row. row.a) nat_eq)
         (eq_of_both (on (λ row. row.b) nat_eq) (eq_of_both (on (λ row. row.c) nat_eq)
@@ -194,7 +194,7 @@ impl Eq for Instr {
 }
 
 /// The only instruction that can have this row; any instruction if none has it.
-fn candidate(row: Row) -> Instr
+fn candidate(row: InstructionRow) -> Instr
     ensures { (instr : Instr) → row ≡ row_of instr → result ≡ instr }
 {
     let x = register_of(row.a);
@@ -227,15 +227,15 @@ fn candidate(row: Row) -> Instr
     }
 }
 
-/// Whether this is the row of an instruction.
-fn spells(row: Row, instr: Instr) -> bool
+/// Is this the row of the instruction?
+fn spells(row: InstructionRow, instr: Instr) -> bool
     ensures { IsTrue result ↔ (row ≡ row_of instr) }
 {
     row_of(instr) == row
 }
 
 /// The instruction of a row in bytes of a version, if its fields are in range and the unused ones are 0.
-pub(crate) fn instruction_of(row: Row, version: u8) -> Option<Instr>
+pub(crate) fn instruction_of(row: InstructionRow, version: u8) -> Option<Instr>
     ensures none { IsNone result → (instr : Instr) → row ≡ row_of instr → IsInRange instr
         → ¬ (IsOfVersion version instr) }
     ensures some { IfSome result (λ instr.
@@ -249,7 +249,7 @@ pub(crate) fn instruction_of(row: Row, version: u8) -> Option<Instr>
     }
 }
 
-/// Whether an opcode is that of an instruction.
+/// Does an instruction have this opcode?
 pub(crate) fn is_opcode(byte: u8) -> bool
     ensures { IsTrue result ↔ IsOpcode byte }
 {

@@ -4,7 +4,7 @@ ghost use Rattle.std.specs.Prelude.{◌≡◌, IsNone, IfSome};
 ghost use Rattle.trlab_code.specs.Views.{IsView, motion_view, change_view};
 
 use std::marker::Model;
-use trlab_bounds::roads::{GREATEST_GAP, GREATEST_LIMIT};
+use trlab_bounds::roads::{MAX_GAP, MAX_LIMIT};
 
 /// The numbers that a car sees: speeds and the limit in cells per step, gaps in cells, and the number of its
 /// lane, 0 or 1.
@@ -48,7 +48,7 @@ impl MotionView {
         ensures some { IfSome result (λ seen. seen ≡ motion_view speed limit gap headspeed) }
         ensures in_range { IfSome result IsView }
     {
-        let ahead = 1 <= limit && limit <= GREATEST_LIMIT && speed <= limit && gap <= GREATEST_GAP;
+        let ahead = 1 <= limit && limit <= MAX_LIMIT && speed <= limit && gap <= MAX_GAP;
         if ahead && headspeed <= limit {
             Some(MotionView {
                 view: View {
@@ -125,8 +125,8 @@ impl ChangeView {
             lane,
             headspeed,
         };
-        let ahead = 1 <= limit && limit <= GREATEST_LIMIT && speed <= limit && gap <= GREATEST_GAP;
-        let beside = sidegap <= GREATEST_GAP && sideback <= GREATEST_GAP && lane <= 1;
+        let ahead = 1 <= limit && limit <= MAX_LIMIT && speed <= limit && gap <= MAX_GAP;
+        let beside = sidegap <= MAX_GAP && sideback <= MAX_GAP && lane <= 1;
         if ahead && beside && headspeed <= limit {
             Some(ChangeView { view })
         } else {

@@ -15,6 +15,7 @@ use Rattle.trlab_command_line.specs.Numbers.{GivesFlag, GivesNumber}
 use Rattle.trlab_command_line.specs.Requests.{Asks, name_of}
 use Rattle.trlab_command_line.specs.declared.arguments.explain.Explaining.{Explaining}
 use Rattle.trlab_command_line.specs.declared.arguments.explain.Explaining.TheVariants.{Text as OfText}
+use Rattle.trlab_explain.specs.declared.explain.Form.TheVariants.{Text as Lines}
 use Rattle.trlab_command_line.specs.declared.arguments.Request.{Request}
 use Rattle.trlab_command_line.specs.declared.arguments.Request.TheVariants.{Check, Explain, Run, Series, Sweep}
 use Rattle.trlab_command_line.proofs.Rows.{some_same}
@@ -127,18 +128,18 @@ series_alone request a = go request a (ap (λ t. t.0) (some_same _ _ (sym series
 abbrev of_explain : Text × List Row → Text × Result Explaining ErrorKind
 of_explain p = (p.0, explained_in p.1)
 
-explain_has : option_map of_explain (subcommand_of command_line (codes "explain" ∷ [])) ≡ Some (codes "explain", Ok (OfText None))
+explain_has : option_map of_explain (subcommand_of command_line (codes "explain" ∷ [])) ≡ Some (codes "explain", Ok (OfText None Lines))
 unfolding clap_on_literals
 explain_has = refl
 
-pub explain_alone : (request : Request) → Asks (subcommand_of command_line (codes "explain" ∷ [])) request → request ≡ Explain (OfText None)
+pub explain_alone : (request : Request) → Asks (subcommand_of command_line (codes "explain" ∷ [])) request → request ≡ Explain (OfText None Lines)
 explain_alone request a = go request a (ap (λ t. t.0) (some_same _ _ (sym explain_has ∙ ap (option_map of_explain) a.1)))
   where
-    go : (request : Request) → Asks (subcommand_of command_line (codes "explain" ∷ [])) request → codes "explain" ≡ name_of request → request ≡ Explain (OfText None)
+    go : (request : Request) → Asks (subcommand_of command_line (codes "explain" ∷ [])) request → codes "explain" ≡ name_of request → request ≡ Explain (OfText None Lines)
     go Check a is = absurd (differ (codes "explain") (codes "check") refl is)
     go (Run workers every from progress) a is = absurd (differ (codes "explain") (codes "run") refl is)
     go (Sweep runners workers progress) a is = absurd (differ (codes "explain") (codes "sweep") refl is)
     go (Series workers every from progress) a is = absurd (differ (codes "explain") (codes "series") refl is)
     go (Explain explained) a is =
         let has = some_same _ _ (sym (ap (option_map of_explain) a.1) ∙ explain_has) in
-        ap Explain (ok_same explained (OfText None) (sym a.2 ∙ ap (λ t. t.1) has))
+        ap Explain (ok_same explained (OfText None Lines) (sym a.2 ∙ ap (λ t. t.1) has))

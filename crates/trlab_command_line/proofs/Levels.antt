@@ -7,7 +7,7 @@ use Rattle.clap.specs.Simple.{Shape, filled, with_index}
 use Rattle.clap.specs.Faults.{level_fault}
 use Rattle.clap.specs.declared.builder.value_parser.ValueParser.TheVariants.{Bool as OfBool, Signed}
 use Rattle.clap.proofs.ValueTestLemmas.{accepts-Accepts}
-use Rattle.trlab_command_line.specs.CommandLine.{number_argument, number_option, progress_flag}
+use Rattle.trlab_command_line.specs.CommandLine.{flag, number_argument, number_option}
 use Rattle.trlab_command_line.specs.Numbers.{HasFlag, HasValueFrom, MayHaveNumber}
 use Rattle.trlab_command_line.specs.Requests.{IsEntered}
 use Rattle.trlab_command_line.proofs.CommandLine.{line, named_by}
@@ -42,12 +42,11 @@ option_of c name default least most at rows e =
     let value = own_value c.level.rules c.all c.level (filled (number_option name least most default)) default words at refl passes in
     (value.0, (value.1, accepts-Accepts false (Signed (pos least) (pos most)) value.0 value.2)))
 
--- the flag
-pub flag_of : (c : Command) → arg_by_id c.level.rules (codes "progress") ≡ Some (filled progress_flag) → (rows : List Row) → IsEntered c.name rows
-    → HasFlag (codes "progress") rows
-flag_of c at rows e =
-    of_entered c (HasFlag (codes "progress")) rows e (λ words passes.
-    let value = own_value c.level.rules c.all c.level (filled progress_flag) (codes "false") words at refl passes in
+-- a flag
+pub flag_of : (c : Command) (name : Text) → arg_by_id c.level.rules name ≡ Some (filled (flag name)) → (rows : List Row) → IsEntered c.name rows → HasFlag name rows
+flag_of c name at rows e =
+    of_entered c (HasFlag name) rows e (λ words passes.
+    let value = own_value c.level.rules c.all c.level (filled (flag name)) (codes "false") words at refl passes in
     (value.0, value.1, accepts-Accepts false OfBool value.0 value.2))
 
 -- the number of `explain`
@@ -136,7 +135,10 @@ explain = record {
     (inl (record { action = refl; range = refl }), refl),
     (
       (inl (record { action = refl; range = refl }), refl),
-      ((inr (inr (record { action = refl; range = refl })), refl), tt),
+      (
+        (inr (inl (record { action = refl; range = refl; text = codes "true"; missing = refl })), refl),
+        ((inr (inr (record { action = refl; range = refl })), refl), tt),
+      ),
     ),
   );
 }

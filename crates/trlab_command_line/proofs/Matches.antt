@@ -12,13 +12,17 @@ use Rattle.clap.specs.Matches.{ReadsOne, found_of, subcommand_name_of}
 use Rattle.clap.specs.Walk.{Row, Text, one_of, rows_of}
 use Rattle.clap.specs.Simple.{App, HasMatchesOf, subcommand_of, subcommand_rows, subcommand_rows_of}
 use Rattle.clap.specs.Faults.{fault_of, is_simple_and_free}
+use Rattle.clap.specs.Words.{first_of}
 use Rattle.clap.specs.declared.error.Error.{Error}
+use Rattle.clap.specs.declared.error.kind.ErrorKind.{ErrorKind}
 use Rattle.clap.specs.declared.parser.matches.ArgMatches.{ArgMatches}
 use Rattle.clap.specs.declared.parser.matches.ArgMatches.TheViews.{out-ArgMatches, out-SubCommand}
 use Rattle.clap.specs.declared.parser.matches.SubCommand.{SubCommand}
 use Rattle.clap.proofs.CallerReads.{signed_reads}
-use Rattle.trlab_command_line.specs.Numbers.{GivesNumber, HasFlag, HasValueFrom, MayHaveNumber, flag_text, number_in, numeral_value}
+use Rattle.trlab_command_line.specs.Numbers.{GivesFlag, GivesNumber, HasFlag, HasValueFrom, MayHaveNumber, flag_text, number_in, numeral_value, says_given}
 use Rattle.trlab_command_line.specs.CommandLine.{command_line}
+use Rattle.trlab_command_line.specs.Explains.{explained, explained_in}
+use Rattle.trlab_command_line.specs.declared.arguments.explain.Explaining.{Explaining}
 use Rattle.trlab_command_line.specs.Requests.{IsEntered}
 use Rattle.trlab_command_line.proofs.CommandLine.{taken}
 use Rattle.trlab_command_line.proofs.Rows.{some_same}
@@ -139,3 +143,17 @@ the_flag flag rows r has set unset = by_true (bytes_eq has.0 (codes "true")) ref
     by_true false is h =
         let given = same (codes "false") h in
         given ∙ ap flag_text (sym (unset given))
+
+-- ---- the arguments of `explain`
+
+flag_says : (given : Bool) → says_given (flag_text given) ≡ given
+flag_says true = refl
+flag_says false = refl
+
+-- what they ask for, by what was found of each
+pub explained_same : (rows : List Row) (asked : Result Explaining ErrorKind) (what : Option Text) (number : Option ℕ) (json : Bool)
+    → asked ≡ explained what number json → what ≡ first_of (codes "what") rows → number ≡ number_in (codes "number") rows → GivesFlag (codes "json") rows json
+    → asked ≡ explained_in rows
+explained_same rows asked what number json is first second flag =
+    is ∙ ap₂ (λ w n. explained w n json) first second
+    ∙ ap (explained (first_of (codes "what") rows) (number_in (codes "number") rows)) (sym (ap says_given flag ∙ flag_says json))

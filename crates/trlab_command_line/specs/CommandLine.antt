@@ -4,9 +4,9 @@ use Rattle.clap.specs.Words.{App, Rule, Shape, Text, new_app, new_rule, with_rul
 use Rattle.clap.specs.Simple.{on_top}
 use Rattle.clap.specs.declared.builder.action.ArgAction.TheVariants.{SetTrue}
 use Rattle.clap.specs.declared.builder.value_parser.ValueParser.TheVariants.{Signed}
-use Rattle.trlab_bounds.specs.declared.runs.TheConstants.{MOST_RUNNERS, MOST_STEPS, MOST_WORKERS}
+use Rattle.trlab_bounds.specs.declared.runs.TheConstants.{MAX_RUNNERS, MAX_STEPS, MAX_WORKERS}
 
--- the option `--name n`: an integer from a least to a greatest one, and what it is where none is given
+-- the option `--name n`: an integer from a least to a greatest one, and its value if none is given
 abbrev pub number_option : Text → ℕ → ℕ → Text → Rule
 number_option name least most default = record (new_rule name) {
   long = Some name;
@@ -15,29 +15,37 @@ number_option name least most default = record (new_rule name) {
   defaults = default ∷ [];
 }
 
--- the option `--name n`: an integer from 1 to a greatest one, and 1 where none is given
+-- the option `--name n`: an integer from 1 to a greatest one, and 1 if none is given
 abbrev pub count_option : Text → ℕ → Rule
 count_option name most = number_option name 1 most (codes "1")
 
 -- the option `--workers n`
 abbrev pub workers_option : Rule
-workers_option = count_option (codes "workers") MOST_WORKERS
+workers_option = count_option (codes "workers") MAX_WORKERS
 
 -- the option `--runners n`
 abbrev pub runners_option : Rule
-runners_option = count_option (codes "runners") MOST_RUNNERS
+runners_option = count_option (codes "runners") MAX_RUNNERS
 
 -- the option `--every n`
 abbrev pub every_option : Rule
-every_option = count_option (codes "every") MOST_STEPS
+every_option = count_option (codes "every") MAX_STEPS
 
--- the option `--from s`, which is 0 where the arguments do not say it
+-- the option `--from s`, which is 0 if it is not given
 abbrev pub from_option : Rule
-from_option = number_option (codes "from") 0 MOST_STEPS (codes "0")
+from_option = number_option (codes "from") 0 MAX_STEPS (codes "0")
+
+-- the flag `--name`
+abbrev pub flag : Text → Rule
+flag name = record (new_rule name) { long = Some name; action = Some SetTrue }
 
 -- the flag `--progress`
 abbrev pub progress_flag : Rule
-progress_flag = record (new_rule (codes "progress")) { long = Some (codes "progress"); action = Some SetTrue }
+progress_flag = flag (codes "progress")
+
+-- the flag `--json`
+abbrev pub json_flag : Rule
+json_flag = flag (codes "json")
 
 -- the first argument of `explain`: any text
 abbrev pub what_argument : Rule
@@ -69,9 +77,9 @@ abbrev pub series_command : App
 series_command =
     command (codes "series") (every_option ∷ from_option ∷ workers_option ∷ progress_flag ∷ [])
 
--- the command `explain`, with its two arguments
+-- the command `explain`, with its two arguments and the flag `--json`
 abbrev pub explain_command : App
-explain_command = command (codes "explain") (what_argument ∷ number_argument ∷ [])
+explain_command = command (codes "explain") (what_argument ∷ number_argument ∷ json_flag ∷ [])
 
 -- the program, which has a version, and which no command line may call without a command; its arguments
 -- begin after its name

@@ -1,5 +1,6 @@
--- What arguments give.
-use Rattle.std.specs.Prelude.{◌≡◌, ◌⊎◌, ℕ, Bool, List, Option, None, Some, false, option_map, pos}
+-- The values of arguments.
+use Rattle.std.specs.Prelude.{◌≡◌, ◌⊎◌, ℕ, Bool, List, Option, None, Some, false, true, option_map, pos}
+use Rattle.std.specs.Str.{bytes_eq}
 use Rattle.std.specs.Str.Parse.{digits_value, without_leading_plus}
 use Rattle.clap.specs.Words.{Row, Text, one_of}
 use Rattle.clap.specs.Lexer.{without_minus}
@@ -20,7 +21,7 @@ abbrev pub HasValueFrom : Text → ℕ → ℕ → List Row → Text → Type 0
 HasValueFrom option least most rows v =
     (one_of option rows ≡ Some (without_minus v)) × IsSignedIn (pos least) (pos most) v
 
--- the number that an argument has among the matches of a command, where it is given
+-- the number of an argument among the matches of a command, if it is given
 abbrev pub number_in : Text → List Row → Option ℕ
 number_in argument rows = option_map numeral_value (one_of argument rows)
 
@@ -30,11 +31,20 @@ abbrev pub MayHaveNumber : Text → List Row → Type 0
 MayHaveNumber argument rows =
     (one_of argument rows ≡ None) ⊎ ((v : Text) × HasValueFrom argument 0 4294967295 rows v)
 
--- what a flag has among the matches of a command, by whether it is given
+-- the value of a flag among the matches of a command, by whether it is given
 abbrev pub flag_text : Bool → Option Text
 flag_text given = Some (bool_text given)
 
--- among the matches of a command, the flag tells whether it is given
+-- whether a flag is given, by its text among the matches of a command
+abbrev pub says_given : Option Text → Bool
+says_given None = false
+says_given (Some text) = bytes_eq text (bool_text true)
+
+-- among the matches of a command, the flag is given
+abbrev pub is_given : Text → List Row → Bool
+is_given flag rows = says_given (one_of flag rows)
+
+-- among the matches of a command, the flag has the text for whether it is given
 abbrev pub GivesFlag : Text → List Row → Bool → Type 0
 GivesFlag flag rows given = one_of flag rows ≡ flag_text given
 

@@ -1,4 +1,4 @@
--- What the commands write.
+-- The outputs of the commands.
 use Rattle.std.specs.Prelude.{◌≡◌, ℕ, List, false}
 use Rattle.trlab_campaign.specs.CheckOutput.{IsCheckOutput}
 use Rattle.trlab_campaign.specs.Refusal.{Outputs}
@@ -12,16 +12,16 @@ use Rattle.trlab_command_line.specs.declared.arguments.Request.TheVariants.{Chec
 
 -- the whole output of a command for a text, and whether it is a refusal: `check` writes a verdict on a
 -- program, `run` the pictures of a job at the steps that are shown, `sweep` the table of a sweep and `series`
--- that of a job's windows, whatever the number of workers and of runners, and `explain` what is told of the
+-- that of a job's windows, for any number of workers and of runners, and `explain` the explanation of the
 -- text, or of a number
 abbrev pub output_of : Request → List ℕ → Outputs
 output_of Check text = IsCheckOutput text
 output_of (Run workers every from progress) text = IsShownOutput (every_from every from) text
 output_of (Sweep runners workers progress) text = IsSweepOutput text
 output_of (Series workers every from progress) text = IsSeriesOutput every from text
-output_of (Explain (Text subject)) text = Explains subject text
+output_of (Explain (Text subject form)) text = Explains form subject text
 output_of (Explain (Number topic number)) text = TellsNumber topic number
 
--- what is written where help or the version is asked for: some text, which is no refusal
+-- the output if help or the version is asked for: some text, which is not a refusal
 abbrev pub IsHelp : Outputs
 IsHelp refused text = refused ≡ false

@@ -1,4 +1,4 @@
--- What the arguments of the command line ask for.
+-- The requests of the command line.
 use Rattle.std.specs.Prelude.{◌≡◌, ◌≤◌, ⊤, false, List, [], ◌∷◌, Option, Some, Ok, codes, find}
 use Rattle.clap.specs.Words.{Kinds, Row, Shape, Text, built, fault_of, subcommand_of}
 use Rattle.clap.specs.Kinds.{or_else}
@@ -10,9 +10,9 @@ use Rattle.trlab_command_line.specs.Numbers.{GivesFlag, GivesNumber}
 use Rattle.trlab_command_line.specs.Explains.{explained_in, pair_fault}
 use Rattle.trlab_command_line.specs.declared.arguments.Request.{Request}
 use Rattle.trlab_command_line.specs.declared.arguments.Request.TheVariants.{Check, Explain, Run, Series, Sweep}
-use Rattle.trlab_bounds.specs.declared.runs.TheConstants.{MOST_RUNNERS, MOST_STEPS, MOST_WORKERS}
+use Rattle.trlab_bounds.specs.declared.runs.TheConstants.{MAX_RUNNERS, MAX_STEPS, MAX_WORKERS}
 
--- the name of the command that is asked for
+-- the name of the command of a request
 abbrev pub name_of : Request → Text
 name_of Check = codes "check"
 name_of (Run workers every from progress) = codes "run"
@@ -20,7 +20,7 @@ name_of (Sweep runners workers progress) = codes "sweep"
 name_of (Series workers every from progress) = codes "series"
 name_of (Explain explained) = codes "explain"
 
--- the matches of a command give what is asked for: the numbers of its options, and whether to tell progress
+-- the matches of a command give a request: the numbers of its options, and whether progress is reported
 abbrev pub Give : List Row → Request → Type 0
 Give rows Check = ⊤
 Give rows (Run workers every from progress) =
@@ -34,24 +34,24 @@ Give rows (Series workers every from progress) =
     × GivesNumber (codes "from") rows from × GivesFlag (codes "progress") rows progress
 Give rows (Explain explained) = explained_in rows ≡ Ok explained
 
--- what is asked for where a command was entered: the command of that name, with what its matches give
+-- the request of a command that was entered: the command of that name, with the values of its matches
 abbrev pub Asks : Option (Text × List Row) → Request → Type 0
 Asks entered request = (rows : List Row) × (entered ≡ Some (name_of request, rows)) × Give rows request
 
--- numbers of runners, of workers and of steps are those that an engine takes
+-- the numbers of runners, workers and steps are in the ranges of the engines
 abbrev pub HasCounts : Request → Type 0
 HasCounts Check = ⊤
 HasCounts (Run workers every from progress) =
-    ((1 ≤ workers) × (workers ≤ MOST_WORKERS))
-    × ((1 ≤ every) × (every ≤ MOST_STEPS)) × (from ≤ MOST_STEPS)
+    ((1 ≤ workers) × (workers ≤ MAX_WORKERS))
+    × ((1 ≤ every) × (every ≤ MAX_STEPS)) × (from ≤ MAX_STEPS)
 HasCounts (Sweep runners workers progress) =
-    ((1 ≤ runners) × (runners ≤ MOST_RUNNERS)) × ((1 ≤ workers) × (workers ≤ MOST_WORKERS))
+    ((1 ≤ runners) × (runners ≤ MAX_RUNNERS)) × ((1 ≤ workers) × (workers ≤ MAX_WORKERS))
 HasCounts (Series workers every from progress) =
-    ((1 ≤ workers) × (workers ≤ MOST_WORKERS))
-    × ((1 ≤ every) × (every ≤ MOST_STEPS)) × (from ≤ MOST_STEPS)
+    ((1 ≤ workers) × (workers ≤ MAX_WORKERS))
+    × ((1 ≤ every) × (every ≤ MAX_STEPS)) × (from ≤ MAX_STEPS)
 HasCounts (Explain explained) = ⊤
 
--- the first of the arguments is the name of what is asked for
+-- the first argument is the name of the command
 abbrev pub IsNamedFirst : List Text → Request → Type 0
 IsNamedFirst arguments request = (rest : List Text) × (arguments ≡ name_of request ∷ rest)
 

@@ -1,4 +1,4 @@
-//! What the arguments of the command line ask for, as `clap` reads them.
+//! The requests of the command line, as `clap` reads them.
 
 mod commands;
 mod explain;
@@ -11,6 +11,7 @@ ghost use Rattle.trlab_command_line.specs.CommandLine.{command_line};
 ghost use Rattle.trlab_command_line.specs.Explains.{pair_fault};
 ghost use Rattle.trlab_command_line.specs.Requests.{Asks, HasCounts, IsEntered, IsNamedFirst, arguments_fault};
 ghost use Rattle.trlab_command_line.specs.declared.arguments.explain.Explaining.TheVariants.{Text};
+ghost use Rattle.trlab_explain.specs.declared.explain.Form.TheVariants.{Text as Lines};
 
 use crate::arguments::commands::command_line;
 pub use crate::arguments::explain::Explaining;
@@ -19,47 +20,47 @@ use crate::arguments::matches::{count_of, flag_of, number_of};
 use clap::{ArgMatches, Error};
 use std::alloc::Global;
 
-/// What the arguments ask for.
+/// A request of the command line.
 #[derive(Clone, Copy)]
 pub enum Request {
-    /// To check the program text on standard input.
+    /// Check the program on standard input.
     Check,
-    /// To run the job text on standard input.
+    /// Run the job on standard input.
     Run {
-        /// How many workers may share the work, 1 to 16.
+        /// The number of workers that share the work, 1 to 16.
         workers: u32,
-        /// How many steps there are from a step that is shown to the next one, 1 to 500000.
+        /// The steps from one printed step to the next, 1 to 500000.
         every: u32,
-        /// The first step that is shown, 0 to 500000.
+        /// The first printed step, 0 to 500000.
         from: u32,
-        /// Whether to tell how far the work is.
+        /// Whether progress is reported.
         progress: bool,
     },
-    /// To run the roads of the sweep text on standard input.
+    /// Run the roads of the sweep on standard input.
     Sweep {
-        /// How many runners may share the roads, 1 to 16.
+        /// The number of runners that share the roads, 1 to 16.
         runners: u32,
-        /// How many workers may share the work of each, 1 to 16.
+        /// The number of workers that share the work of each road, 1 to 16.
         workers: u32,
-        /// Whether to tell how far the work is.
+        /// Whether progress is reported.
         progress: bool,
     },
-    /// To run the job text on standard input, and to count its windows.
+    /// Run the job on standard input and count its windows.
     Series {
-        /// How many workers may share the work, 1 to 16.
+        /// The number of workers that share the work, 1 to 16.
         workers: u32,
-        /// How many steps a window has, 1 to 500000.
+        /// The steps of a window, 1 to 500000.
         every: u32,
-        /// The step from which the windows are counted, 0 to 500000.
+        /// The step at which the first window starts, 0 to 500000.
         from: u32,
-        /// Whether to tell how far the work is.
+        /// Whether progress is reported.
         progress: bool,
     },
-    /// To explain a text, a cause or a reason.
+    /// Explain an input, a cause or a reason.
     Explain(Explaining),
 }
 
-/// What the command of a name asks for, by its matches.
+/// The request of a command, by its name and its matches.
 fn request_of(alloc: Global, name: &str, matches: &ArgMatches) -> Result<Request, Error>
     requires { IsEntered name.now (rows_of (found_of matches.now)) }
     ensures answer { IfOk result (Asks (Some (name.now, rows_of (found_of matches.now)))) }
@@ -90,16 +91,15 @@ fn request_of(alloc: Global, name: &str, matches: &ArgMatches) -> Result<Request
     }
 }
 
-/// What the arguments after the program's name ask for: `check`, `run` or `series` with `--every n`, `--from s`
-/// and `--workers n`, `sweep` with `--runners n` and `--workers n`, or `explain` with a command, or a topic and
-/// a number. Each number of runners or workers is from 1 to 16, and 1 where
-/// it is not given; n of `--every` is from 1 to 500000, or 1, and s from 0 to 500000, or 0. `run`, `sweep`
-/// and `series` take `--progress` too.
+/// The request of the arguments after the program's name: `check`, `run` or `series` with `--every n`, `--from s` and
+/// `--workers n`, `sweep` with `--runners n` and `--workers n`, or `explain` with a command and `--json`, or with
+/// `cause` or `reason` and a number. The numbers of runners and workers are 1 to 16 (default 1), n of `--every` is
+/// 1 to 500000 (default 1), and s is 0 to 500000 (default 0). `run`, `sweep` and `series` also take `--progress`.
 ///
 /// # Errors
 ///
-/// What `clap` answers where the arguments ask for help or are refused, an error of `clap` where those of
-/// `explain` do not go together, and where memory ran out.
+/// The error of `clap` if the arguments ask for help or are rejected, also if those of `explain` do not go together,
+/// or if an allocation fails.
 pub fn read_words(alloc: Global, arguments: &[String]) -> Result<Request, Error>
     ensures answer { IfOk result (Asks (subcommand_of command_line (map string_bytes arguments.now))) }
     ensures fault { FailsBy (arguments_fault (map string_bytes arguments.now)) result }
@@ -112,7 +112,7 @@ pub fn read_words(alloc: Global, arguments: &[String]) -> Result<Request, Error>
     ensures series_alone { map string_bytes arguments.now ≡ codes "series" ∷ []
         → IfOk result (λ request. request ≡ Request.Series 1 1 0 false) }
     ensures explain_alone { map string_bytes arguments.now ≡ codes "explain" ∷ []
-        → IfOk result (λ request. request ≡ Request.Explain (Text None)) }
+        → IfOk result (λ request. request ≡ Request.Explain (Text None Lines)) }
 {
     let matches = command_line(alloc)?.try_get_matches_from(arguments)?;
     match matches.subcommand() {

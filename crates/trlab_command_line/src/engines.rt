@@ -1,4 +1,4 @@
-//! What is done for the arguments: an engine runs from a reader to a writer, or a page is written.
+//! Carries out a request: an engine runs from a reader to a writer, or a page is written.
 
 ghost use Rattle.std.specs.Prelude.{◌≡◌, ◌+◌, ◌≤◌, ◌||◌, ◌↔◌, length, true, false, IfSome};
 ghost use Rattle.trlab_campaign.specs.Device.{ConsumesUpTo, Gave};
@@ -14,27 +14,26 @@ use std::alloc::AllocGlobal;
 use std::sync::Wait;
 use std::thread::Threads;
 use trlab_campaign::{
-    End, Observer, ShownSteps, Sink, Source, Windows, check_text, run_series_text_observed,
-    run_shown_text_observed, run_sweep_text_observed,
+    End, ProgressObserver, ShownSteps, Sink, Source, Windows, check_text, run_series_text,
+    run_shown_text, run_sweep_with_progress,
 };
 use trlab_explain::{explain_number, explain_text};
 
-/// Does what is asked for, from a reader to a writer. Where a number is explained, nothing is read. The observer
-/// is told how far a run, a sweep or a series is, where it watches.
-pub fn carry_out<R: AllocGlobal + Threads + Wait + Sync, S: Source, K: Sink, O: Observer + Sync>(
-    rt: &R,
-    request: Request,
-    reader: &mut S,
-    writer: &mut K,
-    observer: &O,
-) -> End
+/// Carries out a request, from a reader to a writer. To explain a number, nothing is read. The observer gets the
+/// milestones of a run, a sweep or a series.
+pub fn execute<
+    R: AllocGlobal + Threads + Wait + Sync,
+    S: Source,
+    K: Sink,
+    O: ProgressObserver + Sync,
+>(rt: &R, request: Request, reader: &mut S, writer: &mut K, progress: &O) -> End
     requires counts { HasCounts request }
     requires reader_works { S.failed reader.old ≡ false }
     requires writer_works { K.failed writer.old ≡ false }
     // Whatever bytes the calls of the reader gave, the writer's calls took the output for exactly these.
     ensures exact { Gave (λ text. EndsSo (output_of request text) result
         (bytes_of K.Sink writer.old) (bytes_of K.Sink writer.new)) (S.given reader.old) (S.given reader.new) }
-    // The same for all bytes that are left to a reader that tells them.
+    // The same for all bytes that were left to read, if they are known.
     ensures answer { IfSome (S.left reader.old) (λ text. EndsSo (output_of request text) result
         (bytes_of K.Sink writer.old) (bytes_of K.Sink writer.new)) }
     ensures silent { S.failed reader.new ≡ true → AddsNone (bytes_of K.Sink writer.old) (bytes_of K.Sink writer.new) }
@@ -53,13 +52,13 @@ pub fn carry_out<R: AllocGlobal + Threads + Wait + Sync, S: Source, K: Sink, O: 
             ..
         } => {
             let shown = ShownSteps::new(every, from);
-            run_shown_text_observed(rt, reader, writer, workers, &shown, observer)
+            run_shown_text(rt, reader, writer, workers, &shown, progress)
         }
         Request::Sweep {
             runners,
             workers,
             ..
-        } => run_sweep_text_observed(rt, reader, writer, runners, workers, observer),
+        } => run_sweep_with_progress(rt, reader, writer, runners, workers, progress),
         Request::Series {
             workers,
             every,
@@ -67,9 +66,11 @@ pub fn carry_out<R: AllocGlobal + Threads + Wait + Sync, S: Source, K: Sink, O: 
             ..
         } => {
             let windows = Windows::new(every, from);
-            run_series_text_observed(rt, reader, writer, workers, &windows, observer)
+            run_series_text(rt, reader, writer, workers, &windows, progress)
         }
-        Request::Explain(Explaining::Text(subject)) => explain_text(rt, subject, reader, writer),
+        Request::Explain(Explaining::Text(subject, form)) => {
+            explain_text(rt, form, subject, reader, writer)
+        }
         Request::Explain(Explaining::Number(topic, number)) => {
             explain_number(rt, topic, number, writer)
         }

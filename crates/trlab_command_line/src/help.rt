@@ -1,15 +1,15 @@
 //! Help texts. `clap` adds the usage lines and the lists of options.
 
-/// What `trlab` is for.
+/// The purpose of `trlab`.
 pub const ABOUT: &str =
     "Simulates road traffic with cellular automata, and verifies the driver programs it runs";
 
 /// The program's version, and on a second line the logic in which it is proved. Several kits of the toolchain
 /// share one logic.
-pub const VERSION: &str = "0.4.0
+pub const VERSION: &str = "0.5.0
 proved in logic dac8208d650f15bf";
 
-/// Below the list of commands: examples, exit statuses, and where to read more.
+/// Below the list of commands: examples, exit statuses, and further reading.
 pub const AFTER: &str = "\
 Each command reads one input on standard input and writes to standard output.
 Run `trlab help COMMAND` to see the input and the output of COMMAND.
@@ -28,7 +28,7 @@ Exit statuses:
   3  out of memory
   4  reading or writing failed
 
-File formats: docs/TEXTS.md. Error numbers: `trlab explain cause K`.";
+File formats: docs/FILES.md. Error numbers: `trlab explain cause K`.";
 
 /// The help of a command.
 #[derive(Clone, Copy)]
@@ -56,7 +56,7 @@ Standard output:
   program in canonical form; `refused at PC reason R` if the verifier rejects
   the program; or `fault line N cause K` if the input is malformed.
   `trlab explain check < FILE` explains the problem. Reasons and causes:
-  docs/PROGRAMS.md and docs/TEXTS.md.
+  docs/PROGRAMS.md and docs/FILES.md.
 
 Example:
   printf 'motion\\nget r0, speed\\nget r1, gap\\nmin r0, r0, r1\\ngo r0\\n' | trlab check",
@@ -76,7 +76,7 @@ Standard output:
   any other character is a car and its speed: 0 to 9, then a (10) to z (35).
   With `--every n` and `--from s` only the steps s, s + n, s + 2n and so on.
   Or `fault line N cause K` if the input is rejected: `trlab explain run < FILE`
-  explains the problem. File format and causes: docs/TEXTS.md.
+  explains the problem. File format and causes: docs/FILES.md.
 
 Example:
   trlab run < examples/two_cars.job",
@@ -96,7 +96,7 @@ Standard output:
   CSV, one row per road. Columns: cars, cells, steps (measured), distance
   (total cells travelled), stopped (car-steps at speed 0), changes (lane
   changes), flow (cars passing a cell per step, in millionths). Or `fault line
-  N cause K` if the input is rejected. File format and causes: docs/TEXTS.md;
+  N cause K` if the input is rejected. File format and causes: docs/FILES.md;
   whole studies: docs/STUDIES.md.
 
 Example:
@@ -130,7 +130,7 @@ Standard output:
   of the window), then the columns of `trlab sweep`, then cars, distance and
   stopped for lane 0 and for lane 1. Steps after the last complete window are
   not counted. Or `fault line N cause K` if the input is rejected: `trlab
-  explain run < FILE` explains the problem. Details: docs/TEXTS.md.
+  explain run < FILE` explains the problem. Details: docs/FILES.md.
 
 Example:
   trlab series --every 10 < examples/overtaking.job",
@@ -165,11 +165,14 @@ pub const WHAT_HELP: &str =
 /// The second argument of `explain`.
 pub const NUMBER_HELP: &str = "Error number, for cause or reason";
 
+/// The flag `--json` of `explain`.
+pub const JSON_HELP: &str = "Print one JSON object, for other programs";
+
 /// The help of `trlab explain`.
 pub const EXPLAIN: Help = Help {
     about: "Explain the error in an input and how to fix it, or the work of a valid one",
     usage: "\
-trlab explain [run|sweep|check] < FILE
+trlab explain [--json] [run|sweep|check] < FILE
        trlab explain cause K
        trlab explain reason R",
     after: "\
@@ -182,7 +185,8 @@ Standard output:
   For a rejected input: the error, the offending line, the expected lines, the
   problem, and often a fix (each fix shown has been tested). For a valid input:
   its road, rules, work and output. Bytes that are not printable ASCII are shown as \\x and
-  two hexadecimal digits.
+  two hexadecimal digits. With `--json` the same facts in one JSON object on one
+  line; its members are in docs/FILES.md.
 
   `explain cause K` and `explain reason R` read nothing. They explain the
   error number K of `fault line N cause K`, or R of `refused at N reason R`.

@@ -1,5 +1,5 @@
-//! The command line of `trlab`: what its arguments ask for, as `clap` reads them; what is done for them; and
-//! the exit status of each end.
+//! The command line of `trlab`: the request of its arguments, as `clap` reads them, its execution, and the exit
+//! statuses.
 #![tactic(auto)]
 
 mod arguments;
@@ -9,6 +9,6 @@ mod printing;
 mod status;
 
 pub use arguments::{Explaining, Request, read_words};
-pub use engines::carry_out;
+pub use engines::execute;
 pub use printing::print_help_or_error;
 pub use status::{REFUSED_ARGUMENTS, status_of_end};

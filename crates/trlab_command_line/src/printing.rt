@@ -1,4 +1,4 @@
-//! What is printed for arguments that ask for no command: help, or why they are refused.
+//! Help, and messages for arguments that are rejected.
 
 ghost use Rattle.std.specs.Prelude.{◌≡◌, ◌↔◌, ◌⊎◌, true, false};
 ghost use Rattle.clap.specs.Words.{kind_of};
@@ -15,7 +15,7 @@ use clap::error::ErrorKind;
 use std::alloc::{AllocGlobal, Global};
 use trlab_campaign::{End, Sink, write_output};
 
-/// Writes the help or the version that was asked for, and hands it on.
+/// Writes the requested help or version, and flushes the writer.
 fn write_help<K: Sink>(alloc: Global, error: &Error, writer: &mut K) -> End
     requires { K.failed writer.old ≡ false }
     ensures ends { LeavesWriter K.Sink (EndsSo IsHelp) result writer.old writer.new }
@@ -33,7 +33,6 @@ const READING: [&[u8]; 4] = [b"check", b"run", b"sweep", b"series"];
 /// The options whose number is the next argument.
 const NUMBERED: [&[u8]; 4] = [b"--workers", b"--runners", b"--every", b"--from"];
 
-/// Whether a word is in a list.
 fn is_among(words: &[&[u8]], word: &[u8]) -> bool {
     words.iter().any(|it| *it == word)
 }
@@ -62,8 +61,8 @@ fn suggest_redirection<R: AllocGlobal + Eprint>(rt: &R, arguments: &[String]) {
     }
 }
 
-/// Prints help or the version on the writer if the arguments ask for it, or on standard error why they are
-/// refused; returns the exit status. If memory runs out, nothing is printed.
+/// Prints help or the version on the writer if the arguments ask for it, otherwise on standard error why they are
+/// rejected; returns the exit status. If an allocation fails, nothing is printed.
 pub fn print_help_or_error<R: AllocGlobal + Eprint, K: Sink>(
     rt: &R,
     arguments: &[String],
@@ -71,7 +70,7 @@ pub fn print_help_or_error<R: AllocGlobal + Eprint, K: Sink>(
     writer: &mut K,
 ) -> u8
     requires { K.failed writer.old ≡ false }
-    // 3 if memory runs out, also for the text of help.
+    // 3 if an allocation fails, also for the text of help.
     ensures status { (result ≡ 3) ⊎ (result ≡ status_of_print (kind_of error.now) (K.failed writer.new)) }
     ensures device { (result ≡ 4) ↔ (K.failed writer.new ≡ true) }
     ensures kept { result ≡ 3 → AddsNone (bytes_of K.Sink writer.old) (bytes_of K.Sink writer.new) }

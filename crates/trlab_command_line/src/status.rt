@@ -1,4 +1,4 @@
-//! The exit statuses: 0 done, 1 refused, 2 the arguments are refused, 3 memory ran out, 4 a failed device.
+//! The exit statuses: those of `End`, and 2 for arguments that are refused.
 
 ghost use Rattle.std.specs.Prelude.{◌≡◌};
 ghost use Rattle.clap.specs.Words.{kind_of};
@@ -8,41 +8,24 @@ use clap::Error;
 use clap::error::ErrorKind;
 use trlab_campaign::End;
 
-/// The exit status of a command that has done what it was asked for, and of help that was printed.
-const DONE: u8 = 0;
-
-/// The exit status of a text that is refused.
-const REFUSED: u8 = 1;
-
 /// The exit status of arguments that are refused.
 pub const REFUSED_ARGUMENTS: u8 = 2;
 
-/// The exit status where memory ran out.
-const MEMORY: u8 = 3;
-
-/// The exit status where a device failed.
-const DEVICE_FAULT: u8 = 4;
-
-/// The exit status by how a command ended.
+/// The exit status of a command, by how it ended.
 pub fn status_of_end(end: End) -> u8
     ensures { result ≡ status_of_end end }
 {
-    match end {
-        End::Done => DONE,
-        End::Refused => REFUSED,
-        End::Memory => MEMORY,
-        End::DeviceFault => DEVICE_FAULT,
-    }
+    end as u8
 }
 
-/// The exit status of arguments that ask for no command: 0 where they ask for help, 3 where memory ran
-/// out, and else 2.
+/// The exit status of arguments that `clap` does not accept as a command: 0 if they ask for help, 3 if an allocation
+/// failed, and otherwise 2.
 pub fn status_of_error(error: &Error) -> u8
     ensures { result ≡ status_of_error (kind_of error.now) }
 {
     match error.kind() {
-        ErrorKind::DisplayHelp | ErrorKind::DisplayVersion => DONE,
-        ErrorKind::OutOfMemory => MEMORY,
+        ErrorKind::DisplayHelp | ErrorKind::DisplayVersion => status_of_end(End::Done),
+        ErrorKind::OutOfMemory => status_of_end(End::Memory),
         _ => REFUSED_ARGUMENTS,
     }
 }

@@ -8,6 +8,6 @@ use Rattle.trlab_diagnosis.specs.Edits.{edited, GetsFurther}
 -- a text with its first fault at the line of a number gets further: once it is changed so, or is read as
 -- another one
 abbrev pub Helps : Subject → List ℕ → ℕ → Change → Type 0
-Helps subject text number (Edited edit) = (edit.at + edit.gone ≤ length text)
-    × GetsFurther text number subject (edited edit.at edit.gone edit.put.items text)
+Helps subject text number (Edited edit) = (edit.at + edit.removed ≤ length text)
+    × GetsFurther text number subject (edited edit.at edit.removed edit.inserted.items text)
 Helps subject text number (ReadAs other) = GetsFurther text number other text

@@ -1,6 +1,6 @@
-//! Names that are spelled nearly alike.
+//! Misspelled names.
 
-use crate::rules::RuleForm;
+use crate::names::RuleForm;
 use crate::subject::is_named;
 use std::alloc::{AllocError, Global};
 use strsim::generic_damerau_levenshtein;
@@ -8,83 +8,78 @@ use trlab_asm::{Mnemonic, input_text, mnemonic_text, register_text};
 use trlab_code::{Input, Register};
 use trlab_texts::LineName;
 
-/// The longest word whose nearest name is looked for: names are shorter.
+/// The maximum length of a word that is compared with names: all names are shorter.
 const LONGEST_WORD: usize = 32;
 
-/// The most edits that lead from a word to the name that it was meant to be.
-const MOST_EDITS: usize = 2;
+/// The maximum number of edits from a word to the name that was meant.
+const MAX_EDITS: usize = 2;
 
-/// The most names that are looked at.
-const MOST_NAMES: u32 = 4096;
+/// The maximum number of names that a word is compared with.
+const MAX_NAMES: u32 = 4096;
 
-/// What is named by how it is spelled.
-pub trait Spelled: Copy {
-    /// Its name.
-    fn spelling(self) -> &'static [u8];
+/// Something that has a name.
+pub trait Named: Copy {
+    fn name(self) -> &'static [u8];
 }
 
-impl Spelled for &'static [u8] {
-    fn spelling(self) -> &'static [u8] {
+impl Named for &'static [u8] {
+    fn name(self) -> &'static [u8] {
         self
     }
 }
 
-impl Spelled for LineName {
-    fn spelling(self) -> &'static [u8] {
+impl Named for LineName {
+    fn name(self) -> &'static [u8] {
         self.word()
     }
 }
 
-impl Spelled for RuleForm {
-    fn spelling(self) -> &'static [u8] {
+impl Named for RuleForm {
+    fn name(self) -> &'static [u8] {
         self.name
     }
 }
 
-impl Spelled for Mnemonic {
-    fn spelling(self) -> &'static [u8] {
+impl Named for Mnemonic {
+    fn name(self) -> &'static [u8] {
         mnemonic_text(self)
     }
 }
 
-impl Spelled for Register {
-    fn spelling(self) -> &'static [u8] {
+impl Named for Register {
+    fn name(self) -> &'static [u8] {
         register_text(self)
     }
 }
 
-impl Spelled for Input {
-    fn spelling(self) -> &'static [u8] {
+impl Named for Input {
+    fn name(self) -> &'static [u8] {
         input_text(self)
     }
 }
 
 /// Whether a word is the name of one of these.
-pub fn is_spelled<T: Spelled>(all: &[T], word: &[u8]) -> bool {
+pub fn is_among<T: Named>(all: &[T], word: &[u8]) -> bool {
     for one in all {
-        if one.spelling() == word {
+        if one.name() == word {
             return true;
         }
     }
     false
 }
 
-/// Whether a word is the name of one of these, in small letters or capitals.
-pub fn is_named_among<T: Spelled>(all: &[T], word: &[u8]) -> bool {
+/// Whether a word is the name of one of these, in any case.
+pub fn is_named_among<T: Named>(all: &[T], word: &[u8]) -> bool {
     for one in all {
-        if is_named(word, one.spelling()) {
+        if is_named(word, one.name()) {
             return true;
         }
     }
     false
 }
 
-/// How many edits lead from a word to another, if no more than so many: two neighbours that change places
-/// are one edit, and capitals for small letters none.
-///
-/// # Errors
-///
-/// Where memory ran out.
+/// The number of edits from a word to another, if at most `most`. Exchanging two neighbours is one edit; the case of
+/// letters does not matter.
 pub fn edits_within(
     alloc: Global,
     word: &[u8],
@@ -101,93 +96,85 @@ pub fn edits_within(
     Ok(if edits <= most { Some(edits) } else { None })
 }
 
-/// Of several names the one that is most like a word, while they are looked at one by one.
+/// The name that is most like a word, among those that were compared with it so far.
 #[derive(Clone, Copy)]
-pub struct Choice {
-    /// How many edits lead to it, or one more than may lead to a name.
+pub struct NearestName {
+    /// The number of edits to it, or `most` + 1.
     edits: usize,
-    /// How many edits may lead to one.
+    /// The maximum number of edits.
     most: usize,
-    /// How many names are still looked at.
+    /// How many more names are compared.
     left: u32,
-    /// Where the nearest name stands, and its length, if no other is as near.
+    /// The position and the length of the name, if no other is as near.
     pub found: Option<(usize, usize)>,
 }
 
-impl Choice {
-    /// Before any name is looked at: of a short word not every letter may be wrong.
-    pub fn to(word: &[u8]) -> Choice {
-        let most = MOST_EDITS.min(word.len().saturating_sub(1));
-        Choice {
+impl NearestName {
+    /// Before any name was compared. Not every letter of a short word may be wrong.
+    pub fn to(word: &[u8]) -> NearestName {
+        let most = MAX_EDITS.min(word.len().saturating_sub(1));
+        NearestName {
             edits: most.saturating_add(1),
             most,
-            left: MOST_NAMES,
+            left: MAX_NAMES,
             found: None,
         }
     }
 
-    /// Begins again, where no name that was looked at may be meant.
-    pub fn anew(self) -> Choice {
-        Choice {
+    /// Forgets the names so far.
+    pub fn restart(self) -> NearestName {
+        NearestName {
             edits: self.most.saturating_add(1),
             found: None,
             ..self
         }
     }
 
-    /// After a look at one more name, which stands at this place.
-    ///
-    /// # Errors
-    ///
-    /// Where memory ran out.
+    /// After one more name was compared, which is at this position.
     pub fn or(
         self,
         alloc: Global,
         word: &[u8],
         name: &[u8],
         at: usize,
-    ) -> Result<Choice, AllocError> {
+    ) -> Result<NearestName, AllocError> {
         if self.left == 0 {
             return Ok(self);
         }
         let left = self.left - 1;
         Ok(match edits_within(alloc, word, name, self.edits)? {
-            Some(edits) if edits < self.edits => Choice {
+            Some(edits) if edits < self.edits => NearestName {
                 edits,
                 left,
                 found: Some((at, name.len())),
                 ..self
             },
-            Some(_) => Choice {
+            Some(_) => NearestName {
                 left,
                 found: None,
                 ..self
             },
-            None => Choice { left, ..self },
+            None => NearestName { left, ..self },
         })
     }
 }
 
-/// The name of one of these that a word was meant to be: the one to which the fewest edits lead, if no other is
-/// as near. A word that is one of the names is not meant to be another.
-///
-/// # Errors
-///
-/// Where memory ran out.
-pub fn nearest<T: Spelled>(
+/// The name of one of these that a word was meant to be: the one with the fewest edits, if no other is as near, and
+/// none if the word is one of the names.
+pub fn nearest<T: Named>(
     alloc: Global,
     word: &[u8],
     all: &[T],
 ) -> Result<Option<&'static [u8]>, AllocError> {
-    if is_spelled(all, word) {
+    if is_among(all, word) {
         return Ok(None);
     }
-    let mut best = Choice::to(word);
+    let mut best = NearestName::to(word);
     for (at, one) in all.iter().enumerate() {
-        best = best.or(alloc, word, one.spelling(), at)?;
+        best = best.or(alloc, word, one.name(), at)?;
     }
     Ok(match best.found {
-        Some((at, _)) => all.get(at).map(|one| one.spelling()),
+        Some((at, _)) => all.get(at).map(|one| one.name()),
         None => None,
     })
 }

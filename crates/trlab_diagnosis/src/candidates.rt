@@ -1,28 +1,23 @@
-//! Candidates: repairs that may be tried, those that are likelier first.
+//! Candidates: repairs that may be tried, the most likely first.
 
-mod code;
-mod label;
+mod bytes;
 mod line;
 mod number;
-mod operand;
 mod program;
-mod road;
 
 ghost use Rattle.std.specs.Prelude.{IfOk, IfSome};
 ghost use Rattle.trlab_diagnosis.specs.Repairs.{Helps};
 
-use crate::candidates::code::{hex_candidates, version_candidate};
-use crate::candidates::label::label_candidate;
+use crate::candidates::bytes::{
+    cell_candidate, hex_candidates, lanes_candidate, version_candidate,
+};
 use crate::candidates::line::line_candidates;
 use crate::candidates::number::number_candidates;
-use crate::candidates::operand::operand_candidates;
-use crate::candidates::program::word_candidates;
-use crate::candidates::road::{cell_candidate, lanes_candidate};
-use crate::draft::{Draft, Put};
+use crate::candidates::program::{label_candidate, operand_candidates, word_candidates};
 use crate::fault::Fault;
-use crate::line_name::put_after;
-use crate::repair::Repair;
-use crate::tried::{MOST_TRIED, first_that_helps};
+use crate::names::line_after;
+use crate::repair::{MAX_TRIED, Repair, first_that_helps};
+use crate::replacement::{Candidate, Replacement};
 use std::alloc::{AllocError, Global};
 use trlab_asm::Why;
 use trlab_code::CodeFault;
@@ -43,67 +38,83 @@ const ENDLESS: &str = "the program has no line `end`.";
 
 const LATE: &str = "this line belongs elsewhere, or is a duplicate.";
 
-/// The repairs that may be tried, as many as are tried at most, and the fault.
+/// The candidates for a fault, as many as are tried at most.
 #[derive(Clone, Copy)]
 pub struct Candidates<'a> {
     pub alloc: Global,
     pub fault: Fault<'a>,
-    /// The line at fault, which is empty where the text has ended.
+    /// The line at fault, empty if the input has ended.
     pub line: &'a [u8],
-    drafts: [Option<Draft>; MOST_TRIED],
+    candidates: [Option<Candidate>; MAX_TRIED],
     count: usize,
 }
 
 impl<'a> Candidates<'a> {
-    /// None so far.
     fn new(alloc: Global, fault: Fault<'a>) -> Candidates<'a> {
-        let drafts: [Option<Draft>; MOST_TRIED] = [None; MOST_TRIED];
+        let candidates: [Option<Candidate>; MAX_TRIED] = [None; MAX_TRIED];
         Candidates {
             alloc,
             fault,
             line: fault.line(),
-            drafts,
+            candidates,
             count: 0,
         }
     }
 
-    /// Adds a change of the text: some bytes at a place are replaced by others.
-    pub fn edit(&mut self, mistake: &'static str, at: usize, gone: usize, put: Put) {
-        if self.count < MOST_TRIED {
-            self.drafts[self.count] = Some(Draft {
+    /// Adds a change of the input.
+    pub fn edit(
+        &mut self,
+        mistake: &'static str,
+        at: usize,
+        removed: usize,
+        replacement: Replacement,
+    ) {
+        if self.count < MAX_TRIED {
+            self.candidates[self.count] = Some(Candidate {
                 mistake,
                 at,
-                gone,
-                put,
+                removed,
+                replacement,
             });
             self.count += 1;
         }
     }
 
-    /// Adds a change of the line at fault: some bytes at a place are replaced by others.
-    pub fn in_line(&mut self, mistake: &'static str, at: usize, gone: usize, put: Put) {
+    /// Adds a change of the line at fault, after `at` of its bytes.
+    pub fn in_line(
+        &mut self,
+        mistake: &'static str,
+        at: usize,
+        removed: usize,
+        replacement: Replacement,
+    ) {
         self.edit(
             mistake,
             self.fault.place.start.saturating_add(at),
-            gone,
-            put,
+            removed,
+            replacement,
         );
     }
 
     /// Adds a change of the whole line at fault.
-    pub fn whole_line(&mut self, mistake: &'static str, put: Put) {
-        self.in_line(mistake, 0, self.line.len(), put);
+    pub fn whole_line(&mut self, mistake: &'static str, replacement: Replacement) {
+        self.in_line(mistake, 0, self.line.len(), replacement);
     }
 
-    /// Adds a line above the one at fault, or after the last line of the text.
+    /// Adds a new line above the one at fault, or at the end of the input.
     pub fn above(&mut self, mistake: &'static str, line: LineName) {
-        let put = put_after(self.fault.place.above(), line);
-        self.edit(mistake, self.fault.place.start, 0, Put::Bytes(put));
+        let inserted = line_after(self.fault.place.above(), line);
+        self.edit(
+            mistake,
+            self.fault.place.start,
+            0,
+            Replacement::Bytes(inserted),
+        );
     }
 
-    /// Drops the line at fault.
+    /// Adds that the line at fault is deleted.
     pub fn without_line(&mut self, mistake: &'static str) {
-        let gone = self.line.len().saturating_add(1);
+        let removed = self.line.len().saturating_add(1);
         let left = self
             .fault
             .place
@@ -113,19 +124,19 @@ impl<'a> Candidates<'a> {
         self.edit(
             mistake,
             self.fault.place.start,
-            gone.min(left),
-            Put::Bytes(b""),
+            removed.min(left),
+            Replacement::Bytes(b""),
         );
     }
 
-    /// Drops the carriage return at the end of the line.
+    /// Adds that the carriage return at the end of the line is deleted.
     fn without_return(&mut self) {
         if let Some(front) = self.line.strip_suffix(b"\r") {
             self.in_line(
                 "the line ends with a carriage return (Windows line ending): use LF only, in all lines.",
                 front.len(),
                 1,
-                Put::Bytes(b""),
+                Replacement::Bytes(b""),
             );
         }
     }
@@ -159,11 +170,12 @@ fn add_candidates(list: &mut Candidates<'_>) -> Result<(), AllocError> {
     Ok(())
 }
 
-/// What most likely mends the first fault of a text: a change by which the text gets further.
+/// The most likely repair of the first fault of an input that helps: with it, the input is valid or its first fault
+/// is further down.
 ///
 /// # Errors
 ///
-/// Where memory ran out.
+/// If an allocation fails.
 pub fn likely_repair(alloc: Global, fault: Fault<'_>) -> Result<Option<Repair>, AllocError>
     ensures { IfOk result (λ found. IfSome found
         (λ repair. Helps fault.entry.subject fault.entry.place.text.now fault.entry.place.number repair.change)) }
@@ -171,5 +183,5 @@ pub fn likely_repair(alloc: Global, fault: Fault<'_>) -> Result<Option<Repair>, 
     let mut list = Candidates::new(alloc, fault);
     add_candidates(&mut list)?;
     let Fault { subject, place, .. } = fault;
-    first_that_helps(alloc, subject, place.text, place.number, &list.drafts)
+    first_that_helps(alloc, subject, place.text, place.number, &list.candidates)
 }

@@ -1,19 +1,21 @@
-//! What is found at a fault, if there is more to say than the cause does.
+//! The problem at a fault in words, if there is more to say than the cause does.
 
 mod line;
 mod program;
 
-use crate::draft::KEY_DIGITS;
 use crate::fault::{Fault, bytes_at};
 use crate::found::line::push_line;
-use crate::found::program::push_program;
+use crate::found::program::{push_program, word_span};
+use crate::instruction::operand_at_fault;
+use crate::replacement::KEY_DIGITS;
 use std::alloc::{AllocError, Global};
+use trlab_asm::Why;
 use trlab_lines::Page;
 use trlab_road::RoadFault;
 use trlab_texts::word::long_number;
 use trlab_texts::{Cause, Wanted};
 
-/// How many bytes of the line of a lane come before its cells.
+/// The number of bytes before the cells in the line of a lane.
 pub const BEFORE_CELLS: usize = 5;
 
 /// Adds words with a word of the input, quoted, between them.
@@ -30,7 +32,7 @@ fn push_count(page: &mut Page, front: &str, count: u64, after: &str) -> Result<(
     page.say(after)
 }
 
-/// Adds what is wrong with a word that is not a number from `least` to `most`.
+/// Adds the problem with a word that is not a number from `least` to `most`.
 fn push_number(page: &mut Page, word: &[u8], least: u64, most: u64) -> Result<(), AllocError> {
     match long_number(word) {
         Ok(number) if number < least => {
@@ -50,7 +52,7 @@ fn push_number(page: &mut Page, word: &[u8], least: u64, most: u64) -> Result<()
     }
 }
 
-/// The first character that is not a hexadecimal digit, and how many come before it.
+/// The first character that is not a hexadecimal digit, and its position.
 pub fn first_no_digit(word: &[u8]) -> Option<(usize, u8)> {
     let mut place = 0usize;
     for byte in word {
@@ -62,7 +64,7 @@ pub fn first_no_digit(word: &[u8]) -> Option<(usize, u8)> {
     None
 }
 
-/// Adds what is wrong with hexadecimal digits.
+/// Adds the problem with hexadecimal digits.
 fn push_digits(page: &mut Page, word: &[u8], is_key: bool) -> Result<(), AllocError> {
     let count = word.len() as u64;
     if is_key && word.len() != KEY_DIGITS {
@@ -84,7 +86,7 @@ fn push_digits(page: &mut Page, word: &[u8], is_key: bool) -> Result<(), AllocEr
     }
 }
 
-/// Adds which word of the line is wrong, and why.
+/// Adds the problem with the word at fault.
 fn push_word(page: &mut Page, fault: &Fault<'_>) -> Result<(), AllocError> {
     let Some((at, length)) = fault.word() else {
         return Ok(());
@@ -96,14 +98,14 @@ fn push_word(page: &mut Page, fault: &Fault<'_>) -> Result<(), AllocError> {
     }
 }
 
-/// Adds how many points there are up to this one, and how many steps they need.
+/// Adds the number of points up to this one, and the steps that they need.
 fn push_work(page: &mut Page, points: u32, steps: u32) -> Result<(), AllocError> {
     let needed = u64::from(points).saturating_mul(u64::from(steps));
     push_count(page, "the ", u64::from(points), " points up to here need ")?;
     push_count(page, "", needed, " steps; the maximum is 500000.")
 }
 
-/// Adds how many cells the lane at fault has, and the first one if there is another.
+/// Adds the length of the lane at fault, and that of the first lane if there is another.
 fn push_cells(page: &mut Page, line: &[u8], first: u32) -> Result<(), AllocError> {
     let cells = line.len().saturating_sub(BEFORE_CELLS) as u64;
     if first == 0 {
@@ -126,7 +128,7 @@ fn speed_of(car: u8) -> u64 {
     }
 }
 
-/// Adds how fast the car is which is faster than the maximum speed.
+/// Adds the speed of a car that is faster than the maximum speed.
 fn push_speed(page: &mut Page, fault: &Fault<'_>, limit: u32) -> Result<(), AllocError> {
     let Cause::Road(RoadFault::SpeedAboveLimit { place, .. }) = fault.cause else {
         return Ok(());
@@ -141,7 +143,23 @@ fn push_speed(page: &mut Page, fault: &Fault<'_>, limit: u32) -> Result<(), Allo
     push_count(page, "and the maximum is ", u64::from(limit), ".")
 }
 
-/// Adds what is found at a fault, if there is more to say than the cause does.
+/// The bytes at fault: how many bytes of the line come before them, and their number. `None` means the whole line.
+pub fn span_of(fault: &Fault<'_>) -> Option<(usize, usize)> {
+    let line = fault.line();
+    match fault.cause {
+        Cause::Road(
+            RoadFault::Character { place, .. } | RoadFault::SpeedAboveLimit { place, .. },
+        ) => Some((BEFORE_CELLS.saturating_add(place as usize), 1)),
+        Cause::Program(Why::Word) => word_span(line),
+        Cause::Program(why) => match operand_at_fault(line, why) {
+            Some(found) => Some((found.at, found.word.len())),
+            None => None,
+        },
+        _ => fault.word(),
+    }
+}
+
+/// Adds the problem at a fault, if there is more to say than the cause does.
 fn push_found(page: &mut Page, fault: &Fault<'_>) -> Result<(), AllocError> {
     match fault.wanted {
         Wanted::Lines(names) => push_line(page, fault, *names),
@@ -166,7 +184,7 @@ fn push_found(page: &mut Page, fault: &Fault<'_>) -> Result<(), AllocError> {
 ///
 /// # Errors
 ///
-/// If memory runs out.
+/// If an allocation fails.
 pub fn found_at(alloc: Global, fault: &Fault<'_>) -> Result<Page, AllocError> {
     let mut page = Page::new(alloc);
     push_found(&mut page, fault)?;

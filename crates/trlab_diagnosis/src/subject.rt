@@ -1,4 +1,4 @@
-//! Which texts there are.
+//! The kinds of inputs, and which one an input is meant to be.
 
 ghost use Rattle.std.specs.Prelude.{◌≡◌, ◌≢◌, [], IfOk, true};
 ghost use Rattle.trlab_lines.specs.Lines.{lines_of};
@@ -10,25 +10,26 @@ use strsim::generic_damerau_levenshtein;
 use trlab_lines::next_line;
 use trlab_texts::word::head_word;
 
-/// What a text is read as.
+/// The kinds of inputs.
 #[derive(Clone, Copy, PartialEq, Eq)]
 pub enum Subject {
-    /// A job text, which `run` reads.
+    /// A job, which `run` reads.
     Job,
-    /// A sweep text, which `sweep` reads.
+    /// A sweep, which `sweep` reads.
     Sweep,
-    /// A check text, which `check` reads.
+    /// A driver program, which `check` reads.
     Check,
 }
 
-/// Whether a word is this name, in small letters or capitals.
+/// Whether a word is this name, in any case.
 pub fn is_named(word: &[u8], name: &[u8]) -> bool
     ensures { result ≡ is_named word.now name.now }
 {
     word.eq_ignore_ascii_case(name)
 }
 
-/// The text that begins with this word: a job with `road`, a sweep with `sweep`, a check with a program.
+/// The input that begins with this word: a job with `road`, a sweep with `sweep`, a check with the first word of a
+/// program.
 pub fn subject_named(word: &[u8]) -> Option<Subject>
     ensures { result ≡ subject_named word.now }
 {
@@ -47,10 +48,11 @@ pub fn subject_named(word: &[u8]) -> Option<Subject>
     }
 }
 
-/// The longest word that may be a misspelled name.
+/// The maximum length of a word that may be a misspelled name.
 const LONGEST_WORD: usize = 16;
 
-/// Whether a word is this name but for one edit: a letter more or less, another one, or two that changed places.
+/// Whether at most one edit leads from a word to this name: a letter inserted, deleted or replaced, or two neighbours
+/// exchanged.
 fn is_nearly(alloc: Global, word: &[u8], name: &[u8]) -> Result<bool, AllocError>
     requires { name.now ≢ [] }
     ensures { IfOk result (λ is_so. is_so ≡ true → IsNearly word.now name.now) }
@@ -62,7 +64,7 @@ fn is_nearly(alloc: Global, word: &[u8], name: &[u8]) -> Result<bool, AllocError
     Ok(edits <= 1)
 }
 
-/// What a text is whose first word is none of the known ones.
+/// The kind of an input whose first word is unknown.
 fn misspelled_subject(alloc: Global, word: &[u8]) -> Result<Subject, AllocError>
     ensures { IfOk result (MayBe word.now) }
 {
@@ -75,11 +77,11 @@ fn misspelled_subject(alloc: Global, word: &[u8]) -> Result<Subject, AllocError>
     }
 }
 
-/// What a text is meant to be, by its first word, also if that is misspelled; else it is a check.
+/// The kind that an input is meant to be, by its first word, also if that is misspelled; else a check.
 ///
 /// # Errors
 ///
-/// If memory runs out.
+/// If an allocation fails.
 pub fn subject_of(alloc: Global, text: &[u8]) -> Result<Subject, AllocError>
     ensures { IfOk result (IsMeant (lines_of text.now)) }
 {

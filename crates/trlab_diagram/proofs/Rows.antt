@@ -12,7 +12,7 @@ use Rattle.csv.specs.Writing.{default_writer, row_text, row_body, needs_quotes, 
 use Rattle.csv.specs.Quoting.{needs_byte}
 use Rattle.trlab_diagram.specs.declared.point.Point.{Point}
 use Rattle.trlab_diagram.specs.Flow.{flow_of}
-use Rattle.trlab_diagram.specs.declared.window.Window.{Window}
+use Rattle.trlab_diagram.specs.declared.point.Window.{Window}
 use Rattle.trlab_diagram.specs.Series.{series_heading, window_line, window_numbers}
 use Rattle.trlab_diagram.specs.Table.{heading, numbers, point_line, line_text, points_text}
 

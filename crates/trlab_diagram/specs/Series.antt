@@ -1,8 +1,8 @@
 -- The table of a series, in comma-separated values.
 use Rattle.std.specs.Prelude.{ℕ, List, [], ◌∷◌, ◌++◌, map, flat_map, decimal, codes}
 use Rattle.std.specs.List.{join_with_byte}
-use Rattle.trlab_diagram.specs.declared.window.LaneCount.{LaneCount}
-use Rattle.trlab_diagram.specs.declared.window.Window.{Window}
+use Rattle.trlab_diagram.specs.declared.point.LaneCount.{LaneCount}
+use Rattle.trlab_diagram.specs.declared.point.Window.{Window}
 use Rattle.trlab_diagram.specs.Table.{line_text, numbers}
 
 -- the first line, which names the columns
@@ -10,16 +10,16 @@ abbrev pub series_heading : List ℕ
 series_heading = codes
     "step,cars,cells,steps,distance,stopped,changes,flow,cars0,distance0,stopped0,cars1,distance1,stopped1"
 
--- the numbers of a lane in the columns
+-- the columns of a lane
 abbrev pub lane_numbers : LaneCount → List ℕ
 lane_numbers lane = lane.cars ∷ lane.distance ∷ lane.stopped ∷ []
 
--- the numbers of a window in the columns: its step, the numbers of its point, and those of the two lanes
+-- the columns of a window: its step, its point and its two lanes
 abbrev pub window_numbers : Window → List ℕ
 window_numbers window =
     window.step ∷ (numbers window.point ++ (lane_numbers window.lane0 ++ lane_numbers window.lane1))
 
--- the line of a window: these numbers in decimal digits, with a comma between each two
+-- the line of a window: its columns in decimal digits, separated by commas
 abbrev pub window_line : Window → List ℕ
 window_line window = join_with_byte 44 (map decimal (window_numbers window))
 

@@ -1,4 +1,4 @@
--- The table of some points, in comma-separated values.
+-- The table of points, in comma-separated values.
 use Rattle.std.specs.Prelude.{ℕ, List, [], ◌∷◌, ◌++◌, map, flat_map, decimal, codes}
 use Rattle.std.specs.List.{join_with_byte}
 use Rattle.trlab_diagram.specs.declared.point.Point.{Point}
@@ -8,13 +8,13 @@ use Rattle.trlab_diagram.specs.Flow.{flow_of}
 abbrev pub heading : List ℕ
 heading = codes "cars,cells,steps,distance,stopped,changes,flow"
 
--- the numbers of a point in the columns
+-- the columns of a point
 abbrev pub numbers : Point → List ℕ
 numbers point =
     point.cars ∷ point.cells ∷ point.steps
     ∷ point.distance ∷ point.stopped ∷ point.changes ∷ flow_of point ∷ []
 
--- the line of a point: these numbers in decimal digits, with a comma between each two
+-- the line of a point: its columns in decimal digits, separated by commas
 abbrev pub point_line : Point → List ℕ
 point_line point = join_with_byte 44 (map decimal (numbers point))
 

@@ -1,4 +1,4 @@
--- A writer of lines that is between two lines.
+-- A writer between two lines.
 use Rattle.std.specs.Prelude.{◌≡◌, [], false}
 use Rattle.csv.specs.declared.writer.Writer.{Writer}
 use Rattle.csv.specs.Writing.{default_writer, writer_setup, writer_pending, fields_written, has_written}

@@ -1,6 +1,6 @@
 //! Laws of tables, whichever code writes them.
 //!
-//! Each law is the contract of a function with nothing to do.
+//! Each law is the contract of a function with an empty body.
 
 ghost use Rattle.trlab_diagram.specs.Laws.{TableTellsPoints};
 

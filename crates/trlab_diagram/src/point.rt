@@ -1,4 +1,4 @@
-//! Points of the diagram, and the flow at each.
+//! The counts of a road: points of the diagram with the flow at each, and windows of a series.
 
 ghost use Rattle.std.specs.Prelude.{◌≡◌};
 ghost use Rattle.trlab_diagram.specs.Flow.{IsMeasured, flow_of};
@@ -10,9 +10,9 @@ ghost use Rattle.trlab_diagram.specs.Flow.{IsMeasured, flow_of};
 pub struct Point {
     /// The cars on the road.
     pub cars: u64,
-    /// The cells of the road: the length of a lane, times the number of lanes.
+    /// The cells of the road: the length of a lane times the number of lanes.
     pub cells: u64,
-    /// The steps over which was counted.
+    /// The number of counted steps.
     pub steps: u64,
     /// The sum of the speeds of all cars in all these steps, in cells.
     pub distance: u64,
@@ -24,11 +24,35 @@ pub struct Point {
 
 /// The flow at a point, in millionths of a car per step, rounded down.
 ///
-/// This is the density times the mean speed, which Greenshields (1935) measured on roads and
-/// Nagel and Schreckenberg (1992) on roads of cells. There must be at least one cell and one step.
+/// This is the density times the mean speed, which Greenshields (1935) measured on roads and Nagel and
+/// Schreckenberg (1992) on roads of cells. There must be at least one cell and one step.
 pub fn flow(point: &Point) -> u128
     requires { IsMeasured point.now }
     ensures { result ≡ flow_of point.now }
 {
     u128::from(point.distance) * 1000000 / (u128::from(point.cells) * u128::from(point.steps))
+}
+
+/// The counts of a lane, summed over the roads after some steps.
+#[derive(Clone, Copy, Debug, PartialEq, Eq)]
+pub struct LaneCount {
+    /// The cars on the lane.
+    pub cars: u64,
+    /// The sum of their speeds, in cells.
+    pub distance: u64,
+    /// The cars on the lane with speed 0.
+    pub stopped: u64,
+}
+
+/// A window of a series: the counts over consecutive steps, of the whole road and of each lane.
+#[derive(Clone, Copy, Debug, PartialEq, Eq)]
+pub struct Window {
+    /// The number of the picture after the last of the steps.
+    pub step: u64,
+    /// The counts of the road.
+    pub point: Point,
+    /// The counts of lane 0.
+    pub lane0: LaneCount,
+    /// The counts of lane 1, which are 0 if there is no such lane.
+    pub lane1: LaneCount,
 }

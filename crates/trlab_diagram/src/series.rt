@@ -8,14 +8,15 @@ ghost use Rattle.trlab_diagram.specs.Series.{series_heading, window_line, window
 ghost use Rattle.trlab_diagram.specs.Table.{line_text};
 ghost use Rattle.trlab_diagram.specs.Writers.{IsAtLine};
 
-use crate::{DiagramFault, Window, flow};
+use crate::point::{Window, flow};
+use crate::table::DiagramFault;
 use csv::{ByteRecord, Writer};
 use itoa::Buffer;
 use std::alloc::{AllocError, Global};
 use std::marker::Model;
 
-/// A writer keeps the bytes of all its lines, so it is replaced once it has more than this many.
-const MOST_KEPT: usize = 16384;
+/// The bytes above which a writer is replaced, because it keeps the bytes of all its lines.
+const MAX_KEPT: usize = 16384;
 
 /// The fields of the first line.
 fn heading_row(alloc: Global) -> Result<ByteRecord, AllocError>
@@ -114,7 +115,7 @@ fn written_line(
 ///
 /// # Errors
 ///
-/// `Memory` where memory runs out.
+/// `Memory` if an allocation fails.
 pub fn series_heading(alloc: Global) -> Result<Vec<u8>, DiagramFault>
     ensures { IfOk result (λ text. text.items ≡ line_text series_heading) }
 {
@@ -122,7 +123,7 @@ pub fn series_heading(alloc: Global) -> Result<Vec<u8>, DiagramFault>
     written_line(alloc, &mut writer, &heading_row(alloc)?)
 }
 
-/// Makes the lines of windows one after another, and reuses its memory from line to line.
+/// Makes the lines of windows, and reuses its memory from line to line.
 #[derive(Drop)]
 pub struct SeriesLines {
     writer: Writer<Vec<u8>>,
@@ -152,14 +153,14 @@ impl SeriesLines {
     ///
     /// # Errors
     ///
-    /// `Memory` if memory runs out.
+    /// `Memory` if an allocation fails.
     pub fn window_text(&mut self, alloc: Global, window: &Window) -> Result<Vec<u8>, DiagramFault>
         requires { IsMeasured window.now.point }
         ensures { IfOk result (λ text. text.items ≡ window_text window.now) }
     {
         put_window(&mut self.row, window)?;
         let line = written_line(alloc, &mut self.writer, &self.row);
-        if line.is_err() || self.writer.get_ref().len() > MOST_KEPT {
+        if line.is_err() || self.writer.get_ref().len() > MAX_KEPT {
             self.writer = Writer::from_writer(Vec::new(alloc));
         }
         line

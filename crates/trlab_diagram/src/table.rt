@@ -1,4 +1,4 @@
-//! The table of some points, as comma-separated values (RFC 4180, with LF for CRLF).
+//! The table of points, as comma-separated values (RFC 4180, with LF for CRLF).
 
 ghost use Rattle.std.specs.Prelude.{◌≡◌, All, IfOk};
 ghost use Rattle.csv.specs.Records.{fields_of};
@@ -6,9 +6,31 @@ ghost use Rattle.csv.specs.Writing.{default_writer, row_text};
 ghost use Rattle.trlab_diagram.specs.Flow.{IsMeasured};
 ghost use Rattle.trlab_diagram.specs.Table.{heading, line_text, point_line, points_text};
 
-use crate::{DiagramFault, Point, flow};
+use crate::point::{Point, flow};
 use csv::{ByteRecord, Writer};
 use std::alloc::{AllocError, Global};
+use thiserror::Error;
+
+/// Why there is no table of points or of windows.
+#[derive(Clone, Copy, Debug, PartialEq, Eq, Error)]
+pub enum DiagramFault {
+    /// An allocation failed.
+    #[error("memory ran out")]
+    Memory,
+}
+
+impl From<AllocError> for DiagramFault {
+    fn from(_: AllocError) -> DiagramFault {
+        DiagramFault::Memory
+    }
+}
+
+// A table is written to memory, which can fail only by an allocation.
+impl From<csv::Error> for DiagramFault {
+    fn from(_: csv::Error) -> DiagramFault {
+        DiagramFault::Memory
+    }
+}
 
 /// The fields of the first line.
 fn heading_row(alloc: Global) -> Result<ByteRecord, AllocError>
@@ -45,15 +67,14 @@ fn point_row(alloc: Global, point: &Point) -> Result<ByteRecord, DiagramFault>
     Ok(row)
 }
 
-/// The table of some points, in bytes: the heading
-/// `cars,cells,steps,distance,stopped,changes,flow`, then a line for each point with these
-/// numbers in decimal digits. An LF ends each line.
+/// The table of points, in bytes: the heading `cars,cells,steps,distance,stopped,changes,flow`, then a line for
+/// each point with these numbers in decimal digits. An LF ends each line.
 ///
 /// Each point must have at least one cell and one step.
 ///
 /// # Errors
 ///
-/// `Memory` where memory runs out.
+/// `Memory` if an allocation fails.
 pub fn points_text(alloc: Global, points: &[Point]) -> Result<Vec<u8>, DiagramFault>
     requires { All IsMeasured points.now }
     ensures { IfOk result (λ text. text.items ≡ points_text points.now) }

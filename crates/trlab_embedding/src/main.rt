@@ -1,4 +1,4 @@
-//! The laboratory as a library: a road that is driven step by step, and a book of jobs that two threads share.
+//! trlab as a library: a road that is driven step by step, and a book of jobs that two threads share.
 #![tactic(auto)]
 
 mod one_road;
@@ -19,7 +19,7 @@ fn main(rt: HostRuntime) -> ExitCode {
     }
 }
 
-/// Drives the road, and then has threads share the book.
+/// Drives the road, and then runs the book.
 fn show_both<R: AllocGlobal + Threads + Wait + Sync + Print>(rt: &R) -> Option<()> {
     drive(rt)?;
     let blank = Blank::new(rt.alloc()).ok()?;

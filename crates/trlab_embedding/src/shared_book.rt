@@ -18,13 +18,13 @@ const JOBS: u32 = 2;
 
 const STEPS: u32 = 200;
 
-/// How many threads take jobs.
+/// How many threads run jobs.
 const RUNNERS: u32 = 2;
 
-/// How many threads take each step of a job.
+/// How many threads run each step of a job.
 const WORKERS: u32 = 1;
 
-/// Ten stopped cars, evenly spaced on a lane of 100 cells. The random words of a job depend on its number.
+/// Ten stopped cars, evenly spaced on a lane of 100 cells. The random numbers of a job depend on `number`.
 fn seed_of(alloc: Global, number: u32) -> Option<Seed> {
     Some(Seed {
         road: Road::even(alloc, 1, 100, 5, 10).ok()?,
@@ -47,7 +47,7 @@ fn submit<L: Ledger, R: Wait>(
     book.submit(rt, alloc, desk, seed, rule, STEPS).ok()
 }
 
-/// Has the runners take all jobs of a book to their end. Each runner calls the book at a part of the desk.
+/// Runs all jobs of a book to their end. Each runner calls the book through a part of the desk.
 fn run<L: Ledger + Send + Sync, R: Threads + Wait + Sync>(
     rt: &R,
     alloc: Global,
@@ -60,8 +60,8 @@ fn run<L: Ledger + Send + Sync, R: Threads + Wait + Sync>(
     run_jobs(rt, alloc, book, desk, RUNNERS, WORKERS, &OpenGate).ok()
 }
 
-/// Prints how far a job has come, and how many cells its cars went.
-fn tell<L: Ledger, R: Wait + Print>(
+/// Prints how many steps of a job are done, and how many cells its cars drove.
+fn show<L: Ledger, R: Wait + Print>(
     rt: &R,
     alloc: Global,
     book: &SharedBook<L>,
@@ -73,8 +73,7 @@ fn tell<L: Ledger, R: Wait + Print>(
     println!(rt; "job {job}: {step} steps, {distance} cells").ok()
 }
 
-/// Submits jobs to a new book, lets the runners take them, and prints the result of each. `None` if allocation
-/// or printing fails.
+/// Submits jobs to a new book, runs them, and prints the result of each. `None` if allocation or printing fails.
 pub fn share<L: Ledger + Send + Sync, R: AllocGlobal + Threads + Wait + Sync + Print>(
     rt: &R,
     blank: Blank<Event>,
@@ -88,7 +87,7 @@ pub fn share<L: Ledger + Send + Sync, R: AllocGlobal + Threads + Wait + Sync + P
     }
     let mut desk = run(rt, alloc, &book, desk)?;
     for job in 0..JOBS {
-        tell(rt, alloc, &book, &mut desk, job)?;
+        show(rt, alloc, &book, &mut desk, job)?;
     }
     match book.close(desk) {
         Ok(_) => Some(()),

@@ -1,38 +1,36 @@
 -- How explanations end, by what was written.
-use Rattle.std.proofs.Common.{◌≡◌, ◌∙◌, ◌++◌, ◌<◌, ℕ, List, [], ◌∷◌, length, refl, sym, ap, Bool, true, not, inl, append_assoc, append-nil}
+use Rattle.std.proofs.Common.{◌≡◌, ◌<◌, ℕ, List, [], ◌∷◌, length, refl, subst, Bool, true, inl, inr}
 use Rattle.std.proofs.lemmas.Bool.{lt-ltb}
-use Rattle.std.specs.Prelude.{All, Option, None, Some, IfSome, Result, Ok, Err, IfOk, OnOk, MatchOption, MatchResult}
+use Rattle.std.specs.Prelude.{All, Option, None, Some, Result, Ok, Err, IfOk, MatchOption, MatchResult}
 use Rattle.trlab_lines.specs.Lines.{lines_of}
+use Rattle.trlab_lines.specs.Plain.{IsPlain}
 use Rattle.trlab_bounds.specs.declared.texts.TheConstants.{TEXT_LIMIT}
+use Rattle.trlab_texts.specs.Words.{head_word}
+use Rattle.trlab_texts.specs.Reading.{Fault}
+use Rattle.trlab_jobs.specs.Job.{Job as JobSaid}
+use Rattle.trlab_jobs.specs.Check.{Check as CheckSaid}
+use Rattle.trlab_jobs.specs.Sweep.{Sweep as SweepSaid}
 use Rattle.trlab_texts.specs.declared.fault.Cause.TheVariants.{TooBig}
 use Rattle.trlab_campaign.specs.declared.end.End.{End}
 use Rattle.trlab_campaign.specs.declared.end.End.TheVariants.{Memory}
 use Rattle.trlab_campaign.specs.Ending.{EndsSo, OutputEnds}
-use Rattle.trlab_campaign.specs.Refusal.{too_big_line}
+use Rattle.trlab_campaign.specs.Device.{IsReadOf}
+use Rattle.trlab_campaign.specs.Refusal.{Outputs, fault_line}
 use Rattle.trlab_campaign.specs.Writers.{SinkBytes, AddsNone}
 use Rattle.trlab_campaign.proofs.Endings.{output_ends, kept_at_memory}
-use Rattle.trlab_lines.specs.Plain.{IsPlain}
-use Rattle.trlab_texts.specs.Words.{head_word}
 use Rattle.trlab_diagnosis.specs.Subjects.{IsMeant, MayBe, subject_named}
 use Rattle.trlab_diagnosis.specs.declared.subject.Subject.{Subject}
 use Rattle.trlab_diagnosis.specs.declared.subject.Subject.TheVariants.{Job, Sweep, Check}
-use Rattle.trlab_explain.specs.Explanations.{BeginsWith, Explains, IsReadAs, Tells, TellsNumber, TellsAs, topic_front}
-use Rattle.trlab_explain.specs.Numbers.{is_known}
-use Rattle.trlab_explain.specs.declared.topics.Topic.{Topic}
+use Rattle.trlab_explain.specs.Explanations.{Explains, IsReadAs, TellsAs, TellsCheck, TellsText}
+use Rattle.trlab_explain.specs.declared.explain.Form.{Form}
 
--- two parts were put after a text, the second unless memory ran out
-pub parts_put : {A E : Type 0} (r : Result A E) (old mid new first last : List ℕ) → mid ≡ old ++ first → OnOk r (new ≡ mid ++ last) → OnOk r (new ≡ old ++ (first ++ last))
-parts_put (Ok x) old mid new first last p q = rw (q, p) (simp append_assoc)
-parts_put (Err e) old mid new first last p q = tt
-
--- the page on a text was written so
-pub told_ends : {E : Type 0} (wanted : Option Subject) (text : List ℕ) (told : Result (Bool × List ℕ) E) (e : End) (old new : SinkBytes)
-    → IfOk told (λ t. Tells wanted text t.0 t.1)
-    → MatchResult told (λ t. All IsPlain t.1 × OutputEnds t.0 t.1 e old new) (λ _. (e ≡ Memory) × AddsNone old new)
-    → EndsSo (Explains wanted text) e old new
-told_ends wanted text (Ok t) e old new told ends =
-    output_ends (Explains wanted text) t.0 t.1 e old new (told, ends.0) ends.1
-told_ends wanted text (Err x) e old new told ends = rw ends.0 (inl ends.1)
+-- what was told was written so
+pub told_ends : {A E : Type 0} (told : Result (Bool × A) E) (bytes : A → List ℕ) (IsWhole : Outputs) (e : End) (old new : SinkBytes)
+    → IfOk told (λ t. IsWhole t.0 (bytes t.1))
+    → MatchResult told (λ t. OutputEnds t.0 (bytes t.1) e old new) (λ _. (e ≡ Memory) × AddsNone old new)
+    → EndsSo IsWhole e old new
+told_ends (Ok t) bytes IsWhole e old new whole ends = output_ends IsWhole t.0 (bytes t.1) e old new whole ends
+told_ends (Err x) bytes IsWhole e old new whole ends = rw ends.0 (inl ends.1)
 
 -- each text is meant to be something
 meant_by : (word : List ℕ) (named : Option Subject) → (subject : Subject) × MatchOption named (MayBe word subject) (λ s. subject ≡ s)
@@ -47,35 +45,48 @@ some_read : (wanted : Option Subject) (text : List ℕ) → (subject : Subject) 
 some_read (Some wanted) text = (wanted, refl)
 some_read None text = some_meant (lines_of text)
 
--- a text that is too big, as whatever it is read
-big_as : (subject : Subject) (text : List ℕ) (out : List ℕ) → TEXT_LIMIT < length text → BeginsWith too_big_line out → TellsAs subject text true out
-big_as Job text out big begins = (Err (record { line = 0; cause = TooBig }), rw (lt-ltb TEXT_LIMIT (length text) big) refl, (refl, (begins.0, begins.1 ∙ ap (λ t. t ++ begins.0) (sym (append-nil too_big_line)))))
-big_as Sweep text out big begins = (Err (record { line = 0; cause = TooBig }), rw (lt-ltb TEXT_LIMIT (length text) big) refl, (refl, (begins.0, begins.1 ∙ ap (λ t. t ++ begins.0) (sym (append-nil too_big_line)))))
-big_as Check text out big begins = (Err (record { line = 0; cause = TooBig }), rw (lt-ltb TEXT_LIMIT (length text) big) refl, (refl, (begins.0, begins.1 ∙ ap (λ t. t ++ begins.0) (sym (append-nil too_big_line)))))
+-- the fault of a text that is too long, and the line by which it is refused
+abbrev too_big : Fault
+too_big = record { line = 0; cause = TooBig }
 
--- the page on a text that is too big was written so
-pub big_ends : {E : Type 0} (wanted : Option Subject) (told : Result (Bool × List ℕ) E) (e : End) (left : Option (List ℕ)) (old new : SinkBytes)
-    → IfSome left (λ all. TEXT_LIMIT < length all) → IfOk told (λ t. t.0 ≡ true) → IfOk told (λ t. BeginsWith too_big_line t.1)
-    → MatchResult told (λ t. All IsPlain t.1 × OutputEnds t.0 t.1 e old new) (λ _. (e ≡ Memory) × AddsNone old new)
-    → IfSome left (λ text. EndsSo (Explains wanted text) e old new)
-big_ends wanted told e None old new big refused begins ends = tt
-big_ends wanted (Err x) e (Some all) old new big refused begins ends = rw ends.0 (inl ends.1)
-big_ends wanted (Ok t) e (Some all) old new big refused begins ends =
-    let read = some_read wanted all in
-    let told : TellsAs read.0 all t.0 t.1 = rw refused (big_as read.0 all t.1 big begins) in
-    output_ends (Explains wanted all) t.0 t.1 e old new ((read.0, read.1, told), ends.0) ends.1
+abbrev too_big_line : List ℕ
+too_big_line = fault_line too_big
 
--- the page on a number was written so
-pub number_ends : {E : Type 0} (topic : Topic) (number : ℕ) (told : Result (Bool × List ℕ) E) (e : End) (old new : SinkBytes)
-    → IfOk told (λ t. t.0 ≡ not (is_known topic number)) → IfOk told (λ t. BeginsWith (topic_front topic number) t.1)
-    → MatchResult told (λ t. All IsPlain t.1 × OutputEnds t.0 t.1 e old new) (λ _. (e ≡ Memory) × AddsNone old new)
-    → EndsSo (TellsNumber topic number) e old new
-number_ends topic number (Ok t) e old new refused begins ends =
-    output_ends (TellsNumber topic number) t.0 t.1 e old new (refused, begins, ends.0) ends.1
-number_ends topic number (Err x) e old new refused begins ends = rw ends.0 (inl ends.1)
+-- a text that is too long, as whatever it is read
+big_as : (subject : Subject) (text : List ℕ) → TEXT_LIMIT < length text → TellsAs subject text true too_big_line []
+big_as Job text big = (Err too_big, rw (lt-ltb TEXT_LIMIT (length text) big) refl, (refl, refl, refl))
+big_as Sweep text big = (Err too_big, rw (lt-ltb TEXT_LIMIT (length text) big) refl, (refl, refl, refl))
+big_as Check text big = (Err too_big, rw (lt-ltb TEXT_LIMIT (length text) big) refl, (refl, refl, refl))
 
--- where memory ran out, nothing was written
-pub told_kept : {E : Type 0} (told : Result (Bool × List ℕ) E) (e : End) (old new : SinkBytes)
-    → MatchResult told (λ t. All IsPlain t.1 × OutputEnds t.0 t.1 e old new) (λ _. (e ≡ Memory) × AddsNone old new) → e ≡ Memory → AddsNone old new
-told_kept (Ok t) e old new ends is = kept_at_memory t.0 t.1 e old new ends.1 is
-told_kept (Err x) e old new ends is = ends.1
+-- the head for a text that is too long
+abbrev BigHead : Bool → List ℕ → List ℕ → Type 0
+BigHead refused answer quote = (refused ≡ true) × (answer ≡ too_big_line) × (quote ≡ [])
+
+big_told : (subject : Subject) (text : List ℕ) (refused : Bool) (answer quote : List ℕ) → TEXT_LIMIT < length text
+    → TellsAs subject text refused answer quote → BigHead refused answer quote
+big_told Job text refused answer quote big told =
+    subst (λ (says : Result JobSaid Fault). TellsText text says refused answer quote) (rw (lt-ltb TEXT_LIMIT (length text) big) at told.1) told.2
+big_told Sweep text refused answer quote big told =
+    subst (λ (says : Result SweepSaid Fault). TellsText text says refused answer quote) (rw (lt-ltb TEXT_LIMIT (length text) big) at told.1) told.2
+big_told Check text refused answer quote big told =
+    subst (λ (says : Result CheckSaid Fault). TellsCheck text says refused answer quote) (rw (lt-ltb TEXT_LIMIT (length text) big) at told.1) told.2
+
+-- an explanation of what was read of an input is one of the input
+read_explains : (form : Form) (wanted : Option Subject) (text input : List ℕ) (refused : Bool) (out : List ℕ) → IsReadOf text input
+    → Explains form wanted text refused out → Explains form wanted input refused out
+read_explains form wanted text input refused out (inl same) explains = subst (λ (t : List ℕ). Explains form wanted t refused out) same explains
+read_explains form wanted text input refused out (inr long) explains =
+    let big = big_told explains.2.0 text refused explains.0 explains.1 long.0 explains.2.2 in
+    let read = some_read wanted input in
+    (explains.0, explains.1, (read.0, read.1, rw (big.0, big.1, big.2) (big_as read.0 input long.1)), explains.3, explains.4)
+
+pub reads : {A E : Type 0} (told : Result (Bool × A) E) (bytes : A → List ℕ) (form : Form) (wanted : Option Subject) (text input : List ℕ) → IsReadOf text input
+    → IfOk told (λ t. Explains form wanted text t.0 (bytes t.1)) → IfOk told (λ t. Explains form wanted input t.0 (bytes t.1))
+reads (Ok t) bytes form wanted text input read explains = read_explains form wanted text input t.0 (bytes t.1) read explains
+reads (Err x) bytes form wanted text input read explains = tt
+
+-- if an allocation fails, nothing was written
+pub told_kept : {A E : Type 0} (told : Result (Bool × A) E) (bytes : A → List ℕ) (e : End) (old new : SinkBytes)
+    → MatchResult told (λ t. OutputEnds t.0 (bytes t.1) e old new) (λ _. (e ≡ Memory) × AddsNone old new) → e ≡ Memory → AddsNone old new
+told_kept (Ok t) bytes e old new ends is = kept_at_memory t.0 (bytes t.1) e old new ends is
+told_kept (Err x) bytes e old new ends is = ends.1

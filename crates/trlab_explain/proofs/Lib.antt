@@ -1,3 +1,4 @@
 pub mod Known
 pub mod Endings
 pub mod SomeTelling
+pub mod PlainTokens

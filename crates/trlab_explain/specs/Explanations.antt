@@ -1,5 +1,5 @@
--- What is told of a text, whatever words are chosen: where it is refused, how that begins.
-use Rattle.std.specs.Prelude.{◌≡◌, ℕ, true, false, not, All, List, ◌++◌, codes, decimal, Option, None, Some, Result, Ok, Err}
+-- The explanations of an input: whether it is rejected, and how the explanation begins.
+use Rattle.std.specs.Prelude.{◌≡◌, ℕ, Bool, true, false, not, All, List, [], ◌++◌, codes, decimal, Option, None, Some, Result, Ok, Err, if◌then◌else◌}
 use Rattle.trlab_lines.specs.Plain.{IsPlain}
 use Rattle.trlab_lines.specs.Lines.{lines_of}
 use Rattle.trlab_verify.specs.Verdict.{IsAccepted, IsRefused}
@@ -14,60 +14,76 @@ use Rattle.trlab_diagnosis.specs.Subjects.{IsMeant}
 use Rattle.trlab_diagnosis.specs.declared.subject.Subject.{Subject}
 use Rattle.trlab_diagnosis.specs.declared.subject.Subject.TheVariants.{Job, Sweep, Check}
 use Rattle.trlab_explain.specs.Quotes.{quote_line}
+use Rattle.trlab_explain.specs.Json.{EndsObject}
 use Rattle.trlab_explain.specs.Numbers.{is_known}
+use Rattle.trlab_explain.specs.declared.explain.Form.{Form}
+use Rattle.trlab_explain.specs.declared.explain.Form.TheVariants.{Text, Json}
 use Rattle.trlab_explain.specs.declared.topics.Topic.{Topic}
 use Rattle.trlab_explain.specs.declared.topics.Topic.TheVariants.{Cause, Reason}
 
--- how a fault is told: the line by which the text is refused, and the line of the text
-abbrev pub fault_head : List ℕ → Fault → List ℕ
-fault_head text fault = fault_line fault ++ quote_line fault.line (line_at fault.line (lines_of text))
+-- the heads that an explanation may have: whether it is a rejection, the line that the command prints, and the line
+-- of the input
+abbrev pub Heads : Type 1
+Heads = Bool → List ℕ → List ℕ → Type 0
 
--- a text goes on after this front
+-- a text begins with this front
 abbrev pub BeginsWith : List ℕ → List ℕ → Type 0
 BeginsWith front out = (more : List ℕ) × (out ≡ front ++ more)
 
--- what is told of a text with a fault
-abbrev pub TellsFault : List ℕ → Fault → Outputs
-TellsFault text fault refused out = (refused ≡ true) × BeginsWith (fault_head text fault) out
+-- the head for a text with a fault
+abbrev pub TellsFault : List ℕ → Fault → Heads
+TellsFault text fault refused answer quote = (refused ≡ true) × (answer ≡ fault_line fault)
+    × (quote ≡ quote_line fault.line (line_at fault.line (lines_of text)))
 
--- what is told by what a job or sweep text says
-abbrev pub TellsText : {A : Type 0} → List ℕ → Result A Fault → Outputs
-TellsText text (Ok said) refused out = refused ≡ false
-TellsText text (Err fault) refused out = TellsFault text fault refused out
+-- the head for a job or sweep, by what it says
+abbrev pub TellsText : {A : Type 0} → List ℕ → Result A Fault → Heads
+TellsText text (Ok said) refused answer quote = refused ≡ false
+TellsText text (Err fault) refused answer quote = TellsFault text fault refused answer quote
 
--- what is told of the program of a check
-abbrev pub TellsProgram : CheckSaid → Outputs
-TellsProgram check false out = IsAccepted check.program.kind check.program
-TellsProgram check true out = (at reason : ℕ)
-    × IsRefused check.program.kind check.program at reason × BeginsWith (refused_line at reason) out
+-- the head for the program of a check
+abbrev pub TellsProgram : CheckSaid → Heads
+TellsProgram check false answer quote = IsAccepted check.program.kind check.program
+TellsProgram check true answer quote = (at reason : ℕ)
+    × IsRefused check.program.kind check.program at reason × (answer ≡ refused_line at reason)
 
--- what is told by what a check text says
-abbrev pub TellsCheck : List ℕ → Result CheckSaid Fault → Outputs
-TellsCheck text (Ok check) refused out = TellsProgram check refused out
-TellsCheck text (Err fault) refused out = TellsFault text fault refused out
+-- the head for a check, by what it says
+abbrev pub TellsCheck : List ℕ → Result CheckSaid Fault → Heads
+TellsCheck text (Ok check) refused answer quote = TellsProgram check refused answer quote
+TellsCheck text (Err fault) refused answer quote = TellsFault text fault refused answer quote
 
--- what is told of a text that is read so
-abbrev pub TellsAs : Subject → List ℕ → Outputs
-TellsAs Job text refused out =
-    (says : Result JobSaid Fault) × JobText text says × TellsText text says refused out
-TellsAs Sweep text refused out =
-    (says : Result SweepSaid Fault) × SweepText text says × TellsText text says refused out
-TellsAs Check text refused out =
-    (says : Result CheckSaid Fault) × CheckText text says × TellsCheck text says refused out
+-- the head for a text that is read as this
+abbrev pub TellsAs : Subject → List ℕ → Heads
+TellsAs Job text refused answer quote =
+    (says : Result JobSaid Fault) × JobText text says × TellsText text says refused answer quote
+TellsAs Sweep text refused answer quote =
+    (says : Result SweepSaid Fault) × SweepText text says × TellsText text says refused answer quote
+TellsAs Check text refused answer quote =
+    (says : Result CheckSaid Fault) × CheckText text says × TellsCheck text says refused answer quote
 
 -- what a text is read as: what is wanted, or else what it is meant to be
 abbrev pub IsReadAs : Option Subject → List ℕ → Subject → Type 0
 IsReadAs (Some wanted) text subject = subject ≡ wanted
 IsReadAs None text subject = IsMeant (lines_of text) subject
 
--- what is told of a text, by what is wanted
-abbrev pub Tells : Option Subject → List ℕ → Outputs
-Tells wanted text refused out = (subject : Subject) × IsReadAs wanted text subject × TellsAs subject text refused out
+-- the head for a text that is read as what is wanted, or else as what it is meant to be
+abbrev pub Tells : Option Subject → List ℕ → Heads
+Tells wanted text refused answer quote =
+    (subject : Subject) × IsReadAs wanted text subject × TellsAs subject text refused answer quote
 
--- the whole explanations that there may be of a text, each with whether it is refused: plain text, whatever
--- bytes the text has
-abbrev pub Explains : Option Subject → List ℕ → Outputs
-Explains wanted text refused out = Tells wanted text refused out × All IsPlain out
+-- the first lines of the text form
+abbrev pub text_front : Bool → List ℕ → List ℕ → List ℕ
+text_front refused answer quote = if refused then answer ++ quote else []
+
+-- a form of an explanation has this head
+abbrev pub HasHead : Form → Bool → List ℕ → List ℕ → List ℕ → Type 0
+HasHead Text refused answer quote out = BeginsWith (text_front refused answer quote) out
+HasHead Json refused answer quote out = EndsObject refused answer out
+
+-- the whole explanations that there may be of a text in a form, each with whether it is a rejection: plain text,
+-- whatever bytes the text has
+abbrev pub Explains : Form → Option Subject → List ℕ → Outputs
+Explains form wanted text refused out = (answer quote : List ℕ)
+    × Tells wanted text refused answer quote × HasHead form refused answer quote out × All IsPlain out
 
 -- how the page on a number begins
 abbrev pub topic_front : Topic → ℕ → List ℕ

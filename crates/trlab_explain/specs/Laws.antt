@@ -6,4 +6,4 @@ use Rattle.trlab_explain.specs.Explanations.{TellsAs}
 -- of any text something can be told, whatever it is read as
 abbrev pub TellsSomething : Type 0
 TellsSomething = (subject : Subject) (text : List ℕ)
-    → (refused : Bool) × (out : List ℕ) × TellsAs subject text refused out
+    → (refused : Bool) × (answer quote : List ℕ) × TellsAs subject text refused answer quote

@@ -1,4 +1,5 @@
 pub mod Numbers
 pub mod Quotes
+pub mod Json
 pub mod Explanations
 pub mod Laws

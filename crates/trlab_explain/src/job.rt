@@ -1,50 +1,21 @@
-//! What a good job text will do.
+//! The work of a valid job.
 
-use crate::chances::push_decimal;
-use crate::lines::{count_digits, megabytes, push_count, push_counts, push_rules};
+use crate::explanation::{Amount, Body, Number, count};
+use crate::lines::{add_rules, count_digits, megabytes};
 use std::alloc::{AllocError, Global};
-use trlab_bounds::runs::MOST_LATER;
+use trlab_bounds::runs::MAX_LATER;
 use trlab_jobs::Job;
-use trlab_lines::Page;
 use trlab_road::Road;
 
-/// How many bytes a run writes: for each step its line, and the picture of each lane.
+/// The number of bytes that a run writes: for each step its line and a row per lane.
 fn output_bytes(road: &Road, steps: u32) -> u64 {
-    let pictures = u64::from(road.lanes()).saturating_mul(u64::from(road.length()).saturating_add(
-        1,
-    ));
+    let rows = u64::from(road.lanes()).saturating_mul(u64::from(road.length()).saturating_add(1));
     let mut bytes = 0u64;
     for step in 0..=steps {
         let line = count_digits(u64::from(step)).saturating_add(6);
-        bytes = bytes.saturating_add(line).saturating_add(pictures);
+        bytes = bytes.saturating_add(line).saturating_add(rows);
     }
     bytes
-}
-
-/// The maximum number of digits after the point of a density.
-const DENSITY_DECIMALS: u32 = 4;
-
-/// Adds the road of a job: its lanes, cells, cars, density and maximum speed.
-fn push_road(page: &mut Page, road: &Road) -> Result<(), AllocError> {
-    let cells = u64::from(road.lanes()).saturating_mul(u64::from(road.length()));
-    let cars = u64::from(road.cars());
-    push_counts(
-        page,
-        &[
-            ("Lanes: ", u64::from(road.lanes()), "."),
-            ("Cells per lane: ", u64::from(road.length()), "."),
-            ("Cars: ", cars, "."),
-        ],
-    )?;
-    page.say("Density: ")?;
-    push_decimal(page, cars, cells, DENSITY_DECIMALS)?;
-    page.line(" cars per cell.")?;
-    push_count(
-        page,
-        "Maximum speed: ",
-        u64::from(road.limit()),
-        " cells per step.",
-    )
 }
 
 /// An upper bound on the bytes of memory of a run with one worker, fitted to measurements.
@@ -55,41 +26,82 @@ fn memory_bytes(text: &[u8], cars: u32) -> u64 {
         .saturating_add(3_000_000)
 }
 
-/// Adds what a job will do.
-fn push_job(page: &mut Page, text: &[u8], job: &Job) -> Result<(), AllocError> {
-    page.line("This is a valid job: `trlab run` runs it.")?;
-    push_road(page, &job.road)?;
-    push_rules(page, "The rule from the start:", text, b"rule", 1)?;
-    if !job.later.is_empty() {
-        push_rules(page, "Later rules:", text, b"at", MOST_LATER)?;
-    }
-    let steps = u64::from(job.steps);
-    push_counts(
-        page,
-        &[
-            ("Steps: ", steps, "."),
-            (
-                "Work: ",
-                u64::from(job.road.cars()).saturating_mul(steps),
-                " car-steps.",
-            ),
-            ("Output: ", output_bytes(&job.road, job.steps), " bytes."),
-            (
-                "Memory: about ",
-                megabytes(memory_bytes(text, job.road.cars())),
-                " MB with one worker (measured, not proved).",
-            ),
-        ],
-    )
+/// The numbers of the road of a job.
+fn road_numbers(road: &Road) -> [Number; 5] {
+    let cells = u64::from(road.lanes()).saturating_mul(u64::from(road.length()));
+    let cars = u64::from(road.cars());
+    [
+        count("lanes", "Lanes: ", u64::from(road.lanes()), "."),
+        count("cells", "Cells per lane: ", u64::from(road.length()), "."),
+        count("cars", "Cars: ", cars, "."),
+        Number {
+            key: "density",
+            front: "Density: ",
+            amount: Amount::Ratio {
+                part: cars,
+                whole: cells,
+            },
+            after: " cars per cell.",
+        },
+        count(
+            "limit",
+            "Maximum speed: ",
+            u64::from(road.limit()),
+            " cells per step.",
+        ),
+    ]
 }
 
-/// The page on what a job will do.
-///
-/// # Errors
-///
-/// Where memory ran out.
-pub fn job_page(alloc: Global, text: &[u8], job: &Job) -> Result<Page, AllocError> {
-    let mut page = Page::new(alloc);
-    push_job(&mut page, text, job)?;
-    Ok(page)
+/// The numbers of the run of a job.
+fn run_numbers(text: &[u8], job: &Job) -> [Number; 4] {
+    let steps = u64::from(job.steps);
+    let work = u64::from(job.road.cars()).saturating_mul(steps);
+    let memory = megabytes(memory_bytes(text, job.road.cars()));
+    [
+        count("steps", "Steps: ", steps, "."),
+        count("work", "Work: ", work, " car-steps."),
+        count(
+            "output_bytes",
+            "Output: ",
+            output_bytes(&job.road, job.steps),
+            " bytes.",
+        ),
+        count(
+            "memory_mb",
+            "Memory: about ",
+            memory,
+            " MB with one worker (measured, not proved).",
+        ),
+    ]
+}
+
+/// Adds the road, the rules and the work of a valid job.
+pub fn add_job(
+    alloc: Global,
+    body: &mut Body<'_>,
+    text: &[u8],
+    job: &Job,
+) -> Result<(), AllocError> {
+    body.intro = "This is a valid job: `trlab run` runs it.";
+    body.numbers.extend_from_slice(&road_numbers(&job.road))?;
+    body.numbers_above = body.numbers.len();
+    add_rules(
+        alloc,
+        &mut body.facts,
+        "The rule from the start:",
+        text,
+        b"rule",
+        1,
+    )?;
+    if !job.later.is_empty() {
+        add_rules(
+            alloc,
+            &mut body.facts,
+            "Later rules:",
+            text,
+            b"at",
+            MAX_LATER,
+        )?;
+    }
+    body.numbers.extend_from_slice(&run_numbers(text, job))
 }

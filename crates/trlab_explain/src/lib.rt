@@ -1,21 +1,24 @@
-//! Explanations: what is wrong with a refused text and how it may be mended, or what a good one will do, in
-//! plain words. No contract says which words these are, but how an explanation begins, how a line of a text is
-//! quoted, and what is refused.
+//! Explanations: why an input is rejected and how to repair it, or the work of a valid one, in plain words or as a
+//! JSON object. No contract says which words these are, except how an explanation begins or ends, how a line of the
+//! input is quoted, and which inputs are rejected.
 #![tactic(auto)]
 
-mod chances;
-mod check;
+mod causes;
 mod explain;
+mod explanation;
 mod fault;
-mod head;
+mod forms;
 mod job;
+mod json_form;
 pub mod laws;
 mod lines;
-mod numbered;
+mod object;
+mod program;
+mod reasons;
+mod repairs;
 mod sweep;
-mod texts;
+mod text;
 mod topics;
-mod verdict;
 
-pub use explain::explain_text;
+pub use explain::{Form, explain_text};
 pub use topics::{Topic, explain_number};

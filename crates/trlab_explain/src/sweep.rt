@@ -1,44 +1,25 @@
-//! What a good sweep text will do.
+//! The work of a valid sweep.
 
-use crate::lines::{count_digits, megabytes, push_count, push_counts, push_rules};
+use crate::explanation::{Body, count};
+use crate::lines::{add_rules, count_digits, megabytes};
 use std::alloc::{AllocError, Global};
 use trlab_jobs::Sweep;
-use trlab_lines::Page;
 
-/// The least and the greatest count of cars of a point.
-fn span_of(cars: &[u32]) -> (u32, u32) {
-    let mut least = u32::MAX;
+/// The fewest and the most cars of a point, and all cars of all points.
+fn span_of(cars: &[u32]) -> (u32, u32, u64) {
+    let mut fewest = u32::MAX;
     let mut most = 0;
+    let mut all = 0u64;
     for count in cars {
-        least = least.min(*count);
+        fewest = fewest.min(*count);
         most = most.max(*count);
+        all = all.saturating_add(u64::from(*count));
     }
-    (least, most)
+    (fewest, most, all)
 }
 
-/// Adds the roads of a sweep: their lanes, cells and limit, and from how many cars to how many.
-fn push_roads(page: &mut Page, sweep: &Sweep) -> Result<(), AllocError> {
-    let cells = u64::from(sweep.lanes).saturating_mul(u64::from(sweep.length));
-    let (least, most) = span_of(&sweep.cars);
-    push_counts(
-        page,
-        &[
-            ("Lanes: ", u64::from(sweep.lanes), "."),
-            ("Cells per lane: ", u64::from(sweep.length), "."),
-            (
-                "Maximum speed: ",
-                u64::from(sweep.limit),
-                " cells per step.",
-            ),
-            ("Cells per road: ", cells, "."),
-            ("Fewest cars: ", u64::from(least), "."),
-            ("Most cars: ", u64::from(most), "."),
-        ],
-    )
-}
-
-/// How many of some cars start on the first of two lanes: cells count across the lanes, place by place, and
-/// the cars are spread evenly over them.
+/// How many of some cars start on lane 0 of two: they are spread evenly over the cells, which count across the
+/// lanes.
 fn cars_of_first_lane(cells: u64, cars: u32) -> u64 {
     let mut first = 0u64;
     for car in 0..cars {
@@ -50,130 +31,131 @@ fn cars_of_first_lane(cells: u64, cars: u32) -> u64 {
     first
 }
 
-/// Adds how some cars start on two lanes.
-fn push_start(page: &mut Page, cells: u64, cars: u32) -> Result<(), AllocError> {
-    let first = cars_of_first_lane(cells, cars);
-    page.say("With ")?;
-    page.number(u64::from(cars))?;
-    push_count(page, " cars, ", first, " start on lane 0.")
+/// Adds how many of some cars start on lane 0.
+fn add_start(
+    body: &mut Body<'_>,
+    key: &'static str,
+    cells: u64,
+    cars: u32,
+) -> Result<(), AllocError> {
+    body.numbers.extend_from_slice(&[
+        count("", "With ", u64::from(cars), " cars, "),
+        count(
+            key,
+            "",
+            cars_of_first_lane(cells, cars),
+            " start on lane 0.",
+        ),
+    ])
 }
 
-/// Adds how the cars of a sweep start, where its roads have two lanes.
-fn push_starts(page: &mut Page, sweep: &Sweep) -> Result<(), AllocError> {
-    if sweep.lanes != 2 {
-        return Ok(());
-    }
-    let cells = u64::from(sweep.length).saturating_mul(2);
-    let (least, most) = span_of(&sweep.cars);
-    push_start(page, cells, least)?;
-    if least == most {
-        return Ok(());
-    }
-    push_start(page, cells, most)
-}
-
-/// How many cars the points of a sweep have together.
-fn all_cars(sweep: &Sweep) -> u64 {
-    let mut cars = 0u64;
-    for count in &sweep.cars {
-        cars = cars.saturating_add(u64::from(*count));
-    }
-    cars
-}
-
-/// The bytes of the heading of a table, and of a line the commas, its end and the flow at most.
+/// The bytes of the heading of a table, and for each row those of the commas, the end and the longest flow.
 const HEADING_BYTES: u64 = 49;
 
-const LINE_BYTES: u64 = 15;
+const ROW_BYTES: u64 = 15;
 
-/// How many bytes the table of a sweep has at most.
+/// The maximum number of bytes of the table of a sweep.
 fn output_bytes(sweep: &Sweep) -> u64 {
     let cells = u64::from(sweep.lanes).saturating_mul(u64::from(sweep.length));
     let mut bytes = HEADING_BYTES;
     for count in &sweep.cars {
         let cars = u64::from(*count);
         let times = cars.saturating_mul(u64::from(sweep.measure));
-        let line = count_digits(cars)
+        let row = count_digits(cars)
             .saturating_add(count_digits(cells))
             .saturating_add(count_digits(u64::from(sweep.measure)))
             .saturating_add(count_digits(times.saturating_mul(u64::from(sweep.limit))))
             .saturating_add(count_digits(times).saturating_mul(2));
-        bytes = bytes.saturating_add(line).saturating_add(LINE_BYTES);
+        bytes = bytes.saturating_add(row).saturating_add(ROW_BYTES);
     }
     bytes
 }
 
-/// The most cars of the roads that a sweep keeps at once.
-const MOST_AT_ONCE: u64 = 6_400_000;
+/// The maximum number of cars of the roads that a sweep keeps at once.
+const MAX_AT_ONCE: u64 = 6_400_000;
 
-/// How many bytes of memory a sweep by one runner took at most, where it was measured: by its text, the cars of
-/// all its points, those of the largest one, and its steps.
-fn memory_bytes(text: &[u8], cars: u64, most: u32, steps: u64) -> u64 {
+/// An upper bound on the bytes of memory of a sweep with one runner, fitted to measurements: by its file, the cars
+/// of all points and of the largest one, and the steps.
+fn memory_bytes(text: &[u8], all: u64, most: u32, steps: u64) -> u64 {
     (text.len() as u64)
         .saturating_mul(9)
-        .saturating_add(cars.min(MOST_AT_ONCE).saturating_mul(26))
+        .saturating_add(all.min(MAX_AT_ONCE).saturating_mul(26))
         .saturating_add(u64::from(most).saturating_mul(26))
         .saturating_add(steps.saturating_mul(64))
         .saturating_add(4_000_000)
 }
 
-/// Adds the work of a sweep, and what it takes.
-fn push_work(page: &mut Page, text: &[u8], sweep: &Sweep, work: u64) -> Result<(), AllocError> {
-    let cars = all_cars(sweep);
-    let (_, most) = span_of(&sweep.cars);
-    let steps = u64::from(sweep.warm).saturating_add(u64::from(sweep.measure));
-    push_counts(
-        page,
-        &[
-            ("Work: ", work, " steps in total (maximum 500000)."),
-            ("Work: ", cars.saturating_mul(steps), " car-steps."),
-            ("Output: at most ", output_bytes(sweep), " bytes."),
-            (
-                "Memory: about ",
-                megabytes(memory_bytes(text, cars, most, work)),
-                " MB with one runner (measured, not proved).",
-            ),
-        ],
-    )
+/// Adds the roads of a sweep, and how their cars start if they have two lanes.
+fn add_roads(body: &mut Body<'_>, sweep: &Sweep) -> Result<(), AllocError> {
+    let cells = u64::from(sweep.lanes).saturating_mul(u64::from(sweep.length));
+    let (fewest, most, _) = span_of(&sweep.cars);
+    body.numbers.extend_from_slice(&[
+        count("lanes", "Lanes: ", u64::from(sweep.lanes), "."),
+        count("cells", "Cells per lane: ", u64::from(sweep.length), "."),
+        count(
+            "limit",
+            "Maximum speed: ",
+            u64::from(sweep.limit),
+            " cells per step.",
+        ),
+        count("road_cells", "Cells per road: ", cells, "."),
+        count("fewest_cars", "Fewest cars: ", u64::from(fewest), "."),
+        count("most_cars", "Most cars: ", u64::from(most), "."),
+    ])?;
+    if sweep.lanes != 2 {
+        return Ok(());
+    }
+    add_start(body, "fewest_on_lane_0", cells, fewest)?;
+    if fewest == most {
+        return Ok(());
+    }
+    add_start(body, "most_on_lane_0", cells, most)
 }
 
-/// Adds the points of a sweep, and the work that they are.
-fn push_points(page: &mut Page, text: &[u8], sweep: &Sweep) -> Result<(), AllocError> {
+/// Adds the points of a sweep, and their work.
+fn add_points(body: &mut Body<'_>, text: &[u8], sweep: &Sweep) -> Result<(), AllocError> {
+    let (_, most, all) = span_of(&sweep.cars);
     let points = sweep.cars.len() as u64;
     let warm = u64::from(sweep.warm);
     let measure = u64::from(sweep.measure);
-    push_counts(
-        page,
-        &[
-            ("Points: ", points, ", one row of the table each."),
-            ("Warm-up steps per point: ", warm, "."),
-            ("Measured steps per point: ", measure, "."),
-        ],
-    )?;
-    push_work(
-        page,
-        text,
-        sweep,
-        points.saturating_mul(warm.saturating_add(measure)),
-    )
+    let steps = warm.saturating_add(measure);
+    let total = points.saturating_mul(steps);
+    body.numbers.extend_from_slice(&[
+        count("points", "Points: ", points, ", one row of the table each."),
+        count("warm", "Warm-up steps per point: ", warm, "."),
+        count("measure", "Measured steps per point: ", measure, "."),
+        count(
+            "steps",
+            "Work: ",
+            total,
+            " steps in total (maximum 500000).",
+        ),
+        count("work", "Work: ", all.saturating_mul(steps), " car-steps."),
+        count(
+            "output_bytes",
+            "Output: at most ",
+            output_bytes(sweep),
+            " bytes.",
+        ),
+        count(
+            "memory_mb",
+            "Memory: about ",
+            megabytes(memory_bytes(text, all, most, total)),
+            " MB with one runner (measured, not proved).",
+        ),
+    ])
 }
 
-/// Adds what a sweep will do.
-fn push_sweep(page: &mut Page, text: &[u8], sweep: &Sweep) -> Result<(), AllocError> {
-    page.line("This is a valid sweep: `trlab sweep` runs it.")?;
-    push_roads(page, sweep)?;
-    push_starts(page, sweep)?;
-    push_rules(page, "The rule:", text, b"rule", 1)?;
-    push_points(page, text, sweep)
-}
-
-/// The page on what a sweep will do.
-///
-/// # Errors
-///
-/// Where memory ran out.
-pub fn sweep_page(alloc: Global, text: &[u8], sweep: &Sweep) -> Result<Page, AllocError> {
-    let mut page = Page::new(alloc);
-    push_sweep(&mut page, text, sweep)?;
-    Ok(page)
+/// Adds the roads, the rule and the work of a valid sweep.
+pub fn add_sweep(
+    alloc: Global,
+    body: &mut Body<'_>,
+    text: &[u8],
+    sweep: &Sweep,
+) -> Result<(), AllocError> {
+    body.intro = "This is a valid sweep: `trlab sweep` runs it.";
+    add_roads(body, sweep)?;
+    body.numbers_above = body.numbers.len();
+    add_rules(alloc, &mut body.facts, "The rule:", text, b"rule", 1)?;
+    add_points(body, text, sweep)
 }

@@ -1,16 +1,14 @@
-//! What a number means that refused texts and programs tell.
+//! The numbers of causes and reasons, explained.
 
 ghost use Rattle.std.specs.Prelude.{◌≡◌, ◌++◌, IfOk, OnOk, false, not, true};
 ghost use Rattle.trlab_campaign.specs.Ending.{EndsSo, LeavesWriter};
 ghost use Rattle.trlab_explain.specs.Explanations.{BeginsWith, TellsNumber, topic_front};
 ghost use Rattle.trlab_explain.specs.Numbers.{is_known};
 
-use crate::explain::write_told;
-use crate::fault::causes::cause_words;
-use crate::fault::push_check;
+use crate::causes::{cause_numbered, cause_words, reason_of};
+use crate::explain::{plain_bytes, write_told};
 use crate::lines::push_both;
-use crate::numbered::{cause_numbered, reason_of};
-use crate::verdict::reasons::reason_words;
+use crate::reasons::reason_words;
 use std::alloc::{AllocError, AllocGlobal, Global};
 use trlab_campaign::{End, Sink};
 use trlab_code::Kind;
@@ -18,7 +16,7 @@ use trlab_lines::Page;
 use trlab_notes::Reason;
 use trlab_texts::Cause;
 
-/// What has a number that a refusal tells.
+/// The kinds of numbers in the answers to rejected inputs.
 #[derive(Clone, Copy)]
 pub enum Topic {
     /// The cause of a line `fault line N cause K`.
@@ -27,7 +25,7 @@ pub enum Topic {
     Reason,
 }
 
-/// Adds what is advised for a reason.
+/// Adds the advice for a reason.
 fn push_advice(page: &mut Page, reason: Reason) -> Result<(), AllocError> {
     let motion = reason_words(reason, Kind::Motion).advice;
     let change = reason_words(reason, Kind::Change).advice;
@@ -38,7 +36,7 @@ fn push_advice(page: &mut Page, reason: Reason) -> Result<(), AllocError> {
     push_both(page, "Advice for a change program: ", change)
 }
 
-/// Adds what is said of a cause after its number.
+/// Adds the words for a cause.
 fn push_cause(page: &mut Page, cause: Cause) -> Result<(), AllocError> {
     let words = cause_words(cause);
     page.line(words.meaning)?;
@@ -47,18 +45,20 @@ fn push_cause(page: &mut Page, cause: Cause) -> Result<(), AllocError> {
         push_both(page, "The reason: ", meaning)?;
         push_advice(page, reason)?;
     }
-    push_check(page, words.check)?;
+    if !words.check.is_empty() {
+        push_both(page, "Check: ", words.check)?;
+    }
     page.line("To find it in your file: `trlab explain < FILE`. All causes: docs/ERRORS.md.")
 }
 
-/// Adds what is said of a reason after its number.
+/// Adds the words for a reason.
 fn push_reason(page: &mut Page, reason: Reason) -> Result<(), AllocError> {
     page.line(reason_words(reason, Kind::Motion).meaning)?;
     push_advice(page, reason)?;
     page.line("To find it in your file: `trlab explain < FILE`. All reasons: docs/ERRORS.md.")
 }
 
-/// Adds that there is no such number, and answers so.
+/// Adds that there is no such number, and returns true.
 fn push_none(page: &mut Page) -> Result<bool, AllocError>
     ensures { IfOk result (λ is_none. is_none ≡ true) }
 {
@@ -66,7 +66,7 @@ fn push_none(page: &mut Page) -> Result<bool, AllocError>
     Ok(true)
 }
 
-/// Adds what is told of a number after it, and answers whether there is no such number.
+/// Adds the words for a number, and returns whether there is no such number.
 fn push_number(page: &mut Page, topic: Topic, number: u32) -> Result<bool, AllocError>
     ensures { IfOk result (λ is_none. is_none ≡ not (is_known topic number)) }
 {
@@ -83,7 +83,7 @@ fn push_number(page: &mut Page, topic: Topic, number: u32) -> Result<bool, Alloc
     Ok(false)
 }
 
-/// Adds how the page on a number begins.
+/// Adds the number itself.
 fn push_topic(page: &mut Page, topic: Topic, number: u32) -> Result<(), AllocError>
     ensures { OnOk result (page.new ≡ page.old ++ topic_front topic number) }
 {
@@ -95,21 +95,19 @@ fn push_topic(page: &mut Page, topic: Topic, number: u32) -> Result<(), AllocErr
     page.say(": ")
 }
 
-/// The page on a number, and whether there is no such number.
-fn number_page(alloc: Global, topic: Topic, number: u32) -> Result<(bool, Page), AllocError>
-    ensures refused { IfOk result (λ told. told.0 ≡ not (is_known topic number)) }
-    ensures begins { IfOk result (λ told. BeginsWith (topic_front topic number) told.1) }
+/// Whether there is no such number, and the page on it.
+fn number_page(alloc: Global, topic: Topic, number: u32) -> Result<(bool, Vec<u8>), AllocError>
+    ensures { IfOk result (λ told. TellsNumber topic number told.0 told.1.items) }
 {
     let mut body = Page::new(alloc);
     let is_none = push_number(&mut body, topic, number)?;
     let mut page = Page::new(alloc);
     push_topic(&mut page, topic, number)?;
     page.add(&body)?;
-    Ok((is_none, page))
+    Ok((is_none, plain_bytes(alloc, &page)?))
 }
 
-/// Writes what the cause or the reason of a number means, and how it is usually mended; it is
-/// refused where there is none of this number.
+/// Writes the meaning of the cause or reason with a number, and how to repair it. An unknown number is rejected.
 pub fn explain_number<R: AllocGlobal, K: Sink>(
     rt: &R,
     topic: Topic,

@@ -7,7 +7,7 @@ use Rattle.trlab_texts.specs.declared.fault.LineFault.{LineFault}
 use Rattle.trlab_texts.specs.declared.fault.LineFault.TheVariants.{Wrong, Memory as NoMemory}
 use Rattle.trlab_texts.specs.declared.fault.TextFault.{TextFault}
 use Rattle.trlab_texts.specs.declared.fault.TextFault.TheVariants.{At, Memory}
-use Rattle.trlab_texts.specs.Reading.{Reports, ReportsLine, fault_at}
+use Rattle.trlab_texts.specs.Reading.{Reports, ReportsLine, text_fault}
 use Rattle.trlab_texts.specs.Programs.{code_line}
 use Rattle.trlab_jobs.specs.declared.check.Question.{Question}
 use Rattle.trlab_jobs.specs.Check.{check_of, question_of, Check, CheckLinesSay, LoneCodeSays, ProgramSays, QuestionSays}
@@ -20,7 +20,7 @@ pub code_before_others : (text : List ℕ) (left : List (List ℕ)) (program : P
 code_before_others text [] program says some = absurd (some refl)
 code_before_others text (next ∷ left) program says some = (Ok program, (says, refl))
 
-pub no_code_alone : (text : List ℕ) (left : List (List ℕ)) (fault : LineFault) → ReportsLine (code_line text) (Err fault) → Reports (LoneCodeSays text left) (Err (fault_at 1 fault))
+pub no_code_alone : (text : List ℕ) (left : List (List ℕ)) (fault : LineFault) → ReportsLine (code_line text) (Err fault) → Reports (LoneCodeSays text left) (Err (text_fault 1 fault))
 no_code_alone text left (Wrong cause) says = (Err cause, (says, refl))
 no_code_alone text left NoMemory says = tt
 

@@ -6,7 +6,7 @@ use Rattle.trlab_texts.specs.declared.fault.Cause.{Cause}
 use Rattle.trlab_texts.specs.declared.fault.TextFault.{TextFault}
 use Rattle.trlab_texts.specs.declared.fault.TextFault.TheVariants.{At, Memory}
 use Rattle.trlab_texts.specs.Lines.{Rest}
-use Rattle.trlab_texts.specs.Reading.{Fault, LineSays, in_line, at_line, exactly, Reports}
+use Rattle.trlab_texts.specs.Reading.{Fault, LineSays, line_with_rest, at_line, exactly, Reports}
 use Rattle.trlab_jobs.specs.Counts.{cars_line, counts_from}
 
 -- counts after others
@@ -28,14 +28,14 @@ said_or other (Ok found) = found
 said_or other (Err fault) = other
 
 -- what a line said, by what was told of it
-line_said : (number count : ℕ) (left : List (List ℕ)) (after : Rest) (says : Result ℕ Cause) → Ok (count, after) ≡ in_line number left says
+line_said : (number count : ℕ) (left : List (List ℕ)) (after : Rest) (says : Result ℕ Cause) → Ok (count, after) ≡ line_with_rest number left says
     → (says ≡ Ok count) × ((after.number ≡ number + 1) × (after.left ≡ left))
 line_said number count left after (Ok n) e =
     let same = ap (said_or (count, after)) e in
     (ap (λ found. Ok found.0) (sym same), (ap (λ found. found.1.number) same, ap (λ found. found.1.left) same))
 line_said number count left after (Err cause) e = absurd (cc e)
 
-line_wrong : (number : ℕ) (left : List (List ℕ)) (fault : Fault) (says : Result ℕ Cause) → Err fault ≡ in_line number left says → at_line number says ≡ Err fault
+line_wrong : (number : ℕ) (left : List (List ℕ)) (fault : Fault) (says : Result ℕ Cause) → Err fault ≡ line_with_rest number left says → at_line number says ≡ Err fault
 line_wrong number left fault (Ok n) e = absurd (cc e)
 line_wrong number left fault (Err cause) e = cc e
 

@@ -1,28 +1,59 @@
--- A check text says one thing only.
-use Rattle.std.proofs.Common.{◌≡◌, ℕ, List, [], ◌∷◌, sym, ◌∙◌, ap}
-use Rattle.std.specs.Prelude.{Option, None, Some, Result}
+-- A check text says exactly one thing: a program and a question, or a first fault.
+use Rattle.std.proofs.Common.{ℕ, List, [], ◌∷◌}
+use Rattle.std.specs.Prelude.{Option, None, Some, Result, Ok, Err, IfOk}
 use Rattle.trlab_code.specs.declared.kind.Kind.{Kind}
-use Rattle.trlab_code.specs.Program.{Program}
+use Rattle.trlab_code.specs.Program.{Program, IsProgram}
 use Rattle.trlab_lines.specs.Lines.{lines_of}
 use Rattle.trlab_asm.specs.Results.{map_ok}
+use Rattle.trlab_texts.specs.declared.fault.Cause.{Cause}
+use Rattle.trlab_texts.specs.declared.fault.Cause.TheVariants.{Line}
 use Rattle.trlab_texts.specs.Reading.{Fault}
+use Rattle.trlab_texts.specs.Programs.{program_after}
+use Rattle.trlab_texts.proofs.Fine.{Fine, FineText, line_other}
+use Rattle.trlab_texts.proofs.OneAnswer.{OneText, agree, said, fails, exact, made, text_one}
+use Rattle.trlab_texts.proofs.OneProgram.{code_one, program_after_fine}
 use Rattle.trlab_jobs.specs.declared.check.Question.{Question}
-use Rattle.trlab_jobs.specs.Check.{check_of, heading_kind, lone_program, question_of, Check, CheckLinesSay, HeadedLinesSay, QuestionSays, CheckText}
-use Rattle.trlab_jobs.specs.Laws.{SaysOneThing}
-use Rattle.trlab_texts.proofs.OneProgram.{code_one}
-use Rattle.trlab_texts.proofs.OneReading.{whole_one}
+use Rattle.trlab_jobs.specs.Check.{check_of, no_more_after, lone_program, heading_kind, question_of, Check, CheckLinesSay, CheckText, HeadedLinesSay}
+use Rattle.trlab_jobs.specs.Laws.{SaysSomething, SaysOneThing, NeverRefusesStandardRules}
 
-behind_one : (headed : Option Kind) (text : List ℕ) (left : List (List ℕ)) (a b : Result Program Fault)
-    → HeadedLinesSay headed text left a → HeadedLinesSay headed text left b → a ≡ b
-behind_one (Some kind) text left a b p q = p ∙ sym q
-behind_one None text left a b p q = p.1.1 ∙ ap (lone_program left) (code_one text p.0 q.0 p.1.0 q.1.0) ∙ sym q.1.1
+no_more_fine : (left : List (List ℕ)) (program : Program) → IsProgram program → FineText IsProgram (no_more_after left program)
+no_more_fine [] program is = is
+no_more_fine (text ∷ left) program is = line_other
 
-question_one : (first : Question × List ℕ) (left : List (List ℕ)) (a b : Result Check Fault) → QuestionSays first left a → QuestionSays first left b → a ≡ b
-question_one first left a b p q = p.1.1 ∙ ap (map_ok (check_of first.0)) (behind_one (heading_kind first.1) first.1 left p.0 q.0 p.1.0 q.1.0) ∙ sym q.1.1
+alone_fine : (left : List (List ℕ)) (says : Result Program Cause) → Fine IsProgram says → FineText IsProgram (lone_program left says)
+alone_fine left (Ok program) is = no_more_fine left program is
+alone_fine left (Err cause) fine = fine
 
-lines_one : (lines : List (List ℕ)) (a b : Result Check Fault) → CheckLinesSay lines a → CheckLinesSay lines b → a ≡ b
-lines_one [] a b p q = p ∙ sym q
-lines_one (text ∷ left) a b p q = question_one (question_of text) left a b p q
+headed_one : (headed : Option Kind) (text : List ℕ) (left : List (List ℕ)) → OneText IsProgram (HeadedLinesSay headed text left)
+headed_one (Some kind) text left = exact (program_after kind 1 left) (program_after_fine kind 1 left)
+headed_one None text left = made (lone_program left) (code_one text) (alone_fine left)
+
+-- the program of a check is one
+abbrev pub HasProgram : Check → Type 0
+HasProgram check = IsProgram check.program
+
+check_fine : (question : Question) (says : Result Program Fault) → FineText IsProgram says → FineText HasProgram (map_ok (check_of question) says)
+check_fine question (Ok program) is = is
+check_fine question (Err fault) fine = fine
+
+lines_one : (lines : List (List ℕ)) → OneText HasProgram (CheckLinesSay lines)
+lines_one [] = exact (Err (record { line = 1; cause = Line })) line_other
+lines_one (text ∷ left) =
+    let first = question_of text in
+    made (map_ok (check_of first.0)) (headed_one (heading_kind first.1) first.1 left) (check_fine first.0)
+
+check_text : (text : List ℕ) → OneText HasProgram (CheckText text)
+check_text text = text_one (λ t. CheckLinesSay (lines_of t)) text (lines_one (lines_of text))
+
+-- it says something, and what it says is a program
+pub says_program : (text : List ℕ) → (says : Result Check Fault) × (CheckText text says × IfOk says HasProgram)
+says_program text = said (check_text text)
+
+pub something : SaysSomething CheckText
+something text = let one = check_text text in (one.answer, one.says)
 
 pub one_thing : SaysOneThing CheckText
-one_thing text says other p q = whole_one (λ t. CheckLinesSay (lines_of t)) text says other (lines_one (lines_of text)) p q
+one_thing text says other p q = agree says other (check_text text) p q
+
+pub checks_never : NeverRefusesStandardRules CheckText
+checks_never text fault p = fails fault (check_text text) p

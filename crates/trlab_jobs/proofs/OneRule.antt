@@ -1,31 +1,54 @@
--- Rules of texts say one thing only.
-use Rattle.std.proofs.Common.{◌≡◌, ℕ, zero, suc, ◌+◌, Bool, true, false, List, [], ◌∷◌, sym, ◌∙◌, ap}
-use Rattle.std.specs.Prelude.{Option, None, Some, MatchOption, Result, Ok, Err, nat_eq}
+-- Rules of texts say exactly one thing: a rule for the lanes of the road, or a first fault.
+use Rattle.std.proofs.Common.{◌≡◌, ◌≢◌, ℕ, zero, suc, ◌+◌, ◌<◌, ◌≤◌, Bool, true, false, List, [], ◌∷◌, refl, sym, ◌∙◌, ap, arith}
+use Rattle.std.proofs.lemmas.Bool.{eqb-false}
+use Rattle.std.specs.Prelude.{Option, None, Some, IfSome, MatchOption, Result, Ok, Err, codes, nat_eq}
+use Rattle.std.specs.Str.{bytes_eq}
+use Rattle.hex.specs.Hex.{decode_of}
+use Rattle.hex.specs.declared.error.FromHexError.{FromHexError}
 use Rattle.trlab_code.specs.declared.kind.Kind.{Kind}
 use Rattle.trlab_code.specs.declared.kind.Kind.TheVariants.{Motion, Change}
-use Rattle.trlab_code.specs.Program.{Program}
-use Rattle.trlab_verify.specs.CheckedProgram.{CheckedProgram}
+use Rattle.trlab_code.specs.Program.{Program, IsProgram}
+use Rattle.trlab_verify.specs.CheckedProgram.{CheckedProgram, IsChecked}
+use Rattle.trlab_verify.specs.Verdict.{IsAccepted}
+use Rattle.trlab_verify.proofs.Judged.{some_budget}
 use Rattle.trlab_rules.specs.Rules.{Programs}
 use Rattle.trlab_rules.specs.Standard.{nasch_program, vdr_program, rickert_program}
+use Rattle.trlab_rules.proofs.StandardPrograms.{nasch_is_program, vdr_is_program, rickert_is_program}
+use Rattle.trlab_rules.proofs.Accepted.{nasch_accepted, vdr_accepted, rickert_accepted}
+use Rattle.trlab_step.specs.Laws.{IsRuleFor}
 use Rattle.trlab_step.specs.Run.{Sheet}
+use Rattle.trlab_bounds.specs.declared.runs.TheConstants.{MAX_LATER}
 use Rattle.trlab_texts.specs.declared.fault.Cause.{Cause}
-use Rattle.trlab_bounds.specs.declared.runs.TheConstants.{MOST_LATER}
+use Rattle.trlab_texts.specs.declared.fault.Cause.TheVariants.{OneLane}
+use Rattle.trlab_texts.specs.Causes.{IsOtherCause}
+use Rattle.trlab_texts.specs.Words.{word_after}
+use Rattle.trlab_texts.specs.Reading.{Reading, line, exactly, say, ◌>>=◌}
+use Rattle.trlab_texts.specs.Programs.{Part, part, part_of, heading_line}
+use Rattle.trlab_texts.proofs.Fine.{Anything, Fine, IsOtherFault, line_other, one_lane_other, hex_other, word_fine}
+use Rattle.trlab_texts.proofs.OneAnswer.{OneLine, OneReading, exact, exact_line, then_one, said_one, perhaps_one, of_line_one, part_with}
+use Rattle.trlab_texts.proofs.OneProgram.{checked_one, part_one}
 use Rattle.trlab_jobs.specs.declared.rule_line.RuleLine.{RuleLine}
 use Rattle.trlab_jobs.specs.declared.rule_line.RuleLine.TheVariants.{Nasch, Vdr, Rickert, Own}
-use Rattle.trlab_texts.specs.Reading.{Reading, line, exactly, say, ◌>>=◌, before, at_line, of_line}
-use Rattle.trlab_texts.specs.Programs.{part}
 use Rattle.trlab_jobs.specs.RuleLines.{rule_line, later_line}
-use Rattle.trlab_jobs.specs.RuleParts.{Accepts, MotionSays, BothSay, ExchangeSays, change_by, next_is_change, change_part, own_rule, rule_from, rule}
+use Rattle.trlab_jobs.specs.RuleParts.{Accepts, MotionSays, BothSay, ExchangeSays, digits_misplacement, code_misplacement, block_misplacement, part_misplacement, misplacement, change_by, next_is_change, change_part, own_rule, rule_from, rule}
 use Rattle.trlab_jobs.specs.Later.{later_rule, to_the_end, later_from, later_rules}
-use Rattle.trlab_texts.proofs.OneReading.{OneReading, exactly_one, line_one, then_one, said_one, perhaps_one}
-use Rattle.trlab_texts.proofs.OneProgram.{checked_one, part_one}
+use Rattle.trlab_jobs.specs.Stored.{AreLaterRules}
+use Rattle.trlab_jobs.proofs.FineLines.{Chances, rule_line_fine, later_line_fine}
 
--- what one line says is one thing
-abbrev SaysOne : {A : Type 0} → (Result A Cause → Type 0) → Type 0
-SaysOne {A} Says = (a b : Result A Cause) → Says a → Says b → a ≡ b
+-- a program that the verifier accepts
+record IsGood (kind : Kind) (program : Program) : Type 0 where
+  pub is : IsProgram program
+  pub accepted : IsAccepted kind program
 
-of_line_one : {A : Type 0} (number : ℕ) (Says : Result A Cause → Type 0) → SaysOne Says → OneReading (of_line number Says)
-of_line_one number Says one place a b p q = p.1.1 ∙ ap (λ s. before place (at_line number s)) (one p.0 q.0 p.1.0 q.1.0) ∙ sym q.1.1
+-- an accepted program has a budget
+budgeted : (kind : Kind) (program : Program) → IsGood kind program → (checked : CheckedProgram) × Accepts kind program checked
+budgeted kind program good =
+    let found = some_budget kind program good.is good.accepted in
+    (record { program = program; budget = found.0 }, (refl, (good.accepted, found.1)))
+
+-- and only one
+accepts_one : (kind : Kind) (program : Program) (checked other : CheckedProgram) → Accepts kind program checked → Accepts kind program other → checked ≡ other
+accepts_one kind program checked other p q = checked_one checked other (p.0 ∙ sym q.0) kind p.1.1 q.1.1
 
 -- rules of the same programs are one
 programs_are : (rule other : Programs) → rule.motion ≡ other.motion → rule.change ≡ other.change → rule ≡ other
@@ -33,69 +56,149 @@ programs_are rule other motion change =
     let make : CheckedProgram → Option CheckedProgram → Programs = λ m c. record { motion = m; change = c } in
     ap (λ m. make m rule.change) motion ∙ ap (make other.motion) change
 
-accepts_one : (kind : Kind) (program : Program) (checked other : CheckedProgram) → Accepts kind program checked → Accepts kind program other → checked ≡ other
-accepts_one kind program checked other p q = checked_one checked other (p.0 ∙ sym q.0) kind p.1.1 q.1.1
+-- a rule without a change program is one for any road
+motion_alone : (lanes : ℕ) (motion : CheckedProgram) → IsChecked Motion motion → IsRuleFor lanes (record { motion = motion; change = None })
+motion_alone lanes motion is = record { motion = is; change = tt; two_lanes = λ some. absurd (cc some) }
 
-motion_says_one : (motion : Program) → SaysOne (MotionSays motion)
-motion_says_one motion (Ok rule) (Ok other) p q = ap Ok (programs_are rule other (accepts_one Motion motion rule.motion other.motion p.0 q.0) (p.1 ∙ sym q.1))
-motion_says_one motion (Ok rule) (Err cause) p q = absurd q
-motion_says_one motion (Err cause) other p q = absurd p
+-- and one with a change program for a road of two lanes
+with_change : (lanes : ℕ) (motion change : CheckedProgram) → IsChecked Motion motion → IsChecked Change change → lanes ≡ 2
+    → IsRuleFor lanes (record { motion = motion; change = Some change })
+with_change lanes motion change is changes two = record { motion = is; change = changes; two_lanes = λ some. two }
+
+motion_only : (motion : Program) (checked : CheckedProgram) → Accepts Motion motion checked
+    → (other : Result Programs Cause) → MotionSays motion other → other ≡ Ok (record { motion = checked; change = None })
+motion_only motion checked is (Ok rule) p =
+    ap Ok (programs_are rule (record { motion = checked; change = None }) (accepts_one Motion motion rule.motion checked p.0 is) p.1)
+motion_only motion checked is (Err cause) p = absurd p
+
+motion_one : (lanes : ℕ) (motion : Program) → IsGood Motion motion → OneLine (IsRuleFor lanes) (MotionSays motion)
+motion_one lanes motion good =
+    let found = budgeted Motion motion good in
+    record {
+      answer = Ok (record { motion = found.0; change = None });
+      says = (found.1, refl);
+      keeps = motion_alone lanes found.0 found.1.1.1;
+      only = motion_only motion found.0 found.1;
+    }
 
 -- a change program that must be there
-change_is : (change : Program) (found other : Option CheckedProgram) → MatchOption found ⊥ (Accepts Change change) → MatchOption other ⊥ (Accepts Change change) → found ≡ other
-change_is change None other p q = absurd p
-change_is change (Some checked) None p q = absurd q
-change_is change (Some checked) (Some other) p q = ap Some (accepts_one Change change checked other p q)
+change_is : (change : Program) (found : Option CheckedProgram) (checked : CheckedProgram) → MatchOption found ⊥ (Accepts Change change) → Accepts Change change checked → found ≡ Some checked
+change_is change None checked p is = absurd p
+change_is change (Some other) checked p is = ap Some (accepts_one Change change other checked p is)
 
-both_say_one : (motion change : Program) → SaysOne (BothSay motion change)
-both_say_one motion change (Ok rule) (Ok other) p q =
-    ap Ok (programs_are rule other (accepts_one Motion motion rule.motion other.motion p.0 q.0) (change_is change rule.change other.change p.1 q.1))
-both_say_one motion change (Ok rule) (Err cause) p q = absurd q
-both_say_one motion change (Err cause) other p q = absurd p
+both_only : (motion change : Program) (checked other : CheckedProgram) → Accepts Motion motion checked → Accepts Change change other
+    → (says : Result Programs Cause) → BothSay motion change says → says ≡ Ok (record { motion = checked; change = Some other })
+both_only motion change checked other is changes (Ok rule) p =
+    ap Ok (programs_are rule (record { motion = checked; change = Some other }) (accepts_one Motion motion rule.motion checked p.0 is) (change_is change rule.change other p.1 changes))
+both_only motion change checked other is changes (Err cause) p = absurd p
 
-exchange_says_one : (one_lane : Bool) (motion change : Program) → SaysOne (ExchangeSays one_lane motion change)
-exchange_says_one true motion change a b p q = p ∙ sym q
-exchange_says_one false motion change a b p q = both_say_one motion change a b p q
+exchange_one : (one_lane : Bool) (lanes : ℕ) (motion change : Program) → IsGood Motion motion → IsGood Change change → (one_lane ≡ false → lanes ≡ 2)
+    → OneLine (IsRuleFor lanes) (ExchangeSays one_lane motion change)
+exchange_one true lanes motion change good also two = exact (Err OneLane) one_lane_other
+exchange_one false lanes motion change good also two =
+    let found = budgeted Motion motion good in
+    let other = budgeted Change change also in
+    record {
+      answer = Ok (record { motion = found.0; change = Some other.0 });
+      says = (found.1, other.1);
+      keeps = with_change lanes found.0 other.0 found.1.1.1 other.1.1.1 (two refl);
+      only = both_only motion change found.0 other.0 found.1 other.1;
+    }
 
-change_by_one : (one_lane : Bool) → OneReading (change_by one_lane)
-change_by_one true place a b p q = p ∙ sym q
-change_by_one false place a b p q = part_one Change place a b p q
+-- change parts on a road of one lane
+digits_misplaced : (found : Result (List ℕ) FromHexError) → IsOtherCause (digits_misplacement found)
+digits_misplaced (Ok bytes) = one_lane_other
+digits_misplaced (Err fault) = hex_other
 
-change_part_one : (lanes : ℕ) → OneReading (change_part lanes)
-change_part_one lanes place = perhaps_one (next_is_change place.left) (change_by (nat_eq lanes 1)) (change_by_one (nat_eq lanes 1)) place
+code_misplaced : (word : Result (List ℕ) Cause) → Fine Anything word → IsOtherCause (code_misplacement word)
+code_misplaced (Ok digits) fine = digits_misplaced (decode_of digits)
+code_misplaced (Err cause) fine = fine
 
-own_rule_one : (lanes : ℕ) → OneReading (own_rule lanes)
-own_rule_one lanes = then_one (part Motion) _ (part_one Motion) (λ motion. then_one (change_part lanes) _ (change_part_one lanes) (λ change. said_one _))
+block_misplaced : (first : ℕ) (left : List (List ℕ)) (found : Option Part) → IsOtherFault (block_misplacement first left found)
+block_misplaced first left None = line_other
+block_misplaced first left (Some parts) = one_lane_other
 
-rule_from_one : (lanes number : ℕ) (words : RuleLine ℕ) → OneReading (rule_from lanes number words)
-rule_from_one lanes number (Nasch p) = of_line_one number (MotionSays (nasch_program p)) (motion_says_one (nasch_program p))
-rule_from_one lanes number (Vdr p p0) = of_line_one number (MotionSays (vdr_program p p0)) (motion_says_one (vdr_program p p0))
-rule_from_one lanes number (Rickert p c) =
-    of_line_one number (ExchangeSays (nat_eq lanes 1) (nasch_program p) (rickert_program c)) (exchange_says_one (nat_eq lanes 1) (nasch_program p) (rickert_program c))
-rule_from_one lanes number Own = own_rule_one lanes
+part_misplaced : (headed : Bool) (first : ℕ) (text : List ℕ) (left : List (List ℕ)) → IsOtherFault (part_misplacement headed first text left)
+part_misplaced true first text left = block_misplaced first left (part_of left)
+part_misplaced false first text left = code_misplaced (word_after (codes "code ") text) (word_fine (codes "code ") text)
 
-pub rule_one : (lanes : ℕ) → OneReading (rule lanes)
-rule_one lanes place =
-    then_one (line (exactly rule_line)) (rule_from lanes place.number) (line_one (exactly rule_line) (exactly_one rule_line)) (rule_from_one lanes place.number) place
+misplaced : (first : ℕ) (left : List (List ℕ)) → IsOtherFault (misplacement first left)
+misplaced first [] = line_other
+misplaced first (text ∷ left) = part_misplaced (bytes_eq text (heading_line Change)) first text left
 
-later_rule_one : (room lanes steps least : ℕ) → OneReading (later_rule room lanes steps least)
-later_rule_one room lanes steps least place =
-    then_one (line (exactly (later_line room steps least))) _ (line_one (exactly (later_line room steps least)) (exactly_one (later_line room steps least)))
-    (λ at. then_one (rule_from lanes place.number at.1) _ (rule_from_one lanes place.number at.1) (λ rule. said_one _)) place
+-- a change program for a road of so many lanes
+abbrev Changes : ℕ → CheckedProgram → Type 0
+Changes lanes change = IsChecked Change change × (lanes ≡ 2)
 
-to_the_end_one : (left : List (List ℕ)) (reading : Reading Sheet) → OneReading reading → OneReading (to_the_end left reading)
-to_the_end_one [] reading one = said_one []
-to_the_end_one (text ∷ left) reading one = one
+-- a road has one lane or two
+pub record FewLanes (lanes : ℕ) : Type 0 where
+  pub some : 1 ≤ lanes
+  pub few : lanes ≤ 2
 
-later_from_one : (room lanes steps least : ℕ) → OneReading (later_from room lanes steps least)
+-- a road that has not one lane has two
+not_one : (lanes : ℕ) → FewLanes lanes → nat_eq lanes 1 ≡ false → lanes ≡ 2
+not_one lanes few other = let apart : lanes ≢ 1 = eqb-false lanes 1 other in omega arith
+
+change_by_one : (one_lane : Bool) (lanes : ℕ) → (one_lane ≡ false → lanes ≡ 2) → OneReading (Changes lanes) (change_by one_lane)
+change_by_one true lanes two place = record { one = exact (Err (misplacement place.number place.left)) (misplaced place.number place.left) }
+change_by_one false lanes two place = part_with (λ checked is. (is, two refl)) (part_one Change place)
+
+change_part_one : (lanes : ℕ) → FewLanes lanes → OneReading (λ (o : Option CheckedProgram). IfSome o (Changes lanes)) (change_part lanes)
+change_part_one lanes few place =
+    perhaps_one (next_is_change place.left) (change_by (nat_eq lanes 1)) (change_by_one (nat_eq lanes 1) lanes (not_one lanes few)) place
+
+own_suits : (lanes : ℕ) (motion : CheckedProgram) (change : Option CheckedProgram) → IsChecked Motion motion → IfSome change (Changes lanes)
+    → IsRuleFor lanes (record { motion = motion; change = change })
+own_suits lanes motion None is changes = motion_alone lanes motion is
+own_suits lanes motion (Some change) is changes = with_change lanes motion change is changes.0 changes.1
+
+own_rule_one : (lanes : ℕ) → FewLanes lanes → OneReading (IsRuleFor lanes) (own_rule lanes)
+own_rule_one lanes few =
+    then_one (part Motion) _ (part_one Motion) (λ motion is.
+    then_one (change_part lanes) _ (change_part_one lanes few) (λ change changes.
+    said_one (record { motion = motion; change = change }) (own_suits lanes motion change is changes)))
+
+rule_from_one : (lanes number : ℕ) (words : RuleLine ℕ) → FewLanes lanes → Chances words → OneReading (IsRuleFor lanes) (rule_from lanes number words)
+rule_from_one lanes number (Nasch p) few fit =
+    of_line_one number (motion_one lanes (nasch_program p) (record { is = nasch_is_program p fit; accepted = nasch_accepted p }))
+rule_from_one lanes number (Vdr p p0) few fit =
+    of_line_one number (motion_one lanes (vdr_program p p0) (record { is = vdr_is_program p p0 fit.0 fit.1; accepted = vdr_accepted p p0 }))
+rule_from_one lanes number (Rickert p c) few fit =
+    let motion : IsGood Motion (nasch_program p) = record { is = nasch_is_program p fit.0; accepted = nasch_accepted p } in
+    let change : IsGood Change (rickert_program c) = record { is = rickert_is_program c fit.1; accepted = rickert_accepted c } in
+    of_line_one number (exchange_one (nat_eq lanes 1) lanes (nasch_program p) (rickert_program c) motion change (not_one lanes few))
+rule_from_one lanes number Own few fit = own_rule_one lanes few
+
+pub rule_one : (lanes : ℕ) → FewLanes lanes → OneReading (IsRuleFor lanes) (rule lanes)
+rule_one lanes few place =
+    then_one (line (exactly rule_line)) (rule_from lanes place.number) (exact_line rule_line rule_line_fine)
+    (λ words fit. rule_from_one lanes place.number words few fit) place
+
+-- a later rule for the lanes of the road, from a step on that is in order
+abbrev Later : ℕ → ℕ → ℕ → ℕ × Programs → Type 0
+Later lanes steps least entry = (least ≤ entry.0) × ((entry.0 < steps) × IsRuleFor lanes entry.1)
+
+later_rule_one : (room lanes steps least : ℕ) → FewLanes lanes → OneReading (Later lanes steps least) (later_rule room lanes steps least)
+later_rule_one room lanes steps least few place =
+    then_one (line (exactly (later_line room steps least))) _ (exact_line (later_line room steps least) (later_line_fine room steps least)) (λ at in_order.
+    then_one (rule_from lanes place.number at.1) _ (rule_from_one lanes place.number at.1 few in_order.chances) (λ rule suits.
+    said_one (at.0, rule) (in_order.rises, (in_order.below, suits)))) place
+
+to_the_end_one : {P : Sheet → Type 0} (left : List (List ℕ)) (reading : Reading Sheet) → P [] → OneReading P reading → OneReading P (to_the_end left reading)
+to_the_end_one [] reading none one = said_one [] none
+to_the_end_one (text ∷ left) reading none one = one
+
+later_from_one : (room lanes steps least : ℕ) → FewLanes lanes → OneReading (AreLaterRules lanes steps least) (later_from room lanes steps least)
 unfolding later_from
-later_from_one zero lanes steps least place =
-    to_the_end_one place.left (later_rule 0 lanes steps least >>= λ entry. say (entry ∷ []))
-    (then_one (later_rule 0 lanes steps least) (λ entry. say (entry ∷ [])) (later_rule_one 0 lanes steps least) (λ entry. said_one _)) place
-later_from_one (suc room) lanes steps least place =
-    to_the_end_one place.left (later_rule (suc room) lanes steps least >>= λ entry. later_from room lanes steps (entry.0 + 1) >>= λ later. say (entry ∷ later))
-    (then_one (later_rule (suc room) lanes steps least) (λ entry. later_from room lanes steps (entry.0 + 1) >>= λ later. say (entry ∷ later)) (later_rule_one (suc room) lanes steps least)
-    (λ entry. then_one (later_from room lanes steps (entry.0 + 1)) (λ later. say (entry ∷ later)) (later_from_one room lanes steps (entry.0 + 1)) (λ later. said_one _))) place
+later_from_one zero lanes steps least few place =
+    to_the_end_one place.left (later_rule 0 lanes steps least >>= λ entry. say (entry ∷ [])) tt
+    (then_one (later_rule 0 lanes steps least) (λ entry. say (entry ∷ [])) (later_rule_one 0 lanes steps least few)
+    (λ entry is. said_one (entry ∷ []) (is.0, (is.1.0, (is.1.1, tt))))) place
+later_from_one (suc room) lanes steps least few place =
+    to_the_end_one place.left (later_rule (suc room) lanes steps least >>= λ entry. later_from room lanes steps (entry.0 + 1) >>= λ later. say (entry ∷ later)) tt
+    (then_one (later_rule (suc room) lanes steps least) (λ entry. later_from room lanes steps (entry.0 + 1) >>= λ later. say (entry ∷ later)) (later_rule_one (suc room) lanes steps least few) (λ entry is.
+    then_one (later_from room lanes steps (entry.0 + 1)) (λ later. say (entry ∷ later)) (later_from_one room lanes steps (entry.0 + 1) few) (λ later more.
+    said_one (entry ∷ later) (is.0, (is.1.0, (is.1.1, more)))))) place
 
-pub later_rules_one : (lanes steps : ℕ) → OneReading (later_rules lanes steps)
-later_rules_one lanes steps = later_from_one MOST_LATER lanes steps 0
+pub later_rules_one : (lanes steps : ℕ) → FewLanes lanes → OneReading (AreLaterRules lanes steps 0) (later_rules lanes steps)
+later_rules_one lanes steps few = later_from_one MAX_LATER lanes steps 0 few

@@ -1,43 +1,124 @@
--- A sweep text says one thing only.
-use Rattle.std.proofs.Common.{◌≡◌, ℕ, List, sym, ◌∙◌, ap}
-use Rattle.std.specs.Prelude.{Result}
-use Rattle.trlab_texts.specs.declared.fault.Cause.{Cause}
-use Rattle.trlab_texts.specs.Lines.{start}
+-- A sweep text says exactly one thing: a sweep that can be run, or a first fault.
+use Rattle.std.proofs.Common.{◌≡◌, ℕ, ◌-◌, ◌≤◌, List, length, sym, subst, arith}
+use Rattle.std.specs.Prelude.{All, Result, Ok, Err, IfOk, codes}
+use Rattle.trlab_bounds.specs.declared.roads.TheConstants.{MAX_LENGTH, MAX_LANES}
+use Rattle.trlab_bounds.specs.declared.runs.TheConstants.{MAX_STEPS}
+use Rattle.trlab_asm.specs.Results.{map_ok}
+use Rattle.trlab_road.specs.Legal.{LanesFit, LengthFits, LimitFits}
+use Rattle.trlab_step.specs.Laws.{IsRuleFor}
+use Rattle.trlab_texts.specs.Lines.{Rest, start}
 use Rattle.trlab_texts.specs.Reading.{Fault, line, exactly}
+use Rattle.trlab_texts.proofs.Fine.{Anything, FineText, numbered}
+use Rattle.trlab_texts.proofs.OneAnswer.{OneText, OneReading, agree, said, fails, values, made, exact_line, then_one, said_one, text_one}
+use Rattle.trlab_jobs.specs.declared.sweep.Shape.{Shape}
+use Rattle.trlab_jobs.specs.declared.sweep.Span.{Span}
 use Rattle.trlab_jobs.specs.RuleParts.{rule}
 use Rattle.trlab_jobs.specs.Job.{key_line, limit_line}
-use Rattle.trlab_jobs.specs.Shapes.{length_line, lanes_line, warm_line, measure_line, shape, span}
-use Rattle.trlab_jobs.specs.Sweep.{Sweep, sweep_line, heading, setup, with_counts, SweepLinesSay, SweepText}
-use Rattle.trlab_jobs.specs.Laws.{SaysOneThing}
+use Rattle.trlab_jobs.specs.Shapes.{length_line, lanes_line, warm_line, measure_line, shape, span, cell_count, all_steps}
+use Rattle.trlab_jobs.specs.Counts.{counts}
+use Rattle.trlab_jobs.specs.Sweep.{Setup, Sweep, sweep_line, sweep_heading, setup, with_counts, SweepLinesSay, SweepText}
+use Rattle.trlab_jobs.specs.Stored.{Spreads, IsStoredSweep}
+use Rattle.trlab_jobs.specs.Laws.{SaysSomething, SaysOneThing, NeverRefusesStandardRules}
+use Rattle.trlab_jobs.proofs.FineLines.{fixed_fine}
+use Rattle.trlab_jobs.proofs.FineCounts.{AllHaveRoom, counts_fine}
 use Rattle.trlab_jobs.proofs.SweepLines.{after_limit, after_cells, after_warm, after_key, after_shape, after_rule}
-use Rattle.trlab_texts.proofs.OneReading.{OneReading, exactly_one, line_one, then_one, said_one, whole_one}
-use Rattle.trlab_jobs.proofs.OneRule.{rule_one}
+use Rattle.trlab_jobs.proofs.OneRule.{FewLanes, rule_one}
+use Rattle.trlab_jobs.proofs.OneText.{key_one, limit_one}
 
-one_line : {A : Type 0} (says : List ℕ → Result A Cause) → OneReading (line (exactly says))
-one_line says = line_one (exactly says) (exactly_one says)
+-- roads may have this shape
+record IsShape (roads : Shape) : Type 0 where
+  pub limit : LimitFits roads.limit
+  pub cells : LengthFits roads.cells
+  pub lanes : LanesFit roads.lanes
 
-shape_one : OneReading shape
-shape_one = then_one (line (exactly limit_line)) after_limit (one_line limit_line)
-    (λ limit. then_one (line (exactly length_line)) (after_cells limit) (one_line length_line)
-    (λ cells. then_one (line (exactly lanes_line)) _ (one_line lanes_line) (λ lanes. said_one _)))
+-- points may have this in common
+record IsSetup (common : Setup) : Type 0 where
+  pub shape : IsShape common.shape
+  pub rule : IsRuleFor common.shape.lanes common.rule
+  pub counted : 1 ≤ common.span.measure
 
-span_one : OneReading span
-span_one = then_one (line (exactly warm_line)) after_warm (one_line warm_line)
-    (λ warm. then_one (line (exactly measure_line)) _ (one_line measure_line) (λ measure. said_one _))
+shape_one : OneReading IsShape shape
+shape_one =
+    then_one (line (exactly limit_line)) after_limit limit_one (λ limit low.
+    then_one (line (exactly length_line)) (after_cells limit) (exact_line length_line (λ text. numbered (codes "length ") text 1 MAX_LENGTH)) (λ cells long.
+    then_one (line (exactly lanes_line)) _ (exact_line lanes_line (λ text. numbered (codes "lanes ") text 1 MAX_LANES)) (λ lanes few.
+    said_one (record { limit = limit; cells = cells; lanes = lanes }) (record {
+      limit = record { some_limit = low.low; low_limit = low.high };
+      cells = record { some_cell = long.low; few_cells = long.high };
+      lanes = record { some_lane = few.low; few_lanes = few.high };
+    }))))
 
-heading_one : OneReading heading
-heading_one = then_one (line (exactly sweep_line)) (λ _. line (exactly key_line)) (one_line sweep_line) (λ _. one_line key_line)
+-- some steps are counted
+abbrev IsCounted : Span → Type 0
+IsCounted steps = 1 ≤ steps.measure
 
--- what points have in common is one thing
-pub setup_one : OneReading setup
+span_one : OneReading IsCounted span
+span_one =
+    then_one (line (exactly warm_line)) after_warm (exact_line warm_line (λ text. numbered (codes "warm ") text 0 MAX_STEPS)) (λ warm any.
+    then_one (line (exactly measure_line)) _ (exact_line measure_line (λ text. numbered (codes "measure ") text 1 MAX_STEPS)) (λ measure some.
+    said_one (record { warm = warm; measure = measure }) some.low))
+
+heading_one : OneReading Anything sweep_heading
+heading_one = then_one (line (exactly sweep_line)) (λ _. line (exactly key_line)) (exact_line sweep_line (fixed_fine (codes "sweep 1"))) (λ _ any. key_one)
+
+few_lanes : (roads : Shape) → IsShape roads → FewLanes roads.lanes
+few_lanes roads is = record { some = is.lanes.some_lane; few = is.lanes.few_lanes }
+
+setup_one : OneReading IsSetup setup
 unfolding setup
-setup_one = then_one heading after_key heading_one
-    (λ key. then_one shape (after_shape key) shape_one
-    (λ roads. then_one (rule roads.lanes) (after_rule key roads) (rule_one roads.lanes)
-    (λ first. then_one span _ span_one (λ steps. said_one _))))
+setup_one =
+    then_one sweep_heading after_key heading_one (λ key any.
+    then_one shape (after_shape key) shape_one (λ roads is.
+    then_one (rule roads.lanes) (after_rule key roads) (rule_one roads.lanes (few_lanes roads is)) (λ first suits.
+    then_one span _ span_one (λ steps counted.
+    said_one (record { key = key; shape = roads; rule = first; span = steps }) (record { shape = is; rule = suits; counted = counted })))))
 
-lines_one : (text : List ℕ) (a b : Result Sweep Fault) → SweepLinesSay text a → SweepLinesSay text b → a ≡ b
-lines_one text a b p q = p.1.1 ∙ (ap with_counts (setup_one (start text) p.0 q.0 p.1.0 q.1.0) ∙ sym q.1.1)
+all_spread : (roads : Shape) (cars : List ℕ) → IsShape roads → All (λ count. count ≤ cell_count roads) cars → All (Spreads roads) cars
+all_spread roads cars is fit = λ k d inside. record { lanes_fit = is.lanes; length_fits = is.cells; limit_fits = is.limit; room = fit k d inside }
+
+stored : (common : Setup) (cars : List ℕ) → IsSetup common → AllHaveRoom (cell_count common.shape) (all_steps common.span) cars → IsStoredSweep (record { setup = common; cars = cars })
+stored common cars is all =
+    let last = all.room.points (length cars - 1) (omega (arith, all.some)) in
+    let first = all.room.work 0 (omega (arith, all.some)) in
+    record {
+      rule = is.rule;
+      spreads = all_spread common.shape cars is.shape all.room.cars;
+      few = omega (arith, all.some);
+      counted = is.counted;
+      short = omega (arith, first);
+    }
+
+counts_stored : (common : Setup) (cars : Result (List ℕ) Fault) → IsSetup common → FineText (AllHaveRoom (cell_count common.shape) (all_steps common.span)) cars
+    → FineText IsStoredSweep (map_ok (λ cars. record { setup = common; cars = cars }) cars)
+counts_stored common (Ok cars) is all = stored common cars is all
+counts_stored common (Err fault) is fine = fine
+
+with_counts_fine : (found : Result (Setup × Rest) Fault) → FineText (λ (x : Setup × Rest). IsSetup x.0) found → FineText IsStoredSweep (with_counts found)
+with_counts_fine (Ok found) is =
+    counts_stored found.0 (counts (cell_count found.0.shape) (all_steps found.0.span) found.1.number found.1.left) is
+    (counts_fine (cell_count found.0.shape) (all_steps found.0.span) found.1.number found.1.left)
+with_counts_fine (Err fault) fine = fine
+
+-- once what the points have in common was read, the counts make a sweep that can be run
+pub said_stored : (common : Setup) (cars : List ℕ) (at after : Rest) → setup at (Ok (common, after))
+    → Ok cars ≡ counts (cell_count common.shape) (all_steps common.span) after.number after.left → IsStoredSweep (record { setup = common; cars = cars })
+said_stored common cars at after says counted =
+    let all = counts_fine (cell_count common.shape) (all_steps common.span) after.number after.left in
+    stored common cars (values (common, after) (setup_one at).one says)
+    (subst (λ (r : Result (List ℕ) Fault). FineText (AllHaveRoom (cell_count common.shape) (all_steps common.span)) r) (sym counted) all)
+
+sweep_text : (text : List ℕ) → OneText IsStoredSweep (SweepText text)
+sweep_text text = text_one SweepLinesSay text (made with_counts (setup_one (start text)).one with_counts_fine)
+
+-- it says something, and what it says can be run
+pub says_stored : (text : List ℕ) → (says : Result Sweep Fault) × (SweepText text says × IfOk says IsStoredSweep)
+says_stored text = said (sweep_text text)
+
+pub something : SaysSomething SweepText
+something text = let one = sweep_text text in (one.answer, one.says)
 
 pub one_thing : SaysOneThing SweepText
-one_thing text says other p q = whole_one SweepLinesSay text says other (lines_one text) p q
+one_thing text says other p q = agree says other (sweep_text text) p q
+
+pub sweeps_never : NeverRefusesStandardRules SweepText
+sweeps_never text fault p = fails fault (sweep_text text) p

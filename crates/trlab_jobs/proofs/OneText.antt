@@ -1,38 +1,90 @@
--- A job text says one thing only.
-use Rattle.std.proofs.Common.{◌≡◌, ℕ, List, length, ap}
-use Rattle.std.specs.Prelude.{Result, Ok, Err}
+-- A job text says exactly one thing: a job that can be run, or a first fault.
+use Rattle.std.proofs.Common.{◌≡◌, ℕ, List, length, refl, ◌∙◌, ap}
+use Rattle.std.specs.Prelude.{Result, Ok, Err, IfOk, codes}
+use Rattle.trlab_bounds.specs.declared.roads.TheConstants.{MAX_LIMIT}
+use Rattle.trlab_bounds.specs.declared.runs.TheConstants.{MAX_STEPS}
+use Rattle.trlab_road.specs.Cells.{Cells}
+use Rattle.trlab_road.specs.Legal.{IsLegal}
 use Rattle.trlab_texts.specs.Lines.{Rest, start}
-use Rattle.trlab_texts.specs.Reading.{Fault, line, exactly}
+use Rattle.trlab_texts.specs.Reading.{Fault, Reading, line, exactly}
+use Rattle.trlab_texts.proofs.Fine.{Anything, FineText, InRange, numbered}
+use Rattle.trlab_texts.proofs.OneAnswer.{OnePart, OneText, OneReading, agree, said, fails, exact_line, then_one, said_one, text_one}
 use Rattle.trlab_jobs.specs.Lanes.{lanes}
 use Rattle.trlab_jobs.specs.RuleParts.{rule}
 use Rattle.trlab_jobs.specs.Later.{later_rules}
-use Rattle.trlab_jobs.specs.Job.{Job, job, road_line, key_line, limit_line, steps_line, LinesSay, JobText}
-use Rattle.trlab_jobs.specs.Laws.{SaysOneThing}
+use Rattle.trlab_jobs.specs.Job.{Job, job, road_line, key_line, limit_line, steps_line, UpToTheEnd, LinesSay, JobText}
+use Rattle.trlab_jobs.specs.Stored.{IsStoredJob}
+use Rattle.trlab_jobs.specs.Laws.{SaysSomething, SaysOneThing, NeverRefusesStandardRules}
+use Rattle.trlab_jobs.proofs.FineLines.{fixed_fine, key_line_fine}
 use Rattle.trlab_jobs.proofs.JobLines.{after_road, after_key, after_limit, after_lanes, after_rule, after_steps, after_all}
-use Rattle.trlab_texts.proofs.OneReading.{OneReading, exactly_one, line_one, then_one, said_one, whole_one}
 use Rattle.trlab_jobs.proofs.OneLanes.{lanes_one}
-use Rattle.trlab_jobs.proofs.OneRule.{rule_one, later_rules_one}
+use Rattle.trlab_jobs.proofs.OneRule.{FewLanes, rule_one, later_rules_one}
 
-job_one : OneReading job
+pub key_one : OneReading Anything (line (exactly key_line))
+key_one = exact_line key_line key_line_fine
+
+pub limit_one : OneReading (InRange 1 MAX_LIMIT) (line (exactly limit_line))
+limit_one = exact_line limit_line (λ text. numbered (codes "limit ") text 1 MAX_LIMIT)
+
+few_lanes : (road : Cells) → IsLegal road → FewLanes (length road.lanes)
+few_lanes road legal = record { some = legal.shape.lanes.some_lane; few = legal.shape.lanes.few_lanes }
+
+-- what is read after the lanes
+lanes_on : (key : List ℕ) (road : Cells) → IsLegal road → OneReading IsStoredJob (after_lanes key road)
+lanes_on key road legal =
+    let few = few_lanes road legal in
+    then_one (rule (length road.lanes)) (after_rule key road) (rule_one (length road.lanes) few) (λ first suits.
+    then_one (line (exactly steps_line)) (after_steps key road first) (exact_line steps_line (λ text. numbered (codes "steps ") text 0 MAX_STEPS)) (λ steps any.
+    then_one (later_rules (length road.lanes) steps) (after_all key road first steps) (later_rules_one (length road.lanes) steps few) (λ later kept.
+    said_one (record { key = key; road = road; first = first; later = later; steps = steps }) (record { legal = legal; first = suits; later = kept }))))
+
+job_one : OneReading IsStoredJob job
 unfolding job
-job_one = then_one (line (exactly road_line)) (λ _. after_road) (line_one (exactly road_line) (exactly_one road_line))
-    (λ _. then_one (line (exactly key_line)) after_key (line_one (exactly key_line) (exactly_one key_line))
-    (λ key. then_one (line (exactly limit_line)) (after_limit key) (line_one (exactly limit_line) (exactly_one limit_line))
-    (λ limit. then_one (lanes limit) (after_lanes key) (lanes_one limit)
-    (λ road. then_one (rule (length road.lanes)) (after_rule key road) (rule_one (length road.lanes))
-    (λ first. then_one (line (exactly steps_line)) (after_steps key road first) (line_one (exactly steps_line) (exactly_one steps_line))
-    (λ steps. then_one (later_rules (length road.lanes) steps) (after_all key road first steps) (later_rules_one (length road.lanes) steps) (λ later. said_one _)))))))
+job_one =
+    then_one (line (exactly road_line)) (λ _. after_road) (exact_line road_line (fixed_fine (codes "road 1"))) (λ _ any.
+    then_one (line (exactly key_line)) after_key key_one (λ key any.
+    then_one (line (exactly limit_line)) (after_limit key) limit_one (λ limit any.
+    then_one (lanes limit) (after_lanes key) (lanes_one limit) (lanes_on key))))
 
--- what was said, or another job
-abbrev said_or : Job → Result (Job × Rest) Fault → Job
-said_or other (Ok found) = found.0
-said_or other (Err fault) = other
+-- what was read up to the end
+abbrev without_rest : {A : Type 0} → Result (A × Rest) Fault → Result A Fault
+without_rest (Ok found) = Ok found.0
+without_rest (Err fault) = Err fault
 
-lines_one : (text : List ℕ) (a b : Result Job Fault) → LinesSay text a → LinesSay text b → a ≡ b
-lines_one text (Ok x) (Ok y) p q = ap (λ found. Ok (said_or x found)) (job_one (start text) (Ok (x, p.0)) (Ok (y, q.0)) p.1 q.1)
-lines_one text (Ok x) (Err fault) p q = let same = job_one (start text) (Ok (x, p.0)) (Err fault) p.1 q in cc
-lines_one text (Err fault) (Ok y) p q = let same = job_one (start text) (Err fault) (Ok (y, q.0)) p q.1 in cc
-lines_one text (Err fault) (Err other) p q = let same = job_one (start text) (Err fault) (Err other) p q in cc
+without_rest_says : {A : Type 0} (P : A → Type 0) (reading : Reading A) (place : Rest) (out : Result (A × Rest) Fault) → reading place out → FineText (λ (found : A × Rest). P found.0) out
+    → UpToTheEnd reading place (without_rest out) × FineText P (without_rest out)
+without_rest_says P reading place (Ok found) says fine = ((found.1, says), fine)
+without_rest_says P reading place (Err fault) says fine = (says, fine)
+
+with_rest : {A : Type 0} (reading : Reading A) (place : Rest) (says : Result A Fault) → UpToTheEnd reading place says
+    → (out : Result (A × Rest) Fault) × (reading place out × (says ≡ without_rest out))
+with_rest reading place (Ok x) p = (Ok (x, p.0), (p.1, refl))
+with_rest reading place (Err fault) p = (Err fault, (p, refl))
+
+-- a text says what its lines say up to the end
+to_the_end : {A : Type 0} {P : A → Type 0} (reading : Reading A) (place : Rest) → OnePart P (reading place) → OneText P (UpToTheEnd reading place)
+to_the_end {A} {P} reading place part =
+    let one = part.one in
+    let found = without_rest_says P reading place one.answer one.says one.keeps in
+    record {
+      answer = without_rest one.answer;
+      says = found.0;
+      keeps = found.1;
+      only = λ other p. let also = with_rest reading place other p in also.1.1 ∙ ap without_rest (one.only also.0 also.1.0);
+    }
+
+pub job_text : (text : List ℕ) → OneText IsStoredJob (JobText text)
+job_text text = text_one LinesSay text (to_the_end job (start text) (job_one (start text)))
+
+-- it says something, and what it says can be run
+pub says_plain : (text : List ℕ) → (says : Result Job Fault) × (JobText text says × IfOk says IsStoredJob)
+says_plain text = said (job_text text)
+
+pub something : SaysSomething JobText
+something text = let one = job_text text in (one.answer, one.says)
 
 pub one_thing : SaysOneThing JobText
-one_thing text says other p q = whole_one LinesSay text says other (lines_one text) p q
+one_thing text says other p q = agree says other (job_text text) p q
+
+pub jobs_never : NeverRefusesStandardRules JobText
+jobs_never text fault p = fails fault (job_text text) p

@@ -10,7 +10,7 @@ use Rattle.trlab_texts.specs.declared.fault.LineFault.TheVariants.{Wrong, Memory
 use Rattle.trlab_texts.specs.declared.fault.TextFault.{TextFault}
 use Rattle.trlab_jobs.specs.declared.rule_line.RuleLine.{RuleLine}
 use Rattle.trlab_texts.specs.Lines.{Rest}
-use Rattle.trlab_texts.specs.Reading.{Fault, Reading, line, exactly, say, ◌>>=◌, of_line, perhaps, fault_at, Reports, ReportsLine}
+use Rattle.trlab_texts.specs.Reading.{Fault, Reading, line, exactly, say, ◌>>=◌, of_line, perhaps, text_fault, Reports, ReportsLine}
 use Rattle.trlab_jobs.specs.RuleLines.{later_line, rule_line}
 use Rattle.trlab_jobs.specs.RuleParts.{change_by, next_is_change, change_part, rule, rule_from}
 use Rattle.trlab_jobs.specs.Later.{later_rule}
@@ -18,7 +18,7 @@ use Rattle.trlab_texts.proofs.Readings.{goes_on, stops}
 
 -- what a line says is told, of the line before a place
 pub line_told : (Says : Result Programs Cause → Type 0) (number : ℕ) (place : Rest) (found : Result Programs LineFault) (out : Result (Programs × Rest) TextFault)
-    → ReportsLine Says found → MatchResult found (λ rule. out ≡ Ok (rule, place)) (λ fault. out ≡ Err (fault_at number fault)) → Reports (of_line number Says place) out
+    → ReportsLine Says found → MatchResult found (λ rule. out ≡ Ok (rule, place)) (λ fault. out ≡ Err (text_fault number fault)) → Reports (of_line number Says place) out
 line_told Says number place (Ok rule) out told is = rw is (Ok rule, (told, refl))
 line_told Says number place (Err (Wrong cause)) out told is = rw is (Err cause, (told, refl))
 line_told Says number place (Err NoMemory) out told is = rw is tt

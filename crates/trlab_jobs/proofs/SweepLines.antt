@@ -5,12 +5,12 @@ use Rattle.trlab_rules.specs.Rules.{Programs}
 use Rattle.trlab_texts.specs.declared.fault.TextFault.{TextFault}
 use Rattle.trlab_texts.specs.Lines.{Rest}
 use Rattle.trlab_texts.specs.Reading.{Reading, ◌>>=◌, say, line, exactly, Reports}
-use Rattle.trlab_jobs.specs.declared.shape.Shape.{Shape}
-use Rattle.trlab_jobs.specs.declared.shape.Span.{Span}
+use Rattle.trlab_jobs.specs.declared.sweep.Shape.{Shape}
+use Rattle.trlab_jobs.specs.declared.sweep.Span.{Span}
 use Rattle.trlab_jobs.specs.Job.{key_line, limit_line}
 use Rattle.trlab_jobs.specs.RuleParts.{rule}
 use Rattle.trlab_jobs.specs.Shapes.{length_line, lanes_line, warm_line, measure_line, shape, span}
-use Rattle.trlab_jobs.specs.Sweep.{Setup, sweep_line, heading, setup}
+use Rattle.trlab_jobs.specs.Sweep.{Setup, sweep_line, sweep_heading, setup}
 use Rattle.trlab_texts.proofs.Readings.{goes_on, stops}
 
 -- what is read after each line of the roads
@@ -57,10 +57,10 @@ pub span_said : (warm measure : ℕ) (at after end : Rest) → line (exactly war
     → span at (Ok (record { warm = warm; measure = measure }, end))
 span_said warm measure at after end one two = (Ok (warm, after), (one, (Ok (measure, end), (two, refl))))
 
-pub sweep_fails : (at : Rest) (fault : TextFault) → Reports {A = Unit {0} × Rest} (line (exactly sweep_line) at) (Err fault) → Reports {A = List ℕ × Rest} (heading at) (Err fault)
+pub sweep_fails : (at : Rest) (fault : TextFault) → Reports {A = Unit {0} × Rest} (line (exactly sweep_line) at) (Err fault) → Reports {A = List ℕ × Rest} (sweep_heading at) (Err fault)
 sweep_fails at fault told = stops (line (exactly sweep_line)) (λ _. line (exactly key_line)) at fault told
 
-pub key_told : (at after : Rest) (out : Result (List ℕ × Rest) TextFault) → line (exactly sweep_line) at (Ok (tt, after)) → Reports (line (exactly key_line) after) out → Reports (heading at) out
+pub key_told : (at after : Rest) (out : Result (List ℕ × Rest) TextFault) → line (exactly sweep_line) at (Ok (tt, after)) → Reports (line (exactly key_line) after) out → Reports (sweep_heading at) out
 key_told at after out one told = goes_on (line (exactly sweep_line)) (λ _. line (exactly key_line)) at after tt out one told
 
 -- what is read after the key, the roads and the rule
@@ -73,32 +73,32 @@ after_shape key roads = rule roads.lanes >>= after_rule key roads
 abbrev pub after_key : List ℕ → Reading Setup
 after_key key = shape >>= after_shape key
 
-pub key_fails : (at : Rest) (fault : TextFault) → Reports {A = List ℕ × Rest} (heading at) (Err fault) → Reports {A = Setup × Rest} (setup at) (Err fault)
+pub key_fails : (at : Rest) (fault : TextFault) → Reports {A = List ℕ × Rest} (sweep_heading at) (Err fault) → Reports {A = Setup × Rest} (setup at) (Err fault)
 unfolding setup
-key_fails at fault told = stops heading after_key at fault told
+key_fails at fault told = stops sweep_heading after_key at fault told
 
-pub shape_fails : (key : List ℕ) (at after : Rest) (fault : TextFault) → heading at (Ok (key, after)) → Reports {A = Shape × Rest} (shape after) (Err fault)
+pub shape_fails : (key : List ℕ) (at after : Rest) (fault : TextFault) → sweep_heading at (Ok (key, after)) → Reports {A = Shape × Rest} (shape after) (Err fault)
     → Reports {A = Setup × Rest} (setup at) (Err fault)
 unfolding setup
-shape_fails key at after fault one told = goes_on heading after_key at after key (Err fault) one (stops shape (after_shape key) after fault told)
+shape_fails key at after fault one told = goes_on sweep_heading after_key at after key (Err fault) one (stops shape (after_shape key) after fault told)
 
-pub rule_fails : (key : List ℕ) (roads : Shape) (at after behind : Rest) (fault : TextFault) → heading at (Ok (key, after)) → shape after (Ok (roads, behind))
+pub rule_fails : (key : List ℕ) (roads : Shape) (at after behind : Rest) (fault : TextFault) → sweep_heading at (Ok (key, after)) → shape after (Ok (roads, behind))
     → Reports {A = Programs × Rest} (rule roads.lanes behind) (Err fault) → Reports {A = Setup × Rest} (setup at) (Err fault)
 unfolding setup
 rule_fails key roads at after behind fault one two told =
-    goes_on heading after_key at after key (Err fault) one
+    goes_on sweep_heading after_key at after key (Err fault) one
     (goes_on shape (after_shape key) after behind roads (Err fault) two (stops (rule roads.lanes) (after_rule key roads) behind fault told))
 
-pub span_fails : (key : List ℕ) (roads : Shape) (first : Programs) (at after behind last : Rest) (fault : TextFault) → heading at (Ok (key, after)) → shape after (Ok (roads, behind))
+pub span_fails : (key : List ℕ) (roads : Shape) (first : Programs) (at after behind last : Rest) (fault : TextFault) → sweep_heading at (Ok (key, after)) → shape after (Ok (roads, behind))
     → rule roads.lanes behind (Ok (first, last)) → Reports {A = Span × Rest} (span last) (Err fault) → Reports {A = Setup × Rest} (setup at) (Err fault)
 unfolding setup
 span_fails key roads first at after behind last fault one two three told =
-    goes_on heading after_key at after key (Err fault) one
+    goes_on sweep_heading after_key at after key (Err fault) one
     (goes_on shape (after_shape key) after behind roads (Err fault) two
     (goes_on (rule roads.lanes) (after_rule key roads) behind last first (Err fault) three
     (stops span (λ steps. say (record { key = key; shape = roads; rule = first; span = steps })) last fault told)))
 
-pub setup_said : (key : List ℕ) (roads : Shape) (first : Programs) (steps : Span) (at after behind last end : Rest) → heading at (Ok (key, after)) → shape after (Ok (roads, behind))
+pub setup_said : (key : List ℕ) (roads : Shape) (first : Programs) (steps : Span) (at after behind last end : Rest) → sweep_heading at (Ok (key, after)) → shape after (Ok (roads, behind))
     → rule roads.lanes behind (Ok (first, last)) → span last (Ok (steps, end)) → setup at (Ok (record { key = key; shape = roads; rule = first; span = steps }, end))
 unfolding setup
 setup_said key roads first steps at after behind last end one two three four =

@@ -1,4 +1,4 @@
--- Check texts: a program, on which a verdict is asked for, and perhaps its notes.
+-- Check texts: a program, and the question about it.
 use Rattle.std.specs.Prelude.{◌≡◌, ℕ, List, [], ◌∷◌, codes, Option, None, Some, Result, Ok, Err, if◌then◌else◌}
 use Rattle.std.specs.Str.{bytes_eq}
 use Rattle.trlab_code.specs.declared.kind.Kind.{Kind}
@@ -10,11 +10,11 @@ use Rattle.trlab_asm.specs.Results.{map_ok}
 use Rattle.trlab_texts.specs.declared.fault.Cause.{Cause}
 use Rattle.trlab_texts.specs.declared.fault.Cause.TheVariants.{Line}
 use Rattle.trlab_texts.specs.Reading.{Fault, TextSays}
-use Rattle.trlab_texts.specs.Programs.{heading, program_after, code_line}
+use Rattle.trlab_texts.specs.Programs.{heading_line, program_after, code_line}
 use Rattle.trlab_jobs.specs.declared.check.Question.{Question}
 use Rattle.trlab_jobs.specs.declared.check.Question.TheVariants.{Verdict, Notes}
 
--- what is asked of a program, and the line that begins it: after `notes ` notes are asked for
+-- the question about a program, and the line that begins it: after `notes ` the question is for notes
 abbrev pub question_after : List ℕ → Option (List ℕ) → Question × List ℕ
 question_after text None = (Verdict, text)
 question_after text (Some rest) = (Notes, rest)
@@ -23,14 +23,14 @@ question_after text (Some rest) = (Notes, rest)
 abbrev pub question_of : List ℕ → Question × List ℕ
 question_of text = question_after text (without_prefix (codes "notes ") text)
 
--- the kind of program that a line heads, if it heads one
+-- the kind of the block that a line begins, if it begins one
 abbrev pub heading_kind : List ℕ → Option Kind
 heading_kind text =
-    if bytes_eq text (heading Motion) then Some Motion
-    else if bytes_eq text (heading Change) then Some Change
+    if bytes_eq text (heading_line Motion) then Some Motion
+    else if bytes_eq text (heading_line Change) then Some Change
     else None
 
--- a program on the first line of a text, where no more lines may stand
+-- a program on the first line of a text, which must be the last
 abbrev pub no_more_after : List (List ℕ) → Program → Result Program Fault
 no_more_after [] program = Ok program
 no_more_after (text ∷ left) program = Err (record { line = 2; cause = Line })
@@ -45,8 +45,7 @@ abbrev pub LoneCodeSays : List ℕ → List (List ℕ) → Result Program Fault 
 LoneCodeSays text left says =
     (any : Result Program Cause) × (code_line text any × (says ≡ lone_program left any))
 
--- the program that a line begins, with the lines after it: all of them are the program's where it
--- heads one
+-- the program that begins with a line: if the line begins a block, all lines after it are the program's
 abbrev pub HeadedLinesSay : Option Kind → List ℕ → List (List ℕ) → Result Program Fault → Type 0
 HeadedLinesSay (Some kind) text left says = says ≡ program_after kind 1 left
 HeadedLinesSay None text left says = LoneCodeSays text left says
@@ -55,16 +54,16 @@ HeadedLinesSay None text left says = LoneCodeSays text left says
 abbrev pub ProgramSays : List ℕ → List (List ℕ) → Result Program Fault → Type 0
 ProgramSays text left says = HeadedLinesSay (heading_kind text) text left says
 
--- what a check text asks for: the verdict on a program, and perhaps its notes
+-- a question about a program
 pub record Check : Type 0 where
   pub question : Question
   pub program : Program
 
--- a question, asked of a program
+-- the same, from its parts
 abbrev pub check_of : Question → Program → Check
 check_of question program = record { question = question; program = program }
 
--- what is said where a question was read, and a line that begins a program
+-- what a check text says, by its question and the line that begins its program
 abbrev pub QuestionSays : Question × List ℕ → List (List ℕ) → Result Check Fault → Type 0
 QuestionSays first left says =
     (program : Result Program Fault)
@@ -75,7 +74,7 @@ abbrev pub CheckLinesSay : List (List ℕ) → Result Check Fault → Type 0
 CheckLinesSay [] says = says ≡ Err (record { line = 1; cause = Line })
 CheckLinesSay (text ∷ left) says = QuestionSays (question_of text) left says
 
--- what a check text says: what it asks for, or its first fault; a text that is too long has that
--- fault alone
+-- what a check text says: a question about a program, or its first fault; the only fault of a text that is
+-- too long is its length
 abbrev pub CheckText : List ℕ → Result Check Fault → Type 0
 CheckText text says = TextSays (λ lines. CheckLinesSay (lines_of lines)) text says

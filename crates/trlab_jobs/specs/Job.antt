@@ -1,15 +1,15 @@
--- Job texts: a key, a road, a rule, a count of steps, and rules of later steps.
+-- Job texts: a key, a road, a rule, the number of steps, and rules of later steps.
 use Rattle.std.specs.Prelude.{ℕ, List, length, codes, Result, Ok, Err, if◌then◌else◌}
 use Rattle.std.specs.Str.{bytes_eq}
 use Rattle.hex.specs.Hex.{decode_sized}
 use Rattle.hex.specs.declared.error.FromHexError.{FromHexError}
-use Rattle.trlab_bounds.specs.declared.roads.TheConstants.{GREATEST_LIMIT}
+use Rattle.trlab_bounds.specs.declared.roads.TheConstants.{MAX_LIMIT}
 use Rattle.trlab_road.specs.Cells.{Cells}
 use Rattle.trlab_rules.specs.Rules.{Programs}
 use Rattle.trlab_step.specs.Run.{Seed, Sheet, sheet_with}
 use Rattle.trlab_texts.specs.declared.fault.Cause.{Cause}
 use Rattle.trlab_texts.specs.declared.fault.Cause.TheVariants.{Line, Key}
-use Rattle.trlab_bounds.specs.declared.runs.TheConstants.{MOST_STEPS}
+use Rattle.trlab_bounds.specs.declared.runs.TheConstants.{MAX_STEPS}
 use Rattle.trlab_texts.specs.Lines.{start, Rest}
 use Rattle.trlab_texts.specs.Words.{word_after, number_within}
 use Rattle.trlab_texts.specs.Reading.{Fault, Reading, say, ◌>>=◌, ◌>>◌, line, exactly, TextSays}
@@ -45,13 +45,13 @@ key_line text = key_of (word_after (codes "key ") text)
 
 -- the line `limit n`
 abbrev pub limit_line : List ℕ → Result ℕ Cause
-limit_line text = number_within 1 GREATEST_LIMIT (word_after (codes "limit ") text)
+limit_line text = number_within 1 MAX_LIMIT (word_after (codes "limit ") text)
 
 -- the line `steps n`
 abbrev pub steps_line : List ℕ → Result ℕ Cause
-steps_line text = number_within 0 MOST_STEPS (word_after (codes "steps ") text)
+steps_line text = number_within 0 MAX_STEPS (word_after (codes "steps ") text)
 
--- the lines of a job text after those of its road: a rule, a count of steps, and rules of later steps
+-- the lines of a job text after its lanes: a rule, the number of steps, and rules of later steps
 abbrev pub job_after : List ℕ → Cells → Reading Job
 job_after key road = do
   first ← rule (length road.lanes)
@@ -68,7 +68,7 @@ job = do
   road ← lanes limit
   job_after key road
 
--- what is said by the lines from a place on, of which the last may stay unread
+-- what the lines from a place on say; the last ones may stay unread
 abbrev pub UpToTheEnd : {A : Type 0} → Reading A → Rest → Result A Fault → Type 0
 UpToTheEnd reading place (Ok say) = (rest : Rest) × reading place (Ok (say, rest))
 UpToTheEnd reading place (Err fault) = reading place (Err fault)
@@ -77,11 +77,11 @@ UpToTheEnd reading place (Err fault) = reading place (Err fault)
 abbrev pub LinesSay : List ℕ → Result Job Fault → Type 0
 LinesSay text = UpToTheEnd job (start text)
 
--- what a text says: a job, or its first fault; a text that is too long has that fault alone
+-- what a text says: a job, or its first fault; the only fault of a text that is too long is its length
 abbrev pub JobText : List ℕ → Result Job Fault → Type 0
 JobText text says = TextSays LinesSay text says
 
--- where the run of a job starts
+-- the start of a job's run
 abbrev pub seed_of : Job → Seed
 seed_of job = record { road = job.road; key = job.key; number = 0; warm = 0 }
 

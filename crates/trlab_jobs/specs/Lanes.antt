@@ -1,4 +1,4 @@
--- The lanes of a road: the pictures of one line or two, which are judged together.
+-- The lanes of a road: the pictures of one or two lines, which are judged together.
 use Rattle.std.specs.Prelude.{◌≡◌, ◌≢◌, ℕ, ◌+◌, ◌==◌, List, ◌∷◌, codes, Option, None, Some, Result, Ok, Err, option_to_list, if◌then◌else◌}
 use Rattle.trlab_road.specs.Cells.{Cells}
 use Rattle.trlab_road.specs.Legal.{IsLegal}
@@ -14,11 +14,11 @@ use Rattle.trlab_texts.specs.Reading.{Fault, Reading, ◌>>=◌, line, exactly, 
 abbrev pub lane_word : List ℕ → Result (List ℕ) Cause
 lane_word text = word_after (codes "lane ") text
 
--- the picture of a second lane, where the next line states a lane: where its first word is `lane`
+-- the picture of a second lane, if the first word of the next line is `lane`
 abbrev pub second_lane : Reading (Option (List ℕ))
 second_lane rest out = perhaps (next_word_is (codes "lane") rest.left) (line (exactly lane_word)) rest out
 
--- the line of the last lane, where the first stands on the line `first`
+-- the line of the last lane, if the first lane is on the line `first`
 abbrev pub last_line : ℕ → Option (List ℕ) → ℕ
 last_line first None = first
 last_line first (Some second) = first + 1
@@ -27,7 +27,7 @@ last_line first (Some second) = first + 1
 abbrev pub line_of_lane : ℕ → ℕ → ℕ → ℕ
 line_of_lane first last lane = if lane == 0 then first else last
 
--- the line of a fault of lanes: that of its own lane, or else that of the last one
+-- the line of a fault: that of its lane, or the last one if it is not about one lane
 abbrev pub line_of_fault : ℕ → ℕ → RoadFault → ℕ
 line_of_fault first last Lanes = last
 line_of_fault first last Length = last
@@ -45,7 +45,7 @@ LanesSay first last limit pictures (Err fault) =
     (wrong : RoadFault) × (IsFirstFault limit pictures wrong × ((wrong ≢ Memory)
     × (fault ≡ record { line = line_of_fault first last wrong; cause = Road wrong })))
 
--- what one picture or two say, of which the first stands on the line `first`
+-- what one or two pictures say, of which the first is on the line `first`
 abbrev pub PicturesSay : ℕ → ℕ → List ℕ → Option (List ℕ) → Result Cells Fault → Type 0
 PicturesSay first limit picture second says =
     LanesSay first (last_line first second) limit (picture ∷ option_to_list second) says
@@ -55,7 +55,7 @@ abbrev pub road_of : ℕ → ℕ → List ℕ → Option (List ℕ) → Reading 
 road_of first limit picture second rest out =
     (says : Result Cells Fault) × (PicturesSay first limit picture second says × (out ≡ before rest says))
 
--- the lanes of a road: the line `lane P`, and the next line where it states a lane
+-- the lanes of a road: the line `lane P`, and the next line if it begins with `lane`
 abbrev pub lanes : ℕ → Reading Cells
 lanes limit rest out =
     (line (exactly lane_word) >>= λ picture. second_lane >>= road_of rest.number limit picture) rest out

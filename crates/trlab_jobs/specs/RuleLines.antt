@@ -15,29 +15,29 @@ use Rattle.trlab_asm.specs.Results.{◌>>=◌}
 abbrev pub own_words : List ℕ → Option (RuleLine (List ℕ))
 own_words text = if bytes_eq text (codes "rule own") then Some Own else None
 
--- the words of `rule rickert t c`, by what stands after its name, or else others
+-- the words of `rule rickert t c`, if its name comes first, or else the others
 abbrev pub rickert_words : Option (List ℕ) → Option (RuleLine (List ℕ)) → Option (RuleLine (List ℕ))
 rickert_words None others = others
 rickert_words (Some words) others = option_map (λ two. Rickert two.0 two.1) (two_words words)
 
--- the words of `rule vdr t t0`, by what stands after its name, or else others
+-- the words of `rule vdr t t0`, if its name comes first, or else the others
 abbrev pub vdr_words : Option (List ℕ) → Option (RuleLine (List ℕ)) → Option (RuleLine (List ℕ))
 vdr_words None others = others
 vdr_words (Some words) others = option_map (λ two. Vdr two.0 two.1) (two_words words)
 
--- the words of `rule nasch t`, by what stands after its name, or else others
+-- the words of `rule nasch t`, if its name comes first, or else the others
 abbrev pub nasch_words : Option (List ℕ) → Option (RuleLine (List ℕ)) → Option (RuleLine (List ℕ))
 nasch_words None others = others
 nasch_words (Some words) others = option_map Nasch (as_word words)
 
--- the words of a rule line, where it is one of the four
+-- the words of a rule line, if it is one of the four
 abbrev pub rule_words : List ℕ → Option (RuleLine (List ℕ))
 rule_words text =
     nasch_words (without_prefix (codes "rule nasch ") text)
     (vdr_words (without_prefix (codes "rule vdr ") text)
     (rickert_words (without_prefix (codes "rule rickert ") text) (own_words text)))
 
--- the chance that a word writes, in parts of 2 ^ 31
+-- the probability, times 2 ^ 31, that a word writes
 abbrev pub chance_of : List ℕ → Result ℕ Cause
 chance_of word = within 0 CERTAIN (number_of word)
 
@@ -62,20 +62,19 @@ abbrev pub later_words : List ℕ → Option (List ℕ × RuleLine (List ℕ))
 later_words text =
     option_and_then step_and_rule (option_and_then (cut 32) (without_prefix (codes "at ") text))
 
--- the number of the step from which a later rule is in force: here it may be any number of ten digits
+-- the step from which a later rule applies: here any number of at most ten digits
 abbrev pub step_of : List ℕ → Result ℕ Cause
 step_of word = within 0 LONGEST_NUMBER (number_of word)
 
--- the step of a later rule, where there is room for the rule, and the step is from `least` on and below
--- `steps`
+-- the step of a later rule, if there is room for the rule, and the step is at least `least` and below `steps`
 abbrev pub admit_step : ℕ → ℕ → ℕ → ℕ → Result ℕ Cause
 admit_step room steps least step =
     if room == 0 then Err TooMany
     else if nat_le least step && nat_lt step steps then Ok step
     else Err Order
 
--- a line `at s` with a rule, of a run of so many steps: words before numbers, numbers from left to
--- right, then the room that is left, then the order of the steps
+-- a line `at s` with a rule, of a run of `steps` steps: words before numbers, numbers from left to right,
+-- then the room that is left, then the order of the steps
 abbrev pub later_line : ℕ → ℕ → ℕ → List ℕ → Result (ℕ × RuleLine ℕ) Cause
 later_line room steps least text =
     ok_or (later_words text) Line >>= λ words.

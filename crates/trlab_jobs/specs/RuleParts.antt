@@ -16,7 +16,7 @@ use Rattle.trlab_jobs.specs.declared.rule_line.RuleLine.{RuleLine}
 use Rattle.trlab_jobs.specs.declared.rule_line.RuleLine.TheVariants.{Nasch, Vdr, Rickert, Own}
 use Rattle.trlab_texts.specs.Words.{word_after, next_word_is}
 use Rattle.trlab_texts.specs.Reading.{Fault, Reading, say, ◌>>=◌, line, exactly, perhaps, of_line}
-use Rattle.trlab_texts.specs.Programs.{Part, part, part_of, heading}
+use Rattle.trlab_texts.specs.Programs.{Part, part, part_of, heading_line}
 use Rattle.trlab_jobs.specs.RuleLines.{rule_line}
 
 -- the verifier accepts this program of a kind, with its budget
@@ -36,7 +36,7 @@ BothSay motion change (Ok rule) =
     Accepts Motion motion rule.motion × MatchOption rule.change ⊥ (Accepts Change change)
 BothSay motion change (Err cause) = ⊥
 
--- the same on a road that has one lane, where it is refused, or that has two
+-- the same on a road with one lane, where it is a fault, or with two
 abbrev pub ExchangeSays : Bool → Program → Program → Result Programs Cause → Type 0
 ExchangeSays true motion change says = says ≡ Err OneLane
 ExchangeSays false motion change says = BothSay motion change says
@@ -51,12 +51,12 @@ abbrev pub code_misplacement : Result (List ℕ) Cause → Cause
 code_misplacement (Ok digits) = digits_misplacement (decode_of digits)
 code_misplacement (Err cause) = cause
 
--- what is wrong with a block of one, whose heading is the line `first`, by where its line `end` is
+-- what is wrong with a block of one that begins on the line `first`
 abbrev pub block_misplacement : ℕ → List (List ℕ) → Option Part → Fault
 block_misplacement first left None = record { line = first + 1 + length left; cause = Line }
 block_misplacement first left (Some parts) = record { line = first; cause = OneLane }
 
--- what is wrong with a part of one, which has the heading of a block or has not
+-- the same, if it is a block, and if it is not
 abbrev pub part_misplacement : Bool → ℕ → List ℕ → List (List ℕ) → Fault
 part_misplacement true first text left = block_misplacement first left (part_of left)
 part_misplacement false first text left =
@@ -66,7 +66,7 @@ part_misplacement false first text left =
 -- its `end`, else that its digits are not hexadecimal, and else the one lane
 abbrev pub misplacement : ℕ → List (List ℕ) → Fault
 misplacement first [] = record { line = first; cause = Line }
-misplacement first (text ∷ left) = part_misplacement (bytes_eq text (heading Change)) first text left
+misplacement first (text ∷ left) = part_misplacement (bytes_eq text (heading_line Change)) first text left
 
 -- a change part, which is a fault on a road of one lane
 abbrev pub change_by : Bool → Reading CheckedProgram
@@ -77,18 +77,18 @@ change_by false rest out = part Change rest out
 abbrev pub next_is_change : List (List ℕ) → Bool
 next_is_change left = next_word_is (codes "change") left || next_word_is (codes "code") left
 
--- a change part, if there is one, on a road of so many lanes
+-- a change part, if there is one, on a road with `lanes` lanes
 abbrev pub change_part : ℕ → Reading (Option CheckedProgram)
 change_part lanes rest out = perhaps (next_is_change rest.left) (change_by (nat_eq lanes 1)) rest out
 
--- own programs: a motion part, and perhaps a change part
+-- own programs: a motion part, and optionally a change part
 abbrev pub own_rule : ℕ → Reading Programs
 own_rule lanes = do
   motion ← part Motion
   change ← change_part lanes
   say (record { motion = motion; change = change })
 
--- a rule for a road of so many lanes, whose line of this number was read
+-- a rule for a road with `lanes` lanes, whose line was read
 abbrev pub rule_from : ℕ → ℕ → RuleLine ℕ → Reading Programs
 rule_from lanes number (Nasch p) = of_line number (MotionSays (nasch_program p))
 rule_from lanes number (Vdr p p0) = of_line number (MotionSays (vdr_program p p0))
@@ -96,6 +96,6 @@ rule_from lanes number (Rickert p c) =
     of_line number (ExchangeSays (nat_eq lanes 1) (nasch_program p) (rickert_program c))
 rule_from lanes number Own = own_rule lanes
 
--- a rule for a road of so many lanes
+-- a rule for a road with `lanes` lanes
 abbrev pub rule : ℕ → Reading Programs
 rule lanes rest out = (line (exactly rule_line) >>= rule_from lanes rest.number) rest out

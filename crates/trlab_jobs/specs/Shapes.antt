@@ -1,29 +1,29 @@
 -- What the points of a sweep have in common: the shape of their roads, and how long each takes.
 use Rattle.std.specs.Prelude.{ℕ, ◌+◌, ◌*◌, List, codes, Result}
-use Rattle.trlab_bounds.specs.declared.roads.TheConstants.{GREATEST_LENGTH, MOST_LANES}
-use Rattle.trlab_bounds.specs.declared.runs.TheConstants.{MOST_STEPS}
+use Rattle.trlab_bounds.specs.declared.roads.TheConstants.{MAX_LENGTH, MAX_LANES}
+use Rattle.trlab_bounds.specs.declared.runs.TheConstants.{MAX_STEPS}
 use Rattle.trlab_texts.specs.declared.fault.Cause.{Cause}
 use Rattle.trlab_texts.specs.Words.{word_after, number_within}
 use Rattle.trlab_texts.specs.Reading.{Reading, say, ◌>>=◌, line, exactly}
-use Rattle.trlab_jobs.specs.declared.shape.Shape.{Shape}
-use Rattle.trlab_jobs.specs.declared.shape.Span.{Span}
+use Rattle.trlab_jobs.specs.declared.sweep.Shape.{Shape}
+use Rattle.trlab_jobs.specs.declared.sweep.Span.{Span}
 use Rattle.trlab_jobs.specs.Job.{limit_line}
 
 -- the line `length n`
 abbrev pub length_line : List ℕ → Result ℕ Cause
-length_line text = number_within 1 GREATEST_LENGTH (word_after (codes "length ") text)
+length_line text = number_within 1 MAX_LENGTH (word_after (codes "length ") text)
 
 -- the line `lanes n`
 abbrev pub lanes_line : List ℕ → Result ℕ Cause
-lanes_line text = number_within 1 MOST_LANES (word_after (codes "lanes ") text)
+lanes_line text = number_within 1 MAX_LANES (word_after (codes "lanes ") text)
 
 -- the line `warm n`
 abbrev pub warm_line : List ℕ → Result ℕ Cause
-warm_line text = number_within 0 MOST_STEPS (word_after (codes "warm ") text)
+warm_line text = number_within 0 MAX_STEPS (word_after (codes "warm ") text)
 
 -- the line `measure n`
 abbrev pub measure_line : List ℕ → Result ℕ Cause
-measure_line text = number_within 1 MOST_STEPS (word_after (codes "measure ") text)
+measure_line text = number_within 1 MAX_STEPS (word_after (codes "measure ") text)
 
 -- the lines of the roads, in their order
 abbrev pub shape : Reading Shape
@@ -40,10 +40,10 @@ span = do
   measure ← line (exactly measure_line)
   say (record { warm = warm; measure = measure })
 
--- how many cells a road has
-abbrev pub all_cells : Shape → ℕ
-all_cells shape = shape.lanes * shape.cells
+-- the number of cells of a road
+abbrev pub cell_count : Shape → ℕ
+cell_count shape = shape.lanes * shape.cells
 
--- how many steps a point takes
+-- the number of steps of a point
 abbrev pub all_steps : Span → ℕ
 all_steps span = span.warm + span.measure

@@ -1,17 +1,16 @@
--- What the code keeps of a job, and of a sweep.
+-- What the code guarantees of a job and of a sweep.
 use Rattle.std.specs.Prelude.{ℕ, ◌+◌, ◌<◌, ◌≤◌, [], ◌∷◌, All, length}
 use Rattle.trlab_road.specs.Legal.{IsLegal}
 use Rattle.trlab_step.specs.Laws.{IsRuleFor}
 use Rattle.trlab_step.specs.Run.{Sheet}
 use Rattle.trlab_road.specs.Spreading.{CanSpread}
-use Rattle.trlab_jobs.specs.declared.limits.TheConstants.{MOST_POINTS, MOST_WORK}
+use Rattle.trlab_jobs.specs.declared.limits.TheConstants.{MAX_POINTS, MAX_WORK}
 use Rattle.trlab_jobs.specs.Job.{Job}
-use Rattle.trlab_jobs.specs.declared.shape.Shape.{Shape}
+use Rattle.trlab_jobs.specs.declared.sweep.Shape.{Shape}
 use Rattle.trlab_jobs.specs.Shapes.{all_steps}
 use Rattle.trlab_jobs.specs.Sweep.{Sweep}
 
--- later rules for roads of so many lanes, in a run of so many steps: their steps rise, none is before
--- `least`, and each is one that is run
+-- later rules for roads with `lanes` lanes: their steps increase, from `least` on, and are below `steps`
 abbrev pub AreLaterRules : ℕ → ℕ → ℕ → Sheet → Type 0
 AreLaterRules lanes steps least [] = Unit {0}
 AreLaterRules lanes steps least (entry ∷ later) =
@@ -19,20 +18,20 @@ AreLaterRules lanes steps least (entry ∷ later) =
     × (IsRuleFor lanes entry.1 × AreLaterRules lanes steps (entry.0 + 1) later))
 
 -- a job as the code keeps it: a legal road, and rules for its lanes
-pub record IsStored (job : Job) : Type 0 where
+pub record IsStoredJob (job : Job) : Type 0 where
   pub legal : IsLegal job.road
   pub first : IsRuleFor (length job.road.lanes) job.first
   pub later : AreLaterRules (length job.road.lanes) job.steps 0 job.later
 
--- so many cars can be evenly spread on a road of this shape
+-- `count` cars can be spread evenly on a road of this shape
 abbrev pub Spreads : Shape → ℕ → Type 0
 Spreads shape count = CanSpread shape.lanes shape.cells shape.limit count
 
 -- a sweep as the code keeps it: a rule for its lanes, room for the cars of each point, steps that are
--- counted, and no more points and steps than a sweep may have
+-- counted, and at most MAX_POINTS points and MAX_WORK steps
 pub record IsStoredSweep (sweep : Sweep) : Type 0 where
   pub rule : IsRuleFor sweep.setup.shape.lanes sweep.setup.rule
   pub spreads : All (Spreads sweep.setup.shape) sweep.cars
-  pub few : length sweep.cars ≤ MOST_POINTS
+  pub few : length sweep.cars ≤ MAX_POINTS
   pub counted : 1 ≤ sweep.setup.span.measure
-  pub short : all_steps sweep.setup.span ≤ MOST_WORK
+  pub short : all_steps sweep.setup.span ≤ MAX_WORK

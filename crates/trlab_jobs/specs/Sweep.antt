@@ -1,4 +1,4 @@
--- Sweep texts: what the points of a sweep have in common, and the count of cars at each.
+-- Sweep texts: what the points of a sweep have in common, and the number of cars of each.
 use Rattle.std.specs.Prelude.{◌≡◌, ℕ, List, codes, Result, Ok, Err, if◌then◌else◌}
 use Rattle.std.specs.Str.{bytes_eq}
 use Rattle.trlab_rules.specs.Rules.{Programs}
@@ -7,11 +7,11 @@ use Rattle.trlab_texts.specs.declared.fault.Cause.TheVariants.{Line}
 use Rattle.trlab_texts.specs.Lines.{start, Rest}
 use Rattle.trlab_texts.specs.Reading.{Fault, Reading, say, ◌>>=◌, ◌>>◌, line, exactly, TextSays}
 use Rattle.trlab_asm.specs.Results.{map_ok}
-use Rattle.trlab_jobs.specs.declared.shape.Shape.{Shape}
-use Rattle.trlab_jobs.specs.declared.shape.Span.{Span}
+use Rattle.trlab_jobs.specs.declared.sweep.Shape.{Shape}
+use Rattle.trlab_jobs.specs.declared.sweep.Span.{Span}
 use Rattle.trlab_jobs.specs.Job.{key_line}
 use Rattle.trlab_jobs.specs.RuleParts.{rule}
-use Rattle.trlab_jobs.specs.Shapes.{shape, span, all_cells, all_steps}
+use Rattle.trlab_jobs.specs.Shapes.{shape, span, cell_count, all_steps}
 use Rattle.trlab_jobs.specs.Counts.{counts}
 
 -- what the points of a sweep have in common
@@ -21,12 +21,12 @@ pub record Setup : Type 0 where
   pub rule : Programs
   pub span : Span
 
--- what a sweep text says: what its points have in common, and the count of cars at each
+-- what a sweep text says: what its points have in common, and the number of cars of each
 pub record Sweep : Type 0 where
   pub setup : Setup
   pub cars : List ℕ
 
--- the sweep that is made of its parts
+-- a sweep from its parts
 abbrev pub sweep_of : List ℕ → ℕ → ℕ → ℕ → Programs → ℕ → ℕ → List ℕ → Sweep
 sweep_of key limit cells lanes rule warm measure cars =
     let shape : Shape = record { limit = limit; cells = cells; lanes = lanes } in
@@ -38,30 +38,30 @@ abbrev pub sweep_line : List ℕ → Result (Unit {0}) Cause
 sweep_line text = if bytes_eq text (codes "sweep 1") then Ok tt else Err Line
 
 -- the key, after the line `sweep 1`
-abbrev pub heading : Reading (List ℕ)
-heading = line (exactly sweep_line) >> line (exactly key_line)
+abbrev pub sweep_heading : Reading (List ℕ)
+sweep_heading = line (exactly sweep_line) >> line (exactly key_line)
 
 -- the lines of a sweep text before its points
 unfoldable pub setup : Reading Setup
 setup = do
-  key ← heading
+  key ← sweep_heading
   roads ← shape
   rule ← rule roads.lanes
   steps ← span
   say (record { key = key; shape = roads; rule = rule; span = steps })
 
--- the sweep, once what its points have in common was read, by the lines that are left
+-- the sweep, from what its points have in common and from the lines that are left
 abbrev pub with_counts : Result (Setup × Rest) Fault → Result Sweep Fault
 with_counts (Err fault) = Err fault
 with_counts (Ok found) =
     map_ok (λ cars. record { setup = found.0; cars = cars })
-    (counts (all_cells found.0.shape) (all_steps found.0.span) found.1.number found.1.left)
+    (counts (cell_count found.0.shape) (all_steps found.0.span) found.1.number found.1.left)
 
 -- what the lines of a text say
 abbrev pub SweepLinesSay : List ℕ → Result Sweep Fault → Type 0
 SweepLinesSay text says =
     (found : Result (Setup × Rest) Fault) × (setup (start text) found × (says ≡ with_counts found))
 
--- what a text says: a sweep, or its first fault; a text that is too long has that fault alone
+-- what a text says: a sweep, or its first fault; the only fault of a text that is too long is its length
 abbrev pub SweepText : List ℕ → Result Sweep Fault → Type 0
 SweepText text says = TextSays SweepLinesSay text says

@@ -1,6 +1,6 @@
-//! Check texts: a program each, on which a verdict is asked for, and perhaps its notes.
+//! Check texts: a program, and the question about it.
 
-ghost use Rattle.std.specs.Prelude.{◌≡◌, ◌≤◌, length};
+ghost use Rattle.std.specs.Prelude.{◌≡◌, ◌<◌, ◌≤◌, Err, length};
 ghost use Rattle.trlab_lines.specs.Lines.{lines_of};
 ghost use Rattle.trlab_jobs.specs.Check.{CheckLinesSay, CheckText, LoneCodeSays, ProgramSays, heading_kind, question_of};
 ghost use Rattle.trlab_texts.specs.Reading.{Reports};
@@ -11,20 +11,20 @@ use std::marker::Model;
 use trlab_bounds::texts::TEXT_LIMIT;
 use trlab_code::{Code, Kind};
 use trlab_lines::next_line;
-use trlab_texts::program::{heads, parse_code, program_after};
+use trlab_texts::program::{is_heading, parse_code, program_after};
 use trlab_texts::word::without_prefix;
 use trlab_texts::{Cause, LineName, LineNames, Refusal, TextFault};
 
-/// What is asked of a program.
+/// The question about a program.
 #[derive(Clone, Copy, PartialEq, Eq)]
 pub enum Question {
     /// Whether the verifier accepts it.
     Verdict,
-    /// The same, and what the verifier knows before each of its instructions.
+    /// The verdict, and the notes of the verifier: what it knows before each instruction.
     Notes,
 }
 
-/// What a check text asks for: the verdict on a program, and perhaps its notes.
+/// A program and a question about it.
 #[derive(Drop)]
 pub struct Check {
     pub question: Question,
@@ -40,8 +40,8 @@ impl Model for Check {
     ghost view = { λ check. check_of check.question check.code };
 }
 
-/// What the first line of a check text asks, and what is left of it: notes, where it begins with `notes `,
-/// and else the verdict alone.
+/// Splits the first line of a check text: with the prefix `notes ` it asks for notes, otherwise only for the
+/// verdict.
 fn question_of(line: &[u8]) -> (Question, &[u8])
     ensures { (result.0, result.1.now) ≡ question_of line.now }
 {
@@ -51,27 +51,27 @@ fn question_of(line: &[u8]) -> (Question, &[u8])
     }
 }
 
-/// The kind of program that a line heads, if it heads one.
+/// The kind of the block that a line begins, if it begins one.
 fn heading_kind(line: &[u8]) -> Option<Kind>
     ensures { result ≡ heading_kind line.now }
 {
-    if heads(Kind::Motion, line) {
+    if is_heading(Kind::Motion, line) {
         Some(Kind::Motion)
-    } else if heads(Kind::Change, line) {
+    } else if is_heading(Kind::Change, line) {
         Some(Kind::Change)
     } else {
         None
     }
 }
 
-/// The lines with which a check text may begin.
+/// The names with which a check text may begin.
 fn headings() -> LineNames {
     LineNames::none()
         .with(LineName::Motion)
         .with(LineName::Change)
 }
 
-/// The program of the line `code X`, after which no more may stand.
+/// The program of the line `code X`, which must be the last line.
 fn code_alone<'a>(alloc: Global, line: &'a [u8], rest: &[u8]) -> Result<Code, Refusal<'a>>
     ensures { Reports (LoneCodeSays line.now (lines_of rest.now)) result }
 {
@@ -87,7 +87,7 @@ fn code_alone<'a>(alloc: Global, line: &'a [u8], rest: &[u8]) -> Result<Code, Re
     }
 }
 
-/// The program that begins on a line and goes on in the lines after it, which are not too long.
+/// The program that begins with `line`; a block continues in the lines of `rest`.
 fn read_program<'a>(alloc: Global, line: &'a [u8], rest: &'a [u8]) -> Result<Code, Refusal<'a>>
     requires { length rest.now ≤ TEXT_LIMIT }
     ensures { Reports (ProgramSays line.now (lines_of rest.now)) result }
@@ -98,7 +98,7 @@ fn read_program<'a>(alloc: Global, line: &'a [u8], rest: &'a [u8]) -> Result<Cod
     }
 }
 
-/// What the lines of a text that is not too long ask for.
+/// Reads the lines of a text that is not too long.
 fn read_lines(alloc: Global, text: &[u8]) -> Result<Check, Refusal<'_>>
     requires { length text.now ≤ TEXT_LIMIT }
     ensures { Reports (CheckLinesSay (lines_of text.now)) result }
@@ -113,15 +113,15 @@ fn read_lines(alloc: Global, text: &[u8]) -> Result<Check, Refusal<'_>>
     }
 }
 
-/// Reads a check text: a program of either kind, on which a verdict is asked for, and perhaps its
-/// notes. Says what it wanted where it refuses one.
+/// Reads a check text. A refusal says what was wanted.
 ///
 /// # Errors
 ///
-/// The first fault of the text, at its line, which is 0 where the text is too long; or that memory
-/// ran out.
+/// The first fault of the text, at its line, or at line 0 if the text is too long (cause `TooBig`; then nothing
+/// is read). `TextFault::Memory` if an allocation fails.
 pub fn parse_check(alloc: Global, text: &[u8]) -> Result<Check, Refusal<'_>>
-    ensures { Reports (CheckText text.now) result }
+    ensures told { Reports (CheckText text.now) result }
+    ensures too_big { TEXT_LIMIT < length text.now → result ≡ Err (TextFault.At 0 Cause.TooBig) }
 {
     if text.len() > TEXT_LIMIT {
         return Err(Refusal::bare(TextFault::At {
@@ -136,9 +136,10 @@ pub fn parse_check(alloc: Global, text: &[u8]) -> Result<Check, Refusal<'_>>
 ///
 /// # Errors
 ///
-/// The fault with which `parse_check` refuses it.
+/// The fault of [`parse_check`].
 pub fn read_check(alloc: Global, text: &[u8]) -> Result<Check, TextFault>
-    ensures { Reports (CheckText text.now) result }
+    ensures told { Reports (CheckText text.now) result }
+    ensures too_big { TEXT_LIMIT < length text.now → result ≡ Err (TextFault.At 0 Cause.TooBig) }
 {
     match parse_check(alloc, text) {
         Ok(check) => Ok(check),

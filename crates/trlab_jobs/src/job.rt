@@ -1,42 +1,45 @@
-//! Job texts: a key, a road, a rule, how many steps to go, and rules of later steps.
+//! Job texts: a key, a road, a rule, the number of steps, and rules of later steps.
 
-ghost use Rattle.std.specs.Prelude.{◌≤◌, IfOk, length};
+ghost use Rattle.std.specs.Prelude.{◌≡◌, ◌<◌, ◌≤◌, Err, IfOk, length};
+ghost use Rattle.trlab_jobs.specs.Job.{road_line, key_line, limit_line, steps_line, JobText, LinesSay, UpToTheEnd, job_after};
 ghost use Rattle.trlab_road.specs.Legal.{IsLegal};
 ghost use Rattle.trlab_texts.specs.Reading.{Reports};
-ghost use Rattle.trlab_jobs.specs.Job.{JobText, LinesSay, UpToTheEnd, job_after};
-ghost use Rattle.trlab_jobs.specs.Stored.{IsStored};
+ghost use Rattle.trlab_jobs.specs.Stored.{IsStoredJob};
 ghost use Rattle.trlab_bounds.specs.declared.texts.TheConstants.{TEXT_LIMIT};
 
-use crate::{lane, later, line, rule};
+use crate::{lane, rule};
+use hex::FromHex;
 use std::alloc::Global;
 use std::marker::Model;
+use trlab_bounds::roads::MAX_LIMIT;
+use trlab_bounds::runs::MAX_STEPS;
 use trlab_bounds::texts::TEXT_LIMIT;
 use trlab_road::Road;
 use trlab_rules::Rule;
-use trlab_texts::{Cause, LineName, Refusal, Rest, TextFault};
+use trlab_texts::{Cause, Excerpt, LineName, Objection, Quantity, Refusal, Rest, TextFault};
 use trlab_words::Key;
 
-/// What a job text says. It can be run: the road is legal, and the rules are for its lanes.
+/// A job, which can be run: the road is legal, and the rules are for its number of lanes.
 #[derive(Drop)]
 pub struct Job {
-    /// The key of the random words.
+    /// The seed of the random numbers.
     pub key: Key,
     /// The road at step 0.
     pub road: Road,
     /// The rule from step 0 on.
     pub first: Rule,
-    /// The rules of later steps, each with the step from which on it is in force: these rise, and
-    /// are below `steps`.
+    /// The rules of later steps, each with the step from which it applies. These steps increase, and are below
+    /// `steps`.
     pub later: Vec<(u32, Rule)>,
-    /// How many steps are run, 0 to `MOST_STEPS`.
+    /// The number of steps, 0 to `MAX_STEPS`.
     pub steps: u32,
 }
 
 impl Model for Job {
-    ghost use Rattle.trlab_jobs.specs.Job.{Job as Said};
-    ghost use Rattle.trlab_jobs.specs.Stored.{IsStored};
+    ghost use Rattle.trlab_jobs.specs.Job.{Job as AbstractJob};
+    ghost use Rattle.trlab_jobs.specs.Stored.{IsStoredJob};
 
-    ghost Value = { Said };
+    ghost Value = { AbstractJob };
 
     ghost view = { λ job. record {
       key = job.key.0;
@@ -46,7 +49,7 @@ impl Model for Job {
       steps = job.steps;
     } };
 
-    ghost invariant = { λ job. IsStored (record {
+    ghost invariant = { λ job. IsStoredJob (record {
       key = job.key.0;
       road = job.road;
       first = job.first;
@@ -55,18 +58,54 @@ impl Model for Job {
     }) };
 }
 
-/// Reads what stands after the lanes: a rule, how many steps to go, and rules of later steps.
+/// The line `road 1`.
+pub fn road_line(line: &[u8]) -> Result<(), Objection<'_>>
+    ensures { result ≡ road_line line.now }
+{
+    if line == b"road 1".as_slice() {
+        Ok(())
+    } else {
+        Err(Objection::no_line())
+    }
+}
+
+/// The line `key H`, where H is 64 hexadecimal digits of either case.
+pub fn key_line(line: &[u8]) -> Result<[u8; 32], Objection<'_>>
+    ensures { result ≡ key_line line.now }
+{
+    let digits = Excerpt::word_after(LineName::Key.name_and_space(), line)?;
+    match <[u8; 32]>::from_hex(digits.bytes()) {
+        Ok(key) => Ok(key),
+        Err(_) => Err(digits.no_key()),
+    }
+}
+
+/// The line `limit n`, where n is the maximum speed, 1 to `MAX_LIMIT` cells per step.
+pub fn limit_line(line: &[u8]) -> Result<u32, Objection<'_>>
+    ensures { result ≡ limit_line line.now }
+{
+    Excerpt::number_after(LineName::Limit, 1, MAX_LIMIT, Quantity::Other, line)
+}
+
+/// The line `steps n`, where n is 0 to `MAX_STEPS`.
+pub fn steps_line(line: &[u8]) -> Result<u32, Objection<'_>>
+    ensures { result ≡ steps_line line.now }
+{
+    Excerpt::number_after(LineName::Steps, 0, MAX_STEPS, Quantity::Other, line)
+}
+
+/// Reads the lines after the lanes: a rule, the number of steps, and rules of later steps.
 fn read_rules(alloc: Global, key: [u8; 32], road: Road, rest: Rest<'_>) -> Result<Job, Refusal<'_>>
     requires { IsLegal road }
     ensures told { Reports (UpToTheEnd (job_after key road) rest.entry) result }
-    ensures stored { IfOk result IsStored }
+    ensures stored { IfOk result IsStoredJob }
 {
     let count = road.lanes();
     let line = rest.line_before();
     let lanes = rule::Lanes { count, line };
     let (first, rest) = rule::rule(alloc, lanes, rest)?;
-    let (steps, rest) = rest.read_line(LineName::Steps, line::steps_line)?;
-    let (later, _) = later::later_rules(alloc, lanes, steps, rest)?;
+    let (steps, rest) = rest.read_line(LineName::Steps, steps_line)?;
+    let (later, _) = rule::later_rules(alloc, lanes, steps, rest)?;
     Ok(Job {
         key: Key(key),
         road,
@@ -80,24 +119,25 @@ fn read_rules(alloc: Global, key: [u8; 32], road: Road, rest: Rest<'_>) -> Resul
 fn read_lines(alloc: Global, text: &[u8]) -> Result<Job, Refusal<'_>>
     requires { length text.now ≤ TEXT_LIMIT }
     ensures told { Reports (LinesSay text.now) result }
-    ensures stored { IfOk result IsStored }
+    ensures stored { IfOk result IsStoredJob }
 {
-    let ((), rest) = Rest::start(text).read_line(LineName::Road, line::road_line)?;
-    let (key, rest) = rest.read_line(LineName::Key, line::key_line)?;
-    let (limit, rest) = rest.read_line(LineName::Limit, line::limit_line)?;
+    let ((), rest) = Rest::start(text).read_line(LineName::Road, road_line)?;
+    let (key, rest) = rest.read_line(LineName::Key, key_line)?;
+    let (limit, rest) = rest.read_line(LineName::Limit, limit_line)?;
     let (road, rest) = lane::lanes(alloc, limit, rest)?;
     read_rules(alloc, key, road, rest)
 }
 
-/// Reads a job text, and says what it wanted where it refuses one.
+/// Reads a job text. A refusal says what was wanted.
 ///
 /// # Errors
 ///
-/// The first fault of the text, at its line, which is 0 where the text is too long; or that memory
-/// ran out.
+/// The first fault of the text, at its line, or at line 0 if the text is too long (cause `TooBig`; then nothing
+/// is read). `TextFault::Memory` if an allocation fails.
 pub fn parse_job(alloc: Global, text: &[u8]) -> Result<Job, Refusal<'_>>
     ensures told { Reports (JobText text.now) result }
-    ensures stored { IfOk result IsStored }
+    ensures too_big { TEXT_LIMIT < length text.now → result ≡ Err (TextFault.At 0 Cause.TooBig) }
+    ensures stored { IfOk result IsStoredJob }
 {
     if text.len() > TEXT_LIMIT {
         return Err(Refusal::bare(TextFault::At {
@@ -112,10 +152,11 @@ pub fn parse_job(alloc: Global, text: &[u8]) -> Result<Job, Refusal<'_>>
 ///
 /// # Errors
 ///
-/// The fault with which `parse_job` refuses it.
+/// The fault of [`parse_job`].
 pub fn read_job(alloc: Global, text: &[u8]) -> Result<Job, TextFault>
     ensures told { Reports (JobText text.now) result }
-    ensures stored { IfOk result IsStored }
+    ensures too_big { TEXT_LIMIT < length text.now → result ≡ Err (TextFault.At 0 Cause.TooBig) }
+    ensures stored { IfOk result IsStoredJob }
 {
     match parse_job(alloc, text) {
         Ok(job) => Ok(job),

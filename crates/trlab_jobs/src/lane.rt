@@ -1,4 +1,4 @@
-//! The lanes of a job's road: one line `lane P` or two, whose pictures are judged together.
+//! The lanes of a job's road: one or two lines `lane P`, whose pictures are judged together.
 
 ghost use Rattle.std.specs.Prelude.{◌≡◌, ◌+◌, [], ◌∷◌, IfOk, option_map, option_to_list};
 ghost use Rattle.std.specs.Result.{result_map_both};
@@ -9,7 +9,7 @@ ghost use Rattle.trlab_texts.specs.Reading.{Reports, line, exactly};
 ghost use Rattle.trlab_jobs.specs.Lanes.{lane_word, second_lane, line_of_fault, LanesSay, PicturesSay, lanes};
 
 use std::alloc::Global;
-use trlab_bounds::roads::GREATEST_LENGTH;
+use trlab_bounds::roads::MAX_LENGTH;
 use trlab_road::{Road, RoadFault};
 use trlab_texts::{Cause, Excerpt, LineName, Objection, Refusal, Rest, TextFault, Wanted};
 
@@ -20,7 +20,7 @@ fn lane_word(line: &[u8]) -> Result<Excerpt<'_>, Objection<'_>>
     Excerpt::word_after(LineName::Lane.name_and_space(), line)
 }
 
-/// The picture of a lane that must stand here.
+/// Reads the picture of a lane.
 fn lane(rest: Rest<'_>) -> Result<(Excerpt<'_>, Rest<'_>), Refusal<'_>>
     ensures told { Reports (line (exactly lane_word) rest.entry) result }
     ensures next { IfOk result (λ found. found.1.number ≡ rest.entry.number + 1) }
@@ -28,7 +28,7 @@ fn lane(rest: Rest<'_>) -> Result<(Excerpt<'_>, Rest<'_>), Refusal<'_>>
     rest.read_line(LineName::Lane, lane_word)
 }
 
-/// The picture of a second lane, where the next line states a lane.
+/// Reads the picture of a second lane, if the next line begins with `lane`.
 fn second_lane(rest: Rest<'_>) -> Result<(Option<Excerpt<'_>>, Rest<'_>), Refusal<'_>>
     ensures { Reports (second_lane rest.entry) result }
 {
@@ -40,7 +40,7 @@ fn second_lane(rest: Rest<'_>) -> Result<(Option<Excerpt<'_>>, Rest<'_>), Refusa
     }
 }
 
-/// The line of a fault of lanes: that of its own lane, or else that of the last one.
+/// The line of a fault: the line of its lane, or the last line if it is not about one lane.
 fn line_of_fault(first: u32, last: u32, fault: RoadFault) -> u32
     ensures { result ≡ line_of_fault first last fault }
 {
@@ -56,13 +56,13 @@ fn line_of_fault(first: u32, last: u32, fault: RoadFault) -> u32
     }
 }
 
-/// What is wanted in place of lanes with this fault, of which the first has so many cells.
+/// What is wanted instead of lanes with this fault; the first lane has `first` cells.
 fn wanted_by(limit: u32, cells: usize, fault: RoadFault) -> Wanted
     ensures { IsWantedIn [] (Cause.Road fault) result }
 {
     match fault {
         RoadFault::Length => Wanted::Cells {
-            first: if cells <= GREATEST_LENGTH as usize {
+            first: if cells <= MAX_LENGTH as usize {
                 cells as u32
             } else {
                 0
@@ -77,7 +77,7 @@ fn wanted_by(limit: u32, cells: usize, fault: RoadFault) -> Wanted
     }
 }
 
-/// The refusal of lanes from the line `first` to the line `last`, of which the first has so many cells.
+/// The refusal of lanes from the line `first` to the line `last`; the first lane has `cells` cells.
 fn lanes_refusal<'a>(
     first: u32,
     last: u32,
@@ -94,7 +94,7 @@ fn lanes_refusal<'a>(
     Refusal::new(told, b"", wanted_by(limit, cells, fault))
 }
 
-/// The road that these pictures show, from the line `first` to the line `last`; the first has so many cells.
+/// The road that pictures on the lines from `first` to `last` show; the first one has `cells` cells.
 fn shown<'a>(
     alloc: Global,
     first: u32,
@@ -113,8 +113,7 @@ fn shown<'a>(
     }
 }
 
-/// The road that one picture or two show, of which the first stands on the line `first`, before the
-/// line `after`.
+/// The road that one or two pictures show, on the lines from `first` up to, but not including, `after`.
 fn road_of<'a>(
     alloc: Global,
     first: u32,
@@ -139,7 +138,7 @@ fn road_of<'a>(
     }
 }
 
-/// The lanes of a road: the line `lane P`, and the next line where it states a lane.
+/// Reads the lanes of a road: a line `lane P`, and the next line if it begins with `lane`.
 pub fn lanes(alloc: Global, limit: u32, rest: Rest<'_>) -> Result<(Road, Rest<'_>), Refusal<'_>>
     ensures told { Reports (lanes limit rest.entry) result }
     ensures legal { IfOk result (λ found. IsLegal found.0) }

@@ -1,17 +1,13 @@
-//! What job texts, sweep texts and check texts say.
+//! Reads job texts, sweep texts and check texts.
 #![tactic(auto)]
 
 mod check;
-mod count;
 mod job;
 mod lane;
-mod later;
 pub mod laws;
 pub mod limits;
-mod line;
 mod rule;
 mod rule_line;
-mod shape;
 mod sweep;
 
 pub use check::{Check, Question, parse_check, read_check};

@@ -1,26 +1,25 @@
-//! How large sweeps are.
+//! The limits of sweeps.
 
 ghost use Rattle.std.specs.Prelude.{◌≡◌, ◌*◌};
 
-use trlab_bounds::roads::{GREATEST_LENGTH, MOST_LANES};
-use trlab_bounds::runs::MOST_STEPS;
+use trlab_bounds::roads::{MAX_LANES, MAX_LENGTH};
+use trlab_bounds::runs::MAX_STEPS;
 
-/// The greatest count of cars that a line of a sweep text can state: a car for each cell of the
-/// largest road.
-pub const MOST_CARS: u32 = 200_000;
+/// The maximum number of cars in a line of a sweep text: one per cell of the largest road.
+pub const MAX_CARS: u32 = 200_000;
 
-/// The most points of a sweep.
-pub const MOST_POINTS: u32 = 200;
+/// The maximum number of points of a sweep.
+pub const MAX_POINTS: u32 = 200;
 
-/// The most steps of all points of a sweep together.
-pub const MOST_WORK: u32 = 500_000;
+/// The maximum number of steps of all points of a sweep together.
+pub const MAX_WORK: u32 = 500_000;
 
-/// What the numbers are, in figures: definitions name the constants, so a changed constant would
-/// change the definitions along with it, and is refused here.
+/// The limits as numbers. Definitions name the constants, so a changed constant would change the definitions
+/// too; it is rejected here.
 pub fn sweeps()
-    ensures cars { MOST_CARS ≡ 200000 }
-    ensures largest { MOST_CARS ≡ MOST_LANES * GREATEST_LENGTH }
-    ensures points { MOST_POINTS ≡ 200 }
-    ensures work { MOST_WORK ≡ 500000 }
-    ensures steps { MOST_STEPS ≡ MOST_WORK }
+    ensures cars { MAX_CARS ≡ 200000 }
+    ensures largest { MAX_CARS ≡ MAX_LANES * MAX_LENGTH }
+    ensures points { MAX_POINTS ≡ 200 }
+    ensures work { MAX_WORK ≡ 500000 }
+    ensures steps { MAX_STEPS ≡ MAX_WORK }
 {}

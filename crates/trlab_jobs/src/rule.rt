@@ -1,18 +1,22 @@
-//! Rules: a standard rule on one line, or own programs in the parts after the line `rule own`.
+//! Rules in texts: the rule from step 0 on, and rules of later steps.
 
-ghost use Rattle.std.specs.Prelude.{◌≡◌, ◌≢◌, ◌≤◌, ℕ, IfOk, IfSome, IsSome, MatchResult, nat_eq, codes};
+ghost use Rattle.std.specs.Prelude.{◌≡◌, ◌≢◌, ◌≤◌, ℕ, IfOk, IfSome, IsSome, MatchResult, nat_eq, codes, ◌+◌, ◌<◌, OnOk};
 ghost use Rattle.trlab_code.specs.declared.kind.Kind.TheVariants.{Motion as OfMotion, Change as OfChange};
 ghost use Rattle.trlab_rules.specs.Standard.{nasch_program, vdr_program, rickert_program};
 ghost use Rattle.trlab_step.specs.Laws.{IsRuleFor};
 ghost use Rattle.trlab_verify.specs.CheckedProgram.{IsChecked};
-ghost use Rattle.trlab_texts.specs.Reading.{Reports, ReportsLine, ReportsCause, ReportsFault, line, exactly, fault_at};
+ghost use Rattle.trlab_texts.specs.Reading.{Reports, ReportsLine, ReportsCause, ReportsFault, line, exactly, text_fault};
 ghost use Rattle.trlab_texts.specs.Words.{word_after};
-ghost use Rattle.trlab_jobs.specs.RuleLines.{rule_line};
+ghost use Rattle.trlab_jobs.specs.RuleLines.{rule_line, later_line};
 ghost use Rattle.trlab_jobs.specs.RuleParts.{MotionSays, ExchangeSays, code_misplacement, misplacement, next_is_change, change_by, change_part, own_rule, rule_from, rule};
+ghost use Rattle.std.specs.Result.{result_map_both};
+ghost use Rattle.trlab_jobs.specs.Later.{later_rule, later_rules};
+ghost use Rattle.trlab_jobs.specs.Stored.{AreLaterRules};
 
-use crate::rule_line::{RuleLine, rule_line};
+use crate::rule_line::{RuleLine, later_line, rule_line};
 use hex::FromHexError;
 use std::alloc::Global;
+use trlab_bounds::runs::MAX_LATER;
 use trlab_code::Kind;
 use trlab_rules::{Rule, nasch, rickert, vdr};
 use trlab_texts::{
@@ -22,7 +26,7 @@ use trlab_texts::{
 use trlab_verify::{Change, ChangeKind, MotionKind};
 use trlab_words::Chance;
 
-/// How many lanes a road has, and on which line a text says so.
+/// The number of lanes of a road, and the line that states it.
 #[derive(Clone, Copy)]
 pub struct Lanes {
     pub count: u32,
@@ -30,7 +34,7 @@ pub struct Lanes {
 }
 
 impl Lanes {
-    /// That two lanes are wanted.
+    /// The refusal of a rule for two lanes.
     fn too_few<'a>(self) -> LineRefusal<'a>
         ensures { result ≡ LineFault.Wrong Cause.OneLane }
     {
@@ -61,7 +65,7 @@ fn vdr_rule<'a>(alloc: Global, moving: Chance, stopped: Chance) -> Result<Rule, 
     }
 }
 
-/// The rule of a line `rule rickert t c`, which is refused on a road of one lane.
+/// The rule of a line `rule rickert t c`, which needs two lanes.
 fn rickert_rule<'a>(
     alloc: Global,
     lanes: Lanes,
@@ -83,7 +87,7 @@ fn rickert_rule<'a>(
     }
 }
 
-/// What is wrong with the line `code X` of a change program on a road of one lane.
+/// Why the line `code X` of a change program is rejected on a road with one lane.
 fn code_misplacement(alloc: Global, lanes: Lanes, line: &[u8]) -> LineRefusal<'_>
     ensures { ReportsCause (code_misplacement (word_after (codes "code ") line.now)) result }
 {
@@ -98,7 +102,7 @@ fn code_misplacement(alloc: Global, lanes: Lanes, line: &[u8]) -> LineRefusal<'_
     }
 }
 
-/// What is wrong with a change part on a road of one lane.
+/// Why a change program is rejected on a road with one lane.
 fn misplacement(alloc: Global, lanes: Lanes, rest: Rest<'_>) -> Refusal<'_>
     ensures { ReportsFault (misplacement rest.entry.number rest.entry.left) result }
 {
@@ -107,7 +111,7 @@ fn misplacement(alloc: Global, lanes: Lanes, rest: Rest<'_>) -> Refusal<'_>
         Ok(found) => found,
         Err(refusal) => return refusal,
     };
-    if program::heads(Kind::Change, line) {
+    if program::is_heading(Kind::Change, line) {
         match after.part() {
             Ok(_) => lanes.too_few().at(first, LineNames::none()),
             Err(refusal) => refusal,
@@ -117,7 +121,7 @@ fn misplacement(alloc: Global, lanes: Lanes, rest: Rest<'_>) -> Refusal<'_>
     }
 }
 
-/// A change part, which is a fault on a road of one lane.
+/// Reads a change program, which is a fault on a road with one lane.
 fn change_by(alloc: Global, lanes: Lanes, rest: Rest<'_>) -> Result<(Change, Rest<'_>), Refusal<'_>>
     ensures { Reports (change_by (nat_eq lanes.count 1) rest.entry) result }
 {
@@ -128,14 +132,14 @@ fn change_by(alloc: Global, lanes: Lanes, rest: Rest<'_>) -> Result<(Change, Res
     }
 }
 
-/// Whether a change part begins on the next line.
+/// Whether a change program begins on the next line.
 fn next_is_change(rest: &Rest<'_>) -> bool
     ensures { result ≡ next_is_change rest.now.left }
 {
     rest.next_word_is(b"change") || rest.next_word_is(b"code")
 }
 
-/// A change part, if there is one.
+/// Reads a change program, if there is one.
 fn change_part(
     alloc: Global,
     lanes: Lanes,
@@ -153,7 +157,7 @@ fn change_part(
     }
 }
 
-/// Own programs: a motion part, and perhaps a change part.
+/// Reads the programs of `rule own`: a motion program, and optionally a change program.
 fn own_rule(alloc: Global, lanes: Lanes, rest: Rest<'_>) -> Result<(Rule, Rest<'_>), Refusal<'_>>
     requires some { 1 ≤ lanes.count }
     requires few { lanes.count ≤ 2 }
@@ -165,7 +169,7 @@ fn own_rule(alloc: Global, lanes: Lanes, rest: Rest<'_>) -> Result<(Rule, Rest<'
     Ok((Rule::new(motion, change), rest))
 }
 
-/// What a line says, and the rest after it.
+/// The rule of the line `number`, which has been read, and the rest after it.
 fn of_line<'a>(
     number: u32,
     say: Result<Rule, LineRefusal<'a>>,
@@ -173,7 +177,7 @@ fn of_line<'a>(
 ) -> Result<(Rule, Rest<'a>), Refusal<'a>>
     ensures { MatchResult say.entry
         (λ rule. result ≡ Ok (rule, rest.entry))
-        (λ fault. result ≡ Err (fault_at number fault)) }
+        (λ fault. result ≡ Err (text_fault number fault)) }
 {
     match say {
         Ok(rule) => Ok((rule, rest)),
@@ -181,7 +185,7 @@ fn of_line<'a>(
     }
 }
 
-/// The rule of a line that was read, or of the programs after it; `number` is that of the line.
+/// The rule of the line `number`, which has been read, or of the programs after it.
 pub fn rule_from(
     alloc: Global,
     lanes: Lanes,
@@ -206,7 +210,7 @@ pub fn rule_from(
     }
 }
 
-/// A rule for a road of so many lanes: a line `rule ..`, and own programs after it.
+/// Reads a rule: a line `rule ..`, and its programs if it is `rule own`.
 pub fn rule(alloc: Global, lanes: Lanes, rest: Rest<'_>) -> Result<(Rule, Rest<'_>), Refusal<'_>>
     requires some { 1 ≤ lanes.count }
     requires few { lanes.count ≤ 2 }
@@ -216,4 +220,70 @@ pub fn rule(alloc: Global, lanes: Lanes, rest: Rest<'_>) -> Result<(Rule, Rest<'
     let number = rest.number();
     let (line, rest) = rest.read_line(LineName::Rule, rule_line)?;
     rule_from(alloc, lanes, number, line, rest)
+}
+
+/// Reads the line `at s rule ..`.
+fn read_later_line(
+    room: u32,
+    steps: u32,
+    least: u32,
+    rest: Rest<'_>,
+) -> Result<((u32, RuleLine<Chance>), Rest<'_>), Refusal<'_>>
+    ensures told { Reports (line (exactly (later_line room steps least)) rest.entry) result }
+    ensures room { OnOk result (0 < room) }
+    ensures rises { IfOk result (λ found. least ≤ found.0.0) }
+    ensures within { IfOk result (λ found. found.0.0 < steps) }
+{
+    rest.read_line(LineName::At, |text| later_line(room, steps, least, text))
+}
+
+/// Reads a rule of a later step. Returns the step from which it applies, the rule and the rest.
+fn later_rule(
+    alloc: Global,
+    room: u32,
+    lanes: Lanes,
+    steps: u32,
+    least: u32,
+    rest: Rest<'_>,
+) -> Result<((u32, Rule), Rest<'_>), Refusal<'_>>
+    requires some { 1 ≤ lanes.count }
+    requires few { lanes.count ≤ 2 }
+    ensures told { Reports (later_rule room lanes.count steps least rest.entry) result }
+    ensures room { OnOk result (0 < room) }
+    ensures rises { IfOk result (λ found. least ≤ found.0.0) }
+    ensures within { IfOk result (λ found. found.0.0 < steps) }
+    ensures suits { IfOk result (λ found. IsRuleFor lanes.count found.0.1) }
+{
+    let number = rest.number();
+    let ((from, line), rest) = read_later_line(room, steps, least, rest)?;
+    let (rule, rest) = rule_from(alloc, lanes, number, line, rest)?;
+    Ok(((from, rule), rest))
+}
+
+/// Reads the rules of later steps, up to the end of the text.
+pub fn later_rules(
+    alloc: Global,
+    lanes: Lanes,
+    steps: u32,
+    mut rest: Rest<'_>,
+) -> Result<(Vec<(u32, Rule)>, Rest<'_>), Refusal<'_>>
+    requires some { 1 ≤ lanes.count }
+    requires few { lanes.count ≤ 2 }
+    ensures told { Reports (later_rules lanes.count steps rest.entry)
+        (result_map_both (λ found. (found.0.items, found.1)) (λ fault. fault) result) }
+    ensures later { IfOk result (λ found. AreLaterRules lanes.count steps 0 found.0.items) }
+{
+    let mut later = Vec::new(alloc);
+    let mut room = MAX_LATER;
+    let mut least = 0;
+    while !rest.is_end() {
+        let ((from, rule), after) = later_rule(alloc, room, lanes, steps, least, rest)?;
+        if later.push((from, rule)).is_err() {
+            return Err(Refusal::memory());
+        }
+        room -= 1;
+        least = from + 1;
+        rest = after;
+    }
+    Ok((later, rest))
 }

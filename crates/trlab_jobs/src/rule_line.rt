@@ -1,4 +1,4 @@
-//! Lines that state rules: words come before numbers, and these are read from left to right.
+//! Lines that state rules. All words are checked before the numbers, which are checked from left to right.
 
 ghost use Rattle.std.specs.Prelude.{◌≡◌, ◌<◌, ◌≤◌, IfOk, OnOk, option_map};
 ghost use Rattle.trlab_jobs.specs.RuleLines.{rule_words, chance_of, rule_numbers, rule_line, later_words, admit_step, later_line};
@@ -6,20 +6,20 @@ ghost use Rattle.trlab_jobs.specs.RuleLines.{rule_words, chance_of, rule_numbers
 use trlab_texts::{Cause, Excerpt, Objection, Quantity, Wanted};
 use trlab_words::{CERTAIN, Chance};
 
-/// A rule as a line states it, by words or by the chances that they write.
+/// A rule as a line states it. `T` is a word, or the probability that it writes.
 #[derive(Drop)]
 pub enum RuleLine<T> {
     /// `rule nasch t`.
     Nasch { brake: T },
-    /// `rule vdr t t0`, the first for cars that move, the second for cars that are stopped.
+    /// `rule vdr t t0`: t for moving cars, t0 for stopped cars.
     Vdr { moving: T, stopped: T },
-    /// `rule rickert t c`, the second for crossing.
+    /// `rule rickert t c`: c for lane changes.
     Rickert { brake: T, crossing: T },
-    /// `rule own`, whose programs stand on the lines after.
+    /// `rule own`, with its programs on the lines after it.
     Own,
 }
 
-/// The words of a rule line, where they are those of a rule.
+/// The words of a line `rule ..`, if they are those of a rule.
 fn rule_words<'a>(line: &Excerpt<'a>) -> Option<RuleLine<Excerpt<'a>>>
     ensures { result ≡ rule_words line.now }
 {
@@ -48,7 +48,7 @@ fn rule_words<'a>(line: &Excerpt<'a>) -> Option<RuleLine<Excerpt<'a>>>
     }
 }
 
-/// The chance that a word writes, in parts of 2^31.
+/// The probability, times 2^31, that a word writes.
 fn chance_of(word: Excerpt<'_>) -> Result<Chance, Objection<'_>>
     ensures { result ≡ chance_of word.entry }
 {
@@ -58,7 +58,7 @@ fn chance_of(word: Excerpt<'_>) -> Result<Chance, Objection<'_>>
     }
 }
 
-/// The numbers of a rule line, from left to right.
+/// The numbers of a line `rule ..`, from left to right.
 fn rule_numbers<'a>(words: RuleLine<Excerpt<'a>>) -> Result<RuleLine<Chance>, Objection<'a>>
     ensures { result ≡ rule_numbers words.entry }
 {
@@ -80,7 +80,7 @@ fn rule_numbers<'a>(words: RuleLine<Excerpt<'a>>) -> Result<RuleLine<Chance>, Ob
     }
 }
 
-/// A line `rule ..`: its words, and then its numbers.
+/// Reads a line `rule ..`.
 pub fn rule_line(line: &[u8]) -> Result<RuleLine<Chance>, Objection<'_>>
     ensures { result ≡ rule_line line.now }
 {
@@ -90,7 +90,7 @@ pub fn rule_line(line: &[u8]) -> Result<RuleLine<Chance>, Objection<'_>>
     }
 }
 
-/// The words of a line `at s rule ..`: that of the step, and those of the rule.
+/// The words of a line `at s rule ..`: the step, and those of the rule.
 fn later_words<'a>(line: &Excerpt<'a>) -> Option<(Excerpt<'a>, RuleLine<Excerpt<'a>>)>
     ensures { result ≡ later_words line.now }
 {
@@ -102,7 +102,7 @@ fn later_words<'a>(line: &Excerpt<'a>) -> Option<(Excerpt<'a>, RuleLine<Excerpt<
     Some((step, rule))
 }
 
-/// The step of a later rule, where there is room for the rule, and the step is from `least` on and below
+/// Accepts the step of a later rule if there is room for the rule, and the step is at least `least` and below
 /// `steps`.
 fn admit_step<'a>(room: u32, steps: u32, least: u32, step: u64) -> Result<u32, Objection<'a>>
     ensures value { result ≡ admit_step room steps least step }
@@ -121,7 +121,7 @@ fn admit_step<'a>(room: u32, steps: u32, least: u32, step: u64) -> Result<u32, O
     }
 }
 
-/// A line `at s rule ..`: its words, its numbers, the room for it, and the order of the steps.
+/// Reads a line `at s rule ..`: its words, its numbers, the room for it, and the order of the steps.
 pub fn later_line(
     room: u32,
     steps: u32,

@@ -1,52 +1,62 @@
-//! Sweep texts: what the points of a sweep have in common, and the count of cars at each.
+//! Sweep texts: what the points of a sweep have in common, and the number of cars of each.
 
-ghost use Rattle.std.specs.Prelude.{◌≡◌, ◌≤◌, IfOk, length};
-ghost use Rattle.trlab_bounds.specs.declared.roads.TheConstants.{GREATEST_LENGTH, MOST_LANES};
-ghost use Rattle.trlab_bounds.specs.declared.runs.TheConstants.{MOST_STEPS};
-ghost use Rattle.trlab_bounds.specs.declared.texts.TheConstants.{TEXT_LIMIT};
+ghost use Rattle.std.specs.Prelude.{◌≡◌, ◌≢◌, ◌<◌, ◌≤◌, [], Err, IfOk, OnOk, length};
+ghost use Rattle.trlab_bounds.specs.declared.roads.TheConstants.{MAX_LENGTH, MAX_LANES};
+ghost use Rattle.trlab_bounds.specs.declared.runs.TheConstants.{MAX_STEPS};
 ghost use Rattle.trlab_texts.specs.Reading.{Reports, line, exactly};
+ghost use Rattle.trlab_texts.specs.LineNames.{name_and_space};
+ghost use Rattle.trlab_texts.specs.Words.{number_within, word_after};
+ghost use Rattle.trlab_jobs.specs.Shapes.{shape, span};
+ghost use Rattle.std.specs.Result.{result_map_both};
+ghost use Rattle.trlab_jobs.specs.declared.limits.TheConstants.{MAX_POINTS};
+ghost use Rattle.trlab_jobs.specs.Counts.{admit_cars, cars_line, counts, counts_from};
+ghost use Rattle.trlab_bounds.specs.declared.texts.TheConstants.{TEXT_LIMIT};
 ghost use Rattle.trlab_jobs.specs.Job.{key_line};
-ghost use Rattle.trlab_jobs.specs.Sweep.{heading, setup, sweep_line, SweepLinesSay, SweepText};
+ghost use Rattle.trlab_jobs.specs.Sweep.{sweep_heading, setup, sweep_line, SweepLinesSay, SweepText};
 ghost use Rattle.trlab_jobs.specs.Stored.{IsStoredSweep};
 
-use crate::line::key_line;
-use crate::shape::{Shape, Span, read_shape, read_span};
-use crate::{count, rule};
+use crate::job::key_line;
+use crate::limits::{MAX_CARS, MAX_POINTS, MAX_WORK};
+use crate::rule;
 use std::alloc::Global;
 use std::marker::Model;
+use trlab_bounds::roads::{MAX_LANES, MAX_LENGTH, MAX_LIMIT};
+use trlab_bounds::runs::MAX_STEPS;
 use trlab_bounds::texts::TEXT_LIMIT;
+use trlab_road::RoadFault;
 use trlab_rules::Rule;
-use trlab_texts::{Cause, LineName, Objection, Refusal, Rest, TextFault};
+use trlab_texts::{
+    Cause, Excerpt, LineName, Objection, Quantity, Refusal, Rest, TextFault, Wanted,
+};
 use trlab_words::Key;
 
-/// What a sweep text says. It can be run: the rule is for the lanes, and there is room for the cars of
-/// each point.
+/// A sweep, which can be run: the rule is for its number of lanes, and each road has room for its cars.
 #[derive(Drop)]
 pub struct Sweep {
-    /// The key of the random words.
+    /// The seed of the random numbers.
     pub key: Key,
-    /// The speed limit of the roads, 1 to `GREATEST_LIMIT` cells a step.
+    /// The maximum speed, 1 to `MAX_LIMIT` cells per step.
     pub limit: u32,
-    /// The cells of a lane, 1 to `GREATEST_LENGTH`.
+    /// The cells per lane, 1 to `MAX_LENGTH`.
     pub length: u32,
-    /// The lanes, 1 or 2.
+    /// The number of lanes, 1 or 2.
     pub lanes: u32,
     /// The rule of all points.
     pub rule: Rule,
-    /// How many steps a point takes before it is counted, 0 to `MOST_STEPS`.
+    /// The steps of a point before counting starts, 0 to `MAX_STEPS`.
     pub warm: u32,
-    /// How many steps of a point are counted, 1 to `MOST_STEPS`.
+    /// The steps of a point that are counted, 1 to `MAX_STEPS`.
     pub measure: u32,
-    /// How many cars the road of each point has: 1 to `MOST_POINTS` points, which together take at
-    /// most `MOST_WORK` steps.
+    /// The number of cars of each point: 1 to `MAX_POINTS` points, which take at most `MAX_WORK` steps
+    /// together.
     pub cars: Vec<u32>,
 }
 
 impl Model for Sweep {
-    ghost use Rattle.trlab_jobs.specs.Sweep.{Sweep as Said, sweep_of};
+    ghost use Rattle.trlab_jobs.specs.Sweep.{Sweep as AbstractSweep, sweep_of};
     ghost use Rattle.trlab_jobs.specs.Stored.{IsStoredSweep};
 
-    ghost Value = { Said };
+    ghost Value = { AbstractSweep };
 
     ghost view = { λ s. sweep_of s.key.0 s.limit s.length s.lanes s.rule s.warm s.measure s.cars.items };
 
@@ -54,7 +64,7 @@ impl Model for Sweep {
         (sweep_of s.key.0 s.limit s.length s.lanes s.rule s.warm s.measure s.cars.items) };
 }
 
-/// What the points of a sweep have in common.
+/// The lines of a sweep text before its points.
 #[derive(Drop)]
 struct Setup {
     key: [u8; 32],
@@ -76,6 +86,161 @@ impl Model for Setup {
     } };
 }
 
+/// The shape of all roads of a sweep.
+#[derive(Clone, Copy)]
+pub struct Shape {
+    /// The maximum speed, 1 to `MAX_LIMIT` cells per step.
+    pub limit: u32,
+    /// The cells per lane, 1 to `MAX_LENGTH`.
+    pub cells: u32,
+    /// The number of lanes, 1 or 2.
+    pub lanes: u32,
+}
+
+/// The steps of a point.
+#[derive(Clone, Copy)]
+pub struct Span {
+    /// The first steps, which are not counted, 0 to `MAX_STEPS`.
+    pub warm: u32,
+    /// The steps after them, which are counted, 1 to `MAX_STEPS`.
+    pub measure: u32,
+}
+
+/// The number from `low` to `high` of a line with this name.
+#[tactic(auto, using(crate::proofs::Ranges::number_low, crate::proofs::Ranges::number_high))]
+fn number_line(name: LineName, low: u32, high: u32, line: &[u8]) -> Result<u32, Objection<'_>>
+    ensures value { result ≡ number_within low high (word_after (name_and_space name) line.now) }
+    ensures low { IfOk result (λ n. low ≤ n) }
+    ensures high { IfOk result (λ n. n ≤ high) }
+{
+    Excerpt::number_after(name, low, high, Quantity::Other, line)
+}
+
+/// Reads the next line, which has this name and a number from `low` to `high`.
+fn number(
+    name: LineName,
+    low: u32,
+    high: u32,
+    rest: Rest<'_>,
+) -> Result<(u32, Rest<'_>), Refusal<'_>>
+    ensures told { Reports
+        (line (exactly (λ text. number_within low high (word_after (name_and_space name) text))) rest.entry) result }
+    ensures low { IfOk result (λ found. low ≤ found.0) }
+    ensures high { IfOk result (λ found. found.0 ≤ high) }
+{
+    rest.read_line(name, |text| number_line(name, low, high, text))
+}
+
+/// Reads the lines `limit n`, `length n` and `lanes n`.
+pub fn read_shape(rest: Rest<'_>) -> Result<(Shape, Rest<'_>), Refusal<'_>>
+    ensures told { Reports (shape rest.entry) result }
+    ensures cells { IfOk result (λ found. found.0.cells ≤ MAX_LENGTH) }
+    ensures some { IfOk result (λ found. 1 ≤ found.0.lanes) }
+    ensures few { IfOk result (λ found. found.0.lanes ≤ MAX_LANES) }
+{
+    let (limit, rest) = number(LineName::Limit, 1, MAX_LIMIT, rest)?;
+    let (cells, rest) = number(LineName::Length, 1, MAX_LENGTH, rest)?;
+    let (lanes, rest) = number(LineName::Lanes, 1, MAX_LANES, rest)?;
+    Ok((
+        Shape {
+            limit,
+            cells,
+            lanes,
+        },
+        rest,
+    ))
+}
+
+/// Reads the lines `warm n` and `measure n`.
+pub fn read_span(rest: Rest<'_>) -> Result<(Span, Rest<'_>), Refusal<'_>>
+    ensures told { Reports (span rest.entry) result }
+    ensures warm { IfOk result (λ found. found.0.warm ≤ MAX_STEPS) }
+    ensures measure { IfOk result (λ found. found.0.measure ≤ MAX_STEPS) }
+{
+    let (warm, rest) = number(LineName::Warm, 0, MAX_STEPS, rest)?;
+    let (measure, rest) = number(LineName::Measure, 1, MAX_STEPS, rest)?;
+    Ok((Span { warm, measure }, rest))
+}
+
+/// Accepts the number of cars of a point if there is room for the point, for the cars, and for the steps of all
+/// points so far. Points are counted from 1.
+fn admit_cars<'a>(cells: u32, steps: u32, point: u32, count: u32) -> Result<u32, Objection<'a>>
+    ensures value { result ≡ admit_cars cells steps point count }
+    ensures room { OnOk result (point ≤ MAX_POINTS) }
+{
+    if point > MAX_POINTS {
+        return Err(Objection::bare(Cause::TooMany));
+    }
+    if count > cells {
+        return Err(Objection::bare(Cause::Road(RoadFault::TooManyCars)));
+    }
+    if u64::from(point) * u64::from(steps) > u64::from(MAX_WORK) {
+        let wanted = Wanted::Work {
+            points: point,
+            steps,
+        };
+        return Err(Objection::new(Cause::Work, b"", wanted));
+    }
+    Ok(count)
+}
+
+/// The line `cars n` of this point.
+fn cars_line(cells: u32, steps: u32, point: u32, line: &[u8]) -> Result<u32, Objection<'_>>
+    ensures value { result ≡ cars_line cells steps point line.now }
+    ensures room { OnOk result (point ≤ MAX_POINTS) }
+{
+    let count = Excerpt::number_after(LineName::Cars, 0, MAX_CARS, Quantity::Cars { cells }, line)?;
+    admit_cars(cells, steps, point, count)
+}
+
+/// Reads the number of cars of this point.
+fn count(cells: u32, steps: u32, point: u32, rest: Rest<'_>) -> Result<(u32, Rest<'_>), Refusal<'_>>
+    ensures told { Reports (line (exactly (cars_line cells steps point)) rest.entry) result }
+    ensures room { OnOk result (point ≤ MAX_POINTS) }
+{
+    rest.read_line(LineName::Cars, |text| cars_line(cells, steps, point, text))
+}
+
+/// Reads the numbers of cars up to the end of the text.
+fn counts_to_end(
+    alloc: Global,
+    cells: u32,
+    steps: u32,
+    mut rest: Rest<'_>,
+) -> Result<Vec<u32>, Refusal<'_>>
+    ensures { Reports (λ says. says ≡ counts_from cells steps 1 rest.entry.number rest.entry.left)
+        (result_map_both (λ counts. counts.items) (λ fault. fault) result) }
+{
+    let mut counts = Vec::new(alloc);
+    let mut point = 1;
+    while !rest.is_end() {
+        let (count, after) = count(cells, steps, point, rest)?;
+        if counts.push(count).is_err() {
+            return Err(Refusal::memory());
+        }
+        point += 1;
+        rest = after;
+    }
+    Ok(counts)
+}
+
+/// Reads the numbers of cars up to the end of the text, of which there must be one at least. A road has `cells`
+/// cells in all, and a point takes `steps` steps.
+pub fn counts(
+    alloc: Global,
+    cells: u32,
+    steps: u32,
+    rest: Rest<'_>,
+) -> Result<Vec<u32>, Refusal<'_>>
+    ensures { Reports (λ says. says ≡ counts cells steps rest.entry.number rest.entry.left)
+        (result_map_both (λ counts. counts.items) (λ fault. fault) result) }
+{
+    if rest.is_end() {
+        return Err(rest.ended(LineName::Cars));
+    }
+    counts_to_end(alloc, cells, steps, rest)
+}
+
 /// The line `sweep 1`.
 fn sweep_line(line: &[u8]) -> Result<(), Objection<'_>>
     ensures { result ≡ sweep_line line.now }
@@ -87,21 +252,21 @@ fn sweep_line(line: &[u8]) -> Result<(), Objection<'_>>
     }
 }
 
-/// The key after the line `sweep 1`.
+/// Reads the line `sweep 1` and the key.
 fn heading(rest: Rest<'_>) -> Result<([u8; 32], Rest<'_>), Refusal<'_>>
-    ensures { Reports (heading rest.entry) result }
+    ensures { Reports (sweep_heading rest.entry) result }
 {
     let ((), rest) = rest.read_line(LineName::Sweep, sweep_line)?;
     rest.read_line(LineName::Key, key_line)
 }
 
-/// The lines before the points.
+/// Reads the lines before the points.
 fn read_setup(alloc: Global, rest: Rest<'_>) -> Result<(Setup, Rest<'_>), Refusal<'_>>
     ensures told { Reports (setup rest.entry) result }
-    ensures cells { IfOk result (λ found. found.0.shape.cells ≤ GREATEST_LENGTH) }
-    ensures few { IfOk result (λ found. found.0.shape.lanes ≤ MOST_LANES) }
-    ensures warm { IfOk result (λ found. found.0.span.warm ≤ MOST_STEPS) }
-    ensures measure { IfOk result (λ found. found.0.span.measure ≤ MOST_STEPS) }
+    ensures cells { IfOk result (λ found. found.0.shape.cells ≤ MAX_LENGTH) }
+    ensures few { IfOk result (λ found. found.0.shape.lanes ≤ MAX_LANES) }
+    ensures warm { IfOk result (λ found. found.0.span.warm ≤ MAX_STEPS) }
+    ensures measure { IfOk result (λ found. found.0.span.measure ≤ MAX_STEPS) }
 {
     let (key, rest) = heading(rest)?;
     let (shape, rest) = read_shape(rest)?;
@@ -135,7 +300,7 @@ fn read_lines(alloc: Global, text: &[u8]) -> Result<Sweep, Refusal<'_>>
         span,
     } = setup;
     let cells = shape.lanes * shape.cells;
-    let cars = count::counts(alloc, cells, span.warm + span.measure, rest)?;
+    let cars = counts(alloc, cells, span.warm + span.measure, rest)?;
     Ok(Sweep {
         key: Key(key),
         limit: shape.limit,
@@ -148,14 +313,15 @@ fn read_lines(alloc: Global, text: &[u8]) -> Result<Sweep, Refusal<'_>>
     })
 }
 
-/// Reads a sweep text, and says what it wanted where it refuses one.
+/// Reads a sweep text. A refusal says what was wanted.
 ///
 /// # Errors
 ///
-/// The first fault of the text, at its line, which is 0 where the text is too long; or that memory
-/// ran out.
+/// The first fault of the text, at its line, or at line 0 if the text is too long (cause `TooBig`; then nothing
+/// is read). `TextFault::Memory` if an allocation fails.
 pub fn parse_sweep(alloc: Global, text: &[u8]) -> Result<Sweep, Refusal<'_>>
     ensures told { Reports (SweepText text.now) result }
+    ensures too_big { TEXT_LIMIT < length text.now → result ≡ Err (TextFault.At 0 Cause.TooBig) }
     ensures stored { IfOk result IsStoredSweep }
 {
     if text.len() > TEXT_LIMIT {
@@ -171,9 +337,10 @@ pub fn parse_sweep(alloc: Global, text: &[u8]) -> Result<Sweep, Refusal<'_>>
 ///
 /// # Errors
 ///
-/// The fault with which `parse_sweep` refuses it.
+/// The fault of [`parse_sweep`].
 pub fn read_sweep(alloc: Global, text: &[u8]) -> Result<Sweep, TextFault>
     ensures told { Reports (SweepText text.now) result }
+    ensures too_big { TEXT_LIMIT < length text.now → result ≡ Err (TextFault.At 0 Cause.TooBig) }
     ensures stored { IfOk result IsStoredSweep }
 {
     match parse_sweep(alloc, text) {

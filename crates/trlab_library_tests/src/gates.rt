@@ -1,10 +1,10 @@
-//! Workers and pools at gates: which segments they begin, and that a worker who is held leaves the others to the
-//! rest.
+//! Crews and pools at gates: which segments they begin, and that while one worker is held the rest do the other
+//! segments.
 
 ghost use Rattle.std.specs.Prelude.{◌<◌};
 
-use crate::pool::{pool_as_one, sparing_pool_as_one};
 use crate::traffic::{Traffic, spread};
+use crate::workers::{pool_as_one, sparing_pool_as_one};
 use std::hint;
 use std::sync::Wait;
 use std::sync::atomic::{AtomicBool, AtomicU64, Ordering};
@@ -12,7 +12,7 @@ use std::thread::Threads;
 use trlab_segments::{Gate, step_shared};
 use trlab_words::Key;
 
-/// Has 1 to 16 workers, one more than these, take a step of road 9 through a gate.
+/// Takes a step of road 9 through a gate, by a crew of one worker more than `others`.
 fn step_through<G: Gate + Sync>(
     rt: &(impl AllocGlobal + Threads + Sync),
     traffic: &Traffic,
@@ -26,7 +26,7 @@ fn step_through<G: Gate + Sync>(
     step_shared(rt, alloc, road, rule, &key, 9, 0, others + 1, gate).is_ok()
 }
 
-/// The same of so many cars.
+/// The same for a number of cars.
 fn go_through<G: Gate + Sync>(
     rt: &(impl AllocGlobal + Threads + Sync),
     cars: u32,
@@ -41,7 +41,7 @@ fn go_through<G: Gate + Sync>(
     }
 }
 
-/// Notes which segments of road 9 are begun, those of its lane change and those of its motion, and how many.
+/// Notes which segments of road 9 are begun, of its lane change and of its motion, and how often the gate is passed.
 #[derive(Drop)]
 struct Notes {
     calls: AtomicU64,
@@ -59,7 +59,7 @@ impl Notes {
         }
     }
 
-    /// Whether so many segments were begun, these in each of the two phases.
+    /// Whether the gate was passed `calls` times, and these segments were begun in each phase.
     fn are(&self, calls: u64, begun: u64) -> bool {
         self.calls.load(Ordering::SeqCst) == calls
             && self.crossed.load(Ordering::SeqCst) == begun
@@ -82,7 +82,7 @@ impl Gate for Notes {
     }
 }
 
-/// Whether 16 workers begin so many segments of so many cars, these in each phase.
+/// Whether 16 workers pass the gate `calls` times in a step, and begin these segments in each phase.
 fn begin(rt: &(impl AllocGlobal + Threads + Sync), cars: u32, calls: u64, begun: u64) -> bool {
     let notes = Notes::new();
     go_through(rt, cars, 15, &notes) && notes.are(calls, begun)
@@ -95,8 +95,7 @@ fn sixteen_workers_begin_each_segment_once(rt: HostRuntime) {
     assert!(rt; begin(&rt, 3, 6, 0b111));
 }
 
-/// Whether a pool of one worker more than these begins so many segments of 60 cars in three steps, these in each
-/// phase.
+/// The same for a pool of one worker more than `others`, 60 cars and three steps.
 fn pool_begins(
     rt: &(impl AllocGlobal + Threads + Wait + Sync),
     others: u32,
@@ -114,21 +113,21 @@ fn a_pool_begins_each_segment_once(rt: HostRuntime) {
     assert!(rt; pool_begins(&rt, 15, 360, (1 << 60) - 1));
 }
 
-/// Whether a sparing pool begins no segment where the cars are so few that one worker asks them alone.
+/// Whether a sparing pool begins no segment if the cars are so few that it has one worker.
 fn spares_workers(rt: &(impl AllocGlobal + Threads + Wait + Sync)) -> bool {
     let notes = Notes::new();
     sparing_pool_as_one(rt, 60, &notes) && notes.are(0, 0)
 }
 
 #[test]
-fn who_is_alone_passes_no_gate(rt: HostRuntime) {
+fn a_pool_of_one_worker_passes_no_gate(rt: HostRuntime) {
     assert!(rt; pool_begins(&rt, 0, 0, 0) && spares_workers(&rt));
 }
 
-/// How many turns a worker is held at most.
+/// The maximum number of turns for which a worker is held.
 const TURNS: u32 = 100_000_000;
 
-/// Holds the first to come in a phase until workers have come for its seven other segments.
+/// Holds the first worker of a phase until workers have come for its seven other segments.
 #[derive(Drop)]
 struct HoldsFirst {
     came: AtomicU64,
@@ -136,7 +135,7 @@ struct HoldsFirst {
 }
 
 impl HoldsFirst {
-    /// A gate to which nobody has come.
+    /// A gate to which no worker has come.
     fn new() -> HoldsFirst {
         HoldsFirst {
             came: AtomicU64::new(0),
@@ -144,7 +143,7 @@ impl HoldsFirst {
         }
     }
 
-    /// Waits until so many have come, and says whether they were in time.
+    /// Waits until `wanted` workers have come, and returns whether they were in time.
     fn waits(&self, wanted: u64) -> bool {
         for _ in 0..TURNS {
             if self.came.load(Ordering::SeqCst) >= wanted {
@@ -155,7 +154,7 @@ impl HoldsFirst {
         false
     }
 
-    /// Whether so many have come, and nobody gave up waiting.
+    /// Whether `came` workers have come, and none gave up waiting.
     fn saw(&self, came: u64) -> bool {
         self.came.load(Ordering::SeqCst) == came && !self.gave_up.load(Ordering::SeqCst)
     }
@@ -170,24 +169,24 @@ impl Gate for HoldsFirst {
     }
 }
 
-/// Whether one of two workers begins the seven other segments of each phase while the other is held.
+/// Whether one of two workers begins the other seven segments of each phase while the other worker is held.
 fn goes_on(rt: &(impl AllocGlobal + Threads + Sync)) -> bool {
     let gate = HoldsFirst::new();
     go_through(rt, 8, 1, &gate) && gate.saw(16)
 }
 
 #[test]
-fn a_worker_who_is_held_leaves_the_others_at_work(rt: HostRuntime) {
+fn a_crew_goes_on_while_one_worker_is_held(rt: HostRuntime) {
     assert!(rt; goes_on(&rt));
 }
 
-/// Whether a pool's two workers do so in ten steps.
+/// The same for a pool's two workers, in ten steps.
 fn pool_goes_on(rt: &(impl AllocGlobal + Threads + Wait + Sync)) -> bool {
     let gate = HoldsFirst::new();
     pool_as_one(rt, 1, &gate, 10) && gate.saw(160)
 }
 
 #[test]
-fn a_worker_who_is_held_leaves_the_others_to_the_helper(rt: HostRuntime) {
+fn a_pool_goes_on_while_one_worker_is_held(rt: HostRuntime) {
     assert!(rt; pool_goes_on(&rt));
 }

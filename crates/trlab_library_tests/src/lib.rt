@@ -1,17 +1,11 @@
-//! Tests of programs and of what drives roads by public calls, with values worked out by hand: faults of program
-//! text, tables of notes, standard rules, random words, tickets, and steps whose cars workers or a pool ask.
+//! Tests of programs and of steps by public calls, with values worked out by hand: faults of program text, tables of
+//! notes, standard rules, random words, tickets, and steps by a crew or a pool.
 #![tactic(auto)]
 
 #[cfg(test)]
-mod asm;
-#[cfg(test)]
 mod gates;
 #[cfg(test)]
-mod pool;
-#[cfg(test)]
-mod rules;
-#[cfg(test)]
-mod tables;
+mod programs;
 #[cfg(test)]
 mod tickets;
 #[cfg(test)]

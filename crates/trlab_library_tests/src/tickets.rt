@@ -18,8 +18,7 @@ fn draws(tickets: &Tickets, drawer: &mut Drawer, wanted: &[u32]) -> bool
     tickets.draw(drawer).is_none()
 }
 
-/// Whether two drawers of three tickets draw each once: the second draws one, and the first the
-/// others.
+/// Whether two drawers draw each of three tickets once: the second draws one, and the first the others.
 fn draw_in_turns(tickets: &Tickets, first: &mut Drawer, second: &mut Drawer) -> bool
     requires { IsFrom tickets.now first.old × IsFrom tickets.now second.old }
     ensures { IsFrom tickets.now first.new × IsFrom tickets.now second.new }
@@ -30,7 +29,7 @@ fn draw_in_turns(tickets: &Tickets, first: &mut Drawer, second: &mut Drawer) -> 
     begins && goes_on && left.is_none()
 }
 
-/// Whether one of two drawers alone can't finish, and both together can.
+/// Whether one of two drawers cannot finish by itself, and both together can.
 fn finish_together(tickets: Tickets, first: Drawer, second: Drawer) -> bool
     requires { IsFrom tickets first × IsFrom tickets second }
 {
@@ -42,7 +41,7 @@ fn finish_together(tickets: Tickets, first: Drawer, second: Drawer) -> bool
     tickets.finish(all).is_ok() && passes == 2
 }
 
-/// Whether two drawers do all that.
+/// Whether two drawers do all of this.
 fn two_share_three(alloc: Global) -> Result<bool, AllocError> {
     let (tickets, mut first) = Tickets::start(alloc, 3, 2)?;
     let mut second = tickets.split(&mut first);

@@ -1,10 +1,10 @@
-//! Random words, and chances on them.
+//! Random words, and events that they decide.
 
 ghost use Rattle.std.specs.Prelude.{◌<◌};
 
 use trlab_words::{CERTAIN, Chance, Key, happens, word_of_cars, words};
 
-/// Whether this is word `k` of car 0, alone and among eight.
+/// Whether this is word `k` of car 0, computed for one car and for eight at once.
 fn has_word(key: &Key, k: usize, word: u32) -> bool
     requires { k < 16 }
 {
@@ -19,19 +19,19 @@ fn the_zero_key_begins_as_published(rt: HostRuntime) {
     assert!(rt; has_word(&key, 1, 2419978656));
 }
 
-/// Whether a chance of so many parts happens on the first word of the zero key.
+/// Whether an event of probability `parts` / 2^31 happens on the first word of the zero key.
 fn happens_first(parts: u32) -> Option<bool> {
     Some(happens(2917185654, Chance::new(parts)?))
 }
 
-// The second is the least chance that happens on that word.
+// The second is the smallest probability with which it happens on that word.
 #[test]
 fn chances_are_cut_at_half_of_the_word(rt: HostRuntime) {
     assert!(rt; happens_first(1458592827) == Some(false));
     assert!(rt; happens_first(1458592828) == Some(true));
 }
 
-/// The parts of a chance of so many parts.
+/// A probability in parts of 2^31, from its parts.
 fn parts_of(parts: u32) -> Option<u32> {
     Some(Chance::new(parts)?.get())
 }

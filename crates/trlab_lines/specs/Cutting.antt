@@ -2,12 +2,12 @@
 use Rattle.std.specs.Prelude.{ℕ, ◌+◌, ◌==◌, ◌||◌, not, Bool, List, [], length, take, drop, bytes_eq, Option, None, Some, if◌then◌else◌}
 use Rattle.std.specs.List.{position}
 
--- what stands before a position, and what stands after its byte
+-- the bytes before a position, and the bytes after it
 abbrev pub around : List ℕ → Option ℕ → Option (List ℕ × List ℕ)
 around text None = None
 around text (Some i) = Some (take i text, drop (i + 1) text)
 
--- what stands before the first byte c, and what stands after it
+-- the bytes before the first byte c, and the bytes after it
 abbrev pub cut : ℕ → List ℕ → Option (List ℕ × List ℕ)
 cut c text = around text (position (λ b. b == c) text)
 
@@ -46,11 +46,11 @@ first_word text = up_to_blank (without_indent text)
 abbrev pub lone_word : List ℕ × List ℕ → Option (List ℕ)
 lone_word parts = if length (without_indent parts.1) == 0 then Some parts.0 else None
 
--- the word of a text that has only blanks beside it; of blanks alone it is the empty word
+-- the only word of a text; a text of blanks has the empty word
 abbrev pub only_word : List ℕ → Option (List ℕ)
 only_word text = lone_word (first_word text)
 
--- what stands before the cut, or the whole line where it was not cut
+-- the bytes before the cut, or the whole line if it was not cut
 abbrev pub front_or_all : List ℕ → Option (List ℕ × List ℕ) → List ℕ
 front_or_all line None = line
 front_or_all line (Some parts) = parts.0
@@ -59,11 +59,11 @@ front_or_all line (Some parts) = parts.0
 abbrev pub without_comment : List ℕ → List ℕ
 without_comment line = front_or_all line (cut 59 line)
 
--- what stands before the cut as a label, and the rest; or no label, and the whole text
+-- the bytes before the cut as a label, and the rest; or no label, and the whole text
 abbrev pub split_label : List ℕ → Option (List ℕ × List ℕ) → Option (List ℕ) × List ℕ
 split_label text None = (None, text)
 split_label text (Some parts) = (Some parts.0, parts.1)
 
--- what stands before the first `:` of a text, if it has one, and what stands after it
+-- the bytes before the first `:` of a text, if it has one, and the bytes after it
 abbrev pub label_and_rest : List ℕ → Option (List ℕ) × List ℕ
 label_and_rest text = split_label text (cut 58 text)

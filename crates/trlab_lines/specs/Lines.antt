@@ -7,7 +7,7 @@ unfoldable pub lines_of : List ℕ → List (List ℕ)
 lines_of [] = []
 lines_of (c ∷ text) = if c == 10 then [] ∷ lines_of text else onto_first c (lines_of text)
 
--- a text is a line, an LF and a rest; or it is a line alone, and the rest is empty
+-- a text is a line, an LF and a rest; or it is only a line, and the rest is empty
 abbrev pub BeginsWithLine : List ℕ → List ℕ → List ℕ → Type 0
 BeginsWithLine text line rest = (text ≡ line ++ (10 ∷ rest)) ⊎ ((text ≡ line) × (rest ≡ []))
 

@@ -1,9 +1,9 @@
--- The words that have the form of a number. What number digits stand for says std's `digits_value 10`.
+-- The words with the form of a number. Their value is std's `digits_value 10`.
 use Rattle.std.specs.Prelude.{ℕ, ◌&&◌, Bool, List, length, nat_lt}
 use Rattle.std.specs.List.{list_all}
 use Rattle.std.specs.Char.{is_ascii_digit}
 
--- digits alone
+-- only digits
 abbrev pub all_digits : List ℕ → Bool
 all_digits text = list_all (λ c. is_ascii_digit c) text
 

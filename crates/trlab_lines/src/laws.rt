@@ -1,12 +1,12 @@
-//! The bound of a page, in figures.
+//! The limit of a quoted line, as a number.
 //!
-//! The law is the contract of a function with nothing to do.
+//! The law is the contract of a function with an empty body.
 
 ghost use Rattle.std.specs.Prelude.{◌≡◌};
 
-use crate::page::MOST_QUOTED;
+use crate::page::MAX_QUOTED;
 
-/// How much of a line is quoted.
+/// At most 80 bytes of a line are quoted.
 pub fn quotes()
-    ensures { MOST_QUOTED ≡ 80 }
+    ensures { MAX_QUOTED ≡ 80 }
 {}

@@ -1,15 +1,15 @@
 //! Pages of plain text.
 
 ghost use Rattle.std.specs.Prelude.{◌≡◌, ◌++◌, ◌∷◌, [], ◌<◌, All, OnOk, codes, decimal, length};
-ghost use Rattle.trlab_lines.specs.Plain.{IsPlain, all_shown, digit, quoted, shown, shows_itself};
+ghost use Rattle.trlab_lines.specs.Plain.{IsPlain, all_shown, hex_digit, quoted, shown, shows_itself};
 
 use std::alloc::{AllocError, Global};
 use std::marker::Model;
 
-/// The most bytes of a line that are quoted.
-pub const MOST_QUOTED: usize = 80;
+/// The maximum number of bytes that are quoted of a line.
+pub const MAX_QUOTED: usize = 80;
 
-/// A page: printable characters of ASCII, in lines.
+/// Lines of printable ASCII characters.
 #[derive(Drop)]
 pub struct Page {
     alloc: Global,
@@ -27,17 +27,16 @@ impl Model for Page {
     ghost invariant = { λ page. All IsPlain page.text.items };
 }
 
-/// Whether a character stands for itself: a printable one, and no backslash.
+/// Whether a byte is shown as it is: printable, and not a backslash.
 fn shows_itself(byte: u8) -> bool
     ensures { result ≡ shows_itself byte }
 {
     32 <= byte && byte <= 126 && byte != b'\\'
 }
 
-/// A hexadecimal digit.
-fn digit(value: u8) -> u8
+fn hex_digit(value: u8) -> u8
     requires { value < 16 }
-    ensures { result ≡ digit value }
+    ensures { result ≡ hex_digit value }
 {
     if value < 10 {
         b'0' + value
@@ -47,7 +46,6 @@ fn digit(value: u8) -> u8
 }
 
 impl Page {
-    /// An empty page.
     pub fn new(alloc: Global) -> Page
         ensures { result ≡ [] }
     {
@@ -57,7 +55,6 @@ impl Page {
         }
     }
 
-    /// Adds a character of plain text.
     fn push(&mut self, byte: u8) -> Result<(), AllocError>
         requires { IsPlain byte }
         ensures { OnOk result (self.new ≡ self.old ++ byte ∷ []) }
@@ -66,7 +63,6 @@ impl Page {
         Ok(())
     }
 
-    /// Adds plain text.
     fn put(&mut self, text: &[u8]) -> Result<(), AllocError>
         requires { All IsPlain text.now }
         ensures { OnOk result (self.new ≡ self.old ++ text.now) }
@@ -77,7 +73,7 @@ impl Page {
         Ok(())
     }
 
-    /// Adds what stands for a byte: the character itself, or its escape.
+    /// Appends a byte, escaped as `\xNN` unless it is printable.
     fn show(&mut self, byte: u8) -> Result<(), AllocError>
         ensures { OnOk result (self.new ≡ self.old ++ shown byte) }
     {
@@ -86,15 +82,15 @@ impl Page {
         }
         self.push(b'\\')?;
         self.push(b'x')?;
-        self.push(digit(byte / 16))?;
-        self.push(digit(byte % 16))
+        self.push(hex_digit(byte / 16))?;
+        self.push(hex_digit(byte % 16))
     }
 
-    /// Adds bytes, each as it is shown.
+    /// Appends bytes, of which those that are not printable are escaped as `\xNN`.
     ///
     /// # Errors
     ///
-    /// `AllocError` where memory ran out.
+    /// If an allocation fails.
     pub fn show_all(&mut self, bytes: &[u8]) -> Result<(), AllocError>
         ensures { OnOk result (self.new ≡ self.old ++ all_shown bytes.now) }
     {
@@ -104,22 +100,22 @@ impl Page {
         Ok(())
     }
 
-    /// Adds words.
+    /// Appends a text, escaped like bytes.
     ///
     /// # Errors
     ///
-    /// `AllocError` where memory ran out.
+    /// If an allocation fails.
     pub fn say(&mut self, words: &str) -> Result<(), AllocError>
         ensures { OnOk result (self.new ≡ self.old ++ all_shown words.now) }
     {
         self.show_all(words.as_bytes())
     }
 
-    /// Adds the decimal digits of a number.
+    /// Appends the decimal digits of a number.
     ///
     /// # Errors
     ///
-    /// `AllocError` where memory ran out.
+    /// If an allocation fails.
     pub fn number(&mut self, number: u64) -> Result<(), AllocError>
         ensures { OnOk result (self.new ≡ self.old ++ decimal number) }
     {
@@ -131,18 +127,18 @@ impl Page {
     ///
     /// # Errors
     ///
-    /// `AllocError` where memory ran out.
+    /// If an allocation fails.
     pub fn end_line(&mut self) -> Result<(), AllocError>
         ensures { OnOk result (self.new ≡ self.old ++ 10 ∷ []) }
     {
         self.push(b'\n')
     }
 
-    /// Adds words, and ends the line.
+    /// Appends a text and ends the line.
     ///
     /// # Errors
     ///
-    /// `AllocError` where memory ran out.
+    /// If an allocation fails.
     pub fn line(&mut self, words: &str) -> Result<(), AllocError>
         ensures { OnOk result (self.new ≡ self.old ++ all_shown words.now ++ 10 ∷ []) }
     {
@@ -150,16 +146,16 @@ impl Page {
         self.end_line()
     }
 
-    /// Adds a line of a text, at most its first `MOST_QUOTED` bytes.
+    /// Appends the first `MAX_QUOTED` bytes of a line, escaped, and ` ..` if it is longer.
     ///
     /// # Errors
     ///
-    /// `AllocError` where memory ran out.
+    /// If an allocation fails.
     pub fn quote(&mut self, line: &[u8]) -> Result<(), AllocError>
         ensures { OnOk result (self.new ≡ self.old ++ quoted line.now) }
     {
-        if line.len() > MOST_QUOTED {
-            let (start, _) = line.split_at(MOST_QUOTED);
+        if line.len() > MAX_QUOTED {
+            let (start, _) = line.split_at(MAX_QUOTED);
             self.show_all(start)?;
             self.push(b' ')?;
             self.push(b'.')?;
@@ -169,18 +165,17 @@ impl Page {
         }
     }
 
-    /// Adds another page.
+    /// Appends another page.
     ///
     /// # Errors
     ///
-    /// `AllocError` where memory ran out.
+    /// If an allocation fails.
     pub fn add(&mut self, page: &Page) -> Result<(), AllocError>
         ensures { OnOk result (self.new ≡ self.old ++ page.now) }
     {
         self.put(page.text())
     }
 
-    /// The text of the page.
     pub fn text(&self) -> &[u8]
         ensures value { result.now ≡ self.now }
         ensures plain { All IsPlain result.now }

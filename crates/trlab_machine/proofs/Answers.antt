@@ -3,11 +3,11 @@ use Rattle.std.proofs.Common.{◌≡◌, ℕ, zero, suc, refl, ap, List}
 use Rattle.trlab_code.specs.declared.kind.Kind.{Kind}
 use Rattle.trlab_code.specs.declared.instruction.Instr.{Instr}
 use Rattle.trlab_code.specs.declared.view.View.{View}
-use Rattle.trlab_code.specs.Machine.{Answer, State, At, Done, Stuck, start, step, EndsFrom, EndsWith}
+use Rattle.trlab_code.specs.Machine.{Answer, MachineState, At, Done, Stuck, start, step, EndsFrom, EndsWith}
 
 module _ (kind : Kind) (code : List Instr) (view : View) (words : List ℕ) (a b : Answer) where
   -- from each state there is one answer at most, and one number of steps to it
-  pub one_answer_from : (state : State) (m n : ℕ) → EndsFrom kind code view words state a m → EndsFrom kind code view words state b n → (a ≡ b) × (m ≡ n)
+  pub one_answer_from : (state : MachineState) (m n : ℕ) → EndsFrom kind code view words state a m → EndsFrom kind code view words state b n → (a ≡ b) × (m ≡ n)
   one_answer_from (At pc s) zero n here there = absurd (cc here)
   one_answer_from (At pc s) (suc m) zero here there = absurd (cc there)
   one_answer_from (At pc s) (suc m) (suc n) here there =

@@ -1,5 +1,7 @@
-//! Laws of the machine, for each program and each view: a run has one answer, no word is read without a draw,
-//! and accepted programs answer what the road allows.
+//! Laws of the machine, for every program and every view: a run has one answer, words are read only by draws,
+//! and accepted programs answer only what the road allows.
+//!
+//! Each law is the contract of a function with an empty body.
 
 ghost use Rattle.std.specs.Prelude.{◌≡◌, ℕ, Bool, IsTrue, List, length};
 ghost use Rattle.trlab_code.specs.declared.kind.Kind.{Kind};
@@ -14,7 +16,7 @@ ghost use Rattle.trlab_verify.specs.CheckedProgram.{CheckedProgram, IsChecked};
 ghost use Rattle.trlab_machine.specs.Moves.{IsAllowed, MovesWithin};
 ghost use Rattle.trlab_machine.specs.Crossings.{crossing_answer, CrossesWithin};
 
-/// A program has at most one answer to a view and words, and one number of steps to it.
+/// A program has at most one answer for a view and words, and one number of steps.
 pub fn one_answer()
     ensures { (kind : Kind) (code : List Instr) (view : View) (words : List ℕ) →
         (a b : Answer) (m n : ℕ) →
@@ -22,28 +24,28 @@ pub fn one_answer()
         (a ≡ b) × (m ≡ n) }
 {}
 
-/// To a program with no draw the words are all one: it ends with the same answer, in as many steps.
+/// The words do not matter to a program without draws: it ends with the same answer, in as many steps.
 pub fn words_are_not_read()
     ensures { (kind : Kind) (code : List Instr) (view : View) (words others : List ℕ) →
         (answer : Answer) (n : ℕ) → ¬ (Draws code) →
         EndsWith kind code view words answer n → EndsWith kind code view others answer n }
 {}
 
-/// A motion program that ends has answered a speed of at most the gap and the limit.
+/// A motion program that ends answers a speed of at most the gap and the limit.
 pub fn motion_answers()
     ensures { (code : List Instr) (view : View) (words : List ℕ) (answer : Answer) (n : ℕ) →
         EndsWith Motion code view words answer n →
         (v : ℕ) × (answer ≡ Goes v) × IsAllowed view v }
 {}
 
-/// An accepted motion program moves a car, whatever the car sees and whatever the words are.
+/// An accepted motion program moves a car, for every view and all words.
 pub fn checked_motions_move()
     ensures { (motion : CheckedProgram) (view : View) (words : List ℕ) →
         IsChecked Motion motion → IsView view → length words ≡ WORDS →
         MovesWithin motion.program.instrs view words motion.budget }
 {}
 
-/// A change program that ends has answered that the car crosses, with the side cell empty, or stays.
+/// A change program that ends answers that the car crosses to an empty side cell, or that it stays.
 pub fn change_answers()
     ensures { (code : List Instr) (view : View) (words : List ℕ) (answer : Answer) (n : ℕ) →
         EndsWith Change code view words answer n →
@@ -51,8 +53,7 @@ pub fn change_answers()
         × (IsTrue crosses → IsTrue view.side) }
 {}
 
-/// An accepted change program answers whether a car crosses, whatever the car sees and whatever the words
-/// are.
+/// An accepted change program answers whether a car crosses, for every view and all words.
 pub fn checked_changes_answer()
     ensures { (change : CheckedProgram) (view : View) (words : List ℕ) →
         IsChecked Change change → IsView view → length words ≡ WORDS →

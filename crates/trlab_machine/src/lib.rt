@@ -1,30 +1,26 @@
-//! The machine that runs accepted driver programs, for one car and for a block of cars at once, and the laws
-//! of its runs.
+//! Runs accepted driver programs, for one car or for a block of cars at once; and the laws of these runs.
+//!
+//! ```text
+//! let motion: Motion = verify_motion(alloc, code).ok()?;
+//! let view = MotionView::new(speed, limit, gap, headspeed)?;
+//! let moved = run_motion(&motion, view, &words(&key, road, car, step));
+//! let (speed, steps) = (moved.speed, moved.steps); // steps is at most motion.budget()
+//! ```
 #![tactic(auto)]
 
 mod block;
 mod change;
-mod changes;
 mod columns;
 mod dice;
-mod gathered;
-mod inputs;
 pub mod laws;
 mod motion;
-mod motions;
-mod registers;
-mod result_columns;
-mod results;
 mod role;
 mod run;
 mod views;
 mod waiting;
 
-pub use change::{Chosen, run_change};
-pub use changes::run_changes;
-pub use columns::{Column, FEW, Flags, LANES};
+pub use change::{Chosen, run_change, run_changes};
+pub use columns::{BLOCK_CARS, Column, FEW, Flags, REGISTERS, RegisterColumns};
 pub use dice::Dice;
-pub use motion::{Moved, run_motion};
-pub use motions::{run_few_motions, run_motions};
-pub use registers::{REGISTERS, RegisterColumns};
+pub use motion::{Moved, run_few_motions, run_motion, run_motions};
 pub use views::Views;

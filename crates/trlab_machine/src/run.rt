@@ -1,29 +1,41 @@
-//! A run of a safe program for one car: instruction by instruction, until one ends it.
+//! Runs an accepted program for one car, on given random words, and counts its instructions.
+//!
+//! A block cannot do this: it makes the words of its cars itself, and counts nothing.
 
 ghost use Rattle.std.specs.Prelude.{◌≡◌, ◌≤◌, All, length};
 ghost use Rattle.trlab_code.specs.Machine.{IsSafe, EndsWith};
 ghost use Rattle.trlab_code.specs.Program.{IsInRange};
 ghost use Rattle.trlab_code.specs.Views.{IsView};
-ghost use Rattle.trlab_machine.specs.Stored.{answer_of};
+ghost use Rattle.trlab_machine.specs.Stored.{answer_of, number_in, result_number};
+ghost use Rattle.trlab_words.specs.Chances.{happens_on};
 
-use crate::registers::REGISTERS;
-use crate::results::result_number;
+use crate::columns::REGISTERS;
 use crate::role::{Role, role_of};
-use trlab_code::{Instr, Kind, MOST_INSTRUCTIONS, View, WORDS};
+use crate::views::seen;
+use trlab_code::{Instr, Kind, MAX_INSTRUCTIONS, Register, View, WORDS};
+
+/// The number in each register; any number before the program writes one.
+type Registers = [u32; REGISTERS];
 
 /// How a program ended, and after how many instructions.
 #[derive(Clone, Copy)]
-pub struct Outcome {
-    /// The speed of a motion; 1 where a change crosses, and 0 where it stays.
+pub struct RunResult {
+    /// The new speed; of a change program 1 if the car crosses, and 0 if it stays.
     pub answer: u32,
-    /// The instructions of the run, the end counted.
+    /// The number of executed instructions, including the end.
     pub steps: u32,
 }
 
-/// Runs a program of a kind that is safe within a budget of steps; only the proof reads these two.
-pub fn run(kind: Kind, instrs: &[Instr], budget: u32, view: &View, words: &[u32; WORDS]) -> Outcome
+/// Runs a program instruction by instruction. Only the proof reads the kind and the budget.
+pub fn run(
+    kind: Kind,
+    instrs: &[Instr],
+    budget: u32,
+    view: &View,
+    words: &[u32; WORDS],
+) -> RunResult
     requires safe { IsSafe kind instrs.now budget }
-    requires few { length instrs.now ≤ MOST_INSTRUCTIONS }
+    requires few { length instrs.now ≤ MAX_INSTRUCTIONS }
     requires in_range { All IsInRange instrs.now }
     requires seen { IsView view.now }
     ensures ends { EndsWith kind instrs.now view.now words.now
@@ -44,11 +56,56 @@ pub fn run(kind: Kind, instrs: &[Instr], budget: u32, view: &View, words: &[u32;
             }
             Role::Jumps(target) => pc = if number == 1 { target as usize } else { pc + 1 },
             Role::Ends => {
-                return Outcome {
+                return RunResult {
                     answer: number,
                     steps,
                 };
             }
         }
+    }
+}
+
+/// The number in a register.
+fn value(registers: &Registers, register: Register) -> u32
+    ensures { result ≡ number_in registers.now register }
+{
+    registers[register.number()]
+}
+
+/// Does an event of probability `parts` / 2^31 happen on a random word?
+fn happens(word: u32, parts: u32) -> bool
+    ensures { result ≡ happens_on parts word }
+{
+    word / 2 < parts
+}
+
+/// The result of an instruction: the number that it writes, 1 if it jumps and 0 if not, or the answer.
+///
+/// Nothing is tested here, because in an accepted program no sum wraps and no difference is negative.
+fn result_number(instr: Instr, r: &Registers, view: &View, words: &[u32; WORDS]) -> u32
+    requires { IsInRange instr }
+    ensures { result ≡ result_number view.now words.now (number_in r.now) instr }
+{
+    match instr {
+        Instr::Num(_, n) => n,
+        Instr::Get(_, k) => seen(view, k),
+        Instr::Side(_) => u32::from(view.side),
+        Instr::Draw(_, k, t) => u32::from(happens(words[usize::from(k)], t)),
+        Instr::Copy(_, a) | Instr::Go(a) => value(r, a),
+        Instr::Add(_, a, b) => value(r, a).wrapping_add(value(r, b)),
+        Instr::Sub(_, a, b) => value(r, a).saturating_sub(value(r, b)),
+        Instr::Mul(_, a, n) => value(r, a).wrapping_mul(n),
+        Instr::Div(_, a, n) => value(r, a) / n,
+        Instr::Min(_, a, b) => value(r, a).min(value(r, b)),
+        Instr::Max(_, a, b) => value(r, a).max(value(r, b)),
+        Instr::Not(_, a) => 1u32.saturating_sub(value(r, a)),
+        Instr::And(_, a, b) => value(r, a) & value(r, b),
+        Instr::Or(_, a, b) => value(r, a) | value(r, b),
+        Instr::JumpLess(a, b, _) => u32::from(value(r, a) < value(r, b)),
+        Instr::JumpAtMost(a, b, _) => u32::from(value(r, a) <= value(r, b)),
+        Instr::JumpTrue(a, _) => u32::from(value(r, a) == 1),
+        Instr::JumpFalse(a, _) => u32::from(value(r, a) == 0),
+        Instr::Jump(_) | Instr::Cross => 1,
+        Instr::Stay => 0,
     }
 }

@@ -4,7 +4,7 @@ use Rattle.std.specs.Int.{bit_at}
 use Rattle.std.proofs.lemmas.Bool.{eqb-true, eqb-false}
 use Rattle.std.proofs.lemmas.Nat.Bits.{bit_at_and, bit_at_or, bit_at-lt, bit_at_set_same, bit_at_set_other, bit_at_clear_same, bit_at_clear_other, shr_and_one}
 use Rattle.std.proofs.Common.{w16}
-use Rattle.trlab_notes.specs.declared.rows.Row.{Row}
+use Rattle.trlab_notes.specs.declared.rows.LevelRow.{LevelRow}
 use Rattle.trlab_notes.specs.Rows.{level_in}
 
 -- bits and levels as numbers
@@ -18,18 +18,18 @@ lesser a b c d x y p q r s e f = omega arith
 greater : (a b c d x y : ℕ) → x ≡ max a c → y ≡ max b d → max x (2 * y) ≡ max (max a (2 * b)) (max c (2 * d))
 greater a b c d x y e f = omega arith
 
-pub ahead_is : (r : Row) (y : ℕ) → bit_at (bit_or r.at_most r.below) y ≡ min (level_in r y) 1
+pub ahead_is : (r : LevelRow) (y : ℕ) → bit_at (bit_or r.at_most r.below) y ≡ min (level_in r y) 1
 ahead_is r y = some_level (bit_at r.at_most y) (bit_at r.below y) (bit_at (bit_or r.at_most r.below) y) (bit_at-lt r.at_most y) (bit_at-lt r.below y) (bit_at_or r.at_most r.below y)
 
 both_ends : (a b c d : ℕ) → a ≡ c → b ≡ d → min a b ≡ min c d
 both_ends a b c d e f = omega arith
 
-pub both_is : (r s : Row) (m n y : ℕ) → bit_at m y ≡ min (level_in r y) 1 → bit_at n y ≡ min (level_in s y) 1 →
+pub both_is : (r s : LevelRow) (m n y : ℕ) → bit_at m y ≡ min (level_in r y) 1 → bit_at n y ≡ min (level_in s y) 1 →
     level_in (record { at_most = bit_and m n; below = bit_and r.below s.below }) y ≡ min (level_in r y) (level_in s y)
 both_is r s m n y e f =
     lesser (bit_at r.at_most y) (bit_at r.below y) (bit_at s.at_most y) (bit_at s.below y) (bit_at (bit_and m n) y) (bit_at (bit_and r.below s.below) y) (bit_at-lt r.at_most y) (bit_at-lt r.below y) (bit_at-lt s.at_most y) (bit_at-lt s.below y) (bit_at_and m n y ∙ both_ends _ _ _ _ e f) (bit_at_and r.below s.below y)
 
-pub either_is : (r s : Row) (y : ℕ) →
+pub either_is : (r s : LevelRow) (y : ℕ) →
     level_in (record { at_most = bit_or r.at_most s.at_most; below = bit_or r.below s.below }) y ≡ max (level_in r y) (level_in s y)
 either_is r s y =
     greater (bit_at r.at_most y) (bit_at r.below y) (bit_at s.at_most y) (bit_at s.below y) (bit_at (bit_or r.at_most s.at_most) y) (bit_at (bit_or r.below s.below) y) (bit_at_or r.at_most s.at_most y) (bit_at_or r.below s.below y)
@@ -55,8 +55,8 @@ two_bits a b u p e f = omega arith
 one_bit : (a b u v : ℕ) → b < 2 → u ≡ b → (u ≡ 1 → ⊥) → v ≡ a → v ≡ max a (2 * b)
 one_bit a b u v p e f g = omega arith
 
-pub is_below : (r : Row) (y : ℕ) → bit_and (r.below / 2 ^ y) 1 ≡ 1 → 2 ≡ level_in r y
+pub is_below : (r : LevelRow) (y : ℕ) → bit_and (r.below / 2 ^ y) 1 ≡ 1 → 2 ≡ level_in r y
 is_below r y e = two_bits _ _ _ (bit_at-lt r.at_most y) (shr_and_one r.below y) e
 
-pub is_not_below : (r : Row) (y : ℕ) → (bit_and (r.below / 2 ^ y) 1 ≡ 1 → ⊥) → bit_and (r.at_most / 2 ^ y) 1 ≡ level_in r y
+pub is_not_below : (r : LevelRow) (y : ℕ) → (bit_and (r.below / 2 ^ y) 1 ≡ 1 → ⊥) → bit_and (r.at_most / 2 ^ y) 1 ≡ level_in r y
 is_not_below r y e = one_bit _ _ _ _ (bit_at-lt r.below y) (shr_and_one r.below y) e (shr_and_one r.at_most y)

@@ -11,9 +11,9 @@ use Rattle.trlab_code.specs.declared.instruction.Variable.{Variable}
 use Rattle.trlab_code.specs.declared.instruction.Variable.TheVariants as variable
 use Rattle.trlab_code.specs.Machine.{update}
 use Rattle.trlab_code.specs.Flow.{destination}
-use Rattle.trlab_notes.specs.declared.reason.Reason.TheVariants as why
-use Rattle.trlab_notes.specs.declared.note.Said.{Said}
-use Rattle.trlab_notes.specs.declared.note.Said.TheVariants.{Nothing, Between, Implies}
+use Rattle.trlab_notes.specs.declared.reasons.Reason.TheVariants as why
+use Rattle.trlab_notes.specs.declared.note.AbstractValue.{AbstractValue}
+use Rattle.trlab_notes.specs.declared.note.AbstractValue.TheVariants.{Nothing, Between, Implies}
 use Rattle.trlab_notes.specs.Notes.{Note, same_variable, low, high, said_with_side, level_between, known_level, closure, maybe_closure}
 use Rattle.trlab_notes.specs.Transfer.{assign_any, sharpen, slacken, least_difference, assign, assign_result, result_said, result_to, to_result, chain, refine_order, refine_flag, next_note, jump_note}
 use Rattle.trlab_notes.specs.Order.{join, join_said, IsNoStronger, SaysNoMore}
@@ -78,7 +78,7 @@ join_is_settled m n =
 
 -- the same instruction makes of both what is the same once it is settled
 module _ (m : Note) where
-  written_settled : (d : Register) (s t : Said) (to below from above : Variable → ℕ) → s ≡ t → ((y : Variable) → to y ≡ below y) →
+  written_settled : (d : Register) (s t : AbstractValue) (to below from above : Variable → ℕ) → s ≡ t → ((y : Variable) → to y ≡ below y) →
       ((x : Variable) → from x ≡ above x) → closure (assign (closure m) d s to from) ≡ closure (assign m d t below above)
   unfolding assign closure known_level update
   written_settled d s t to below from above es et ef =
@@ -91,7 +91,7 @@ module _ (m : Note) where
       at x y false true = λ i. level_between (m.said x) (es i) (same_variable x y) (ef x i)
       at x y false false = known_twice (m.said x) (m.said y) (same_variable x y) (m.level x y)
 
-  known_more : (s t : Said) (same : Bool) (l c : ℕ) → level_between s t same (max (level_between s t same l) c) ≡ level_between s t same (max l c)
+  known_more : (s t : AbstractValue) (same : Bool) (l c : ℕ) → level_between s t same (max (level_between s t same l) c) ≡ level_between s t same (max l c)
   known_more (Between a b) (Between u v) true l c = refl
   known_more (Between a b) (Between u v) false l c = omega arith
   known_more (Between a b) Nothing same l c = refl

@@ -3,7 +3,7 @@ use Rattle.std.proofs.Common.{◌≡◌, ℕ, ◌+◌, ◌<◌, ◌∙◌, List,
 use Rattle.std.proofs.lemmas.Bool.{eqb-true, eqb-false}
 use Rattle.std.proofs.lemmas.List.{get_or-set_same, get_or-set_other}
 use Rattle.trlab_bounds.specs.declared.programs.TheConstants.{VARIABLES}
-use Rattle.trlab_notes.specs.declared.rows.Row.{Row}
+use Rattle.trlab_notes.specs.declared.rows.LevelRow.{LevelRow}
 use Rattle.trlab_notes.specs.Rows.{level_in, level_of}
 
 level_at_variable : (level : ℕ → ℕ) (x v u y : ℕ) (same : Bool) → nat_eq y x ≡ same → v ≡ level x → (y < x → u ≡ level y) → y < x + 1 → cond same v u ≡ level y
@@ -11,13 +11,13 @@ level_at_variable level x v u y true eb e old lt = let same : y ≡ x = eqb-true
 level_at_variable level x v u y false eb e old lt = let other = eqb-false y x eb in old (omega (arith, other))
 
 -- a row once variable x has its level
-pub more_variables : (level : ℕ → ℕ) (row old : Row) (x v : ℕ) →
+pub more_variables : (level : ℕ → ℕ) (row old : LevelRow) (x v : ℕ) →
     ((y : ℕ) → y < VARIABLES → level_in row y ≡ cond (nat_eq y x) v (level_in old y)) → x < VARIABLES → v ≡ level x →
     ((y : ℕ) → y < x → level_in old y ≡ level y) → (y : ℕ) → y < x + 1 → level_in row y ≡ level y
 more_variables level row old x v new within e so_far y lt =
     new y (omega arith) ∙ level_at_variable level x v (level_in old y) y (nat_eq y x) refl e (so_far y) lt
 
-row_at : (level : ℕ → ℕ → ℕ) (rows : List Row) (x : ℕ) (row : Row) (k : ℕ) (same : Bool) → nat_eq k x ≡ same → x < length rows →
+row_at : (level : ℕ → ℕ → ℕ) (rows : List LevelRow) (x : ℕ) (row : LevelRow) (k : ℕ) (same : Bool) → nat_eq k x ≡ same → x < length rows →
     ((y : ℕ) → y < VARIABLES → level_in row y ≡ level x y) →
     ((k : ℕ) → k < x → (y : ℕ) → y < VARIABLES → level_of rows k y ≡ level k y) →
     k < x + 1 → (y : ℕ) → y < VARIABLES → level_of (set rows x row) k y ≡ level k y
@@ -29,7 +29,7 @@ row_at level rows x row k false eb within new so_far lt y inside =
     rw (get_or-set_other rows x k row (record { at_most = 0; below = 0 }) other) (so_far k (omega (arith, other)) y inside)
 
 -- a table once x has its row
-pub more_rows : (level : ℕ → ℕ → ℕ) (rows : List Row) (x : ℕ) (row : Row) → x < length rows →
+pub more_rows : (level : ℕ → ℕ → ℕ) (rows : List LevelRow) (x : ℕ) (row : LevelRow) → x < length rows →
     ((y : ℕ) → y < VARIABLES → level_in row y ≡ level x y) →
     ((k : ℕ) → k < x → (y : ℕ) → y < VARIABLES → level_of rows k y ≡ level k y) →
     (k : ℕ) → k < x + 1 → (y : ℕ) → y < VARIABLES → level_of (set rows x row) k y ≡ level k y

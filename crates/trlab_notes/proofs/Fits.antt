@@ -1,7 +1,7 @@
 -- When values fit a note: what fits a note before an instruction fits the notes on its ways.
 use Rattle.std.proofs.Common.{◌≡◌, ℕ, zero, suc, ◌+◌, ◌-◌, ◌≤◌, ◌&&◌, ◌||◌, min, max, refl, sym, ap, subst, arith, Bool, true, false, IsTrue, nat_eq, cond, ◌∙◌}
-use Rattle.trlab_notes.specs.declared.note.Said.{Said}
-use Rattle.trlab_notes.specs.declared.note.Said.TheVariants.{Nothing, Between, Implies}
+use Rattle.trlab_notes.specs.declared.note.AbstractValue.{AbstractValue}
+use Rattle.trlab_notes.specs.declared.note.AbstractValue.TheVariants.{Nothing, Between, Implies}
 use Rattle.trlab_code.specs.declared.instruction.Register.{Register}
 use Rattle.trlab_code.specs.declared.instruction.Variable.{Variable}
 use Rattle.trlab_code.specs.declared.instruction.Variable.TheVariants as variable
@@ -16,7 +16,7 @@ abbrev pub Ahead : ℕ → ℕ → ℕ → Type 0
 Ahead k m n = 1 ≤ k → m + k ≤ suc n
 
 -- what is said fits a value, where side says whether the side cell is empty
-abbrev pub FitsSaid : Bool → Said → Value → Type 0
+abbrev pub FitsSaid : Bool → AbstractValue → Value → Type 0
 FitsSaid side Nothing v = Unit {0}
 FitsSaid side (Between lo hi) (Number n) = (lo ≤ n) × (n ≤ hi)
 FitsSaid side (Between lo hi) (Flag b) = ⊥
@@ -32,7 +32,7 @@ pub record Fits (side : Bool) (note : Note) (s : Store) : Type 0 where
   pub beside : IsTrue note.side → IsTrue side
 
 -- what the ranges and the stored level give is right
-pub known_fits : (side : Bool) (sx sy : Said) (same : Bool) (level m n : ℕ) → FitsSaid side sx (Number m) →
+pub known_fits : (side : Bool) (sx sy : AbstractValue) (same : Bool) (level m n : ℕ) → FitsSaid side sx (Number m) →
     FitsSaid side sy (Number n) → Ahead level m n → (same ≡ true → m ≡ n) → Ahead (level_between sx sy same level) m n
 known_fits side (Between lx hx) (Between ly hy) true level m n fx fy l e = λ p. let q : m ≡ n = e refl in omega arith
 known_fits side (Between lx hx) (Between ly hy) false level m n fx fy l e = λ p. grind arith
@@ -66,7 +66,7 @@ chained_right zero k j w x y z a b c d = λ p. omega arith
 chained_right (suc i) k zero w x y z a b c d = λ p. omega arith
 chained_right (suc i) k (suc j) w x y z a b c d = λ p. grind arith
 
-pub known_same : (sx sy : Said) (level m n : ℕ) → m ≡ n → Ahead (level_between sx sy true level) m n
+pub known_same : (sx sy : AbstractValue) (level m n : ℕ) → m ≡ n → Ahead (level_between sx sy true level) m n
 known_same (Between a b) (Between c d) level m n e = λ p. omega arith
 known_same (Between a b) Nothing level m n e = λ p. omega arith
 known_same (Between a b) (Implies i) level m n e = λ p. omega arith
@@ -87,8 +87,8 @@ other_equal : (a b d : ℕ) → nat_eq a d ≡ false → nat_eq b d ≡ true →
 other_equal a b d p q r = grind (arith, p, q, r)
 
 -- a write keeps the fit where what is said of the value fits it and its levels are right
-module _ (side : Bool) (note : Note) (s : Store) (fits : Fits side note s) (d : Register) (v : Value) (sd : Said) (below above : Variable → ℕ) (fd : FitsSaid side sd v) (to : (y : Variable) (k n : ℕ) → v ≡ Number k → s y ≡ Number n → Ahead (below y) k n) (from : (y : Variable) (k n : ℕ) → v ≡ Number k → s y ≡ Number n → Ahead (above y) n k) where
-  at_value : {a b : Value} (t : Said) → a ≡ b → FitsSaid side t a → FitsSaid side t b
+module _ (side : Bool) (note : Note) (s : Store) (fits : Fits side note s) (d : Register) (v : Value) (sd : AbstractValue) (below above : Variable → ℕ) (fd : FitsSaid side sd v) (to : (y : Variable) (k n : ℕ) → v ≡ Number k → s y ≡ Number n → Ahead (below y) k n) (from : (y : Variable) (k n : ℕ) → v ≡ Number k → s y ≡ Number n → Ahead (above y) n k) where
+  at_value : {a b : Value} (t : AbstractValue) → a ≡ b → FitsSaid side t a → FitsSaid side t b
   at_value t e = subst (λ w. FitsSaid side t w) e
 
   written_order : (x y : Variable) (m n : ℕ) (bx by : Bool) → same_variable x (variable.Register d) ≡ bx → same_variable y (variable.Register d) ≡ by → cond bx v (s x) ≡ Number m →
@@ -117,11 +117,11 @@ module _ (side : Bool) (note : Note) (s : Store) (fits : Fits side note s) (d : 
     beside = fits.beside;
   }
 
-at_said : (side : Bool) (t : Said) {a b : Value} → a ≡ b → FitsSaid side t a → FitsSaid side t b
+at_said : (side : Bool) (t : AbstractValue) {a b : Value} → a ≡ b → FitsSaid side t a → FitsSaid side t b
 at_said side t e = subst (λ w. FitsSaid side t w) e
 
 -- what is told of a variable fits its value
-pub with_side_fits : (side known_side : Bool) (t : Said) (v : Value) → (IsTrue known_side → IsTrue side) →
+pub with_side_fits : (side known_side : Bool) (t : AbstractValue) (v : Value) → (IsTrue known_side → IsTrue side) →
     FitsSaid side t v → FitsSaid side (with_side known_side t) v
 with_side_fits side k Nothing v h f = tt
 with_side_fits side k (Between lo hi) v h f = f
@@ -134,7 +134,7 @@ pub told_fits : (side : Bool) (note : Note) (s : Store) → Fits side note s →
 unfolding said_with_side
 told_fits side note s fits x = with_side_fits side note.side (note.said x) (s x) fits.beside (fits.each x)
 
-pub both_left : (side : Bool) (a b : Said) (v : Value) → FitsSaid side a v → FitsSaid side (join_said a b) v
+pub both_left : (side : Bool) (a b : AbstractValue) (v : Value) → FitsSaid side a v → FitsSaid side (join_said a b) v
 both_left side (Between a b) (Between c d) Unset f = f
 both_left side (Between a b) (Between c d) (Flag t) f = f
 both_left side (Between a b) (Between c d) (Number n) f = (omega arith, omega arith)
@@ -149,7 +149,7 @@ both_left side (Between a b) (Implies q) v f = tt
 both_left side (Implies p) Nothing v f = tt
 both_left side (Implies p) (Between c d) v f = tt
 
-pub both_right : (side : Bool) (a b : Said) (v : Value) → FitsSaid side b v → FitsSaid side (join_said a b) v
+pub both_right : (side : Bool) (a b : AbstractValue) (v : Value) → FitsSaid side b v → FitsSaid side (join_said a b) v
 both_right side (Between a b) (Between c d) Unset f = f
 both_right side (Between a b) (Between c d) (Flag t) f = f
 both_right side (Between a b) (Between c d) (Number n) f = (omega arith, omega arith)
@@ -199,7 +199,7 @@ unfolding join
 joined_right side m n s fits =
     fits_from side (join m n) s (λ x. both_right side (said_with_side m x) (said_with_side n x) (s x) (told_fits side n s fits x)) (λ x y a b ex ey. ahead_min_right (known_level m x y) (known_level n x y) a b (fits.order x y a b ex ey)) (λ h. fits.beside (and_right m.side n.side h))
 
-known_max : (sx sy : Said) (same : Bool) (j k m n : ℕ) → Ahead (level_between sx sy same j) m n → Ahead k m n →
+known_max : (sx sy : AbstractValue) (same : Bool) (j k m n : ℕ) → Ahead (level_between sx sy same j) m n → Ahead k m n →
     Ahead (level_between sx sy same (max j k)) m n
 known_max (Between a b) (Between c d) true j k m n f g = f
 known_max (Between a b) (Between c d) false j k m n f g = λ p. grind arith
@@ -217,7 +217,7 @@ learnt_fits side note s p q k a b fits ep eq k1 h = record {
   beside = fits.beside;
 }
 
-imp_true : (side : Bool) (t : Said) → FitsSaid side t (Flag true) → IsTrue (implies t) → IsTrue side
+imp_true : (side : Bool) (t : AbstractValue) → FitsSaid side t (Flag true) → IsTrue (implies t) → IsTrue side
 imp_true side (Implies imp) f h = f h refl
 imp_true side Nothing f h = absurd (cc h)
 imp_true side (Between a b) f h = absurd (cc h)

@@ -2,8 +2,8 @@
 use Rattle.std.proofs.Common.{◌≡◌, ℕ, zero, suc, ◌/◌, ◌≤◌, ◌&&◌, ◌||◌, max, refl, arith, Bool, true, false, IsTrue, nat_eq}
 use Rattle.std.proofs.Math.Nat.{div-mul-le_self}
 use Rattle.std.proofs.lemmas.Nat.{le-div}
-use Rattle.trlab_notes.specs.declared.note.Said.{Said}
-use Rattle.trlab_notes.specs.declared.note.Said.TheVariants.{Nothing, Between, Implies}
+use Rattle.trlab_notes.specs.declared.note.AbstractValue.{AbstractValue}
+use Rattle.trlab_notes.specs.declared.note.AbstractValue.TheVariants.{Nothing, Between, Implies}
 use Rattle.trlab_notes.specs.Notes.{with_side, low, high, implies, level_between}
 use Rattle.trlab_notes.specs.Transfer.{sharpen, slacken, least_difference, chain}
 use Rattle.trlab_notes.specs.Order.{SaysNoMore}
@@ -33,21 +33,21 @@ chained_up (suc h) zero k (suc l) m p q = absurd (omega arith)
 chained_up (suc h) (suc i) k (suc l) zero p q = absurd (omega arith)
 
 -- what is said of a variable
-pub low_up : (s t : Said) → Wider s t → low s ≤ low t
+pub low_up : (s t : AbstractValue) → Wider s t → low s ≤ low t
 low_up Nothing t w = omega arith
 low_up (Implies i) t w = omega arith
 low_up (Between a b) (Between c d) w = w.0
 low_up (Between a b) Nothing w = absurd w
 low_up (Between a b) (Implies i) w = absurd w
 
-pub high_down : (s t : Said) → is_nothing s ≡ false → is_flag s ≡ false → Wider s t → high t ≤ high s
+pub high_down : (s t : AbstractValue) → is_nothing s ≡ false → is_flag s ≡ false → Wider s t → high t ≤ high s
 high_down (Between a b) (Between c d) p q w = w.1
 high_down (Between a b) Nothing p q w = absurd w
 high_down (Between a b) (Implies i) p q w = absurd w
 high_down Nothing t p q w = absurd (cc p)
 high_down (Implies i) t p q w = absurd (cc q)
 
-pub told_twice : (p q : Bool) (s t : Said) → SaysNoMore (with_side p s) (with_side q t) →
+pub told_twice : (p q : Bool) (s t : AbstractValue) → SaysNoMore (with_side p s) (with_side q t) →
     SaysNoMore (with_side p (with_side p s)) (with_side q (with_side q t))
 told_twice p q Nothing t h = tt
 told_twice p q (Between a b) (Between c d) h = h
@@ -74,7 +74,7 @@ told_twice false q (Implies true) (Implies j) h = λ e. or_left (j || q) q (h re
 told_twice false q (Implies false) (Implies j) h = λ e. absurd (cc e)
 
 -- what is learnt
-pub learnt_level : (sx sy tx ty : Said) (same : Bool) (j k c d : ℕ) → Wider sx tx → Wider sy ty →
+pub learnt_level : (sx sy tx ty : AbstractValue) (same : Bool) (j k c d : ℕ) → Wider sx tx → Wider sy ty →
     level_between sx sy same j ≤ level_between tx ty same k → c ≤ d → level_between sx sy same (max j c) ≤ level_between tx ty same (max k d)
 learnt_level (Between a b) (Between c d) (Between e f) (Between g h) true j k v w p q l r = omega arith
 learnt_level (Between a b) (Between c d) (Between e f) (Between g h) false j k v w p q l r = grind arith
@@ -88,14 +88,14 @@ learnt_level Nothing sy tx ty same j k v w p q l r = omega arith
 learnt_level (Implies i) sy tx ty same j k v w p q l r = omega arith
 
 -- what a flag implies
-pub implies_up : (p q : Bool) (s t : Said) → SaysNoMore (with_side p s) (with_side q t) → IsTrue (implies (with_side p s)) → IsTrue (implies (with_side q t))
+pub implies_up : (p q : Bool) (s t : AbstractValue) → SaysNoMore (with_side p s) (with_side q t) → IsTrue (implies (with_side p s)) → IsTrue (implies (with_side q t))
 implies_up p q (Implies i) (Implies j) h e = h e
 implies_up p q (Implies i) Nothing h e = absurd h
 implies_up p q (Implies i) (Between a b) h e = absurd h
 implies_up p q Nothing t h e = absurd (cc e)
 implies_up p q (Between a b) t h e = absurd (cc e)
 
-pub trust_side : (p q : Bool) (s t : Said) → (IsTrue p → IsTrue q) → SaysNoMore (with_side p s) (with_side q t) →
+pub trust_side : (p q : Bool) (s t : AbstractValue) → (IsTrue p → IsTrue q) → SaysNoMore (with_side p s) (with_side q t) →
     IsTrue (p || implies s) → IsTrue (q || implies t)
 trust_side p true s t f h e = refl
 trust_side true false s t f h e = absurd (cc (f refl))
@@ -114,7 +114,7 @@ trust_side false false Nothing t f h e = absurd (cc e)
 trust_side false false (Between a b) t f h e = absurd (cc e)
 
 -- a greater side on both
-pub more_side : (p q p' q' : Bool) (s t : Said) → (IsTrue p' → IsTrue q') → (IsTrue q → IsTrue q') → SaysNoMore (with_side p s) (with_side q t) →
+pub more_side : (p q p' q' : Bool) (s t : AbstractValue) → (IsTrue p' → IsTrue q') → (IsTrue q → IsTrue q') → SaysNoMore (with_side p s) (with_side q t) →
     SaysNoMore (with_side p' s) (with_side q' t)
 more_side p q p' q' Nothing t f g h = tt
 more_side p q p' q' (Between a b) (Between c d) f g h = h
@@ -142,21 +142,21 @@ and_up true q false s f g h = absurd (cc (f refl))
 and_up false q r s f g h = absurd (cc h)
 
 -- what is said is of one kind
-pub still_set : (p q : Bool) (s t : Said) → SaysNoMore (with_side p s) (with_side q t) → is_nothing s ≡ false → is_nothing t ≡ false
+pub still_set : (p q : Bool) (s t : AbstractValue) → SaysNoMore (with_side p s) (with_side q t) → is_nothing s ≡ false → is_nothing t ≡ false
 still_set p q Nothing t h e = absurd (cc e)
 still_set p q s (Between a b) h e = refl
 still_set p q s (Implies i) h e = refl
 still_set p q (Between a b) Nothing h e = absurd h
 still_set p q (Implies i) Nothing h e = absurd h
 
-pub still_range : (p q : Bool) (s t : Said) → SaysNoMore (with_side p s) (with_side q t) → is_nothing s ≡ false → is_flag s ≡ false → is_flag t ≡ false
+pub still_range : (p q : Bool) (s t : AbstractValue) → SaysNoMore (with_side p s) (with_side q t) → is_nothing s ≡ false → is_flag s ≡ false → is_flag t ≡ false
 still_range p q Nothing t h e g = absurd (cc e)
 still_range p q (Implies i) t h e g = absurd (cc g)
 still_range p q (Between a b) (Between c d) h e g = refl
 still_range p q (Between a b) Nothing h e g = absurd h
 still_range p q (Between a b) (Implies i) h e g = absurd h
 
-pub still_flag : (p q : Bool) (s t : Said) → SaysNoMore (with_side p s) (with_side q t) → is_nothing s ≡ false → is_range s ≡ false → is_range t ≡ false
+pub still_flag : (p q : Bool) (s t : AbstractValue) → SaysNoMore (with_side p s) (with_side q t) → is_nothing s ≡ false → is_range s ≡ false → is_range t ≡ false
 still_flag p q Nothing t h e g = absurd (cc e)
 still_flag p q (Between a b) t h e g = absurd (cc g)
 still_flag p q (Implies i) (Implies j) h e g = refl

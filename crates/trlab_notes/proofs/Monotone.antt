@@ -12,19 +12,19 @@ use Rattle.trlab_code.specs.declared.instruction.Variable.{Variable}
 use Rattle.trlab_code.specs.declared.instruction.Variable.TheVariants as variable
 use Rattle.trlab_code.specs.Machine.{update}
 use Rattle.trlab_code.specs.Flow.{destination}
-use Rattle.trlab_notes.specs.declared.note.Said.{Said}
+use Rattle.trlab_notes.specs.declared.note.AbstractValue.{AbstractValue}
 use Rattle.trlab_notes.specs.Notes.{Note, same_variable, with_side, said_with_side, low, high, implies, level_between, known_level}
 use Rattle.trlab_notes.specs.Transfer.{assign_any, assign, assign_result, result_said, result_to, to_result, refine_order, refine_flag, next_note, jump_note}
 use Rattle.trlab_notes.specs.Order.{SaysNoMore, IsNoStronger, AreNoStronger}
 use Rattle.trlab_notes.specs.Reasons.{among, is_nothing, is_range, is_flag, numbers_of, operands_of, some_unset, some_of_other_kind, may_be_too_large, may_be_below_zero, may_be_above, may_be_occupied, flags_of, values_of, reason_against}
-use Rattle.trlab_notes.specs.declared.reason.Reason.{Reason}
+use Rattle.trlab_notes.specs.declared.reasons.Reason.{Reason}
 use Rattle.trlab_notes.proofs.Steps.{IsClear}
 use Rattle.trlab_notes.proofs.Order.{Wider, wider, known_up, Closed, On}
 use Rattle.trlab_notes.proofs.Growth.{sharper_up, just_below_up, least_gap_up, chained_up, low_up, high_down, told_twice, learnt_level, implies_up, trust_side, more_side, div_mono, or_up, and_up, still_set, still_range, still_flag, both_false, still_positive}
 
 module _ (V : Variable → Type 0) (closed : Closed V) where
   -- a write: what is said and the levels say no more, and so does the note
-  written_up : (m n : Note) (d : Register) (s t : Said) (to to' from from' : Variable → ℕ) → On V m n →
+  written_up : (m n : Note) (d : Register) (s t : AbstractValue) (to to' from from' : Variable → ℕ) → On V m n →
       SaysNoMore (with_side m.side s) (with_side n.side t) → ((y : Variable) → V y → to y ≤ to' y) → ((x : Variable) → V x → from x ≤ from' x) →
       On V (assign m d s to from) (assign n d t to' from')
   unfolding assign update said_with_side known_level

@@ -5,19 +5,19 @@ use Rattle.trlab_code.specs.declared.instruction.Register.{Register}
 use Rattle.trlab_code.specs.declared.instruction.Input.TheVariants.{Limit, Gap}
 use Rattle.trlab_code.specs.declared.instruction.Variable.{Variable}
 use Rattle.trlab_code.specs.declared.instruction.Variable.TheVariants as variable
-use Rattle.trlab_notes.specs.declared.note.Said.{Said}
-use Rattle.trlab_notes.specs.declared.note.Said.TheVariants.{Nothing, Between, Implies}
+use Rattle.trlab_notes.specs.declared.note.AbstractValue.{AbstractValue}
+use Rattle.trlab_notes.specs.declared.note.AbstractValue.TheVariants.{Nothing, Between, Implies}
 use Rattle.trlab_notes.specs.Notes.{Note, same_variable, with_side, said_with_side, level_between, known_level}
 use Rattle.trlab_notes.specs.Order.{join_said, join, SaysNoMore, IsNoStronger}
 use Rattle.trlab_notes.proofs.Fits.{and_left, and_right}
 
 -- where one says a range, so does the other, and within it
-abbrev pub Wider : Said → Said → Type 0
+abbrev pub Wider : AbstractValue → AbstractValue → Type 0
 Wider (Between lo hi) (Between least most) = (lo ≤ least) × (most ≤ hi)
 Wider (Between lo hi) _ = ⊥
 Wider _ _ = Unit {0}
 
-pub wider : (p q : Bool) (s t : Said) → SaysNoMore (with_side p s) (with_side q t) → Wider s t
+pub wider : (p q : Bool) (s t : AbstractValue) → SaysNoMore (with_side p s) (with_side q t) → Wider s t
 wider p q Nothing t h = tt
 wider p q (Implies i) t h = tt
 wider p q (Between a b) (Between c d) h = h
@@ -25,7 +25,7 @@ wider p q (Between a b) Nothing h = h
 wider p q (Between a b) (Implies i) h = h
 
 -- wider ranges and a lesser level know less
-pub known_up : (sx sy tx ty : Said) (same : Bool) (j k : ℕ) → Wider sx tx → Wider sy ty → j ≤ k →
+pub known_up : (sx sy tx ty : AbstractValue) (same : Bool) (j k : ℕ) → Wider sx tx → Wider sy ty → j ≤ k →
     level_between sx sy same j ≤ level_between tx ty same k
 known_up (Between a b) (Between c d) (Between e f) (Between g h) true j k p q l = omega arith
 known_up (Between a b) (Between c d) (Between e f) (Between g h) false j k p q l = grind arith
@@ -39,7 +39,7 @@ known_up Nothing sy tx ty same j k p q l = omega arith
 known_up (Implies i) sy tx ty same j k p q l = omega arith
 
 -- the same where the level is no more than what is known
-pub known_from : (sx sy tx ty : Said) (same : Bool) (j k : ℕ) → Wider sx tx → Wider sy ty → j ≤ level_between tx ty same k →
+pub known_from : (sx sy tx ty : AbstractValue) (same : Bool) (j k : ℕ) → Wider sx tx → Wider sy ty → j ≤ level_between tx ty same k →
     level_between sx sy same j ≤ level_between tx ty same k
 known_from (Between a b) (Between c d) (Between e f) (Between g h) true j k p q l = omega arith
 known_from (Between a b) (Between c d) (Between e f) (Between g h) false j k p q l = grind arith
@@ -52,12 +52,12 @@ known_from (Between a b) (Implies i) tx ty same j k p q l = omega arith
 known_from Nothing sy tx ty same j k p q l = omega arith
 known_from (Implies i) sy tx ty same j k p q l = omega arith
 
-no_more_same : (s : Said) → SaysNoMore s s
+no_more_same : (s : AbstractValue) → SaysNoMore s s
 no_more_same Nothing = tt
 no_more_same (Between a b) = (omega arith, omega arith)
 no_more_same (Implies i) = λ h. h
 
-no_more_twice : (r s t : Said) → SaysNoMore r s → SaysNoMore s t → SaysNoMore r t
+no_more_twice : (r s t : AbstractValue) → SaysNoMore r s → SaysNoMore s t → SaysNoMore r t
 no_more_twice Nothing s t p q = tt
 no_more_twice (Between a b) (Between c d) (Between e f) p q = (omega arith, omega arith)
 no_more_twice (Between a b) (Between c d) Nothing p q = q
@@ -81,7 +81,7 @@ through l m n f g = record {
 }
 
 -- a join says no more than each of the two
-both_first : (p q : Bool) (s t : Said) → SaysNoMore (with_side (p && q) (join_said (with_side p s) (with_side q t))) (with_side p s)
+both_first : (p q : Bool) (s t : AbstractValue) → SaysNoMore (with_side (p && q) (join_said (with_side p s) (with_side q t))) (with_side p s)
 both_first p q Nothing t = tt
 both_first p q (Between a b) (Between c d) = (omega arith, omega arith)
 both_first p q (Between a b) Nothing = tt
@@ -92,7 +92,7 @@ both_first p q (Implies true) (Implies j) = λ h. refl
 both_first true q (Implies false) (Implies j) = λ h. refl
 both_first false q (Implies false) (Implies j) = λ h. h
 
-both_second : (p q : Bool) (s t : Said) → SaysNoMore (with_side (p && q) (join_said (with_side p s) (with_side q t))) (with_side q t)
+both_second : (p q : Bool) (s t : AbstractValue) → SaysNoMore (with_side (p && q) (join_said (with_side p s) (with_side q t))) (with_side q t)
 both_second p q Nothing t = tt
 both_second p q (Between a b) (Between c d) = (omega arith, omega arith)
 both_second p q (Between a b) Nothing = tt
@@ -104,7 +104,7 @@ both_second true true (Implies i) (Implies false) = λ h. refl
 both_second p q (Implies i) (Implies false) = λ h. search (rules, h)
 
 -- and as much as each note that says no more than the two
-both_most : (r p q : Bool) (u s t : Said) → (IsTrue r → IsTrue p) → (IsTrue r → IsTrue q) → SaysNoMore (with_side r u) (with_side p s) →
+both_most : (r p q : Bool) (u s t : AbstractValue) → (IsTrue r → IsTrue p) → (IsTrue r → IsTrue q) → SaysNoMore (with_side r u) (with_side p s) →
     SaysNoMore (with_side r u) (with_side q t) → SaysNoMore (with_side r u) (with_side (p && q) (join_said (with_side p s) (with_side q t)))
 both_most r p q Nothing s t f g h k = tt
 both_most r p q (Between a b) (Between c d) (Between e f) _ _ h k = (omega arith, omega arith)
@@ -150,7 +150,7 @@ join_second m n = record {
 }
 
 -- what is known by a level, where both variables hold numbers wherever something is known
-level_known : (sx sy tx ty : Said) (same : Bool) (j k : ℕ) → Wider sx tx → Wider sy ty → level_between sx sy same j ≤ k →
+level_known : (sx sy tx ty : AbstractValue) (same : Bool) (j k : ℕ) → Wider sx tx → Wider sy ty → level_between sx sy same j ≤ k →
     level_between sx sy same j ≤ level_between tx ty same k
 level_known (Between a b) (Between c d) (Between e f) (Between g h) true j k p q l = omega arith
 level_known (Between a b) (Between c d) (Between e f) (Between g h) false j k p q l = grind arith

@@ -11,17 +11,17 @@ use Rattle.trlab_code.specs.declared.instruction.Input.TheVariants.{Limit, Gap}
 use Rattle.trlab_code.specs.declared.instruction.Instr.{Instr}
 use Rattle.trlab_code.specs.declared.instruction.Instr.TheVariants.{Num, Get, Side, Draw, Copy, Add, Sub, Mul, Div, Min, Max, Not, And, Or, Jump, JumpLess, JumpAtMost, JumpTrue, JumpFalse, Go, Cross, Stay}
 use Rattle.trlab_code.specs.declared.view.View.{View}
-use Rattle.trlab_notes.specs.declared.note.Said.{Said}
-use Rattle.trlab_notes.specs.declared.note.Said.TheVariants.{Nothing, Between, Implies}
+use Rattle.trlab_notes.specs.declared.note.AbstractValue.{AbstractValue}
+use Rattle.trlab_notes.specs.declared.note.AbstractValue.TheVariants.{Nothing, Between, Implies}
 use Rattle.trlab_code.specs.declared.instruction.Variable.{Variable}
 use Rattle.trlab_code.specs.declared.instruction.Variable.TheVariants as variable
 use Rattle.trlab_code.specs.Machine.{Value, Unset, Number, Flag, Store, seen, update, Effect, Writes, Falls, Jumps, Ends, Sticks, effect, on_number, on_flag, on_any, write_sized, jump_if, allows, allows_input, start, Goes, Crosses}
-use Rattle.trlab_code.specs.Flow.{target, is_end}
-use Rattle.trlab_bounds.specs.declared.programs.TheConstants.{GREATEST_NUMBER}
+use Rattle.trlab_code.specs.Flow.{target, is_end, on_target}
+use Rattle.trlab_bounds.specs.declared.programs.TheConstants.{MAX_NUMBER}
 use Rattle.trlab_notes.specs.Notes.{Note, said_with_side, low, high, implies, known_level}
 use Rattle.trlab_notes.specs.Transfer.{assign, sharpen, slacken, least_difference, next_note, jump_note}
-use Rattle.trlab_notes.specs.Reasons.{on_target, is_of_kind, reason_against, among, is_nothing, is_range, is_flag, some_unset, some_of_other_kind, falls_out, may_be_too_large, may_be_below_zero, may_be_above, may_be_occupied}
-use Rattle.trlab_notes.specs.declared.reason.Reason.{Reason}
+use Rattle.trlab_notes.specs.Reasons.{is_of_kind, reason_against, among, is_nothing, is_range, is_flag, some_unset, some_of_other_kind, falls_out, may_be_too_large, may_be_below_zero, may_be_above, may_be_occupied}
+use Rattle.trlab_notes.specs.declared.reasons.Reason.{Reason}
 use Rattle.trlab_notes.proofs.Fits.{number_is, Ahead, FitsSaid, Fits, sharper_right, sharper_less, just_right, ahead_max, written_fits, told_fits, learnt_fits, trusted_fits, and_left, and_right, either_true}
 use Rattle.trlab_notes.proofs.Growth.{div_mono}
 
@@ -77,7 +77,7 @@ pub record Operand (m : Note) (s : Store) (a : Variable) : Type 0 where
   pub least : low (m.said a) ≤ n
   pub most : n ≤ high (m.said a)
 
-number_there : (side : Bool) (t : Said) (v : Value) → is_nothing t ≡ false → is_flag t ≡ false → FitsSaid side t v →
+number_there : (side : Bool) (t : AbstractValue) (v : Value) → is_nothing t ≡ false → is_flag t ≡ false → FitsSaid side t v →
     (n : ℕ) × (v ≡ Number n) × (low t ≤ n) × (n ≤ high t)
 number_there side Nothing v p q f = absurd (cc p)
 number_there side (Implies i) v p q f = absurd (cc q)
@@ -85,7 +85,7 @@ number_there side (Between lo hi) Unset p q f = absurd f
 number_there side (Between lo hi) (Flag b) p q f = absurd f
 number_there side (Between lo hi) (Number n) p q f = (n, refl, f.0, f.1)
 
-flag_there : (side : Bool) (t : Said) (v : Value) → is_nothing t ≡ false → is_range t ≡ false → FitsSaid side t v →
+flag_there : (side : Bool) (t : AbstractValue) (v : Value) → is_nothing t ≡ false → is_range t ≡ false → FitsSaid side t v →
     (b : Bool) × (v ≡ Flag b)
 flag_there side Nothing v p q f = absurd (cc p)
 flag_there side (Between lo hi) v p q f = absurd (cc q)
@@ -93,7 +93,7 @@ flag_there side (Implies i) Unset p q f = absurd f
 flag_there side (Implies i) (Number n) p q f = absurd f
 flag_there side (Implies i) (Flag b) p q f = (b, refl)
 
-value_there : (side : Bool) (t : Said) (v : Value) → is_nothing t ≡ false → FitsSaid side t v → v ≢ Unset
+value_there : (side : Bool) (t : AbstractValue) (v : Value) → is_nothing t ≡ false → FitsSaid side t v → v ≢ Unset
 value_there side Nothing v p f = absurd (cc p)
 value_there side (Between lo hi) Unset p f = absurd f
 value_there side (Between lo hi) (Flag b) p f = absurd f
@@ -113,7 +113,7 @@ on_any_at P Unset f h p = absurd (h refl)
 on_any_at P (Number n) f h p = p
 on_any_at P (Flag b) f h p = p
 
-write_sized_at : (P : Effect → Type 0) (d : Register) (n : ℕ) → n ≤ GREATEST_NUMBER → P (Writes d (Number n)) → P (write_sized d n)
+write_sized_at : (P : Effect → Type 0) (d : Register) (n : ℕ) → n ≤ MAX_NUMBER → P (Writes d (Number n)) → P (write_sized d n)
 write_sized_at P d n h p = let e : nat_lt n 4294967296 ≡ true = grind (arith, h) in subst (λ b. P (cond b (Writes d (Number n)) Sticks)) (sym e) p
 
 if_at : (P : Effect → Type 0) (b : Bool) (e f : Effect) → b ≡ true → P e → P (cond b e f)
@@ -123,7 +123,7 @@ if_both : (P : Effect → Type 0) (b : Bool) (e f : Effect) → (b ≡ true → 
 if_both P true e f p q = p refl
 if_both P false e f p q = q refl
 
-imp_flag : (side : Bool) (t : Said) (b : Bool) → FitsSaid side t (Flag b) → IsTrue (implies t) → IsTrue b → IsTrue side
+imp_flag : (side : Bool) (t : AbstractValue) (b : Bool) → FitsSaid side t (Flag b) → IsTrue (implies t) → IsTrue b → IsTrue side
 imp_flag side (Implies imp) b f h k = f h k
 imp_flag side Nothing b f h k = absurd (cc h)
 imp_flag side (Between lo hi) b f h k = absurd (cc h)
@@ -177,7 +177,7 @@ module _ (side : Bool) (m : Note) (s : Store) (fits : Fits side m s) where
   leads_num d n = writes_number d n n n none none (omega arith) (omega arith) (λ y k e p. omega arith) (λ y k e p. omega arith)
 
   leads_add : (d : Register) (a b : Variable) (p : Operand m s a) (q : Operand m s b) →
-      Fits side (assign m d (Between (min (low (m.said a) + low (m.said b)) GREATEST_NUMBER) (high (m.said a) + high (m.said b))) (λ y. max (slacken (known_level m a y) (high (m.said b))) (slacken (known_level m b y) (high (m.said a)))) (λ y. max (sharpen (known_level m y a) (low (m.said b))) (sharpen (known_level m y b) (low (m.said a))))) (update s (variable.Register d) (Number (p.n + q.n)))
+      Fits side (assign m d (Between (min (low (m.said a) + low (m.said b)) MAX_NUMBER) (high (m.said a) + high (m.said b))) (λ y. max (slacken (known_level m a y) (high (m.said b))) (slacken (known_level m b y) (high (m.said a)))) (λ y. max (sharpen (known_level m y a) (low (m.said b))) (sharpen (known_level m y b) (low (m.said a))))) (update s (variable.Register d) (Number (p.n + q.n)))
   leads_add d a b p q =
       writes_number d (p.n + q.n) _ _ _ _ (omega (arith, p.least, q.least)) (omega (arith, p.most, q.most))
       (λ y n ey. ahead_max (slacken (known_level m a y) (high (m.said b))) (slacken (known_level m b y) (high (m.said a))) (p.n + q.n) n (just_right (known_level m a y) (high (m.said b)) p.n n q.n (fits.order a y p.n n p.value ey) q.most) (subst (λ z. Ahead (slacken (known_level m b y) (high (m.said a))) z n) (omega arith) (just_right (known_level m b y) (high (m.said a)) q.n n p.n (fits.order b y q.n n q.value ey) p.most)))
@@ -226,7 +226,7 @@ module _ (side : Bool) (m : Note) (s : Store) (fits : Fits side m s) where
       least p q la hb (suc k) f g h = let r : q + suc k ≤ suc p = f (omega arith) in grind arith
 
   leads_mul : (d : Register) (a : Variable) (n : ℕ) (p : Operand m s a) →
-      Fits side (assign m d (Between (min (low (m.said a) * n) GREATEST_NUMBER) (high (m.said a) * n)) none none) (update s (variable.Register d) (Number (p.n * n)))
+      Fits side (assign m d (Between (min (low (m.said a) * n) MAX_NUMBER) (high (m.said a) * n)) none none) (update s (variable.Register d) (Number (p.n * n)))
   leads_mul d a n p =
       writes_number d (p.n * n) _ _ _ _ (omega (arith, mul-le-mul_right n p.least)) (mul-le-mul_right n p.most) (λ y k e h. omega arith) (λ y k e h. omega arith)
 
@@ -300,7 +300,7 @@ module _ (kind own : Kind) (view : View) (words : List ℕ) (len pc : ℕ) (m : 
   leads (Draw d k t) c = (_, refl, writes_flag view.side m s fits d _ false (λ p q. absurd (cc p)))
   leads (Add d a b) c =
       let o = two_numbers view.side m s fits a b _ c.set c.kinds in
-      read_two (Leads view.side m (Add d a b) s) (variable.Register a) (variable.Register b) (λ j k. write_sized d (j + k)) o.0 o.1 (write_sized_at (Leads view.side m (Add d a b) s) d (o.0.n + o.1.n) (let l : high (m.said (variable.Register a)) + high (m.said (variable.Register b)) ≤ GREATEST_NUMBER = grind (arith, c.fits) in omega (arith, l, o.0.most, o.1.most)) (_, refl, leads_add view.side m s fits d (variable.Register a) (variable.Register b) o.0 o.1))
+      read_two (Leads view.side m (Add d a b) s) (variable.Register a) (variable.Register b) (λ j k. write_sized d (j + k)) o.0 o.1 (write_sized_at (Leads view.side m (Add d a b) s) d (o.0.n + o.1.n) (let l : high (m.said (variable.Register a)) + high (m.said (variable.Register b)) ≤ MAX_NUMBER = grind (arith, c.fits) in omega (arith, l, o.0.most, o.1.most)) (_, refl, leads_add view.side m s fits d (variable.Register a) (variable.Register b) o.0 o.1))
   leads (Sub d a b) c =
       let o = two_numbers view.side m s fits a b _ c.set c.kinds in
       let k : 1 ≤ known_level m (variable.Register b) (variable.Register a) = positive_known view.side m s fits _ c.positive in
@@ -309,7 +309,7 @@ module _ (kind own : Kind) (view : View) (words : List ℕ) (len pc : ℕ) (m : 
       read_two (Leads view.side m (Sub d a b) s) (variable.Register a) (variable.Register b) (λ j k. cond (nat_le k j) (Writes d (Number (j - k))) Sticks) o.0 o.1 (if_at (Leads view.side m (Sub d a b) s) (nat_le o.1.n o.0.n) (Writes d (Number (o.0.n - o.1.n))) Sticks (le-leb o.1.n o.0.n le) (_, refl, leads_sub view.side m s fits d (variable.Register a) (variable.Register b) o.0 o.1 le))
   leads (Mul d a n) c =
       let o = one_number view.side m s fits a _ c.set c.kinds in
-      on_number_at (Leads view.side m (Mul d a n) s) (s (variable.Register a)) o.n (λ j. write_sized d (j * n)) o.value (write_sized_at (Leads view.side m (Mul d a n) s) d (o.n * n) (let l : high (m.said (variable.Register a)) * n ≤ GREATEST_NUMBER = grind (arith, c.fits) in omega (arith, l, mul-le-mul_right n o.most)) (_, refl, leads_mul view.side m s fits d (variable.Register a) n o))
+      on_number_at (Leads view.side m (Mul d a n) s) (s (variable.Register a)) o.n (λ j. write_sized d (j * n)) o.value (write_sized_at (Leads view.side m (Mul d a n) s) d (o.n * n) (let l : high (m.said (variable.Register a)) * n ≤ MAX_NUMBER = grind (arith, c.fits) in omega (arith, l, mul-le-mul_right n o.most)) (_, refl, leads_mul view.side m s fits d (variable.Register a) n o))
   leads (Div d a n) c =
       let o = one_number view.side m s fits a _ c.set c.kinds in
       on_number_at (Leads view.side m (Div d a n) s) (s (variable.Register a)) o.n (λ j. Writes d (Number (j / n))) o.value (_, refl, leads_div view.side m s fits d (variable.Register a) n o)

@@ -5,10 +5,10 @@ use Rattle.trlab_code.specs.declared.kind.Kind.{Kind}
 use mathlib.Core.Path.{fun_ext}
 use Rattle.trlab_notes.proofs.Variables.{below as below_variables, at_numbers}
 use Rattle.std.proofs.lemmas.Bool.{eqb-true, eqb-false}
-use Rattle.trlab_notes.specs.declared.note.Said.{Said}
-use Rattle.trlab_notes.specs.declared.note.Said.TheVariants.{Nothing, Between, Implies}
+use Rattle.trlab_notes.specs.declared.note.AbstractValue.{AbstractValue}
+use Rattle.trlab_notes.specs.declared.note.AbstractValue.TheVariants.{Nothing, Between, Implies}
 use Rattle.trlab_notes.specs.declared.stored.Stored.{Stored}
-use Rattle.trlab_notes.specs.declared.rows.Row.{Row}
+use Rattle.trlab_notes.specs.declared.rows.LevelRow.{LevelRow}
 use Rattle.trlab_notes.specs.Notes.{Note, same_variable, with_side, said_with_side, level_between, known_level, range_level, implies, closure, entry, entry_said, entry_level}
 use Rattle.trlab_notes.specs.Transfer.{assign, chain, refine_order, refine_flag}
 use Rattle.trlab_notes.specs.Order.{SaysNoMore, IsNoStronger, join, join_said}
@@ -24,13 +24,13 @@ use Rattle.trlab_code.specs.Machine.{variable_number, update}
 pub note_same : (m n : Note) → m.said ≡ n.said → m.level ≡ n.level → m.side ≡ n.side → m ≡ n
 note_same m n p q r = λ i. record { said = p i; level = q i; side = r i }
 
-said_set : (l : List Said) (d : ℕ) (v : Said) → d < length l → (x : ℕ) (b : Bool) → nat_eq x d ≡ b →
+said_set : (l : List AbstractValue) (d : ℕ) (v : AbstractValue) → d < length l → (x : ℕ) (b : Bool) → nat_eq x d ≡ b →
     get_or (set l d v) x Nothing ≡ cond b v (get_or l x Nothing)
 said_set l d v h x true e = let p : x ≡ d = eqb-true x d e in subst (λ z. get_or (set l d v) z Nothing ≡ v) (sym p) (get_or-set_same l d v Nothing h)
 said_set l d v h x false e = get_or-set_other l d x v Nothing (eqb-false x d e)
 
 -- a note that is stored so
-abbrev pub made : List Said → List Row → Bool → Note
+abbrev pub made : List AbstractValue → List LevelRow → Bool → Note
 made said rows side = record {
   said = λ x. get_or said (variable_number x) Nothing;
   level = λ x y. level_of rows (variable_number x) (variable_number y);
@@ -45,23 +45,23 @@ unfolding known_level
 known_unfolds m x y = refl
 
 -- the rows of a stored note have all that it knows
-pub known_is : (said : List Said) (rows : List Row) (side : Bool) → TellsRanges said rows → (x y : Variable) →
+pub known_is : (said : List AbstractValue) (rows : List LevelRow) (side : Bool) → TellsRanges said rows → (x y : Variable) →
     known_level (made said rows side) x y ≡ level_of rows (variable_number x) (variable_number y)
 unfolding known_level
 known_is said rows side h x y = h (variable_number x) (variable_number y) (below_variables x) (below_variables y)
 
 -- a note is stored where the same is said, and the rows have what it knows
-pub closure_is : (said : List Said) (rows : List Row) (side : Bool) (m : Note) → ((x : Variable) → get_or said (variable_number x) Nothing ≡ m.said x) →
+pub closure_is : (said : List AbstractValue) (rows : List LevelRow) (side : Bool) (m : Note) → ((x : Variable) → get_or said (variable_number x) Nothing ≡ m.said x) →
     ((x y : Variable) → level_of rows (variable_number x) (variable_number y) ≡ known_level m x y) → side ≡ m.side → made said rows side ≡ closure m
 unfolding closure
 closure_is said rows side m hs hl e = note_same _ _ (fun_ext hs) (level_same _ _ hl) e
 
 -- a stored note is its closure
-pub stored_is_closed : (said : List Said) (rows : List Row) (side : Bool) → TellsRanges said rows → made said rows side ≡ closure (made said rows side)
+pub stored_is_closed : (said : List AbstractValue) (rows : List LevelRow) (side : Bool) → TellsRanges said rows → made said rows side ≡ closure (made said rows side)
 stored_is_closed said rows side h = closure_is said rows side (made said rows side) (λ x. refl) (λ x y. sym (known_is said rows side h x y)) refl
 
 -- no stored level is above 2
-pub level_two : (rows : List Row) (x y : ℕ) → level_of rows x y ≤ 2
+pub level_two : (rows : List LevelRow) (x y : ℕ) → level_of rows x y ≤ 2
 level_two rows x y =
     let row = get_or rows x (record { at_most = 0; below = 0 }) in
     let h = bit_at-lt row.at_most y in
@@ -83,7 +83,7 @@ max_twice : (l r : ℕ) → max (max l r) r ≡ max l r
 max_twice l r = omega arith
 
 -- what is known stays where it is stored
-pub known_twice : (s t : Said) (same : Bool) (level : ℕ) → level_between s t same (level_between s t same level) ≡ level_between s t same level
+pub known_twice : (s t : AbstractValue) (same : Bool) (level : ℕ) → level_between s t same (level_between s t same level) ≡ level_between s t same level
 known_twice (Between a b) (Between c d) true level = refl
 known_twice (Between a b) (Between c d) false level = max_twice level _
 known_twice (Between a b) Nothing same level = refl
@@ -92,7 +92,7 @@ known_twice Nothing t same level = refl
 known_twice (Implies i) t same level = refl
 
 -- rows of what is known tell the ranges
-pub rows_tell : (said : List Said) (rows : List Row) (level : ℕ → ℕ → ℕ) →
+pub rows_tell : (said : List AbstractValue) (rows : List LevelRow) (level : ℕ → ℕ → ℕ) →
     ((x y : ℕ) → x < VARIABLES → y < VARIABLES → level_of rows x y ≡ level_between (get_or said x Nothing) (get_or said y Nothing) (nat_eq x y) (level x y)) →
     TellsRanges said rows
 rows_tell said rows level h x y lx ly =
@@ -100,7 +100,7 @@ rows_tell said rows level h x y lx ly =
     ap (level_between (get_or said x Nothing) (get_or said y Nothing) (nat_eq x y)) e ∙ known_twice (get_or said x Nothing) (get_or said y Nothing) (nat_eq x y) (level x y) ∙ sym e
 
 -- the note that says this and has these levels
-pub new_is : (said : List Said) (rows : List Row) (levels : ℕ → ℕ → ℕ) (side : Bool) →
+pub new_is : (said : List AbstractValue) (rows : List LevelRow) (levels : ℕ → ℕ → ℕ) (side : Bool) →
     ((x y : ℕ) → x < VARIABLES → y < VARIABLES → level_of rows x y ≡ level_between (get_or said x Nothing) (get_or said y Nothing) (nat_eq x y) (levels x y)) →
     made said rows side ≡ closure (record { said = λ x. get_or said (variable_number x) Nothing; level = λ x y. levels (variable_number x) (variable_number y); side = side })
 unfolding known_level
@@ -115,7 +115,7 @@ lesser : (j k r s t : ℕ) → max j s ≡ j → max k t ≡ k → r ≤ s → r
 lesser j k r s t x y h l = omega (arith, x, y, h, l)
 
 -- the levels of a join are what both know
-pub both_known : (s u t v : Said) (p q same : Bool) (j k : ℕ) → level_between s t same j ≡ j → level_between u v same k ≡ k →
+pub both_known : (s u t v : AbstractValue) (p q same : Bool) (j k : ℕ) → level_between s t same j ≡ j → level_between u v same k ≡ k →
     level_between (join_said (with_side p s) (with_side q u)) (join_said (with_side p t) (with_side q v)) same (min j k) ≡ min j k
 both_known (Between a b) (Between e f) (Between c d) (Between g h) p q true j k x y = omega (arith, x, y)
 both_known (Between a b) (Between e f) (Between c d) (Between g h) p q false j k x y = lesser j k _ _ _ x y (range_less b (max b f) c (min c g) (omega arith) (omega arith)) (range_less f (max b f) g (min c g) (omega arith) (omega arith))
@@ -133,14 +133,14 @@ both_known (Implies i) (Between e f) t v p q same j k x y = omega (arith, x)
 both_known (Implies i) (Implies l) t v p q same j k x y = omega (arith, x)
 
 -- the variables of a join are those of both notes
-abbrev SaidByBoth : Stored → Stored → List Said → Type 0
+abbrev SaidByBoth : Stored → Stored → List AbstractValue → Type 0
 SaidByBoth a b said = (x : ℕ) → x < VARIABLES → get_or said x Nothing ≡ join_said (with_side a.side (get_or a.said x Nothing)) (with_side b.side (get_or b.said x Nothing))
 
 -- and its levels are the lesser ones
-abbrev LevelsOfBoth : Stored → Stored → List Row → Type 0
+abbrev LevelsOfBoth : Stored → Stored → List LevelRow → Type 0
 LevelsOfBoth a b rows = (x y : ℕ) → x < VARIABLES → y < VARIABLES → level_of rows x y ≡ min (level_of a.rows x y) (level_of b.rows x y)
 
-pub join_is : (a b : Stored) (said : List Said) (rows : List Row) (side : Bool) → SaidByBoth a b said → LevelsOfBoth a b rows →
+pub join_is : (a b : Stored) (said : List AbstractValue) (rows : List LevelRow) (side : Bool) → SaidByBoth a b said → LevelsOfBoth a b rows →
     side ≡ (a.side && b.side) → made said rows side ≡ join (note_of a) (note_of b)
 unfolding join said_with_side
 join_is a b said rows side hs hl e =
@@ -149,12 +149,12 @@ join_is a b said rows side hs hl e =
     least_same : {i j k l : ℕ} → i ≡ j → k ≡ l → min j l ≡ min i k
     least_same p q = λ z. min (sym p z) (sym q z)
 
-pub join_tells : (a b : Stored) (said : List Said) (rows : List Row) → SaidByBoth a b said → LevelsOfBoth a b rows → TellsRanges said rows
+pub join_tells : (a b : Stored) (said : List AbstractValue) (rows : List LevelRow) → SaidByBoth a b said → LevelsOfBoth a b rows → TellsRanges said rows
 join_tells a b said rows hs hl x y lx ly =
     rw (hs x lx, hs y ly, hl x y lx ly) (both_known (get_or a.said x Nothing) (get_or b.said x Nothing) (get_or a.said y Nothing) (get_or b.said y Nothing) a.side b.side (nat_eq x y) (level_of a.rows x y) (level_of b.rows x y) (a.ranges x y lx ly) (b.ranges x y lx ly))
 
 -- columns whose levels are the lesser ones are those of rows whose levels are
-pub join_back : (a b : Stored) (rows columns : List Row) →
+pub join_back : (a b : Stored) (rows columns : List LevelRow) →
     ((x y : ℕ) → x < VARIABLES → y < VARIABLES → level_of rows x y ≡ min (level_of a.rows x y) (level_of b.rows x y)) →
     ((x y : ℕ) → x < VARIABLES → y < VARIABLES → level_of columns x y ≡ min (level_of a.columns x y) (level_of b.columns x y)) →
     IsTransposed rows columns
@@ -171,18 +171,18 @@ twice false = refl
 least : (k : ℕ) → k ≡ min k k
 least k = omega arith
 
-pub join_itself_is : (a : Stored) (said : List Said) → SaidByBoth a a said → made said a.rows a.side ≡ join (note_of a) (note_of a)
+pub join_itself_is : (a : Stored) (said : List AbstractValue) → SaidByBoth a a said → made said a.rows a.side ≡ join (note_of a) (note_of a)
 join_itself_is a said h = join_is a a said a.rows a.side h (λ x y lx ly. least (level_of a.rows x y)) (twice a.side)
 
-pub join_itself_tells : (a : Stored) (said : List Said) → SaidByBoth a a said → TellsRanges said a.rows
+pub join_itself_tells : (a : Stored) (said : List AbstractValue) → SaidByBoth a a said → TellsRanges said a.rows
 join_itself_tells a said h = join_tells a a said a.rows h (λ x y lx ly. least (level_of a.rows x y))
 
 -- the rows after a write
-module _ (a : Stored) (d : ℕ) (s : Said) (to from : ℕ → ℕ) (rows : List Row) (row column : ℕ → ℕ) (inside : d < VARIABLES) (variables : length a.said ≡ VARIABLES) (hr : (y : ℕ) → y < VARIABLES → row y ≡ level_between (get_or (set a.said d s) d Nothing) (get_or (set a.said d s) y Nothing) (nat_eq d y) (to y)) (hc : (x : ℕ) → x < VARIABLES → column x ≡ level_between (get_or (set a.said d s) x Nothing) (get_or (set a.said d s) d Nothing) (nat_eq x d) (from x)) (h : (x y : ℕ) → x < VARIABLES → y < VARIABLES → level_of rows x y ≡ cond (nat_eq x d) (row y) (cond (nat_eq y d) (column x) (level_of a.rows x y))) where
+module _ (a : Stored) (d : ℕ) (s : AbstractValue) (to from : ℕ → ℕ) (rows : List LevelRow) (row column : ℕ → ℕ) (inside : d < VARIABLES) (variables : length a.said ≡ VARIABLES) (hr : (y : ℕ) → y < VARIABLES → row y ≡ level_between (get_or (set a.said d s) d Nothing) (get_or (set a.said d s) y Nothing) (nat_eq d y) (to y)) (hc : (x : ℕ) → x < VARIABLES → column x ≡ level_between (get_or (set a.said d s) x Nothing) (get_or (set a.said d s) d Nothing) (nat_eq x d) (from x)) (h : (x y : ℕ) → x < VARIABLES → y < VARIABLES → level_of rows x y ≡ cond (nat_eq x d) (row y) (cond (nat_eq y d) (column x) (level_of a.rows x y))) where
   abbrev level : ℕ → ℕ → ℕ
   level x y = cond (nat_eq x d) (to y) (cond (nat_eq y d) (from x) (level_of a.rows x y))
 
-  abbrev now : ℕ → Said
+  abbrev now : ℕ → AbstractValue
   now x = get_or (set a.said d s) x Nothing
 
   other : (x : ℕ) → nat_eq x d ≡ false → now x ≡ get_or a.said x Nothing
@@ -216,17 +216,17 @@ module _ (a : Stored) (d : ℕ) (s : Said) (to from : ℕ → ℕ) (rows : List 
       at x y = λ i. level_between (said_now x i) (said_now y i) (nat_eq (variable_number x) (variable_number y)) (cond (nat_eq (variable_number x) (ed i)) (eto y i) (cond (nat_eq (variable_number y) (ed i)) (efrom x i) (level_of a.rows (variable_number x) (variable_number y))))
 
 -- a variable to itself
-pub corner : (s : Said) (d j k : ℕ) → level_between s s (nat_eq d d) j ≡ level_between s s (nat_eq d d) k
+pub corner : (s : AbstractValue) (d j k : ℕ) → level_between s s (nat_eq d d) j ≡ level_between s s (nat_eq d d) k
 corner s d j k = at s (nat_eq d d) (grind arith)
   where
-    at : (s : Said) (b : Bool) → b ≡ true → level_between s s b j ≡ level_between s s b k
+    at : (s : AbstractValue) (b : Bool) → b ≡ true → level_between s s b j ≡ level_between s s b k
     at Nothing b e = refl
     at (Implies i) b e = refl
     at (Between a c) true e = refl
     at (Between a c) false e = absurd (cc e)
 
 -- the columns after a write are its rows the other way round
-pub after_back : (a : Stored) (d : ℕ) (rows columns : List Row) (row column : ℕ → ℕ) → row d ≡ column d →
+pub after_back : (a : Stored) (d : ℕ) (rows columns : List LevelRow) (row column : ℕ → ℕ) → row d ≡ column d →
     ((x y : ℕ) → x < VARIABLES → y < VARIABLES → level_of rows x y ≡ cond (nat_eq x d) (row y) (cond (nat_eq y d) (column x) (level_of a.rows x y))) →
     ((x y : ℕ) → x < VARIABLES → y < VARIABLES → level_of columns x y ≡ cond (nat_eq x d) (column y) (cond (nat_eq y d) (row x) (level_of a.columns x y))) →
     IsTransposed rows columns
@@ -253,17 +253,17 @@ vanish : (same : Bool) (l c : ℕ) → 0 ≡ l → c ≡ 0 → cond same l (max 
 vanish true l c h e = sym h
 vanish false l c h e = omega (arith, h, e)
 
-to_nothing : (v : Said) (c : Bool) (m : ℕ) → level_between v Nothing c m ≡ 0
+to_nothing : (v : AbstractValue) (c : Bool) (m : ℕ) → level_between v Nothing c m ≡ 0
 to_nothing Nothing c m = refl
 to_nothing (Between a b) c m = refl
 to_nothing (Implies i) c m = refl
 
-to_flag : (v : Said) (f c : Bool) (m : ℕ) → level_between v (Implies f) c m ≡ 0
+to_flag : (v : AbstractValue) (f c : Bool) (m : ℕ) → level_between v (Implies f) c m ≡ 0
 to_flag Nothing f c m = refl
 to_flag (Between a b) f c m = refl
 to_flag (Implies i) f c m = refl
 
-learn_level : (s t u v : Said) (same b c : Bool) (l i j k n m : ℕ) → level_between s t same l ≡ l → i ≡ level_between s u b n → j ≡ level_between v t c m →
+learn_level : (s t u v : AbstractValue) (same b c : Bool) (l i j k n m : ℕ) → level_between s t same l ≡ l → i ≡ level_between s u b n → j ≡ level_between v t c m →
     cond same l (max l (chain i k j)) ≡ level_between s t same (max l (chain i k j))
 learn_level (Between x y) (Between z w) u v true b c l i j k n m h p q = sym h
 learn_level (Between x y) (Between z w) u v false b c l i j k n m h p q = keep l _ (chain i k j) h
@@ -283,7 +283,7 @@ swap l x y c false true e f = absurd (eqb-false y x e (sym (eqb-true x y f)))
 swap l x y c false false e f = refl
 
 -- the rows once something is learnt
-module _ (a : Stored) (p q k : ℕ) (rows : List Row) (lp : p < VARIABLES) (lq : q < VARIABLES) (h : (x y : ℕ) → x < VARIABLES → y < VARIABLES → level_of rows x y ≡ cond (nat_eq y x) (level_of a.rows x x) (max (level_of a.rows x y) (chain (level_of a.columns p x) k (level_of a.rows q y)))) where
+module _ (a : Stored) (p q k : ℕ) (rows : List LevelRow) (lp : p < VARIABLES) (lq : q < VARIABLES) (h : (x y : ℕ) → x < VARIABLES → y < VARIABLES → level_of rows x y ≡ cond (nat_eq y x) (level_of a.rows x x) (max (level_of a.rows x y) (chain (level_of a.columns p x) k (level_of a.rows q y)))) where
   abbrev more : ℕ → ℕ → ℕ
   more x y = max (level_of a.rows x y) (chain (level_of a.columns p x) k (level_of a.rows q y))
 
@@ -304,7 +304,7 @@ module _ (a : Stored) (p q k : ℕ) (rows : List Row) (lp : p < VARIABLES) (lq :
         (known_is a.said a.rows a.side a.ranges x u ∙ sym (ap (level_of a.rows (variable_number x)) eu) ∙ sym (a.transposed (variable_number x) p (below_variables x) lp))
         (known_is a.said a.rows a.side a.ranges v y ∙ sym (ap (λ z. level_of a.rows z (variable_number y)) ev))
       where
-        alike : (s t : Said) (same : Bool) (l : ℕ) {i j m n : ℕ} → i ≡ j → m ≡ n → level_between s t same (max l (chain i k m)) ≡ level_between s t same (max l (chain j k n))
+        alike : (s t : AbstractValue) (same : Bool) (l : ℕ) {i j m n : ℕ} → i ≡ j → m ≡ n → level_between s t same (max l (chain i k m)) ≡ level_between s t same (max l (chain j k n))
         alike s t same l e f = λ z. level_between s t same (max l (chain (e z) k (f z)))
 
     pub learn_is : made a.said rows a.side ≡ closure (refine_order (note_of a) u v k)
@@ -312,7 +312,7 @@ module _ (a : Stored) (p q k : ℕ) (rows : List Row) (lp : p < VARIABLES) (lq :
     learn_is = closure_is a.said rows a.side _ (λ x. refl) (λ x y. learn_known (variable_number x) (variable_number y) (below_variables x) (below_variables y) ∙ sym (known_refined x y)) refl
 
 -- the columns once something is learnt are its rows the other way round
-pub learn_back : (a : Stored) (p q k : ℕ) (rows columns : List Row) →
+pub learn_back : (a : Stored) (p q k : ℕ) (rows columns : List LevelRow) →
     ((x y : ℕ) → x < VARIABLES → y < VARIABLES → level_of rows x y ≡ cond (nat_eq y x) (level_of a.rows x x) (max (level_of a.rows x y) (chain (level_of a.columns p x) k (level_of a.rows q y)))) →
     ((x y : ℕ) → x < VARIABLES → y < VARIABLES → level_of columns x y ≡ cond (nat_eq y x) (level_of a.columns x x) (max (level_of a.columns x y) (chain (level_of a.rows q x) k (level_of a.columns p y)))) →
     IsTransposed rows columns
@@ -334,13 +334,13 @@ learn_back a p q k rows columns h g x y lx ly =
 abbrev AreEntryLevels : List (List ℕ) → Type 0
 AreEntryLevels levels = (x y : Variable) → get_or (get_or levels (variable_number x) []) (variable_number y) 0 ≡ entry_level x y
 
-pub entry_is : (kind : Kind) (said : List Said) (levels : List (List ℕ)) → ((x : Variable) → get_or said (variable_number x) Nothing ≡ entry_said kind x) →
+pub entry_is : (kind : Kind) (said : List AbstractValue) (levels : List (List ℕ)) → ((x : Variable) → get_or said (variable_number x) Nothing ≡ entry_said kind x) →
     AreEntryLevels levels →
     closure (record { said = λ x. get_or said (variable_number x) Nothing; level = λ x y. get_or (get_or levels (variable_number x) []) (variable_number y) 0; side = false }) ≡ closure (entry kind)
 unfolding entry
 entry_is kind said levels h k = ap closure (note_same _ _ (fun_ext h) (level_same _ _ k) refl)
 
-entry_small : (s t : Said) (same : Bool) (l : ℕ) → l ≤ 1 → level_between s t same l ≤ 2
+entry_small : (s t : AbstractValue) (same : Bool) (l : ℕ) → l ≤ 1 → level_between s t same l ≤ 2
 entry_small (Between a b) (Between c d) true l h = omega arith
 entry_small (Between a b) (Between c d) false l h = grind arith
 entry_small (Between a b) Nothing same l h = omega arith
@@ -353,7 +353,7 @@ entry_one (variable.Input Speed) (variable.Input Limit) = omega arith
 entry_one (variable.Input Headspeed) (variable.Input Limit) = omega arith
 entry_one x y = omega arith
 
-pub entry_fits : (said : List Said) (levels : List (List ℕ)) → AreEntryLevels levels → AreLevels said levels
+pub entry_fits : (said : List AbstractValue) (levels : List (List ℕ)) → AreEntryLevels levels → AreLevels said levels
 entry_fits said levels h x y lx ly =
     at_numbers (λ j. known_with said j y (level_at levels j y) ≤ 2)
     (λ u. at_numbers (λ k. known_with said (variable_number u) k (level_at levels (variable_number u) k) ≤ 2)

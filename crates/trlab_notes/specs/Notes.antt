@@ -5,15 +5,15 @@ use Rattle.trlab_code.specs.declared.instruction.Input.{Input}
 use Rattle.trlab_code.specs.declared.instruction.Input.TheVariants.{Speed, Limit, Gap, SideGap, SideBack, Lane, Headspeed}
 use Rattle.trlab_code.specs.declared.instruction.Variable.{Variable}
 use Rattle.trlab_code.specs.declared.instruction.Variable.TheVariants as variable
-use Rattle.trlab_bounds.specs.declared.roads.TheConstants.{GREATEST_LIMIT, GREATEST_GAP}
+use Rattle.trlab_bounds.specs.declared.roads.TheConstants.{MAX_LIMIT, MAX_GAP}
 use Rattle.trlab_code.specs.Machine.{variable_number, allows_input}
-use Rattle.trlab_notes.specs.declared.note.Said.{Said}
-use Rattle.trlab_notes.specs.declared.note.Said.TheVariants.{Nothing, Between, Implies}
+use Rattle.trlab_notes.specs.declared.note.AbstractValue.{AbstractValue}
+use Rattle.trlab_notes.specs.declared.note.AbstractValue.TheVariants.{Nothing, Between, Implies}
 
 -- An abstract state: the abstract value of each variable, the level of each to each, and whether the side cell
 -- is known to be empty. Level 0 means nothing, 1 that one is at most the other, 2 that it is below.
 pub record Note : Type 0 where
-  pub said : Variable → Said
+  pub said : Variable → AbstractValue
   pub level : Variable → Variable → ℕ
   pub side : Bool
 
@@ -22,27 +22,27 @@ abbrev pub same_variable : Variable → Variable → Bool
 same_variable x y = nat_eq (variable_number x) (variable_number y)
 
 -- an abstract value; if the side cell is known to be empty, each flag implies that it is
-abbrev pub with_side : Bool → Said → Said
+abbrev pub with_side : Bool → AbstractValue → AbstractValue
 with_side side Nothing = Nothing
 with_side side (Between lo hi) = Between lo hi
 with_side side (Implies imp) = Implies (imp || side)
 
 -- the abstract value of a variable in a note, the side cell considered
-unfoldable pub said_with_side : Note → Variable → Said
+unfoldable pub said_with_side : Note → Variable → AbstractValue
 said_with_side note x = with_side note.side (note.said x)
 
 -- the lower end of a range
-abbrev pub low : Said → ℕ
+abbrev pub low : AbstractValue → ℕ
 low (Between lo hi) = lo
 low _ = 0
 
 -- the upper end of a range
-abbrev pub high : Said → ℕ
+abbrev pub high : AbstractValue → ℕ
 high (Between lo hi) = hi
 high _ = 0
 
 -- whether a flag implies that the side cell is empty
-abbrev pub implies : Said → Bool
+abbrev pub implies : AbstractValue → Bool
 implies (Implies imp) = imp
 implies _ = false
 
@@ -51,7 +51,7 @@ abbrev pub range_level : ℕ → ℕ → ℕ
 range_level hi lo = if nat_lt hi lo then 2 else (if nat_le hi lo then 1 else 0)
 
 -- the level of two numbers: 1 at one variable, else the greater of the stored one and that of the ranges
-abbrev pub level_between : Said → Said → Bool → ℕ → ℕ
+abbrev pub level_between : AbstractValue → AbstractValue → Bool → ℕ → ℕ
 level_between (Between lx hx) (Between ly hy) true level = 1
 level_between (Between lx hx) (Between ly hy) false level = max level (range_level hx ly)
 level_between _ _ same level = 0
@@ -70,18 +70,18 @@ maybe_closure None = None
 maybe_closure (Some note) = Some (closure note)
 
 -- the range of an input
-abbrev pub input_range : Input → Said
-input_range Speed = Between 0 GREATEST_LIMIT
-input_range Limit = Between 1 GREATEST_LIMIT
-input_range Gap = Between 0 GREATEST_GAP
-input_range SideGap = Between 0 GREATEST_GAP
-input_range SideBack = Between 0 GREATEST_GAP
+abbrev pub input_range : Input → AbstractValue
+input_range Speed = Between 0 MAX_LIMIT
+input_range Limit = Between 1 MAX_LIMIT
+input_range Gap = Between 0 MAX_GAP
+input_range SideGap = Between 0 MAX_GAP
+input_range SideBack = Between 0 MAX_GAP
 input_range Lane = Between 0 1
-input_range Headspeed = Between 0 GREATEST_LIMIT
+input_range Headspeed = Between 0 MAX_LIMIT
 
 -- the abstract value of a variable at the start: no register is set, and the inputs of the kind have their
 -- ranges
-abbrev pub entry_said : Kind → Variable → Said
+abbrev pub entry_said : Kind → Variable → AbstractValue
 entry_said kind (variable.Register r) = Nothing
 entry_said kind (variable.Input k) = if allows_input kind k then input_range k else Nothing
 

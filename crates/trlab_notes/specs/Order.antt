@@ -1,12 +1,12 @@
 -- The order of notes by strength, and the join of two notes.
 use Rattle.std.specs.Prelude.{◌≤◌, ◌&&◌, min, max, IsTrue, Option, Some, None}
 use Rattle.trlab_code.specs.declared.instruction.Variable.{Variable}
-use Rattle.trlab_notes.specs.declared.note.Said.{Said}
-use Rattle.trlab_notes.specs.declared.note.Said.TheVariants.{Nothing, Between, Implies}
+use Rattle.trlab_notes.specs.declared.note.AbstractValue.{AbstractValue}
+use Rattle.trlab_notes.specs.declared.note.AbstractValue.TheVariants.{Nothing, Between, Implies}
 use Rattle.trlab_notes.specs.Notes.{Note, said_with_side, known_level}
 
 -- one abstract value is no stronger than another: a range contains the other, and a flag implies no more
-abbrev pub SaysNoMore : Said → Said → Type 0
+abbrev pub SaysNoMore : AbstractValue → AbstractValue → Type 0
 SaysNoMore Nothing t = Unit {0}
 SaysNoMore (Between lo hi) (Between least most) = (lo ≤ least) × (most ≤ hi)
 SaysNoMore (Implies imp) (Implies other) = IsTrue imp → IsTrue other
@@ -25,7 +25,7 @@ AreNoStronger (Some m) (Some n) = IsNoStronger m n
 AreNoStronger _ _ = ⊥
 
 -- the common knowledge of two abstract values
-abbrev pub join_said : Said → Said → Said
+abbrev pub join_said : AbstractValue → AbstractValue → AbstractValue
 join_said (Between a b) (Between c d) = Between (min a c) (max b d)
 join_said (Implies p) (Implies q) = Implies (p && q)
 join_said _ _ = Nothing

@@ -1,4 +1,4 @@
--- The reasons to refuse an instruction, by the note before it.
+-- The reasons to reject an instruction, by the note before it.
 use Rattle.std.specs.Prelude.{ℕ, suc, ◌+◌, ◌*◌, ◌&&◌, ◌||◌, not, List, [], ◌∷◌, ◌++◌, Bool, true, false, Option, Some, None, nat_eq, nat_lt, nat_le, if◌then◌else◌}
 use Rattle.std.specs.List.{list_any}
 use Rattle.trlab_code.specs.declared.kind.Kind.{Kind}
@@ -8,15 +8,15 @@ use Rattle.trlab_code.specs.declared.instruction.Input.TheVariants.{Limit, Gap}
 use Rattle.trlab_code.specs.declared.instruction.Variable.TheVariants as variable
 use Rattle.trlab_code.specs.declared.instruction.Instr.{Instr}
 use Rattle.trlab_code.specs.declared.instruction.Instr.TheVariants.{Add, Sub, Mul, Div, Min, Max, Not, And, Or, Copy, JumpLess, JumpAtMost, JumpTrue, JumpFalse, Go, Cross}
-use Rattle.trlab_bounds.specs.declared.programs.TheConstants.{GREATEST_NUMBER}
+use Rattle.trlab_bounds.specs.declared.programs.TheConstants.{MAX_NUMBER}
 use Rattle.trlab_code.specs.Machine.{allows}
-use Rattle.trlab_code.specs.Flow.{target, falls}
-use Rattle.trlab_notes.specs.declared.note.Said.{Said}
-use Rattle.trlab_notes.specs.declared.note.Said.TheVariants.{Nothing, Between, Implies}
-use Rattle.trlab_notes.specs.declared.operands.Operands.{Operands}
-use Rattle.trlab_notes.specs.declared.operands.Operands.TheVariants as read
-use Rattle.trlab_notes.specs.declared.reason.Reason.{Reason}
-use Rattle.trlab_notes.specs.declared.reason.Reason.TheVariants as why
+use Rattle.trlab_code.specs.Flow.{target, on_target, falls}
+use Rattle.trlab_notes.specs.declared.note.AbstractValue.{AbstractValue}
+use Rattle.trlab_notes.specs.declared.note.AbstractValue.TheVariants.{Nothing, Between, Implies}
+use Rattle.trlab_notes.specs.declared.reasons.Operands.{Operands}
+use Rattle.trlab_notes.specs.declared.reasons.Operands.TheVariants as read
+use Rattle.trlab_notes.specs.declared.reasons.Reason.{Reason}
+use Rattle.trlab_notes.specs.declared.reasons.Reason.TheVariants as why
 use Rattle.trlab_notes.specs.Notes.{Note, known_level}
 use Rattle.trlab_notes.specs.Transfer.{register_said, most, register_level}
 
@@ -81,22 +81,22 @@ values_of (read.Value a) = a ∷ []
 values_of _ = []
 
 -- nothing is said: the variable may be unset
-abbrev pub is_nothing : Said → Bool
+abbrev pub is_nothing : AbstractValue → Bool
 is_nothing Nothing = true
 is_nothing _ = false
 
 -- a number from a range
-abbrev pub is_range : Said → Bool
+abbrev pub is_range : AbstractValue → Bool
 is_range (Between lo hi) = true
 is_range _ = false
 
 -- a flag
-abbrev pub is_flag : Said → Bool
+abbrev pub is_flag : AbstractValue → Bool
 is_flag (Implies imp) = true
 is_flag _ = false
 
 -- the abstract value of one of the registers passes a test
-abbrev pub among : (Said → Bool) → Note → List Register → Bool
+abbrev pub among : (AbstractValue → Bool) → Note → List Register → Bool
 among test m registers = list_any (λ a. test (register_said m a)) registers
 
 -- an operand may be unset
@@ -110,19 +110,14 @@ abbrev pub some_of_other_kind : Note → Instr → Bool
 some_of_other_kind m i =
     among is_flag m (numbers_of (operands_of i)) || among is_range m (flags_of (operands_of i))
 
--- whether a jump's target passes a test
-abbrev pub on_target : (ℕ → Bool) → Option ℕ → Bool
-on_target test None = false
-on_target test (Some t) = test t
-
 -- whether an instruction may go on past the last of len instructions
 abbrev pub falls_out : ℕ → ℕ → Instr → Bool
 falls_out len pc i = falls i && nat_le len (suc pc)
 
 -- a sum or a product that may be too large for a register
 abbrev pub may_be_too_large : Note → Instr → Bool
-may_be_too_large m (Add d a b) = nat_lt GREATEST_NUMBER (most m a + most m b)
-may_be_too_large m (Mul d a n) = nat_lt GREATEST_NUMBER (most m a * n)
+may_be_too_large m (Add d a b) = nat_lt MAX_NUMBER (most m a + most m b)
+may_be_too_large m (Mul d a n) = nat_lt MAX_NUMBER (most m a * n)
 may_be_too_large m _ = false
 
 -- a difference that may be below zero
@@ -141,12 +136,12 @@ may_be_occupied m Cross = not m.side
 may_be_occupied m _ = false
 
 -- a reason, and whether it holds
-pub record Check : Type 0 where
+pub record JudgedReason : Type 0 where
   pub reason : Reason
   pub holds : Bool
 
 -- reasons 2 to 7: the form, the operands and the jump of the instruction at pc, one of len
-abbrev pub form_checks : Kind → Kind → ℕ → ℕ → Note → Instr → List Check
+abbrev pub form_checks : Kind → Kind → ℕ → ℕ → Note → Instr → List JudgedReason
 form_checks kind own len pc m i =
     record { reason = why.WrongProgram; holds = not (is_of_kind kind own i) }
     ∷ record { reason = why.MaybeUnset; holds = some_unset m i }
@@ -157,7 +152,7 @@ form_checks kind own len pc m i =
     ∷ []
 
 -- reasons 8 to 12: the number or the answer that the instruction makes
-abbrev pub range_checks : Note → Instr → List Check
+abbrev pub range_checks : Note → Instr → List JudgedReason
 range_checks m i =
     record { reason = why.MaybeTooLarge; holds = may_be_too_large m i }
     ∷ record { reason = why.MaybeBelowZero; holds = may_be_below_zero m i }
@@ -167,7 +162,7 @@ range_checks m i =
     ∷ []
 
 -- the first reason that holds, if one does
-abbrev pub first_reason : List Check → Option Reason
+abbrev pub first_reason : List JudgedReason → Option Reason
 first_reason [] = None
 first_reason (check ∷ checks) = if check.holds then Some check.reason else first_reason checks
 

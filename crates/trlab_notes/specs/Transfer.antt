@@ -5,15 +5,15 @@ use Rattle.trlab_code.specs.declared.instruction.Variable.{Variable}
 use Rattle.trlab_code.specs.declared.instruction.Variable.TheVariants as variable
 use Rattle.trlab_code.specs.declared.instruction.Instr.{Instr}
 use Rattle.trlab_code.specs.declared.instruction.Instr.TheVariants.{Num, Get, Side, Draw, Copy, Add, Sub, Mul, Div, Min, Max, Not, And, Or, Jump, JumpLess, JumpAtMost, JumpTrue, JumpFalse, Go, Cross, Stay}
-use Rattle.trlab_bounds.specs.declared.programs.TheConstants.{GREATEST_NUMBER}
+use Rattle.trlab_bounds.specs.declared.programs.TheConstants.{MAX_NUMBER}
 use Rattle.trlab_code.specs.Machine.{update}
 use Rattle.trlab_code.specs.Flow.{destination}
-use Rattle.trlab_notes.specs.declared.note.Said.{Said}
-use Rattle.trlab_notes.specs.declared.note.Said.TheVariants.{Nothing, Between, Implies}
+use Rattle.trlab_notes.specs.declared.note.AbstractValue.{AbstractValue}
+use Rattle.trlab_notes.specs.declared.note.AbstractValue.TheVariants.{Nothing, Between, Implies}
 use Rattle.trlab_notes.specs.Notes.{Note, same_variable, said_with_side, low, high, implies, known_level}
 
 -- the abstract value of a register
-abbrev pub register_said : Note → Register → Said
+abbrev pub register_said : Note → Register → AbstractValue
 register_said m a = m.said (variable.Register a)
 
 -- the smallest number that a register can hold
@@ -55,16 +55,16 @@ abbrev pub least_difference : ℕ → ℕ
 least_difference k = if nat_le 2 k then 1 else 0
 
 -- the abstract value of an instruction's result; nothing if it has none
-abbrev pub result_said : Note → Instr → Said
+abbrev pub result_said : Note → Instr → AbstractValue
 result_said m (Num d n) = Between n n
 result_said m (Get d k) = said_with_side m (variable.Input k)
 result_said m (Side d) = Implies true
 result_said m (Draw d k t) = Implies false
 result_said m (Copy d a) = said_with_side m (variable.Register a)
-result_said m (Add d a b) = Between (min (least m a + least m b) GREATEST_NUMBER) (most m a + most m b)
+result_said m (Add d a b) = Between (min (least m a + least m b) MAX_NUMBER) (most m a + most m b)
 result_said m (Sub d a b) =
     Between (max (least m a - most m b) (least_difference (register_level m b a))) (most m a - least m b)
-result_said m (Mul d a n) = Between (min (least m a * n) GREATEST_NUMBER) (most m a * n)
+result_said m (Mul d a n) = Between (min (least m a * n) MAX_NUMBER) (most m a * n)
 result_said m (Div d a n) = Between (least m a / n) (most m a / n)
 result_said m (Min d a b) = Between (min (least m a) (least m b)) (min (most m a) (most m b))
 result_said m (Max d a b) = Between (max (least m a) (least m b)) (max (most m a) (most m b))
@@ -103,7 +103,7 @@ to_result m (Max d a b) y = max (to_register m y a) (to_register m y b)
 to_result m _ y = 0
 
 -- the note after d gets another value: its abstract value, its levels to the others, theirs to it
-unfoldable pub assign : Note → Register → Said → (Variable → ℕ) → (Variable → ℕ) → Note
+unfoldable pub assign : Note → Register → AbstractValue → (Variable → ℕ) → (Variable → ℕ) → Note
 assign note d said to from = record {
   said = update note.said (variable.Register d) said;
   level = λ x y.
@@ -137,7 +137,7 @@ abbrev pub assign_any : Note → Instr → Option Register → Option Note
 assign_any m i None = None
 assign_any m i (Some d) = Some (assign_result m d i)
 
--- the note on the way to the next instruction, if there is one
+-- the note that is sent to the next instruction, if control continues there
 abbrev pub next_note : Note → Instr → Option Note
 next_note m (JumpLess a b t) = Some (refine_order m (variable.Register b) (variable.Register a) 1)
 next_note m (JumpAtMost a b t) = Some (refine_order m (variable.Register b) (variable.Register a) 2)
@@ -145,7 +145,7 @@ next_note m (JumpTrue a t) = Some m
 next_note m (JumpFalse a t) = Some (refine_flag m a)
 next_note m i = assign_any m i (destination i)
 
--- the note on the way to a jump's target
+-- the note that is sent to a jump's target
 abbrev pub jump_note : Note → Instr → Note
 jump_note m (JumpLess a b t) = refine_order m (variable.Register a) (variable.Register b) 2
 jump_note m (JumpAtMost a b t) = refine_order m (variable.Register a) (variable.Register b) 1

@@ -3,23 +3,23 @@
 ghost use Rattle.std.specs.Prelude.{◌≡◌, ℕ, ◌<◌, ◌≤◌, slice_index, slice_index_or};
 ghost use Rattle.trlab_code.specs.declared.instruction.Variable.{Variable as AVariable};
 ghost use Rattle.trlab_code.specs.Machine.{variable_number};
-ghost use Rattle.trlab_notes.specs.declared.note.Said.TheVariants.{Nothing};
+ghost use Rattle.trlab_notes.specs.declared.note.AbstractValue.TheVariants.{Nothing};
 ghost use Rattle.trlab_notes.specs.Notes.{closure, entry, known_level, said_with_side, with_side};
 ghost use Rattle.trlab_notes.specs.Rows.{AreLevels, known_with, level_at, level_in, level_of, levels_in, said_in};
 ghost use Rattle.trlab_notes.specs.Stored.{note_of};
 
-use crate::note::{Said, entry_levels, entry_said, level_between};
-use crate::rows::{Row, columns};
+use crate::note::{AbstractValue, entry_levels, entry_said, level_between};
+use crate::rows::{LevelRow, columns};
 use crate::stored::Stored;
 use trlab_code::{Kind, VARIABLES, Variable};
 
 /// The known levels of the variable x to each, if x has these levels.
-fn known_row(said: &[Said; VARIABLES], x: usize, levels: &[u8; VARIABLES]) -> Row
+fn known_row(said: &[AbstractValue; VARIABLES], x: usize, levels: &[u8; VARIABLES]) -> LevelRow
     requires inside { x < VARIABLES }
     requires small { (y : ℕ) → y < VARIABLES → known_with said.now x y (slice_index levels.now y) ≤ 2 }
     ensures { (y : ℕ) → y < VARIABLES → level_in result y ≡ known_with said.now x y (slice_index levels.now y) }
 {
-    let mut row = Row::empty();
+    let mut row = LevelRow::empty();
     for y in 0..VARIABLES {
         row = row.with(y, level_between(said[x], said[y], x == y, levels[y]));
     }
@@ -27,12 +27,15 @@ fn known_row(said: &[Said; VARIABLES], x: usize, levels: &[u8; VARIABLES]) -> Ro
 }
 
 /// The known levels of each variable to each, if they have these levels.
-fn known_rows(said: &[Said; VARIABLES], levels: &[[u8; VARIABLES]; VARIABLES]) -> [Row; VARIABLES]
+fn known_rows(
+    said: &[AbstractValue; VARIABLES],
+    levels: &[[u8; VARIABLES]; VARIABLES],
+) -> [LevelRow; VARIABLES]
     requires { AreLevels said.now levels.now }
     ensures { (x y : ℕ) → x < VARIABLES → y < VARIABLES →
         level_of result x y ≡ known_with said.now x y (level_at levels.now x y) }
 {
-    let mut rows = [Row::empty(); VARIABLES];
+    let mut rows = [LevelRow::empty(); VARIABLES];
     for x in 0..VARIABLES {
         rows[x] = known_row(said, x, &levels[x]);
     }
@@ -40,18 +43,22 @@ fn known_rows(said: &[Said; VARIABLES], levels: &[[u8; VARIABLES]; VARIABLES]) -
 }
 
 /// The abstract value of a variable, by whether the side cell is known to be empty.
-fn with_side(side: bool, said: Said) -> Said
+fn with_side(side: bool, said: AbstractValue) -> AbstractValue
     ensures { result ≡ with_side side said }
 {
     match said {
-        Said::Implies(imp) => Said::Implies(imp || side),
+        AbstractValue::Implies(imp) => AbstractValue::Implies(imp || side),
         other => other,
     }
 }
 
 impl Stored {
     /// The note with these abstract values and these levels.
-    pub fn new(said: [Said; VARIABLES], levels: &[[u8; VARIABLES]; VARIABLES], side: bool) -> Stored
+    pub fn new(
+        said: [AbstractValue; VARIABLES],
+        levels: &[[u8; VARIABLES]; VARIABLES],
+        side: bool,
+    ) -> Stored
         requires { AreLevels said levels.now }
         ensures { note_of result ≡ closure (record {
           said = said_in said;
@@ -76,7 +83,7 @@ impl Stored {
     }
 
     /// The abstract value of the variable with this number, the side cell considered.
-    pub(crate) fn said_at(&self, x: usize) -> Said
+    pub(crate) fn said_at(&self, x: usize) -> AbstractValue
         requires { x < VARIABLES }
         ensures { result ≡ with_side self.now.side (slice_index_or self.now.said x Nothing) }
     {
@@ -85,21 +92,21 @@ impl Stored {
 
     /// The abstract value of a variable, the side cell considered.
     #[tactic(auto, unfolding(crate::specs::Notes::said_with_side))]
-    pub(crate) fn said_with_side(&self, variable: Variable) -> Said
+    pub(crate) fn said_with_side(&self, variable: Variable) -> AbstractValue
         ensures { result ≡ said_with_side (note_of self.now) variable }
     {
         self.said_at(variable.number())
     }
 
     /// The known levels of a variable to each.
-    pub(crate) fn row(&self, variable: Variable) -> Row
+    pub(crate) fn row(&self, variable: Variable) -> LevelRow
         ensures { (y : AVariable) → level_in result (variable_number y) ≡ known_level (note_of self.now) variable y }
     {
         self.rows[variable.number()]
     }
 
     /// The known levels of each variable to this one.
-    pub(crate) fn column(&self, variable: Variable) -> Row
+    pub(crate) fn column(&self, variable: Variable) -> LevelRow
         ensures { (x : AVariable) → level_in result (variable_number x) ≡ known_level (note_of self.now) x variable }
     {
         self.columns[variable.number()]

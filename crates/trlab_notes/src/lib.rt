@@ -4,25 +4,18 @@
 //! explains all this in words.
 #![tactic(auto)]
 
-mod joins;
 pub mod laws;
 mod levels;
 mod note;
-mod operands;
-mod reason;
 mod reasons;
-mod refine;
 mod result;
 mod rows;
 mod stored;
 mod strength;
 mod transfer;
 
-pub use joins::{join, join_itself};
-pub use note::{Said, entry_levels, entry_said, level_between};
-pub use operands::Operands;
-pub use reason::Reason;
-pub use reasons::reason_against;
+pub use note::{AbstractValue, entry_levels, entry_said, level_between};
+pub use reasons::{Operands, Reason, reason_against};
 pub use stored::Stored;
-pub use strength::is_no_stronger;
+pub use strength::{is_no_stronger, join, join_itself};
 pub use transfer::{jump_note, next_note};

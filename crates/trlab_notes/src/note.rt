@@ -5,7 +5,7 @@ ghost use Rattle.trlab_code.specs.declared.instruction.Variable.{Variable as AVa
 ghost use Rattle.trlab_notes.specs.Notes.{low, high, implies, level_between, range_level, entry_said, entry_level};
 ghost use Rattle.trlab_notes.specs.Rows.{levels_in, said_in};
 
-use trlab_code::{GREATEST_GAP, GREATEST_LIMIT, Input, Kind, VARIABLES, Variable};
+use trlab_code::{Input, Kind, MAX_GAP, MAX_LIMIT, VARIABLES, Variable};
 
 /// The level of a variable that is known to be at most another.
 pub const AT_MOST: u8 = 1;
@@ -15,8 +15,8 @@ pub const BELOW: u8 = 2;
 
 /// An abstract value.
 #[derive(Clone, Copy)]
-pub enum Said {
-    /// Nothing: it may be unset, or a number on one way and a flag on another.
+pub enum AbstractValue {
+    /// Unknown: it may be unset, or a number on one path and a flag on another.
     Nothing,
     /// It is a number from the first to the second, both included.
     Between(u32, u32),
@@ -24,13 +24,13 @@ pub enum Said {
     Implies(bool),
 }
 
-impl Said {
+impl AbstractValue {
     /// The smallest number of a range.
     pub(crate) fn low(self) -> u32
         ensures { result ≡ low self }
     {
         match self {
-            Said::Between(low, _) => low,
+            AbstractValue::Between(low, _) => low,
             _ => 0,
         }
     }
@@ -40,7 +40,7 @@ impl Said {
         ensures { result ≡ high self }
     {
         match self {
-            Said::Between(_, high) => high,
+            AbstractValue::Between(_, high) => high,
             _ => 0,
         }
     }
@@ -50,7 +50,7 @@ impl Said {
         ensures { result ≡ implies self }
     {
         match self {
-            Said::Implies(imp) => imp,
+            AbstractValue::Implies(imp) => imp,
             _ => false,
         }
     }
@@ -70,27 +70,29 @@ fn range_level(high: u32, low: u32) -> u8
 }
 
 /// The known level of one variable to another with these abstract values, if they have a level.
-pub fn level_between(s: Said, t: Said, is_same: bool, level: u8) -> u8
+pub fn level_between(s: AbstractValue, t: AbstractValue, is_same: bool, level: u8) -> u8
     ensures { result ≡ level_between s t is_same level }
 {
     match (s, t) {
-        (Said::Between(..), Said::Between(..)) if is_same => AT_MOST,
-        (Said::Between(_, high), Said::Between(low, _)) => level.max(range_level(high, low)),
+        (AbstractValue::Between(..), AbstractValue::Between(..)) if is_same => AT_MOST,
+        (AbstractValue::Between(_, high), AbstractValue::Between(low, _)) => level.max(range_level(
+            high, low,
+        )),
         _ => 0,
     }
 }
 
 /// The abstract values of the variables at the start of a program, in the order of their numbers.
-pub fn entry_said(kind: Kind) -> [Said; VARIABLES]
+pub fn entry_said(kind: Kind) -> [AbstractValue; VARIABLES]
     ensures { (x : AVariable) → said_in result x ≡ entry_said kind x }
 {
-    let unset = Said::Nothing;
-    let speed = Said::Between(0, GREATEST_LIMIT);
-    let limit = Said::Between(1, GREATEST_LIMIT);
-    let gap = Said::Between(0, GREATEST_GAP);
+    let unset = AbstractValue::Nothing;
+    let speed = AbstractValue::Between(0, MAX_LIMIT);
+    let limit = AbstractValue::Between(1, MAX_LIMIT);
+    let gap = AbstractValue::Between(0, MAX_GAP);
     let (side_gap, lane) = match kind {
         Kind::Motion => (unset, unset),
-        Kind::Change => (gap, Said::Between(0, 1)),
+        Kind::Change => (gap, AbstractValue::Between(0, 1)),
     };
     [
         unset, unset, unset, unset, unset, unset, unset, unset, speed, limit, gap, side_gap,
@@ -98,7 +100,7 @@ pub fn entry_said(kind: Kind) -> [Said; VARIABLES]
     ]
 }
 
-/// The levels at the start of a program: the speed and that of the car ahead are at most the limit.
+/// The levels at the start of a program: the car's speed and its leader's are at most the limit.
 pub fn entry_levels() -> [[u8; VARIABLES]; VARIABLES]
     ensures { (x y : AVariable) → levels_in result x y ≡ entry_level x y }
 {

@@ -1,18 +1,119 @@
-//! The reasons to refuse an instruction, by the note before it.
+//! The reasons to reject an instruction, and the operands on which they depend.
 
-ghost use Rattle.std.specs.Prelude.{◌≡◌, ◌<◌, nat_le};
+ghost use Rattle.std.specs.Prelude.{◌≡◌, ◌≤◌, MatchOption, ◌<◌, nat_le};
 ghost use Rattle.trlab_code.specs.Machine.{allows, allows_input};
-ghost use Rattle.trlab_code.specs.Flow.{target};
-ghost use Rattle.trlab_notes.specs.Reasons.{is_nothing, is_range, is_flag, is_of_kind, some_unset, some_of_other_kind, may_be_too_large, may_be_below_zero, may_be_above, may_be_occupied, on_target, falls_out, first_reason, range_checks, reason_against};
+ghost use Rattle.trlab_code.specs.Flow.{target, on_target};
+ghost use Rattle.trlab_notes.specs.Reasons.{is_nothing, is_range, is_flag, is_of_kind, some_unset, some_of_other_kind, may_be_too_large, may_be_below_zero, may_be_above, may_be_occupied, falls_out, first_reason, range_checks, reason_against};
 ghost use Rattle.trlab_notes.specs.Stored.{note_of};
 ghost use Rattle.trlab_notes.specs.Transfer.{register_said};
 
-use crate::note::Said;
-use crate::operands::Operands;
-use crate::reason::Reason;
+use crate::note::AbstractValue;
 use crate::stored::Stored;
-use trlab_bounds::programs::GREATEST_NUMBER;
+use trlab_bounds::programs::MAX_NUMBER;
 use trlab_code::{Input, Instr, Kind, Register, Variable};
+
+/// A reason to reject an instruction. Reasons are tested in the order of their numbers.
+#[derive(Clone, Copy, Debug, PartialEq, Eq)]
+pub enum Reason {
+    /// 1: no path leads to it.
+    Unreachable = 1,
+    /// 2: it is not for this kind of program.
+    WrongProgram,
+    /// 3: an operand may be unset.
+    MaybeUnset,
+    /// 4: an operand is a flag instead of a number, or a number instead of a flag.
+    WrongValue,
+    /// 5: it jumps, and not forward.
+    JumpsBack,
+    /// 6: it jumps out of the program.
+    JumpsOut,
+    /// 7: the next instruction is out of the program.
+    FallsOut,
+    /// 8: the result may be too large for a register.
+    MaybeTooLarge,
+    /// 9: the result may be below zero.
+    MaybeBelowZero,
+    /// 10: the new speed may be above the gap.
+    MaybeAboveGap,
+    /// 11: the new speed may be above the limit.
+    MaybeAboveLimit,
+    /// 12: the side cell may be occupied.
+    MaybeOccupied,
+}
+
+impl Reason {
+    ghost use Rattle.trlab_notes.specs.Reasons.{reason_number};
+
+    /// The number of the reason: 1 to 12.
+    pub fn number(self) -> u32
+        ensures value { result ≡ reason_number self }
+        ensures from { 1 ≤ result }
+        ensures to { result ≤ 12 }
+    {
+        self as u32
+    }
+
+    /// The reason with this number, if it is from 1 to 12.
+    pub fn from_number(number: u32) -> Option<Reason>
+        ensures { MatchOption result (¬ ((1 ≤ number) × (number ≤ 12)))
+            (λ reason. reason_number reason ≡ number) }
+    {
+        match number {
+            1 => Some(Reason::Unreachable),
+            2 => Some(Reason::WrongProgram),
+            3 => Some(Reason::MaybeUnset),
+            4 => Some(Reason::WrongValue),
+            5 => Some(Reason::JumpsBack),
+            6 => Some(Reason::JumpsOut),
+            7 => Some(Reason::FallsOut),
+            8 => Some(Reason::MaybeTooLarge),
+            9 => Some(Reason::MaybeBelowZero),
+            10 => Some(Reason::MaybeAboveGap),
+            11 => Some(Reason::MaybeAboveLimit),
+            12 => Some(Reason::MaybeOccupied),
+            _ => None,
+        }
+    }
+}
+
+/// The registers that an instruction reads, from left to right, by the type of their values.
+#[derive(Clone, Copy)]
+pub enum Operands {
+    /// It reads none.
+    Nothing,
+    /// A number or a flag.
+    Value(Register),
+    /// A number.
+    Number(Register),
+    /// Two numbers.
+    Numbers(Register, Register),
+    /// A flag.
+    Flag(Register),
+    /// Two flags.
+    Flags(Register, Register),
+}
+
+impl Operands {
+    ghost use Rattle.trlab_notes.specs.Reasons.{operands_of};
+
+    pub fn of(instr: Instr) -> Operands
+        ensures { result ≡ operands_of instr }
+    {
+        match instr {
+            Instr::Copy(_, a) => Operands::Value(a),
+            Instr::Mul(_, a, _) | Instr::Div(_, a, _) | Instr::Go(a) => Operands::Number(a),
+            Instr::Add(_, a, b)
+            | Instr::Sub(_, a, b)
+            | Instr::Min(_, a, b)
+            | Instr::Max(_, a, b)
+            | Instr::JumpLess(a, b, _)
+            | Instr::JumpAtMost(a, b, _) => Operands::Numbers(a, b),
+            Instr::Not(_, a) | Instr::JumpTrue(a, _) | Instr::JumpFalse(a, _) => Operands::Flag(a),
+            Instr::And(_, a, b) | Instr::Or(_, a, b) => Operands::Flags(a, b),
+            _ => Operands::Nothing,
+        }
+    }
+}
 
 /// Whether a program of this kind may read the input.
 fn is_allowed_input(kind: Kind, input: Input) -> bool
@@ -47,21 +148,21 @@ fn is_of_kind(kind: Kind, own: Kind, instr: Instr) -> bool
 fn is_unset(note: &Stored, register: Register) -> bool
     ensures { result ≡ is_nothing (register_said (note_of note.now) register) }
 {
-    matches!(note.register_said(register), Said::Nothing)
+    matches!(note.register_said(register), AbstractValue::Nothing)
 }
 
 /// Whether a register holds a number.
 fn has_number(note: &Stored, register: Register) -> bool
     ensures { result ≡ is_range (register_said (note_of note.now) register) }
 {
-    matches!(note.register_said(register), Said::Between(..))
+    matches!(note.register_said(register), AbstractValue::Between(..))
 }
 
 /// Whether a register holds a flag.
 fn has_flag(note: &Stored, register: Register) -> bool
     ensures { result ≡ is_flag (register_said (note_of note.now) register) }
 {
-    matches!(note.register_said(register), Said::Implies(_))
+    matches!(note.register_said(register), AbstractValue::Implies(_))
 }
 
 /// Whether an operand may be unset.
@@ -95,10 +196,10 @@ fn may_be_too_large(note: &Stored, instr: Instr) -> bool
     match instr {
         Instr::Add(_, a, b) => {
             let (a, b) = (note.register_said(a).high(), note.register_said(b).high());
-            u64::from(a) + u64::from(b) > u64::from(GREATEST_NUMBER)
+            u64::from(a) + u64::from(b) > u64::from(MAX_NUMBER)
         }
         Instr::Mul(_, a, n) => {
-            u64::from(note.register_said(a).high()) * u64::from(n) > u64::from(GREATEST_NUMBER)
+            u64::from(note.register_said(a).high()) * u64::from(n) > u64::from(MAX_NUMBER)
         }
         _ => false,
     }

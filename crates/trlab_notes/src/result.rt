@@ -1,68 +1,68 @@
 //! The result of an instruction: its abstract value, and its order with the variables.
 
 ghost use Rattle.std.specs.Prelude.{◌≡◌, ℕ, ◌+◌, ◌-◌, ◌*◌, ◌/◌, ◌<◌, ◌≤◌, min, max, false};
-ghost use Rattle.trlab_bounds.specs.declared.programs.TheConstants.{GREATEST_NUMBER};
+ghost use Rattle.trlab_bounds.specs.declared.programs.TheConstants.{MAX_NUMBER};
 ghost use Rattle.trlab_code.specs.declared.instruction.Variable.{Variable as AVariable};
 ghost use Rattle.trlab_code.specs.Machine.{variable_number};
 ghost use Rattle.trlab_code.specs.Program.{IsInRange};
-ghost use Rattle.trlab_notes.specs.declared.note.Said.TheVariants.{Between};
+ghost use Rattle.trlab_notes.specs.declared.note.AbstractValue.TheVariants.{Between};
 ghost use Rattle.trlab_notes.specs.Notes.{closure, high, low};
 ghost use Rattle.trlab_notes.specs.Reasons.{may_be_too_large};
 ghost use Rattle.trlab_notes.specs.Rows.{known_with, level_in};
 ghost use Rattle.trlab_notes.specs.Stored.{note_of};
 ghost use Rattle.trlab_notes.specs.Transfer.{assign_result, flag_implies, least_difference, register_level, register_said, result_said, result_to, to_result};
 
-use crate::note::{BELOW, Said, level_between};
-use crate::rows::{Row, with_variable};
+use crate::note::{AbstractValue, BELOW, level_between};
+use crate::rows::{LevelRow, with_variable};
 use crate::stored::Stored;
 use trlab_code::{Instr, Register, VARIABLES, Variable};
 
 /// The range of a sum.
-fn sum(p: Said, q: Said) -> Said
-    requires { high p + high q ≤ GREATEST_NUMBER }
-    ensures { result ≡ Between (min (low p + low q) GREATEST_NUMBER) (high p + high q) }
+fn sum(p: AbstractValue, q: AbstractValue) -> AbstractValue
+    requires { high p + high q ≤ MAX_NUMBER }
+    ensures { result ≡ Between (min (low p + low q) MAX_NUMBER) (high p + high q) }
 {
-    Said::Between(p.low().saturating_add(q.low()), p.high() + q.high())
+    AbstractValue::Between(p.low().saturating_add(q.low()), p.high() + q.high())
 }
 
 /// The range of a difference, which is at least `least`.
-fn difference(p: Said, q: Said, least: u32) -> Said
+fn difference(p: AbstractValue, q: AbstractValue, least: u32) -> AbstractValue
     ensures { result ≡ Between (max (low p - high q) least) (high p - low q) }
 {
-    Said::Between(
+    AbstractValue::Between(
         p.low().saturating_sub(q.high()).max(least),
         p.high().saturating_sub(q.low()),
     )
 }
 
 /// The range of a product.
-fn product(p: Said, n: u32) -> Said
-    requires { high p * n ≤ GREATEST_NUMBER }
-    ensures { result ≡ Between (min (low p * n) GREATEST_NUMBER) (high p * n) }
+fn product(p: AbstractValue, n: u32) -> AbstractValue
+    requires { high p * n ≤ MAX_NUMBER }
+    ensures { result ≡ Between (min (low p * n) MAX_NUMBER) (high p * n) }
 {
-    Said::Between(p.low().saturating_mul(n), p.high() * n)
+    AbstractValue::Between(p.low().saturating_mul(n), p.high() * n)
 }
 
 /// The range of a quotient.
-fn quotient(p: Said, n: u32) -> Said
+fn quotient(p: AbstractValue, n: u32) -> AbstractValue
     requires { 1 ≤ n }
     ensures { result ≡ Between (low p / n) (high p / n) }
 {
-    Said::Between(p.low() / n, p.high() / n)
+    AbstractValue::Between(p.low() / n, p.high() / n)
 }
 
 /// The range of the smaller of two numbers.
-fn smaller(p: Said, q: Said) -> Said
+fn smaller(p: AbstractValue, q: AbstractValue) -> AbstractValue
     ensures { result ≡ Between (min (low p) (low q)) (min (high p) (high q)) }
 {
-    Said::Between(p.low().min(q.low()), p.high().min(q.high()))
+    AbstractValue::Between(p.low().min(q.low()), p.high().min(q.high()))
 }
 
-/// The range of the greater of two numbers.
-fn greater(p: Said, q: Said) -> Said
+/// The range of the larger of two numbers.
+fn greater(p: AbstractValue, q: AbstractValue) -> AbstractValue
     ensures { result ≡ Between (max (low p) (low q)) (max (high p) (high q)) }
 {
-    Said::Between(p.low().max(q.low()), p.high().max(q.high()))
+    AbstractValue::Between(p.low().max(q.low()), p.high().max(q.high()))
 }
 
 /// The smallest difference if the second number has this level to the first.
@@ -73,7 +73,12 @@ fn least_difference(level: u8) -> u32
 }
 
 /// The known levels of a variable to each and of each to it, if they have these levels.
-fn known_ways(said: &[Said; VARIABLES], variable: usize, to: Row, from: Row) -> (Row, Row)
+fn known_ways(
+    said: &[AbstractValue; VARIABLES],
+    variable: usize,
+    to: LevelRow,
+    from: LevelRow,
+) -> (LevelRow, LevelRow)
     requires { variable < VARIABLES }
     ensures to { (y : ℕ) → y < VARIABLES → level_in result.0 y ≡ known_with said.now variable y (level_in to y) }
     ensures from { (x : ℕ) → x < VARIABLES → level_in result.1 x ≡ known_with said.now x variable (level_in from x) }
@@ -94,7 +99,7 @@ fn known_ways(said: &[Said; VARIABLES], variable: usize, to: Row, from: Row) -> 
 
 impl Stored {
     /// The abstract value of a register.
-    pub(crate) fn register_said(&self, register: Register) -> Said
+    pub(crate) fn register_said(&self, register: Register) -> AbstractValue
         ensures { result ≡ register_said (note_of self.now) register }
     {
         self.said[Variable::Register(register).number()]
@@ -115,16 +120,16 @@ impl Stored {
     }
 
     /// The abstract value of an instruction's result.
-    fn result_said(&self, instr: Instr) -> Said
+    fn result_said(&self, instr: Instr) -> AbstractValue
         requires in_range { IsInRange instr }
         requires fits { may_be_too_large (note_of self.now) instr ≡ false }
         ensures { result ≡ result_said (note_of self.now) instr }
     {
         match instr {
-            Instr::Num(_, n) => Said::Between(n, n),
+            Instr::Num(_, n) => AbstractValue::Between(n, n),
             Instr::Get(_, input) => self.said_with_side(Variable::Input(input)),
-            Instr::Side(_) => Said::Implies(true),
-            Instr::Draw(..) | Instr::Not(..) => Said::Implies(false),
+            Instr::Side(_) => AbstractValue::Implies(true),
+            Instr::Draw(..) | Instr::Not(..) => AbstractValue::Implies(false),
             Instr::Copy(_, a) => self.said_with_side(Variable::Register(a)),
             Instr::Add(_, a, b) => sum(self.register_said(a), self.register_said(b)),
             Instr::Sub(_, a, b) => {
@@ -135,14 +140,18 @@ impl Stored {
             Instr::Div(_, a, n) => quotient(self.register_said(a), n),
             Instr::Min(_, a, b) => smaller(self.register_said(a), self.register_said(b)),
             Instr::Max(_, a, b) => greater(self.register_said(a), self.register_said(b)),
-            Instr::And(_, a, b) => Said::Implies(self.flag_implies(a) || self.flag_implies(b)),
-            Instr::Or(_, a, b) => Said::Implies(self.flag_implies(a) && self.flag_implies(b)),
-            _ => Said::Nothing,
+            Instr::And(_, a, b) => AbstractValue::Implies(
+                self.flag_implies(a) || self.flag_implies(b),
+            ),
+            Instr::Or(_, a, b) => AbstractValue::Implies(
+                self.flag_implies(a) && self.flag_implies(b),
+            ),
+            _ => AbstractValue::Nothing,
         }
     }
 
     /// The levels of an instruction's result to the variables.
-    fn result_to(&self, instr: Instr) -> Row
+    fn result_to(&self, instr: Instr) -> LevelRow
         ensures { (y : AVariable) → level_in result (variable_number y) ≡ result_to (note_of self.now) instr y }
     {
         match instr {
@@ -167,12 +176,12 @@ impl Stored {
             Instr::Max(_, a, b) => self
                 .row(Variable::Register(a))
                 .both(self.row(Variable::Register(b))),
-            _ => Row::empty(),
+            _ => LevelRow::empty(),
         }
     }
 
     /// The levels of the variables to an instruction's result.
-    fn to_result(&self, instr: Instr) -> Row
+    fn to_result(&self, instr: Instr) -> LevelRow
         ensures { (y : AVariable) → level_in result (variable_number y) ≡ to_result (note_of self.now) instr y }
     {
         match instr {
@@ -195,7 +204,7 @@ impl Stored {
                 self.column(Variable::Register(a))
                     .either(self.column(Variable::Register(b)))
             }
-            _ => Row::empty(),
+            _ => LevelRow::empty(),
         }
     }
 

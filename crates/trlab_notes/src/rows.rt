@@ -1,4 +1,4 @@
-//! The levels of a variable to all variables, as bits. The rows of all variables hold their order.
+//! The levels of a variable to all variables, as bits. The rows of all variables are their order.
 
 ghost use Rattle.std.specs.Prelude.{◌≡◌, ◌↔◌, ℕ, ◌*◌, ◌<◌, ◌≤◌, IsTrue, min, max, nat_eq, if◌then◌else◌, slice_index};
 ghost use Rattle.std.specs.Int.{bit_at};
@@ -8,14 +8,14 @@ ghost use Rattle.trlab_notes.specs.Rows.{level_in, level_of};
 use crate::note::{AT_MOST, BELOW};
 use trlab_code::VARIABLES;
 
-/// The variables that one is at most, and those that it is below.
+/// The levels of one variable to all: bit y of `at_most` and `below` is for the variable with the number y.
 #[derive(Clone, Copy)]
-pub struct Row {
+pub struct LevelRow {
     at_most: u16,
     below: u16,
 }
 
-/// Bits with one of them on or off.
+/// Switches one bit on or off.
 fn with_bit(bits: u16, variable: usize, is_on: bool) -> u16
     requires { variable < 16 }
     ensures { (y : ℕ) → y < 16 →
@@ -28,12 +28,12 @@ fn with_bit(bits: u16, variable: usize, is_on: bool) -> u16
     }
 }
 
-impl Row {
+impl LevelRow {
     /// Nothing is known.
-    pub fn empty() -> Row
+    pub fn empty() -> LevelRow
         ensures { (y : ℕ) → level_in result y ≡ 0 }
     {
-        Row {
+        LevelRow {
             at_most: 0,
             below: 0,
         }
@@ -69,31 +69,31 @@ impl Row {
         self.at_most | self.below
     }
 
-    /// The lesser levels of two rows.
-    pub fn both(self, other: Row) -> Row
+    /// The smaller level at each variable.
+    pub fn both(self, other: LevelRow) -> LevelRow
         ensures { (y : ℕ) → level_in result y ≡ min (level_in self y) (level_in other y) }
     {
-        Row {
+        LevelRow {
             at_most: self.ahead() & other.ahead(),
             below: self.below & other.below,
         }
     }
 
-    /// The greater levels of two rows.
-    pub fn either(self, other: Row) -> Row
+    /// The larger level at each variable.
+    pub fn either(self, other: LevelRow) -> LevelRow
         ensures { (y : ℕ) → level_in result y ≡ max (level_in self y) (level_in other y) }
     {
-        Row {
+        LevelRow {
             at_most: self.at_most | other.at_most,
             below: self.below | other.below,
         }
     }
 
-    /// Each variable that one is at most is one that it is below.
-    fn strict(self) -> Row
+    /// Raises each level 1 to 2.
+    fn strict(self) -> LevelRow
         ensures { (y : ℕ) → level_in result y ≡ 2 * min (level_in self y) 1 }
     {
-        Row {
+        LevelRow {
             at_most: 0,
             below: self.ahead(),
         }
@@ -101,14 +101,14 @@ impl Row {
 
     /// The levels by way of a variable that one has the level `first` to, and that has the level `middle`
     /// to the variable of this row.
-    pub fn chain(self, first: u8, middle: u8) -> Row
+    pub fn chain(self, first: u8, middle: u8) -> LevelRow
         requires first_in { first ≤ 2 }
         requires middle_from { 1 ≤ middle }
         requires middle_to { middle ≤ 2 }
         ensures { (y : ℕ) → level_in result y ≡ chain first middle (level_in self y) }
     {
         if first == 0 {
-            Row::empty()
+            LevelRow::empty()
         } else if first == BELOW || middle == BELOW {
             self.strict()
         } else {
@@ -117,37 +117,37 @@ impl Row {
     }
 
     /// The levels after a number of at least `low` is added to the larger side.
-    pub fn sharpen(self, low: u32) -> Row
+    pub fn sharpen(self, low: u32) -> LevelRow
         ensures { (y : ℕ) → level_in result y ≡ sharpen (level_in self y) low }
     {
         if low == 0 { self } else { self.strict() }
     }
 
     /// The levels of a sum, if one number has this row and the other is at most `high`.
-    pub fn slacken(self, high: u32) -> Row
+    pub fn slacken(self, high: u32) -> LevelRow
         ensures { (y : ℕ) → level_in result y ≡ slacken (level_in self y) high }
     {
-        Row {
+        LevelRow {
             at_most: if high <= 1 { self.below } else { 0 },
             below: 0,
         }
     }
 
     /// The row with another level at a variable.
-    pub fn with(self, variable: usize, level: u8) -> Row
+    pub fn with(self, variable: usize, level: u8) -> LevelRow
         requires inside { variable < VARIABLES }
         requires in_range { level ≤ 2 }
         ensures { (y : ℕ) → y < VARIABLES →
             level_in result y ≡ (if nat_eq y variable then level else level_in self y) }
     {
-        Row {
+        LevelRow {
             at_most: with_bit(self.at_most, variable, level == AT_MOST),
             below: with_bit(self.below, variable, level == BELOW),
         }
     }
 
     /// Whether no level is above that of another row.
-    pub fn is_within(self, other: Row) -> bool
+    pub fn is_within(self, other: LevelRow) -> bool
         ensures { IsTrue result ↔ ((y : ℕ) → y < VARIABLES → level_in self y ≤ level_in other y) }
     {
         for y in 0..VARIABLES {
@@ -161,11 +161,11 @@ impl Row {
 
 /// The rows once `variable` has another row, and the variables have other levels to it.
 pub fn with_variable(
-    rows: &[Row; VARIABLES],
+    rows: &[LevelRow; VARIABLES],
     variable: usize,
-    row: Row,
-    column: Row,
-) -> [Row; VARIABLES]
+    row: LevelRow,
+    column: LevelRow,
+) -> [LevelRow; VARIABLES]
     requires { variable < VARIABLES }
     ensures { (x y : ℕ) → x < VARIABLES → y < VARIABLES → level_of result x y ≡
         (if nat_eq x variable then level_in row y
@@ -184,7 +184,12 @@ pub fn with_variable(
 
 /// The rows once one variable is known to have a level to another: `first` has the levels of the variables
 /// to the one, and `last` those of the other to the variables.
-pub fn refine_rows(rows: &[Row; VARIABLES], first: Row, level: u8, last: Row) -> [Row; VARIABLES]
+pub fn refine_rows(
+    rows: &[LevelRow; VARIABLES],
+    first: LevelRow,
+    level: u8,
+    last: LevelRow,
+) -> [LevelRow; VARIABLES]
     requires level_from { 1 ≤ level }
     requires level_to { level ≤ 2 }
     ensures { (x y : ℕ) → x < VARIABLES → y < VARIABLES → level_of result x y ≡
@@ -200,8 +205,8 @@ pub fn refine_rows(rows: &[Row; VARIABLES], first: Row, level: u8, last: Row) ->
     refined
 }
 
-/// The lesser levels of the rows of two notes.
-pub fn join_rows(a: &[Row; VARIABLES], b: &[Row; VARIABLES]) -> [Row; VARIABLES]
+/// The smaller levels of two notes.
+pub fn join_rows(a: &[LevelRow; VARIABLES], b: &[LevelRow; VARIABLES]) -> [LevelRow; VARIABLES]
     ensures { (x y : ℕ) → x < VARIABLES → y < VARIABLES →
         level_of result x y ≡ min (level_of a.now x y) (level_of b.now x y) }
 {
@@ -213,11 +218,11 @@ pub fn join_rows(a: &[Row; VARIABLES], b: &[Row; VARIABLES]) -> [Row; VARIABLES]
 }
 
 /// The levels of each variable to y.
-fn column(rows: &[Row; VARIABLES], y: usize) -> Row
+fn column(rows: &[LevelRow; VARIABLES], y: usize) -> LevelRow
     requires { y < VARIABLES }
     ensures { (x : ℕ) → x < VARIABLES → level_in result x ≡ level_of rows.now x y }
 {
-    let mut column = Row::empty();
+    let mut column = LevelRow::empty();
     for x in 0..VARIABLES {
         column = column.with(x, rows[x].level(y));
     }
@@ -225,7 +230,7 @@ fn column(rows: &[Row; VARIABLES], y: usize) -> Row
 }
 
 /// The same levels with the two variables exchanged.
-pub fn columns(rows: &[Row; VARIABLES]) -> [Row; VARIABLES]
+pub fn columns(rows: &[LevelRow; VARIABLES]) -> [LevelRow; VARIABLES]
     ensures { (x y : ℕ) → x < VARIABLES → y < VARIABLES → level_of result y x ≡ level_of rows.now x y }
 {
     let mut columns = *rows;

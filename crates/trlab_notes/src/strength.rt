@@ -1,29 +1,31 @@
-//! The order of notes: whether one is no stronger than another.
+//! The order of notes and their join, the common knowledge of two notes where two paths meet.
 
-ghost use Rattle.std.specs.Prelude.{◌↔◌, ℕ, ◌<◌, ◌≤◌, IsTrue, slice_index_or};
-ghost use Rattle.trlab_notes.specs.declared.note.Said.TheVariants.{Nothing};
+ghost use Rattle.std.specs.Prelude.{◌≡◌, ◌↔◌, ℕ, ◌<◌, ◌≤◌, IsTrue, slice_index_or};
+ghost use Rattle.trlab_notes.specs.declared.note.AbstractValue.TheVariants.{Nothing};
 ghost use Rattle.trlab_notes.specs.Notes.{with_side};
-ghost use Rattle.trlab_notes.specs.Order.{SaysNoMore, IsNoStronger};
+ghost use Rattle.trlab_notes.specs.Order.{SaysNoMore, IsNoStronger, join, join_said};
 ghost use Rattle.trlab_notes.specs.Rows.{level_of};
 ghost use Rattle.trlab_notes.specs.Stored.{note_of};
 
-use crate::note::Said;
+use crate::note::AbstractValue;
+use crate::rows::join_rows;
 use crate::stored::Stored;
 use trlab_code::VARIABLES;
 
-/// Whether no more is said of a variable than elsewhere.
-fn says_no_more(s: Said, t: Said) -> bool
+/// Whether `s` says no more than `t`.
+fn says_no_more(s: AbstractValue, t: AbstractValue) -> bool
     ensures { IsTrue result ↔ SaysNoMore s t }
 {
     match (s, t) {
-        (Said::Nothing, _) => true,
-        (Said::Between(low, high), Said::Between(least, most)) => low <= least && most <= high,
-        (Said::Implies(imp), Said::Implies(other)) => !imp || other,
+        (AbstractValue::Nothing, _) => true,
+        (AbstractValue::Between(low, high), AbstractValue::Between(least, most)) => low <= least
+            && most <= high,
+        (AbstractValue::Implies(imp), AbstractValue::Implies(other)) => !imp || other,
         _ => false,
     }
 }
 
-/// Whether no more is said of each variable.
+/// Whether `m` says no more than `n` of any variable.
 fn has_weaker_variables(m: &Stored, n: &Stored) -> bool
     ensures { IsTrue result ↔ ((x : ℕ) → x < VARIABLES → SaysNoMore
         (with_side m.now.side (slice_index_or m.now.said x Nothing))
@@ -37,7 +39,7 @@ fn has_weaker_variables(m: &Stored, n: &Stored) -> bool
     true
 }
 
-/// Whether no more is known of the order of each two variables.
+/// Whether `m` says no more than `n` of the order of any two variables.
 fn has_lesser_levels(m: &Stored, n: &Stored) -> bool
     ensures { IsTrue result ↔ ((x y : ℕ) → x < VARIABLES → y < VARIABLES →
         level_of m.now.rows x y ≤ level_of n.now.rows x y) }
@@ -55,4 +57,54 @@ pub fn is_no_stronger(m: &Stored, n: &Stored) -> bool
     ensures { IsTrue result ↔ IsNoStronger (note_of m.now) (note_of n.now) }
 {
     has_weaker_variables(m, n) && has_lesser_levels(m, n) && (!m.side || n.side)
+}
+
+/// The common knowledge of two abstract values.
+fn join_said(a: AbstractValue, b: AbstractValue) -> AbstractValue
+    ensures { result ≡ join_said a b }
+{
+    match (a, b) {
+        (AbstractValue::Between(low, high), AbstractValue::Between(other_low, other_high)) => {
+            AbstractValue::Between(low.min(other_low), high.max(other_high))
+        }
+        (AbstractValue::Implies(p), AbstractValue::Implies(q)) => AbstractValue::Implies(p && q),
+        _ => AbstractValue::Nothing,
+    }
+}
+
+/// The common knowledge of two notes about each variable.
+fn join_variables(a: &Stored, b: &Stored) -> [AbstractValue; VARIABLES]
+    ensures { (x : ℕ) → x < VARIABLES → slice_index_or result x Nothing ≡ join_said
+        (with_side a.now.side (slice_index_or a.now.said x Nothing))
+        (with_side b.now.side (slice_index_or b.now.said x Nothing)) }
+{
+    let mut said = [AbstractValue::Nothing; VARIABLES];
+    for x in 0..VARIABLES {
+        said[x] = join_said(a.said_at(x), b.said_at(x));
+    }
+    said
+}
+
+/// The strongest note that is no stronger than either of two.
+pub fn join(a: &Stored, b: &Stored) -> Stored
+    ensures { note_of result ≡ join (note_of a.now) (note_of b.now) }
+{
+    Stored {
+        said: join_variables(a, b),
+        rows: join_rows(&a.rows, &b.rows),
+        columns: join_rows(&a.columns, &b.columns),
+        side: a.side && b.side,
+    }
+}
+
+/// The join of a note with itself: all that it knows of each variable.
+pub fn join_itself(note: &Stored) -> Stored
+    ensures { note_of result ≡ join (note_of note.now) (note_of note.now) }
+{
+    Stored {
+        said: join_variables(note, note),
+        rows: note.rows,
+        columns: note.columns,
+        side: note.side,
+    }
 }

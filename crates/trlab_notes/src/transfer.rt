@@ -1,18 +1,48 @@
-//! The transfer functions: the note after an instruction, on the path to the next instruction and on that to a
-//! jump's target.
+//! The notes that an instruction sends: to the next instruction, and to the target of its jump.
 
-ghost use Rattle.std.specs.Prelude.{◌≡◌, false};
-ghost use Rattle.trlab_code.specs.Program.{IsInRange};
+ghost use Rattle.std.specs.Prelude.{◌≡◌, ◌≤◌, false};
 ghost use Rattle.trlab_notes.specs.Notes.{closure, maybe_closure};
-ghost use Rattle.trlab_notes.specs.Reasons.{may_be_too_large};
 ghost use Rattle.trlab_notes.specs.Stored.{note_of, maybe_note};
-ghost use Rattle.trlab_notes.specs.Transfer.{next_note, jump_note};
+ghost use Rattle.trlab_notes.specs.Transfer.{refine_flag, refine_order, next_note, jump_note};
+ghost use Rattle.trlab_code.specs.Program.{IsInRange};
+ghost use Rattle.trlab_notes.specs.Reasons.{may_be_too_large};
 
 use crate::note::{AT_MOST, BELOW};
+use crate::rows::refine_rows;
 use crate::stored::Stored;
-use trlab_code::{Instr, Variable};
+use trlab_code::{Instr, Register, Variable};
 
-/// The note on the way to the next instruction, if there is one.
+impl Stored {
+    /// The note with the knowledge that p has this level to q, `AT_MOST` or `BELOW`.
+    pub(crate) fn refine_order(&self, p: Variable, q: Variable, level: u8) -> Stored
+        requires level_from { 1 ≤ level }
+        requires level_to { level ≤ 2 }
+        ensures { note_of result ≡ closure (refine_order (note_of self.now) p q level) }
+    {
+        let (first, last) = (self.columns[p.number()], self.rows[q.number()]);
+        Stored {
+            said: self.said,
+            rows: refine_rows(&self.rows, first, level, last),
+            columns: refine_rows(&self.columns, last, level, first),
+            side: self.side,
+        }
+    }
+
+    /// The note with the knowledge that the flag in a register is true.
+    pub(crate) fn refine_flag(&self, register: Register) -> Stored
+        ensures { note_of result ≡ closure (refine_flag (note_of self.now) register) }
+    {
+        let said = self.said[Variable::Register(register).number()];
+        Stored {
+            said: self.said,
+            rows: self.rows,
+            columns: self.columns,
+            side: self.side || said.implies(),
+        }
+    }
+}
+
+/// The note that is sent to the next instruction; `None` if control never continues there.
 #[tactic(auto, using(crate::proofs::Tables::stored_same))]
 pub fn next_note(note: &Stored, instr: Instr) -> Option<Stored>
     requires in_range { IsInRange instr }
@@ -35,7 +65,7 @@ pub fn next_note(note: &Stored, instr: Instr) -> Option<Stored>
     }
 }
 
-/// The note on the way to a jump's target.
+/// The note that is sent to a jump's target.
 #[tactic(auto, using(crate::proofs::Tables::stored_same))]
 pub fn jump_note(note: &Stored, instr: Instr) -> Stored
     ensures { note_of result ≡ closure (jump_note (note_of note.now) instr) }

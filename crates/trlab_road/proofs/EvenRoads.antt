@@ -138,7 +138,7 @@ no_fault lanes cells limit n (Character l x) fits h = absurd h
 no_fault lanes cells limit n (SpeedAboveLimit l x) fits h = absurd h
 no_fault lanes cells limit n Memory fits h = refl
 
--- two faults are one, unless memory ran out
+-- two faults are one, unless an allocation fails
 pub one_fault : (lanes cells limit n : ℕ) (fault other : RoadFault)
     → IsEvenFault lanes cells limit n fault → IsEvenFault lanes cells limit n other
     → fault ≢ Memory → other ≢ Memory → fault ≡ other

@@ -7,7 +7,7 @@ use Rattle.trlab_road.specs.Cells.{Cell, Lane, Cells, at, cell, lane_of}
 use Rattle.trlab_road.specs.Gaps.{ahead, gap, headspeed, next_place, speed_in}
 use Rattle.trlab_road.specs.Laws.{HeadspeedIsOfNextCar, HeadspeedOfLoneCar}
 use Rattle.trlab_road.specs.Legal.{IsLegal}
-use Rattle.trlab_road.specs.Stored.{cells_of, no_car, place_of, Rises}
+use Rattle.trlab_road.specs.Stored.{cells_of, no_car, place_of, IsSortedFrom}
 use Rattle.trlab_road.proofs.ListGaps.{clear_from, gap_next, gap_round}
 use Rattle.trlab_road.proofs.ListMotion.{parted_kth}
 use Rattle.trlab_road.proofs.Lists.{at_kth, length_cells, rises_high, rises_order}
@@ -54,7 +54,7 @@ headspeed_within road l x legal = of_cell (next_place (lane_of road l) x) (cell 
     of_cell y (Some car) is = rw is (legal.within_limit (car_in l y car.0 car.1) is)
 
 -- the next car of a list, and round the end the first
-module _ (n : ℕ) (cars : List LaneCar) (r : Rises 0 n cars) (i : ℕ) (low : i < length cars) where
+module _ (n : ℕ) (cars : List LaneCar) (r : IsSortedFrom 0 n cars) (i : ℕ) (low : i < length cars) where
   abbrev own : ℕ
   own = place_of cars i
 

@@ -5,13 +5,13 @@ use Rattle.std.proofs.lemmas.List.{length_push, append-nil, at_drop_all}
 use Rattle.trlab_road.specs.LaneCars.{LaneCar}
 use Rattle.trlab_road.specs.Cells.{Lane}
 use Rattle.trlab_road.specs.Pictures.{point}
-use Rattle.trlab_road.specs.Stored.{cells_of, Rises, speed_of_character, lane_of_picture}
+use Rattle.trlab_road.specs.Stored.{cells_of, IsSortedFrom, speed_of_character, lane_of_picture}
 use Rattle.trlab_road.proofs.Lists.{rises_high}
 use Rattle.trlab_road.proofs.ListPush.{cells_none, cells_some, rises_more, rises_push}
 
 -- the cars of the first places are drawn
 pub record Drawn (from : ℕ) (picture : List ℕ) (cars : List LaneCar) (number i : ℕ) : Type 0 where
-  pub rises : Rises 0 i cars
+  pub rises : IsSortedFrom 0 i cars
   pub counted : number ≡ from + length cars
   pub few : length cars ≤ i
   pub whole : cells_of i cars ++ lane_of_picture number (drop i picture) ≡ lane_of_picture from picture
@@ -22,9 +22,9 @@ drawn_none from picture cars e = rw e (record { rises = tt; counted = omega arit
 
 -- at the end
 pub drawn_all : (from : ℕ) (picture : List ℕ) (cars : List LaneCar) (number i : ℕ) → Drawn from picture cars number i
-    → i ≡ length picture → Rises 0 (length picture) cars × (cells_of (length picture) cars ≡ lane_of_picture from picture)
+    → i ≡ length picture → IsSortedFrom 0 (length picture) cars × (cells_of (length picture) cars ≡ lane_of_picture from picture)
 drawn_all from picture cars number i d end = (
-  subst (λ k. Rises 0 k cars) end d.rises,
+  subst (λ k. IsSortedFrom 0 k cars) end d.rises,
   rw (← end) (sym (append-nil (cells_of i cars)) ∙ ap (λ (cs : Lane). cells_of i cars ++ cs) (sym (at_drop_all (lane_of_picture number) picture i (omega (arith, end)))) ∙ d.whole),
 )
 

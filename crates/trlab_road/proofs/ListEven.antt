@@ -4,7 +4,7 @@ use Rattle.std.proofs.Math.Nat.{div-add-mod, mul-le-mul_left}
 use Rattle.std.proofs.lemmas.Bool.{cases_lt}
 use Rattle.trlab_road.specs.LaneCars.{LaneCar}
 use Rattle.trlab_road.specs.Spreading.{flat_cell, even_lane, even_place}
-use Rattle.trlab_road.specs.Stored.{cells_of, Rises, place_of, list_at}
+use Rattle.trlab_road.specs.Stored.{cells_of, IsSortedFrom, place_of, list_at}
 use Rattle.trlab_road.proofs.ListPush.{below_push, cells_empty, cells_push, rises_push}
 use Rattle.trlab_road.proofs.EvenLanes.{EvenUpTo, even_none, even_skip, even_more, even_inside, flat_rises}
 
@@ -23,7 +23,7 @@ place_rises lanes cells n i j room some less same =
 
 -- the cars so far stand, before those to come
 pub record EvenList (lanes cells n l i : ℕ) (cars : List LaneCar) : Type 0 where
-  pub rises : Rises 0 cells cars
+  pub rises : IsSortedFrom 0 cells cars
   pub past : (k : ℕ) → k < length cars → (j : ℕ) → i ≤ j → j < n → even_lane lanes cells n j ≡ l → place_of cars k < even_place lanes cells n j
   pub even : EvenUpTo lanes cells n l i (cells_of cells cars)
 

@@ -6,7 +6,7 @@ use Rattle.std.proofs.lemmas.Bool.{cases_lt, cases_eq, and_from}
 use Rattle.trlab_road.specs.LaneCars.{LaneCar}
 use Rattle.trlab_road.specs.Cells.{Lane, at}
 use Rattle.trlab_road.specs.Gaps.{ahead, behind, is_clear, clear_cells, gap}
-use Rattle.trlab_road.specs.Stored.{cells_of, Rises, place_of, IsParted}
+use Rattle.trlab_road.specs.Stored.{cells_of, IsSortedFrom, place_of, IsParted}
 use Rattle.trlab_road.proofs.Ring.{ring_cases, reach_earlier, ends_before, goes_round}
 use Rattle.trlab_road.proofs.Lists.{length_cells, cells_at, at_kth, empty_at, rises_high, rises_weakly}
 
@@ -22,7 +22,7 @@ module _ (n : ℕ) (cars : List LaneCar) (way : ℕ → ℕ) (g : ℕ)
   run : is_clear (cells_of n cars) way g ≡ true
   run = clear_from (cells_of n cars) way g (λ j low high. let c = clear j low high in cells_at n cars (way j) c.0 ∙ empty_at cars (way j) c.1)
 
-  pub run_ends : (k : ℕ) → Rises 0 n cars → k < length cars → g < n → way (g + 1) ≡ place_of cars k → clear_cells (cells_of n cars) way ≡ g
+  pub run_ends : (k : ℕ) → IsSortedFrom 0 n cars → k < length cars → g < n → way (g + 1) ≡ place_of cars k → clear_cells (cells_of n cars) way ≡ g
   run_ends k r h room reach =
       ends_before (cells_of n cars) way g (rw length_cells room) run (rw reach (ap is_some (at_kth n cars k r h)))
 
@@ -32,7 +32,7 @@ module _ (n : ℕ) (cars : List LaneCar) (way : ℕ → ℕ) (g : ℕ)
 gap_by : (n : ℕ) (cars : List LaneCar) (x : ℕ) → gap (cells_of n cars) x ≡ clear_cells (cells_of n cars) (ahead n x)
 gap_by n cars x = ap (λ m. clear_cells (cells_of n cars) (ahead m x)) (length_cells n cars)
 
-module _ (n : ℕ) (cars : List LaneCar) (r : Rises 0 n cars) (x : ℕ) (inside : x < n) where
+module _ (n : ℕ) (cars : List LaneCar) (r : IsSortedFrom 0 n cars) (x : ℕ) (inside : x < n) where
   -- ahead of a place, where the cars from an index on stand further on
   module _ (next : ℕ) (p : IsParted cars x next) where
     pub gap_next : next < length cars → gap (cells_of n cars) x ≡ place_of cars next - x - 1
@@ -95,7 +95,7 @@ behind_far n x j low most =
     let e : x + (n - j) ≡ x + n - j = omega arith in
     ap (λ k. k % n) e ∙ mod-eq_of_lt (let k : x + n - j < n = omega arith in k)
 
-module _ (n : ℕ) (cars : List LaneCar) (r : Rises 0 n cars) (x : ℕ) (inside : x < n) (next : ℕ)
+module _ (n : ℕ) (cars : List LaneCar) (r : IsSortedFrom 0 n cars) (x : ℕ) (inside : x < n) (next : ℕ)
     (before : (k : ℕ) → k < next → k < length cars → place_of cars k < x) (after : (k : ℕ) → next ≤ k → k < length cars → x < place_of cars k) where
   pub back_next : (k : ℕ) → k + 1 ≡ next → next ≤ length cars → clear_cells (cells_of n cars) (behind n x) ≡ x - place_of cars k - 1
   back_next k is within =

@@ -7,15 +7,15 @@ use Rattle.std.specs.Int.{from_bool}
 use Rattle.trlab_road.specs.LaneCars.{LaneCar}
 use Rattle.trlab_road.specs.Cells.{Cell, at, lane_cars}
 use Rattle.trlab_road.specs.LaneChange.{cell_after_change, LaneCrosses}
-use Rattle.trlab_road.specs.Stored.{cell_at, cells_of, Rises, no_car, place_of, IsFirstFrom, lane_crosses_at}
+use Rattle.trlab_road.specs.Stored.{cell_at, cells_of, IsSortedFrom, no_car, place_of, IsFirstFrom, lane_crosses_at}
 use Rattle.trlab_road.proofs.Lists.{length_cells, cells_at, cell_kth, empty_at, cars_of_list, rises_high, rises_order, rises_weakly}
 use Rattle.trlab_road.proofs.ListPush.{below_push, cell_push, cell_pushed, map_range_below, rises_push}
 
 -- the first car from a place on: at the place, past it, and later
-pub sought_here : (n : ℕ) (cars : List LaneCar) (x k : ℕ) → Rises 0 n cars → IsFirstFrom cars x k → k < length cars → place_of cars k ≡ x → cell_at cars x ≡ Some ((get_or cars k no_car).number, (get_or cars k no_car).speed)
+pub sought_here : (n : ℕ) (cars : List LaneCar) (x k : ℕ) → IsSortedFrom 0 n cars → IsFirstFrom cars x k → k < length cars → place_of cars k ≡ x → cell_at cars x ≡ Some ((get_or cars k no_car).number, (get_or cars k no_car).speed)
 sought_here n cars x k r s low e = subst (λ y. cell_at cars y ≡ Some ((get_or cars k no_car).number, (get_or cars k no_car).speed)) e (cell_kth 0 n cars k r low)
 
-pub sought_none : (n : ℕ) (cars : List LaneCar) (x k : ℕ) → Rises 0 n cars → IsFirstFrom cars x k → (k < length cars → place_of cars k ≢ x) → cell_at cars x ≡ None
+pub sought_none : (n : ℕ) (cars : List LaneCar) (x k : ℕ) → IsSortedFrom 0 n cars → IsFirstFrom cars x k → (k < length cars → place_of cars k ≢ x) → cell_at cars x ≡ None
 sought_none n cars x k r s other = empty_at cars x (λ m low e.
     elim (cases_lt m k) [
       | inl earlier ↦ let a = s.before m earlier low in omega (arith, a, e)
@@ -25,7 +25,7 @@ sought_none n cars x k r s other = empty_at cars x (λ m low e.
           other (omega arith) (omega (arith, a, b, e))
     ])
 
-pub sought_past : (n : ℕ) (cars : List LaneCar) (x k : ℕ) → Rises 0 n cars → IsFirstFrom cars x k → k < length cars → place_of cars k ≡ x → IsFirstFrom cars (x + 1) (k + 1)
+pub sought_past : (n : ℕ) (cars : List LaneCar) (x k : ℕ) → IsSortedFrom 0 n cars → IsFirstFrom cars x k → k < length cars → place_of cars k ≡ x → IsFirstFrom cars (x + 1) (k + 1)
 sought_past n cars x k r s low e = record {
   within = omega arith;
   before = λ m h on. let a = rises_weakly n cars m k r (omega arith) low in omega (arith, a, e);
@@ -33,18 +33,18 @@ sought_past n cars x k r s low e = record {
 }
 
 -- up to the place of the first car from x on there is no car
-pub sought_later : (n : ℕ) (cars : List LaneCar) (x y k : ℕ) → Rises 0 n cars → IsFirstFrom cars x k → x ≤ y → (k < length cars → y ≤ place_of cars k) → IsFirstFrom cars y k
+pub sought_later : (n : ℕ) (cars : List LaneCar) (x y k : ℕ) → IsSortedFrom 0 n cars → IsFirstFrom cars x k → x ≤ y → (k < length cars → y ≤ place_of cars k) → IsFirstFrom cars y k
 sought_later n cars x y k r s le low = record {
   within = s.within;
   before = λ m h on. let a = s.before m h on in omega (arith, a, le);
   from = λ m h on. let a = rises_weakly n cars k m r h on in let b = low (omega arith) in omega (arith, a, b);
 }
 
-pub sought_other : (n : ℕ) (cars : List LaneCar) (x k : ℕ) → Rises 0 n cars → IsFirstFrom cars x k → (k < length cars → place_of cars k ≢ x) → IsFirstFrom cars (x + 1) k
+pub sought_other : (n : ℕ) (cars : List LaneCar) (x k : ℕ) → IsSortedFrom 0 n cars → IsFirstFrom cars x k → (k < length cars → place_of cars k ≢ x) → IsFirstFrom cars (x + 1) k
 sought_other n cars x k r s other = sought_later n cars x (x + 1) k r s (omega arith) (λ low. let a = s.from k (omega arith) low in let b = other low in omega (arith, a, b))
 
 -- one car further, where the first from a place on stands there
-pub sought_next : (n : ℕ) (cars : List LaneCar) (x k : ℕ) (here : Bool) → Rises 0 n cars → IsFirstFrom cars x k → (here ≡ true → k < length cars) → (here ≡ true → place_of cars k ≡ x)
+pub sought_next : (n : ℕ) (cars : List LaneCar) (x k : ℕ) (here : Bool) → IsSortedFrom 0 n cars → IsFirstFrom cars x k → (here ≡ true → k < length cars) → (here ≡ true → place_of cars k ≡ x)
     → (here ≡ false → k < length cars → place_of cars k ≢ x) → IsFirstFrom cars (x + 1) (k + from_bool here)
 sought_next n cars x k true r s low there other = sought_past n cars x k r s (low refl) (there refl)
 sought_next n cars x k false r s low there other =
@@ -66,7 +66,7 @@ own_low n own i a b p d is inside later = due_low n own i a d (omega (arith, is,
 pub coming_low : (n : ℕ) (coming : List LaneCar) (j a b p : ℕ) → IsDue n coming j b → p ≡ min a b → p < n → b ≤ a → j < length coming
 coming_low n coming j a b p d is inside early = due_low n coming j b d (omega (arith, is, inside, early))
 
-pub due_within : (n : ℕ) (cars : List LaneCar) (k a : ℕ) → Rises 0 n cars → IsDue n cars k a → a ≤ n
+pub due_within : (n : ℕ) (cars : List LaneCar) (k a : ℕ) → IsSortedFrom 0 n cars → IsDue n cars k a → a ≤ n
 due_within n cars k a r d =
     elim (cases_lt k (length cars)) [
       | inl low ↦ let e = d.here low in let h = rises_high 0 n cars k r low in omega (arith, e, h)
@@ -74,10 +74,10 @@ due_within n cars k a r d =
     ]
 
 -- where the first car from a place on stands past it, that place is empty
-pub due_none : (n : ℕ) (cars : List LaneCar) (x k a : ℕ) → Rises 0 n cars → IsFirstFrom cars x k → IsDue n cars k a → x < a → cell_at cars x ≡ None
+pub due_none : (n : ℕ) (cars : List LaneCar) (x k a : ℕ) → IsSortedFrom 0 n cars → IsFirstFrom cars x k → IsDue n cars k a → x < a → cell_at cars x ≡ None
 due_none n cars x k a r s d later = sought_none n cars x k r s (λ low e. let h = d.here low in omega (arith, h, e, later))
 
-pub due_past : (n : ℕ) (cars : List LaneCar) (x k a : ℕ) → Rises 0 n cars → IsFirstFrom cars x k → IsDue n cars k a → x < a → IsFirstFrom cars (x + 1) k
+pub due_past : (n : ℕ) (cars : List LaneCar) (x k a : ℕ) → IsSortedFrom 0 n cars → IsFirstFrom cars x k → IsDue n cars k a → x < a → IsFirstFrom cars (x + 1) k
 due_past n cars x k a r s d later = sought_other n cars x k r s (λ low e. let h = d.here low in omega (arith, h, e, later))
 
 -- as many cars as the index of the first car from x on stand before x
@@ -87,13 +87,13 @@ cell_take [] (suc i) y h = refl
 cell_take (car ∷ cars) zero y h = empty_at (car ∷ cars) y (λ k low e. let a = h k (omega arith) low in omega (arith, a, e))
 cell_take (car ∷ cars) (suc i) y h = ap (cond (eqb car.place y) (Some (car.number, car.speed))) (cell_take cars i y (λ k past low. h (suc k) (omega arith) (omega arith)))
 
-rises_take : (y n x : ℕ) (cars : List LaneCar) (i : ℕ) → Rises y n cars → ((k : ℕ) → k < i → k < length cars → place_of cars k < x) → Rises y x (take i cars)
+rises_take : (y n x : ℕ) (cars : List LaneCar) (i : ℕ) → IsSortedFrom y n cars → ((k : ℕ) → k < i → k < length cars → place_of cars k < x) → IsSortedFrom y x (take i cars)
 rises_take y n x [] zero r h = tt
 rises_take y n x [] (suc i) r h = tt
 rises_take y n x (car ∷ cars) zero r h = tt
 rises_take y n x (car ∷ cars) (suc i) r h = (r.0, h 0 (omega arith) (omega arith), rises_take (suc car.place) n x cars i r.2 (λ k low on. h (suc k) (omega arith) (omega arith)))
 
-pub rank_sought : (n : ℕ) (cars : List LaneCar) (x i : ℕ) → Rises 0 n cars → IsFirstFrom cars x i → x ≤ n → lane_cars (take x (cells_of n cars)) ≡ i
+pub rank_sought : (n : ℕ) (cars : List LaneCar) (x i : ℕ) → IsSortedFrom 0 n cars → IsFirstFrom cars x i → x ≤ n → lane_cars (take x (cells_of n cars)) ≡ i
 rank_sought n cars x i r s le =
     ap lane_cars (take-map-range_with_len (cell_at cars) 0 n x le)
     ∙ ap lane_cars (map_range_below (cell_at cars) (cell_at (take i cars)) 0 x (λ y h. cell_take cars i y (λ k past low. let a = s.from k past low in omega arith)))
@@ -111,11 +111,11 @@ none_crosses false false = refl
 pub record Merged (n : ℕ) (own beside : List LaneCar) (oc bc : ℕ → Bool) (next : List LaneCar) (i j x : ℕ) : Type 0 where
   pub own_at : IsFirstFrom own x i
   pub beside_at : IsFirstFrom beside x j
-  pub rises : Rises 0 n next
+  pub rises : IsSortedFrom 0 n next
   pub below : (k : ℕ) → k < length next → place_of next k < x
   pub cells : (y : ℕ) → y < x → cell_at next y ≡ cell_after_change (oc y) (bc y) (cell_at own y) (cell_at beside y)
 
-module _ (n : ℕ) (own beside : List LaneCar) (oc bc : ℕ → Bool) (r : Rises 0 n own) (q : Rises 0 n beside) where
+module _ (n : ℕ) (own beside : List LaneCar) (oc bc : ℕ → Bool) (r : IsSortedFrom 0 n own) (q : IsSortedFrom 0 n beside) where
   pub merged_none : Merged n own beside oc bc [] 0 0 0
   merged_none = record {
     own_at = record { within = omega arith; before = λ k h. absurd (omega arith); from = λ k h on. omega arith };
@@ -176,7 +176,7 @@ pub stays : (oc : Bool) (own side : Cell) (car : ℕ × ℕ) → own ≡ Some ca
 stays oc own side car e f = rw (e, f) refl
 
 -- a car is the first from its place on
-pub first_at : (n : ℕ) (cars : List LaneCar) (k : ℕ) → Rises 0 n cars → k < length cars → IsFirstFrom cars (place_of cars k) k
+pub first_at : (n : ℕ) (cars : List LaneCar) (k : ℕ) → IsSortedFrom 0 n cars → k < length cars → IsFirstFrom cars (place_of cars k) k
 first_at n cars k r low = record {
   within = omega arith;
   before = λ m h on. rises_order 0 n cars m k r h low;
@@ -184,7 +184,7 @@ first_at n cars k r low = record {
 }
 
 -- a run of cars that stay, where none comes
-module _ (n : ℕ) (own beside : List LaneCar) (oc : ℕ → Bool) (r : Rises 0 n own) (q : Rises 0 n beside) (j due : ℕ) (d : IsDue n beside j due) (le : due ≤ n) where
+module _ (n : ℕ) (own beside : List LaneCar) (oc : ℕ → Bool) (r : IsSortedFrom 0 n own) (q : IsSortedFrom 0 n beside) (j due : ℕ) (d : IsDue n beside j due) (le : due ≤ n) where
   pub merged_run : (c : ℕ) (next : List LaneCar) (i x : ℕ) → Merged n own beside oc (λ _. true) next i j x → x ≤ due → i + c ≤ length own → ((k : ℕ) → i ≤ k → k < i + c → place_of own k < due)
       → ((k : ℕ) → i ≤ k → k < i + c → oc (place_of own k) ≡ false) → (y : ℕ) × (Merged n own beside oc (λ _. true) (next ++ take c (drop i own)) (i + c) j y × (y ≤ due))
   merged_run zero next i x m low on before stay =
@@ -215,14 +215,14 @@ merged_all n own beside oc bc next i j x m whole = record {
 }
 
 -- on to the next car of either list, or the end
-pub reach : (n : ℕ) (cars : List LaneCar) (k x a : ℕ) → Rises 0 n cars → IsFirstFrom cars x k → x ≤ n → (k < length cars → a ≡ place_of cars k) → (length cars ≤ k → a ≡ n) → (x ≤ a) × (a ≤ n)
+pub reach : (n : ℕ) (cars : List LaneCar) (k x a : ℕ) → IsSortedFrom 0 n cars → IsFirstFrom cars x k → x ≤ n → (k < length cars → a ≡ place_of cars k) → (length cars ≤ k → a ≡ n) → (x ≤ a) × (a ≤ n)
 reach n cars k x a r s le here past =
     elim (cases_lt k (length cars)) [
       | inl low ↦ let e = here low in let f = s.from k (omega arith) low in let h = rises_high 0 n cars k r low in (omega (arith, e, f), omega (arith, e, h))
       | inr high ↦ let e = past high in (omega (arith, e, le), omega (arith, e))
     ]
 
-pub merged_next : (n : ℕ) (own beside : List LaneCar) (oc bc : ℕ → Bool) (r : Rises 0 n own) (q : Rises 0 n beside) (next : List LaneCar) (i j x a b p : ℕ) → Merged n own beside oc bc next i j x → x ≤ n
+pub merged_next : (n : ℕ) (own beside : List LaneCar) (oc bc : ℕ → Bool) (r : IsSortedFrom 0 n own) (q : IsSortedFrom 0 n beside) (next : List LaneCar) (i j x a b p : ℕ) → Merged n own beside oc bc next i j x → x ≤ n
     → (i < length own → a ≡ place_of own i) → (length own ≤ i → a ≡ n) → (j < length beside → b ≡ place_of beside j) → (length beside ≤ j → b ≡ n) → p ≡ min a b → Merged n own beside oc bc next i j p
 merged_next n own beside oc bc r q next i j x a b p m le here past there gone is =
     let f = reach n own i x a r m.own_at le here past in
@@ -232,5 +232,5 @@ merged_next n own beside oc bc r q next i j x a b p m le here past there gone is
     merged_to n own beside oc bc r q next i j x m p (omega (arith, is, fl, gl)) (λ low. let e = here low in omega (arith, is, e)) (λ low. let e = there low in omega (arith, is, e))
 
 -- the answer that stands at an index is that of the place
-pub crosses_here : (n : ℕ) (cars : List LaneCar) (answers : List Bool) (from x k : ℕ) → Rises 0 n cars → IsFirstFrom cars x k → x ≤ n → get_or answers (from + k) false ≡ lane_crosses_at (cells_of n cars) answers from x
+pub crosses_here : (n : ℕ) (cars : List LaneCar) (answers : List Bool) (from x k : ℕ) → IsSortedFrom 0 n cars → IsFirstFrom cars x k → x ≤ n → get_or answers (from + k) false ≡ lane_crosses_at (cells_of n cars) answers from x
 crosses_here n cars answers from x k r s le = ap (λ i. get_or answers (from + i) false) (sym (rank_sought n cars x k r s le))

@@ -4,14 +4,14 @@ use Rattle.std.proofs.lemmas.Bool.{cases_eq}
 use Rattle.trlab_road.specs.LaneCars.{LaneCar}
 use Rattle.trlab_road.specs.Cells.{Cell, at}
 use Rattle.trlab_road.specs.LaneChange.{cell_after_change, LaneCrosses}
-use Rattle.trlab_road.specs.Stored.{cell_at, cells_of, Rises, no_car, place_of, IsFirstFrom, LaneLeaves, lane_crosses_at}
+use Rattle.trlab_road.specs.Stored.{cell_at, cells_of, IsSortedFrom, no_car, place_of, IsFirstFrom, LaneLeaves, lane_crosses_at}
 use Rattle.trlab_road.proofs.Lists.{length_cells, cells_at, cell_kth, empty_at, kth_of_cell, list_car, rises_high, rises_order, rises_weakly}
 use Rattle.trlab_road.proofs.ListLaneChange.{crosses_here}
 use Rattle.trlab_road.proofs.ListPush.{below_push, cell_push, cell_pushed, rises_push}
 
 -- of the first k cars those that cross are in a list
 pub record Leaving (n : ℕ) (cars : List LaneCar) (answers : List Bool) (from k : ℕ) (leaving : List LaneCar) : Type 0 where
-  pub rises : Rises 0 n leaving
+  pub rises : IsSortedFrom 0 n leaving
   pub before : (m : ℕ) → k ≤ m → m < length cars → (j : ℕ) → j < length leaving → place_of leaving j < place_of cars m
   pub cells : (m : ℕ) → m < k → m < length cars → cell_at leaving (place_of cars m) ≡ cond (get_or answers (from + m) false) (cell_at cars (place_of cars m)) None
   pub others : (x : ℕ) → cell_at cars x ≡ None → cell_at leaving x ≡ None
@@ -19,7 +19,7 @@ pub record Leaving (n : ℕ) (cars : List LaneCar) (answers : List Bool) (from k
 some_none : {A : Type 0} (a : A) (c : Cell) → c ≡ None → (car : ℕ × ℕ) → c ≡ Some car → ⊥
 some_none a c none car some = cc
 
-module _ (n : ℕ) (cars : List LaneCar) (answers : List Bool) (from : ℕ) (r : Rises 0 n cars) where
+module _ (n : ℕ) (cars : List LaneCar) (answers : List Bool) (from : ℕ) (r : IsSortedFrom 0 n cars) where
   module _ (leaving : List LaneCar) (k : ℕ) (low : k < length cars) (l : Leaving n cars answers from k leaving) where
     abbrev car : LaneCar
     car = get_or cars k no_car

@@ -9,7 +9,7 @@ use Rattle.trlab_road.specs.Cells.{at, lane_cars}
 use Rattle.trlab_road.specs.Gaps.{ahead}
 use Rattle.trlab_road.specs.Standing.{standing_from}
 use Rattle.trlab_road.specs.Motion.{LaneFits, LaneMoves}
-use Rattle.trlab_road.specs.Stored.{cells_of, Rises, no_car, place_of, IsParted, car_on, lane_answer}
+use Rattle.trlab_road.specs.Stored.{cells_of, IsSortedFrom, no_car, place_of, IsParted, car_on, lane_answer}
 use Rattle.trlab_road.proofs.Ring.{inside}
 use Rattle.trlab_road.proofs.StandingOrder.{rank_is}
 use Rattle.trlab_road.proofs.Lists.{length_cells, cells_at, at_kth, list_car, kth_of_cell, standing_list, rises_high, rises_order, rises_weakly}
@@ -17,7 +17,7 @@ use Rattle.trlab_road.proofs.ListPush.{rises_push, rises_above}
 use Rattle.trlab_road.proofs.ListGaps.{gap_next, gap_round}
 
 -- as many cars as its index stand before the k-th car
-pub rank_kth : (n : ℕ) (cars : List LaneCar) (k : ℕ) → Rises 0 n cars → k < length cars → lane_cars (take (place_of cars k) (cells_of n cars)) ≡ k
+pub rank_kth : (n : ℕ) (cars : List LaneCar) (k : ℕ) → IsSortedFrom 0 n cars → k < length cars → lane_cars (take (place_of cars k) (cells_of n cars)) ≡ k
 rank_kth n cars k r h =
     let cells = cells_of n cars in
     let s = standing_list 0 n cars r in
@@ -27,18 +27,18 @@ rank_kth n cars k r h =
     ap (λ (cs : List Car). (get_or cs k d).place - 0) s ∙ ap (λ (c : Car). c.place - 0) (get_or-map (car_on 0) cars k no_car d h) ∙ (let z : place_of cars k - 0 ≡ place_of cars k = omega arith in z) in
     subst (λ p. lane_cars (take p cells) ≡ k) e (rank_is 0 0 cells k d within)
 
-pub answer_kth : (n : ℕ) (cars : List LaneCar) (answers : List ℕ) (from k : ℕ) → Rises 0 n cars → k < length cars → get_or answers (from + k) 0 ≡ lane_answer (cells_of n cars) answers from (place_of cars k)
+pub answer_kth : (n : ℕ) (cars : List LaneCar) (answers : List ℕ) (from k : ℕ) → IsSortedFrom 0 n cars → k < length cars → get_or answers (from + k) 0 ≡ lane_answer (cells_of n cars) answers from (place_of cars k)
 answer_kth n cars answers from k r h = ap (λ i. get_or answers (from + i) 0) (sym (rank_kth n cars k r h))
 
 -- the cars up to the k-th stand no further than it
-pub parted_kth : (n : ℕ) (cars : List LaneCar) (k : ℕ) → Rises 0 n cars → k < length cars → IsParted cars (place_of cars k) (k + 1)
+pub parted_kth : (n : ℕ) (cars : List LaneCar) (k : ℕ) → IsSortedFrom 0 n cars → k < length cars → IsParted cars (place_of cars k) (k + 1)
 parted_kth n cars k r h = record {
   before = λ j low within. rises_weakly n cars j k r (omega arith) h;
   after = λ j low within. rises_order 0 n cars k j r (omega arith) within;
 }
 
 -- an answer within the gap leads before the next car, and of the last car before the first one
-module _ (n : ℕ) (cars : List LaneCar) (answer : ℕ → ℕ) (r : Rises 0 n cars) (fits : LaneFits answer (cells_of n cars)) where
+module _ (n : ℕ) (cars : List LaneCar) (answer : ℕ → ℕ) (r : IsSortedFrom 0 n cars) (fits : LaneFits answer (cells_of n cars)) where
   pub before_next : (k : ℕ) → k + 1 < length cars → place_of cars k + answer (place_of cars k) < place_of cars (k + 1)
   before_next k h =
       let low : k < length cars = omega arith in
@@ -90,7 +90,7 @@ pub record From (n : ℕ) (answer : ℕ → ℕ) (cars next : List LaneCar) (m i
 -- the first m cars went ahead
 pub record Moved (n : ℕ) (answer : ℕ → ℕ) (cars next : List LaneCar) (m : ℕ) : Type 0 where
   pub size : length next ≡ m
-  pub rises : Rises 0 n next
+  pub rises : IsSortedFrom 0 n next
   pub each : (j : ℕ) → j < m → (i : ℕ) × From n answer cars next m i j
   pub back : (i : ℕ) → i < m → (j : ℕ) × From n answer cars next m i j
   pub first : m < length cars → (k : ℕ) → k < m → place_of cars 0 ≤ place_of next k
@@ -106,7 +106,7 @@ moved_none n answer cars = record {
   last = λ some j h. absurd (omega arith);
 }
 
-module _ (n : ℕ) (answer : ℕ → ℕ) (cars next : List LaneCar) (m : ℕ) (r : Rises 0 n cars) (fits : LaneFits answer (cells_of n cars)) (moved : Moved n answer cars next m) (low : m < length cars)
+module _ (n : ℕ) (answer : ℕ → ℕ) (cars next : List LaneCar) (m : ℕ) (r : IsSortedFrom 0 n cars) (fits : LaneFits answer (cells_of n cars)) (moved : Moved n answer cars next m) (low : m < length cars)
     (car : LaneCar) (v : ℕ) (same : v ≡ answer (place_of cars m)) where
   -- one more car went straight ahead
   pub moved_straight : place_of cars m + v < n → car ≡ record { number = (get_or cars m no_car).number; place = place_of cars m + v; speed = v } → Moved n answer cars (next ++ car ∷ []) (m + 1)
@@ -159,12 +159,12 @@ module _ (n : ℕ) (answer : ℕ → ℕ) (cars next : List LaneCar) (m : ℕ) (
       }
 
 -- a car of a list stands where it says
-stands : (n : ℕ) (cars : List LaneCar) (k number x speed : ℕ) → Rises 0 n cars → k < length cars → get_or cars k no_car ≡ list_car number x speed → at (cells_of n cars) x ≡ Some (number, speed)
+stands : (n : ℕ) (cars : List LaneCar) (k number x speed : ℕ) → IsSortedFrom 0 n cars → k < length cars → get_or cars k no_car ≡ list_car number x speed → at (cells_of n cars) x ≡ Some (number, speed)
 unfolding list_car
 stands n cars k number x speed r low is = subst (λ (car : LaneCar). at (cells_of n cars) car.place ≡ Some (car.number, car.speed)) is (at_kth n cars k r low)
 
 -- where all went ahead, the lane that the new list makes is that of the old one after the motion
-pub moved_all : (n : ℕ) (answer : ℕ → ℕ) (cars next : List LaneCar) → Rises 0 n cars → Moved n answer cars next (length cars) → LaneMoves answer (cells_of n cars) (cells_of n next)
+pub moved_all : (n : ℕ) (answer : ℕ → ℕ) (cars next : List LaneCar) → IsSortedFrom 0 n cars → Moved n answer cars next (length cars) → LaneMoves answer (cells_of n cars) (cells_of n next)
 unfolding list_car
 moved_all n answer cars next r moved =
     let size = length_cells n cars in
@@ -194,7 +194,7 @@ moved_all n answer cars next r moved =
     }
 
 -- a list whose last car was taken off
-module _ (n : ℕ) (answer : ℕ → ℕ) (cars before : List LaneCar) (last : LaneCar) (r : Rises 0 n cars) (fits : LaneFits answer (cells_of n cars)) (whole : cars ≡ before ++ last ∷ []) where
+module _ (n : ℕ) (answer : ℕ → ℕ) (cars before : List LaneCar) (last : LaneCar) (r : IsSortedFrom 0 n cars) (fits : LaneFits answer (cells_of n cars)) (whole : cars ≡ before ++ last ∷ []) where
   pub size_whole : length cars ≡ length before + 1
   size_whole = ap length whole ∙ length_push before last
 
@@ -221,7 +221,7 @@ module _ (n : ℕ) (answer : ℕ → ℕ) (cars before : List LaneCar) (last : L
         rw s (moved_round n answer cars now (length before) r fits moved (omega (arith, s)) car v (rw here at same) (rw here at past) (rw here at is))
 
 -- a car's answer leads at most round the ring
-pub reach_fits : (n : ℕ) (cars : List LaneCar) (answer : ℕ → ℕ) (k : ℕ) → Rises 0 n cars → LaneFits answer (cells_of n cars) → k + 1 ≡ length cars → place_of cars k + answer (place_of cars k) < n + n
+pub reach_fits : (n : ℕ) (cars : List LaneCar) (answer : ℕ → ℕ) (k : ℕ) → IsSortedFrom 0 n cars → LaneFits answer (cells_of n cars) → k + 1 ≡ length cars → place_of cars k + answer (place_of cars k) < n + n
 reach_fits n cars answer k r fits whole =
     let a = before_first n cars answer r fits k whole in
     let b = rises_high 0 n cars 0 r (omega (arith, whole)) in

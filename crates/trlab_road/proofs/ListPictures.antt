@@ -4,7 +4,7 @@ use Rattle.std.specs.List.{range_with_len}
 use Rattle.std.proofs.lemmas.List.{map-set, get_or-take, take_more, length-take-le}
 use Rattle.trlab_road.specs.LaneCars.{LaneCar}
 use Rattle.trlab_road.specs.Pictures.{character, point, speed_character, picture}
-use Rattle.trlab_road.specs.Stored.{cell_at, cells_of, Rises, no_car, place_of}
+use Rattle.trlab_road.specs.Stored.{cell_at, cells_of, IsSortedFrom, no_car, place_of}
 use Rattle.trlab_road.proofs.Lists.{rises_high, rises_order}
 use Rattle.trlab_road.proofs.ListPush.{cells_push}
 
@@ -13,7 +13,7 @@ empty_picture a zero = refl
 empty_picture a (suc n) = ap (λ bytes. point ∷ bytes) (empty_picture (a + 1) n)
 
 -- the picture with one more car
-pub picture_more : (n : ℕ) (cars : List LaneCar) (k b : ℕ) → Rises 0 n cars → k < length cars → b ≡ speed_character (get_or cars k no_car).speed
+pub picture_more : (n : ℕ) (cars : List LaneCar) (k b : ℕ) → IsSortedFrom 0 n cars → k < length cars → b ≡ speed_character (get_or cars k no_car).speed
     → set (picture (cells_of n (take k cars))) (place_of cars k) b ≡ picture (cells_of n (take (k + 1) cars))
 picture_more n cars k b r low is =
     let car = get_or cars k no_car in

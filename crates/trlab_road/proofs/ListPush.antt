@@ -4,7 +4,7 @@ use Rattle.std.specs.List.{range_with_len}
 use Rattle.std.proofs.lemmas.List.FromFn.{map-range_with_len_more}
 use Rattle.trlab_road.specs.LaneCars.{LaneCar}
 use Rattle.trlab_road.specs.Cells.{Cell, Lane}
-use Rattle.trlab_road.specs.Stored.{cell_at, cells_of, Rises, place_of}
+use Rattle.trlab_road.specs.Stored.{cell_at, cells_of, IsSortedFrom, place_of}
 use Rattle.trlab_road.proofs.Lists.{cell_here, cell_other, empty_at, map_range_same, rises_high}
 
 -- what stands at a place
@@ -25,15 +25,15 @@ below_push (first ∷ cars) car f low last zero h = low 0 (omega arith)
 below_push (first ∷ cars) car f low last (suc k) h = below_push cars car f (λ j g. low (suc j) (omega arith)) last k (omega arith)
 
 -- the places rise still, from another place on and up to another end too
-pub rises_push : (x n : ℕ) (cars : List LaneCar) (car : LaneCar) → Rises x n cars → ((k : ℕ) → k < length cars → place_of cars k < car.place) → x ≤ car.place → car.place < n → Rises x n (cars ++ car ∷ [])
+pub rises_push : (x n : ℕ) (cars : List LaneCar) (car : LaneCar) → IsSortedFrom x n cars → ((k : ℕ) → k < length cars → place_of cars k < car.place) → x ≤ car.place → car.place < n → IsSortedFrom x n (cars ++ car ∷ [])
 rises_push x n [] car r past low high = (low, high, tt)
 rises_push x n (first ∷ cars) car r past low high = (r.0, r.1, rises_push (suc first.place) n cars car r.2 (λ k h. past (suc k) (omega arith)) (past 0 (omega arith)) high)
 
-pub rises_above : (x y n : ℕ) (cars : List LaneCar) → Rises x n cars → ((k : ℕ) → k < length cars → y ≤ place_of cars k) → Rises y n cars
+pub rises_above : (x y n : ℕ) (cars : List LaneCar) → IsSortedFrom x n cars → ((k : ℕ) → k < length cars → y ≤ place_of cars k) → IsSortedFrom y n cars
 rises_above x y n [] r low = tt
 rises_above x y n (car ∷ cars) r low = (low 0 (omega arith), r.1, r.2)
 
-pub rises_more : (x n m : ℕ) (cars : List LaneCar) → n ≤ m → Rises x n cars → Rises x m cars
+pub rises_more : (x n m : ℕ) (cars : List LaneCar) → n ≤ m → IsSortedFrom x n cars → IsSortedFrom x m cars
 rises_more x n m [] le r = tt
 rises_more x n m (car ∷ cars) le r = (r.0, (let a = r.1 in omega (arith, a, le)), rises_more (suc car.place) n m cars le r.2)
 
@@ -44,12 +44,12 @@ map_range_below f g a (suc m) h =
     ap (λ c. c ∷ map f (range_with_len (a + 1) m)) (h a (omega arith)) ∙ ap (λ cs. g a ∷ cs) (map_range_below f g (a + 1) m (λ y k. h y (omega arith)))
 
 -- a lane with one place more, empty or with a car
-pub cells_none : (i : ℕ) (cars : List LaneCar) → Rises 0 i cars → cells_of (i + 1) cars ≡ cells_of i cars ++ None ∷ []
+pub cells_none : (i : ℕ) (cars : List LaneCar) → IsSortedFrom 0 i cars → cells_of (i + 1) cars ≡ cells_of i cars ++ None ∷ []
 cells_none i cars r =
     let z : 0 + i ≡ i = omega arith in
     map-range_with_len_more (cell_at cars) 0 i i z ∙ ap (λ c. cells_of i cars ++ c ∷ []) (empty_at cars i (λ k h e. let a = rises_high 0 i cars k r h in omega (arith, a, e)))
 
-pub cells_some : (i : ℕ) (cars : List LaneCar) (car : LaneCar) → Rises 0 i cars → car.place ≡ i → cells_of (i + 1) (cars ++ car ∷ []) ≡ cells_of i cars ++ Some (car.number, car.speed) ∷ []
+pub cells_some : (i : ℕ) (cars : List LaneCar) (car : LaneCar) → IsSortedFrom 0 i cars → car.place ≡ i → cells_of (i + 1) (cars ++ car ∷ []) ≡ cells_of i cars ++ Some (car.number, car.speed) ∷ []
 cells_some i cars car r at_i =
     let z : 0 + i ≡ i = omega arith in
     map-range_with_len_more (cell_at (cars ++ car ∷ [])) 0 i i z

@@ -4,7 +4,7 @@ use Rattle.std.specs.Prelude.{sum_by, slice_get}
 use Rattle.std.proofs.lemmas.List.{length-map, take_more, take_at}
 use Rattle.std.proofs.lemmas.List.Sums.{sum_by-cons, sum_by_push}
 use Rattle.std.proofs.lemmas.Option.{slice_get-get_or}
-use Rattle.trlab_bounds.specs.declared.roads.TheConstants.{GREATEST_LENGTH, GREATEST_LIMIT, MOST_LANES}
+use Rattle.trlab_bounds.specs.declared.roads.TheConstants.{MAX_LENGTH, MAX_LIMIT, MAX_LANES}
 use Rattle.trlab_road.specs.declared.car.Car.{Car}
 use Rattle.trlab_road.specs.LaneCars.{LaneCar}
 use Rattle.trlab_road.specs.Cells.{Lane, Cells, at, cell, cars, lane_cars}
@@ -13,7 +13,7 @@ use Rattle.trlab_road.specs.Motion.{in_order, MayMove, LaneFits, LaneMoves, Move
 use Rattle.trlab_road.proofs.MotionInOrder.{answer_at, allowed_fits}
 use Rattle.trlab_road.proofs.RoadCars.{in_order_kth, cars_more, cars_within}
 use Rattle.trlab_road.specs.LaneChange.{LaneCrosses, Crosses, crosses_at}
-use Rattle.trlab_road.specs.Stored.{lists_of, cells_of, Rises, no_car, place_of, car_on, lanes_from, list_at, AreSorted, IsStored, IsFoundAt, ListsFit, ListsMove, lane_answer, lane_crosses_at}
+use Rattle.trlab_road.specs.Stored.{lists_of, cells_of, IsSortedFrom, no_car, place_of, car_on, lanes_from, list_at, AreSorted, IsListedRoad, IsFoundAt, ListsFit, ListsMove, lane_answer, lane_crosses_at}
 use Rattle.trlab_road.proofs.StandingOrder.{car_of, standing_rank, rank_below_cars, length-standing_lanes}
 use Rattle.trlab_road.proofs.Lists.{length_cells, at_kth, cars_of_list, rises_high, standing_list}
 use Rattle.trlab_road.proofs.ListMotion.{rank_kth}
@@ -53,7 +53,7 @@ pub one_list_more : (lists : List (Vec LaneCar Global)) (l : ℕ) → l < length
 one_list_more lists l h = rw (take_more (lists_of lists) l [] (rw length-map h)) (sum_by_push length (take l (lists_of lists)) (list_at lists l))
 
 -- one or two lists: an index is one of the first list, or else one of the second
-pub found_second : (lists : List (Vec LaneCar Global)) (k : ℕ) → length lists ≤ MOST_LANES → k < sum_by length (lists_of lists) → length (list_at lists 0) ≤ k → IsFoundAt lists k 1 (k - length (list_at lists 0))
+pub found_second : (lists : List (Vec LaneCar Global)) (k : ℕ) → length lists ≤ MAX_LANES → k < sum_by length (lists_of lists) → length (list_at lists 0) ≤ k → IsFoundAt lists k 1 (k - length (list_at lists 0))
 found_second [] k few h past = absurd (omega arith)
 found_second (v ∷ []) k few h past = let a = sum_by-cons length v.items [] in absurd (omega (arith, a, h, past))
 found_second (v ∷ w ∷ []) k few h past =
@@ -125,44 +125,44 @@ two_written (a ∷ []) v w two = absurd (omega (arith, two))
 two_written (a ∷ b ∷ []) v w two = refl
 two_written (a ∷ b ∷ d ∷ old) v w two = absurd (omega (arith, two))
 
-pub two_sorted : (n : ℕ) (v w : Vec LaneCar Global) → Rises 0 n v.items → Rises 0 n w.items → AreSorted n (v ∷ w ∷ [])
-two_sorted n v w first second = record { rises = below_more (λ l. Rises 0 n (list_at (v ∷ w ∷ []) l)) 1 (below_more (λ l. Rises 0 n (list_at (v ∷ w ∷ []) l)) 0 (λ l h. absurd (omega (arith, h))) first) second }
+pub two_sorted : (n : ℕ) (v w : Vec LaneCar Global) → IsSortedFrom 0 n v.items → IsSortedFrom 0 n w.items → AreSorted n (v ∷ w ∷ [])
+two_sorted n v w first second = record { rises = below_more (λ l. IsSortedFrom 0 n (list_at (v ∷ w ∷ []) l)) 1 (below_more (λ l. IsSortedFrom 0 n (list_at (v ∷ w ∷ []) l)) 0 (λ l h. absurd (omega (arith, h))) first) second }
 
 pub some_list : (lists : List (Vec LaneCar Global)) (k : ℕ) → k < sum_by length (lists_of lists) → 0 < length lists
 some_list [] k h = absurd (omega arith)
 some_list (v ∷ lists) k h = omega arith
 
-pub found_later : (lists : List (Vec LaneCar Global)) (k m : ℕ) → length lists ≤ MOST_LANES → k < sum_by length (lists_of lists) → m ≡ length (list_at lists 0) → m ≤ k → IsFoundAt lists k 1 (k - m)
+pub found_later : (lists : List (Vec LaneCar Global)) (k m : ℕ) → length lists ≤ MAX_LANES → k < sum_by length (lists_of lists) → m ≡ length (list_at lists 0) → m ≤ k → IsFoundAt lists k 1 (k - m)
 found_later lists k m few h e past = rw e (found_second lists k few h (omega arith))
 
 -- a sorted list has no more cars than cells
-pub rises_length : (x n : ℕ) (cars : List LaneCar) → Rises x n cars → x ≤ n → x + length cars ≤ n
+pub rises_length : (x n : ℕ) (cars : List LaneCar) → IsSortedFrom x n cars → x ≤ n → x + length cars ≤ n
 rises_length x n [] r le = omega arith
 rises_length x n (car ∷ cars) r le = let low = r.0 in let high = r.1 in let k = rises_length (suc car.place) n cars r.2 (omega arith) in omega (arith, low, k)
 
 -- a road that keeps its lists sorted
-module _ (n : ℕ) (lists : List (Vec LaneCar Global)) (limit : ℕ) (kept : IsStored n lists (record { limit = limit; lanes = lanes_from n lists })) where
+module _ (n : ℕ) (lists : List (Vec LaneCar Global)) (limit : ℕ) (kept : IsListedRoad n lists (record { limit = limit; lanes = lanes_from n lists })) where
   pub lanes_count : length (lanes_from n lists) ≡ length lists
   lanes_count = length-map lists (λ (v : Vec LaneCar Global). cells_of n v.items)
 
   pub length_first : length (get_or (lanes_from n lists) 0 []) ≡ n
   length_first = let some = kept.legal.shape.lanes.some_lane in ap length (lane_from n lists 0 (omega (arith, some, lanes_count))) ∙ length_cells n (list_at lists 0)
 
-  pub few_cells : n ≤ GREATEST_LENGTH
+  pub few_cells : n ≤ MAX_LENGTH
   few_cells = let a = kept.legal.shape.cells.few_cells in let b = length_first in omega (arith, a, b)
 
-  pub few_lists : length lists ≤ MOST_LANES
+  pub few_lists : length lists ≤ MAX_LANES
   few_lists = let a = kept.legal.shape.lanes.few_lanes in let b = lanes_count in omega (arith, a, b)
 
-  pub few_cars : (l : ℕ) → l < length lists → length (list_at lists l) ≤ GREATEST_LENGTH
+  pub few_cars : (l : ℕ) → l < length lists → length (list_at lists l) ≤ MAX_LENGTH
   few_cars l h = let a = rises_length 0 n (list_at lists l) (kept.sorted.rises l h) (omega arith) in let b = few_cells in omega (arith, a, b)
 
   pub below_counted : (k : ℕ) → k < sum_by lane_cars (lanes_from n lists) → k < sum_by length (lists_of lists)
   below_counted k low = let a = counted n lists kept.sorted in omega (arith, a, low)
 
 -- no car is faster than the greatest limit
-pub slow_list : (n : ℕ) (lists : List (Vec LaneCar Global)) (limit : ℕ) → IsStored n lists (record { limit = limit; lanes = lanes_from n lists })
-    → (l : ℕ) → l < length lists → (k : ℕ) → k < length (list_at lists l) → (get_or (list_at lists l) k no_car).speed ≤ GREATEST_LIMIT
+pub slow_list : (n : ℕ) (lists : List (Vec LaneCar Global)) (limit : ℕ) → IsListedRoad n lists (record { limit = limit; lanes = lanes_from n lists })
+    → (l : ℕ) → l < length lists → (k : ℕ) → k < length (list_at lists l) → (get_or (list_at lists l) k no_car).speed ≤ MAX_LIMIT
 slow_list n lists limit kept l on k low =
     let car = get_or (list_at lists l) k no_car in
     let there = ap (λ (lane : Lane). at lane car.place) (lane_from n lists l on) ∙ at_kth n (list_at lists l) k (kept.sorted.rises l on) low in
@@ -254,6 +254,6 @@ off_on : (cars : List LaneCar) → map off (map (car_on 0) cars) ≡ cars
 off_on [] = refl
 off_on (car ∷ cars) = ap (λ cs. car ∷ cs) (off_on cars)
 
-pub list_told : (n : ℕ) (cars others : List LaneCar) → Rises 0 n cars → Rises 0 n others → cells_of n cars ≡ cells_of n others → cars ≡ others
+pub list_told : (n : ℕ) (cars others : List LaneCar) → IsSortedFrom 0 n cars → IsSortedFrom 0 n others → cells_of n cars ≡ cells_of n others → cars ≡ others
 list_told n cars others r s e =
     sym (off_on cars) ∙ ap (map off) (sym (standing_list 0 n cars r) ∙ ap (standing_from 0 0) e ∙ standing_list 0 n others s) ∙ off_on others

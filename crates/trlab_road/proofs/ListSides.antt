@@ -5,12 +5,12 @@ use Rattle.std.proofs.lemmas.Bool.{cases_eq, cond-true, cond-false}
 use Rattle.std.proofs.lemmas.Bool.Decides.{nat_tests}
 use Rattle.trlab_road.specs.LaneCars.{LaneCar}
 use Rattle.trlab_road.specs.Gaps.{ahead, behind, clear_cells, gap, side, sidegap, sideback}
-use Rattle.trlab_road.specs.Stored.{cells_of, Rises, place_of, IsParted, IsFirstFrom}
+use Rattle.trlab_road.specs.Stored.{cells_of, IsSortedFrom, place_of, IsParted, IsFirstFrom}
 use Rattle.trlab_road.proofs.ListGaps.{back_next, gap_next}
 use Rattle.trlab_road.proofs.Lists.{length_cells, cells_at, rises_order}
 use Rattle.trlab_road.proofs.ListLaneChange.{sought_here, sought_none}
 
-module _ (n : ℕ) (cars : List LaneCar) (x k : ℕ) (r : Rises 0 n cars) (inside : x < n) (s : IsFirstFrom cars x k) where
+module _ (n : ℕ) (cars : List LaneCar) (x k : ℕ) (r : IsSortedFrom 0 n cars) (inside : x < n) (s : IsFirstFrom cars x k) where
   -- the side cell is taken
   module _ (low : k < length cars) (e : place_of cars k ≡ x) where
     pub taken : side (cells_of n cars) x ≡ false
@@ -47,7 +47,7 @@ not_equal : (a b : ℕ) → a ≢ b → nat_eq a b ≡ false
 not_equal a b other = grind (arith, nat_tests, other)
 
 -- between two cars of the list the gaps are differences of places, whether or not the side cell is taken
-module _ (n : ℕ) (cars : List LaneCar) (x k : ℕ) (r : Rises 0 n cars) (inside : x < n) (s : IsFirstFrom cars x k) (low : k < length cars) where
+module _ (n : ℕ) (cars : List LaneCar) (x k : ℕ) (r : IsSortedFrom 0 n cars) (inside : x < n) (s : IsFirstFrom cars x k) (low : k < length cars) where
   pub between_side : (empty : Bool) → empty ≡ not (nat_eq (place_of cars k - x) 0) → empty ≡ side (cells_of n cars) x
   between_side empty is =
       elim (cases_eq (place_of cars k) x) [

@@ -10,7 +10,7 @@ use Rattle.trlab_road.specs.declared.car.Car.{Car}
 use Rattle.trlab_road.specs.LaneCars.{LaneCar}
 use Rattle.trlab_road.specs.Cells.{Cell, Lane, at, lane_cars}
 use Rattle.trlab_road.specs.Standing.{standing_from}
-use Rattle.trlab_road.specs.Stored.{cell_at, cells_of, Rises, no_car, place_of, car_on}
+use Rattle.trlab_road.specs.Stored.{cell_at, cells_of, IsSortedFrom, no_car, place_of, car_on}
 use Rattle.trlab_road.proofs.StandingOrder.{length-standing_from}
 
 -- the lane has so many cells, and at each place what the list has there
@@ -28,7 +28,7 @@ pub cell_other : (car : LaneCar) (cars : List LaneCar) (x : ℕ) → car.place �
 cell_other car cars x e = cond-false (eqb car.place x) (Some (car.number, car.speed)) (cell_at cars x) (ne_eqb car.place x e)
 
 -- no car stands before the first one
-pub none_before : (x n : ℕ) (cars : List LaneCar) (y : ℕ) → Rises x n cars → y < x → cell_at cars y ≡ None
+pub none_before : (x n : ℕ) (cars : List LaneCar) (y : ℕ) → IsSortedFrom x n cars → y < x → cell_at cars y ≡ None
 none_before x n [] y r low = refl
 none_before x n (car ∷ cars) y r low =
     cell_other car cars y (λ e. let k = r.0 in omega arith) ∙ none_before (suc car.place) n cars y r.2 (let k = r.0 in omega arith)
@@ -50,7 +50,7 @@ same_car_on : (l s : ℕ) (car : LaneCar) → car.place ≡ s → ◌≡◌ {A =
 same_car_on l s car e = ap (λ k. record { number = car.number; lane = l; place = k; speed = car.speed }) (sym e)
 
 -- the lane that a sorted list makes has these cars in standing order
-pub standing_cells : (l s m n : ℕ) (cars : List LaneCar) → s + m ≡ n → Rises s n cars → standing_from l s (map (cell_at cars) (range_with_len s m)) ≡ map (car_on l) cars
+pub standing_cells : (l s m n : ℕ) (cars : List LaneCar) → s + m ≡ n → IsSortedFrom s n cars → standing_from l s (map (cell_at cars) (range_with_len s m)) ≡ map (car_on l) cars
 standing_cells l s zero n [] size r = refl
 standing_cells l s zero n (car ∷ cars) size r = let a = r.0 in let b = r.1 in absurd (omega arith)
 standing_cells l s (suc m) n [] size r =
@@ -58,7 +58,7 @@ standing_cells l s (suc m) n [] size r =
 standing_cells l s (suc m) n (car ∷ cars) size r =
     elim (cases_eq car.place s) [
       | inl here ↦
-          let later : Rises (suc s) n cars = subst (λ k. Rises (suc k) n cars) here r.2 in
+          let later : IsSortedFrom (suc s) n cars = subst (λ k. IsSortedFrom (suc k) n cars) here r.2 in
           let rest = map (cell_at (car ∷ cars)) (range_with_len (s + 1) m) in
           step_some l s (cell_at (car ∷ cars) s) rest car.number car.speed (cell_here car cars s here)
           ∙ ap (λ c. c ∷ standing_from l (suc s) rest) (same_car_on l s car here)
@@ -67,37 +67,37 @@ standing_cells l s (suc m) n (car ∷ cars) size r =
           ∙ ap (λ cs. car_on l car ∷ cs) (standing_cells l (suc s) m n cars (omega arith) later)
       | inr other ↦
           let low = r.0 in
-          let past : Rises (suc s) n (car ∷ cars) = ((let k : suc s ≤ car.place = omega arith in k), r.1, r.2) in
+          let past : IsSortedFrom (suc s) n (car ∷ cars) = ((let k : suc s ≤ car.place = omega arith in k), r.1, r.2) in
           step_none l s (cell_at (car ∷ cars) s) _ (none_before (suc s) n (car ∷ cars) s past (omega arith))
           ∙ ap (λ k. standing_from l (suc s) (map (cell_at (car ∷ cars)) (range_with_len k m))) (add-one s)
           ∙ standing_cells l (suc s) m n (car ∷ cars) (omega arith) past
     ]
 
-pub standing_list : (l n : ℕ) (cars : List LaneCar) → Rises 0 n cars → standing_from l 0 (cells_of n cars) ≡ map (car_on l) cars
+pub standing_list : (l n : ℕ) (cars : List LaneCar) → IsSortedFrom 0 n cars → standing_from l 0 (cells_of n cars) ≡ map (car_on l) cars
 standing_list l n cars r = standing_cells l 0 n n cars (let e : 0 + n ≡ n = omega arith in e) r
 
 -- as many cars as the list has
-pub cars_of_list : (n : ℕ) (cars : List LaneCar) → Rises 0 n cars → lane_cars (cells_of n cars) ≡ length cars
+pub cars_of_list : (n : ℕ) (cars : List LaneCar) → IsSortedFrom 0 n cars → lane_cars (cells_of n cars) ≡ length cars
 cars_of_list n cars r = sym (length-standing_from 0 0 (cells_of n cars)) ∙ ap length (standing_list 0 n cars r) ∙ length-map cars (car_on 0)
 
 -- places of a sorted list
-pub rises_low : (x n : ℕ) (cars : List LaneCar) (k : ℕ) → Rises x n cars → k < length cars → x ≤ place_of cars k
+pub rises_low : (x n : ℕ) (cars : List LaneCar) (k : ℕ) → IsSortedFrom x n cars → k < length cars → x ≤ place_of cars k
 rises_low x n [] k r h = absurd (omega arith)
 rises_low x n (car ∷ cars) zero r h = r.0
 rises_low x n (car ∷ cars) (suc k) r h = let a = rises_low (suc car.place) n cars k r.2 (omega arith) in let b = r.0 in omega arith
 
-pub rises_high : (x n : ℕ) (cars : List LaneCar) (k : ℕ) → Rises x n cars → k < length cars → place_of cars k < n
+pub rises_high : (x n : ℕ) (cars : List LaneCar) (k : ℕ) → IsSortedFrom x n cars → k < length cars → place_of cars k < n
 rises_high x n [] k r h = absurd (omega arith)
 rises_high x n (car ∷ cars) zero r h = r.1
 rises_high x n (car ∷ cars) (suc k) r h = rises_high (suc car.place) n cars k r.2 (omega arith)
 
-pub rises_order : (x n : ℕ) (cars : List LaneCar) (j k : ℕ) → Rises x n cars → j < k → k < length cars → place_of cars j < place_of cars k
+pub rises_order : (x n : ℕ) (cars : List LaneCar) (j k : ℕ) → IsSortedFrom x n cars → j < k → k < length cars → place_of cars j < place_of cars k
 rises_order x n [] j k r less h = absurd (omega arith)
 rises_order x n (car ∷ cars) j zero r less h = absurd (omega arith)
 rises_order x n (car ∷ cars) zero (suc k) r less h = rises_low (suc car.place) n cars k r.2 (omega arith)
 rises_order x n (car ∷ cars) (suc j) (suc k) r less h = rises_order (suc car.place) n cars j k r.2 (omega arith) (omega arith)
 
-pub rises_weakly : (n : ℕ) (cars : List LaneCar) (j k : ℕ) → Rises 0 n cars → j ≤ k → k < length cars → place_of cars j ≤ place_of cars k
+pub rises_weakly : (n : ℕ) (cars : List LaneCar) (j k : ℕ) → IsSortedFrom 0 n cars → j ≤ k → k < length cars → place_of cars j ≤ place_of cars k
 rises_weakly n cars j k r low h =
     elim (cases_eq j k) [
       | inl e ↦ rw e (omega arith)
@@ -105,14 +105,14 @@ rises_weakly n cars j k r low h =
     ]
 
 -- the k-th car stands at its place
-pub cell_kth : (x n : ℕ) (cars : List LaneCar) (k : ℕ) → Rises x n cars → k < length cars → let car = get_or cars k no_car in cell_at cars car.place ≡ Some (car.number, car.speed)
+pub cell_kth : (x n : ℕ) (cars : List LaneCar) (k : ℕ) → IsSortedFrom x n cars → k < length cars → let car = get_or cars k no_car in cell_at cars car.place ≡ Some (car.number, car.speed)
 cell_kth x n [] k r h = absurd (omega arith)
 cell_kth x n (car ∷ cars) zero r h = cell_here car cars car.place refl
 cell_kth x n (car ∷ cars) (suc k) r h =
     let low = rises_low (suc car.place) n cars k r.2 (omega arith) in
     cell_other car cars (place_of cars k) (λ e. omega (arith, low, e)) ∙ cell_kth (suc car.place) n cars k r.2 (omega arith)
 
-pub at_kth : (n : ℕ) (cars : List LaneCar) (k : ℕ) → Rises 0 n cars → k < length cars → let car = get_or cars k no_car in at (cells_of n cars) car.place ≡ Some (car.number, car.speed)
+pub at_kth : (n : ℕ) (cars : List LaneCar) (k : ℕ) → IsSortedFrom 0 n cars → k < length cars → let car = get_or cars k no_car in at (cells_of n cars) car.place ≡ Some (car.number, car.speed)
 at_kth n cars k r h = cells_at n cars (place_of cars k) (rises_high 0 n cars k r h) ∙ cell_kth 0 n cars k r h
 
 -- a place where no car of the list stands is empty

@@ -4,7 +4,7 @@ use Rattle.std.proofs.lemmas.Bool.{cases_lt, cases_order}
 use Rattle.std.proofs.lemmas.Bool.Decides.{eqb_tells}
 use Rattle.trlab_road.specs.declared.fault.RoadFault.{RoadFault}
 use Rattle.trlab_road.specs.declared.fault.RoadFault.TheVariants.{Lanes, Length, Limit, Character, SpeedAboveLimit, Memory}
-use Rattle.trlab_bounds.specs.declared.roads.TheConstants.{GREATEST_LENGTH, GREATEST_LIMIT, MOST_LANES}
+use Rattle.trlab_bounds.specs.declared.roads.TheConstants.{MAX_LENGTH, MAX_LIMIT, MAX_LANES}
 use Rattle.trlab_road.specs.Cells.{Cells}
 use Rattle.trlab_road.specs.Legal.{IsLegal, LanesFit, LengthFits, LimitFits}
 use Rattle.trlab_road.specs.Pictures.{HaveEqualLengths, IsFirstBad, IsFirstFault, AreGoodPictures, AreNumberedInOrder, Shows, ShowsCell, character_at, point, picture, picture_at}
@@ -66,7 +66,7 @@ pub lanes_or_not : (lanes : ℕ) → LanesFit lanes ⊎ (¬ (LanesFit lanes))
 lanes_or_not lanes =
     elim (cases_lt lanes 1) [
       | inl none ↦ inr (λ h. let k = h.some_lane in absurd (omega arith))
-      | inr some ↦ elim (cases_lt MOST_LANES lanes) [
+      | inr some ↦ elim (cases_lt MAX_LANES lanes) [
         | inl many ↦ inr (λ h. let k = h.few_lanes in absurd (omega arith))
         | inr few ↦ inl (record { some_lane = some; few_lanes = few })
       ]
@@ -76,7 +76,7 @@ pub length_or_not : (cells : ℕ) → LengthFits cells ⊎ (¬ (LengthFits cells
 length_or_not cells =
     elim (cases_lt cells 1) [
       | inl none ↦ inr (λ h. let k = h.some_cell in absurd (omega arith))
-      | inr some ↦ elim (cases_lt GREATEST_LENGTH cells) [
+      | inr some ↦ elim (cases_lt MAX_LENGTH cells) [
         | inl many ↦ inr (λ h. let k = h.few_cells in absurd (omega arith))
         | inr few ↦ inl (record { some_cell = some; few_cells = few })
       ]
@@ -86,7 +86,7 @@ pub limit_or_not : (limit : ℕ) → LimitFits limit ⊎ (¬ (LimitFits limit))
 limit_or_not limit =
     elim (cases_lt limit 1) [
       | inl none ↦ inr (λ h. let k = h.some_limit in absurd (omega arith))
-      | inr some ↦ elim (cases_lt GREATEST_LIMIT limit) [
+      | inr some ↦ elim (cases_lt MAX_LIMIT limit) [
         | inl high ↦ inr (λ h. let k = h.low_limit in absurd (omega arith))
         | inr low ↦ inl (record { some_limit = some; low_limit = low })
       ]
@@ -173,7 +173,7 @@ something limit ps =
           | inr not_fit ↦ (Err Limit, ((few, equal, not_fit), λ e. cc))
           | inl fits ↦ elim (lanes_or_bad limit ps (length ps) (omega arith)) [
             | inl shown ↦ good_says limit ps (record { shape = record { lanes = few; lengths = equal; limit_fits = fits }; cells = shown })
-            | inr found ↦ elim (shows_speed_or_not GREATEST_LIMIT (character_at ps found.0 found.1.0)) [
+            | inr found ↦ elim (shows_speed_or_not MAX_LIMIT (character_at ps found.0 found.1.0)) [
               | inl digit ↦ (Err (SpeedAboveLimit found.0 found.1.0), (((record { lanes = few; lengths = equal; limit_fits = fits }, found.1.1), digit), λ e. cc))
               | inr none ↦ (Err (Character found.0 found.1.0), (((record { lanes = few; lengths = equal; limit_fits = fits }, found.1.1), none), λ e. cc))
             ]

@@ -9,7 +9,7 @@ use Rattle.std.proofs.lemmas.List.FromFn.{get_or-range_with_len, length-range_wi
 use Rattle.std.proofs.lemmas.List.Sums.{sum_by-cons, count_by-le-length}
 use Rattle.trlab_road.specs.declared.fault.RoadFault.{RoadFault}
 use Rattle.trlab_road.specs.declared.fault.RoadFault.TheVariants.{Lanes, Length, Limit, Character, SpeedAboveLimit, Memory, TooManyCars}
-use Rattle.trlab_bounds.specs.declared.roads.TheConstants.{GREATEST_LIMIT}
+use Rattle.trlab_bounds.specs.declared.roads.TheConstants.{MAX_LIMIT}
 use Rattle.trlab_road.specs.declared.car.Car.{Car}
 use Rattle.trlab_road.specs.Cells.{Cell, Lane, Cells, cell, lane_of, cars, lane_cars}
 use Rattle.trlab_road.specs.Legal.{IsLegal, LanesFit, LengthFits, LimitFits}
@@ -254,7 +254,7 @@ pictures_good road legal =
           rw e (cell_shows road.limit (cell road l x) (λ car here. legal.within_limit (car_in l x car.0 car.1) here));
     }
 
--- good pictures have no fault, unless memory ran out
+-- good pictures have no fault, unless an allocation fails
 pub no_fault : (limit : ℕ) (ps : List (List ℕ)) (fault : RoadFault) → AreGoodPictures limit ps
     → IsFirstFault limit ps fault → fault ≡ Memory
 no_fault limit ps Lanes good h = absurd (h good.shape.lanes)
@@ -294,11 +294,11 @@ same_speed : {l x m y : ℕ} → (l ≡ m) × (x ≡ y)
 same_speed e = let a = e.0 in let b = e.1 in cc
 
 same_byte : (limit : ℕ) (ps : List (List ℕ)) (l x m y : ℕ) → (l ≡ m) × (x ≡ y)
-    → ShowsSpeed GREATEST_LIMIT (character_at ps l x) → ShowsSpeed GREATEST_LIMIT (character_at ps m y)
+    → ShowsSpeed MAX_LIMIT (character_at ps l x) → ShowsSpeed MAX_LIMIT (character_at ps m y)
 same_byte limit ps l x m y e h =
-    subst (λ (k : ℕ). ShowsSpeed GREATEST_LIMIT (character_at ps m k)) e.1 (subst (λ (k : ℕ). ShowsSpeed GREATEST_LIMIT (character_at ps k x)) e.0 h)
+    subst (λ (k : ℕ). ShowsSpeed MAX_LIMIT (character_at ps m k)) e.1 (subst (λ (k : ℕ). ShowsSpeed MAX_LIMIT (character_at ps k x)) e.0 h)
 
--- a limit and pictures have one first fault, unless memory ran out
+-- a limit and pictures have one first fault, unless an allocation fails
 pub one_fault : (limit : ℕ) (ps : List (List ℕ)) (fault other : RoadFault) → IsFirstFault limit ps fault
     → IsFirstFault limit ps other → fault ≢ Memory → other ≢ Memory → fault ≡ other
 one_fault limit ps Lanes Lanes f g p q = refl

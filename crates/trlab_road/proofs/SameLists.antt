@@ -3,7 +3,7 @@ use Rattle.std.proofs.Common.{◌≡◌, ℕ, List, [], ◌∷◌, Vec, Global, 
 use Rattle.std.proofs.lemmas.List.{length-map}
 use Rattle.trlab_road.specs.LaneCars.{LaneCar}
 use Rattle.trlab_road.specs.Cells.{Cells, Lane}
-use Rattle.trlab_road.specs.Stored.{IsStored, AreSorted, cells_of, lanes_from, lists_of}
+use Rattle.trlab_road.specs.Stored.{IsListedRoad, AreSorted, cells_of, lanes_from, lists_of}
 use Rattle.trlab_road.proofs.ListRoads.{list_told, sorted_rest, length_first}
 
 -- the same lists make the same lanes, and are sorted where the others are
@@ -40,7 +40,7 @@ same_road limit limit' n n' lists others e f g =
     ∙ ap (λ m. record { limit = m; lanes = lanes_from n others }) e ∙ ap (λ m. record { limit = limit'; lanes = lanes_from m others }) f
 
 module _ (limit limit' n n' : ℕ) (lists others : List (Vec LaneCar Global))
-    (kept : IsStored n lists (record { limit = limit; lanes = lanes_from n lists })) (kept' : IsStored n' others (record { limit = limit'; lanes = lanes_from n' others }))
+    (kept : IsListedRoad n lists (record { limit = limit; lanes = lanes_from n lists })) (kept' : IsListedRoad n' others (record { limit = limit'; lanes = lanes_from n' others }))
     (e : ◌≡◌ {A = Cells} (record { limit = limit; lanes = lanes_from n lists }) (record { limit = limit'; lanes = lanes_from n' others })) where
   pub told_limit : limit ≡ limit'
   told_limit = ap (λ (road : Cells). road.limit) e

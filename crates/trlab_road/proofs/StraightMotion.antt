@@ -4,7 +4,7 @@ use Rattle.std.proofs.lemmas.List.{length_push, take_at, take_more, take_all}
 use Rattle.trlab_road.specs.LaneCars.{LaneCar}
 use Rattle.trlab_road.specs.Motion.{LaneFits, LaneMoves}
 use Rattle.trlab_road.specs.GoneOn.{HaveGoneOn, gone_on}
-use Rattle.trlab_road.specs.Stored.{cells_of, Rises, no_car, place_of, lane_answer}
+use Rattle.trlab_road.specs.Stored.{cells_of, IsSortedFrom, no_car, place_of, lane_answer}
 use Rattle.trlab_road.proofs.Lists.{rises_high}
 use Rattle.trlab_road.proofs.ListMotion.{Moved, answer_kth, before_kth, before_next, last_kth, last_round, last_straight, moved_all, moved_none, moved_straight, reach_fits, size_whole}
 
@@ -18,7 +18,7 @@ round : (car new : LaneCar) (number place v n : ℕ) → new ≡ record { number
 round car new number place v n is e f = rw is (rw (e, f) refl)
 
 -- a list whose last car was taken off, and the speeds of its cars from an index on
-module _ (n : ℕ) (cars before : List LaneCar) (last : LaneCar) (speeds : List ℕ) (from : ℕ) (r : Rises 0 n cars)
+module _ (n : ℕ) (cars before : List LaneCar) (last : LaneCar) (speeds : List ℕ) (from : ℕ) (r : IsSortedFrom 0 n cars)
     (fits : LaneFits (lane_answer (cells_of n cars) speeds from) (cells_of n cars)) (whole : cars ≡ before ++ last ∷ []) where
   abbrev answer : ℕ → ℕ
   answer = lane_answer (cells_of n cars) speeds from
@@ -80,18 +80,18 @@ module _ (n : ℕ) (cars before : List LaneCar) (last : LaneCar) (speeds : List 
         let all_now = take_all (length before) now (let e = all.same_count in omega (arith, e)) in
         subst (λ (xs : List LaneCar). Moved n answer cars xs (length before)) all_now (moved_first (length before) (omega arith))
 
-    after : (items next : List LaneCar) → items ≡ next → Moved n answer cars next (length cars) → Rises 0 n items × LaneMoves answer (cells_of n cars) (cells_of n items)
+    after : (items next : List LaneCar) → items ≡ next → Moved n answer cars next (length cars) → IsSortedFrom 0 n items × LaneMoves answer (cells_of n cars) (cells_of n items)
     after items next is m = rw is (m.rises, moved_all n answer cars next r m)
 
     -- and the last one straight ahead
     pub went_straight : (items : List LaneCar) (new : LaneCar) (j number place : ℕ) → j ≡ length before → items ≡ now ++ new ∷ [] → new ≡ record { number = number; place = place + speed j; speed = speed j }
-        → number ≡ last.number → place ≡ last.place → place + speed j < n → Rises 0 n items × LaneMoves answer (cells_of n cars) (cells_of n items)
+        → number ≡ last.number → place ≡ last.place → place + speed j < n → IsSortedFrom 0 n items × LaneMoves answer (cells_of n cars) (cells_of n items)
     went_straight items new j number place end list is e f low =
         after items (now ++ new ∷ []) list (last_straight n answer cars before last r fits whole now moved_before new (speed j) (last_speed j end) (omega (arith, f, low)) (made last new number place (speed j) is e f))
 
     -- or past the end
     pub went_round : (items : List LaneCar) (new : LaneCar) (j number place : ℕ) → j ≡ length before → items ≡ new ∷ now → new ≡ record { number = number; place = place + speed j - n; speed = speed j }
-        → number ≡ last.number → place ≡ last.place → n ≤ place + speed j → Rises 0 n items × LaneMoves answer (cells_of n cars) (cells_of n items)
+        → number ≡ last.number → place ≡ last.place → n ≤ place + speed j → IsSortedFrom 0 n items × LaneMoves answer (cells_of n cars) (cells_of n items)
     went_round items new j number place end list is e f past =
         after items (new ∷ now) list (last_round n answer cars before last r fits whole now moved_before new (speed j) (last_speed j end) (omega (arith, f, past)) (round last new number place (speed j) n is e f))
 

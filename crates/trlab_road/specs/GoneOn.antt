@@ -1,4 +1,4 @@
--- Cars of a list that went ahead, none of them past the end of the lane.
+-- Cars of a list after a motion in which no car passes the end of the lane.
 use Rattle.std.specs.Prelude.{◌≡◌, ℕ, ◌+◌, ◌<◌, ◌≤◌, List, length, slice_index, slice_index_or}
 use Rattle.trlab_road.specs.LaneCars.{LaneCar}
 use Rattle.trlab_road.specs.Stored.{no_car}

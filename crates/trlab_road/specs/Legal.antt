@@ -1,23 +1,23 @@
 -- Legal roads, those that rules can run on.
 use Rattle.std.specs.Prelude.{◌≡◌, ℕ, ◌<◌, ◌≤◌, length}
-use Rattle.trlab_bounds.specs.declared.roads.TheConstants.{GREATEST_LIMIT, GREATEST_LENGTH, MOST_LANES}
+use Rattle.trlab_bounds.specs.declared.roads.TheConstants.{MAX_LIMIT, MAX_LENGTH, MAX_LANES}
 use Rattle.trlab_road.specs.declared.car.Car.{Car}
 use Rattle.trlab_road.specs.Cells.{Cells, IsAt, lane_of, cars}
 
 -- a number of lanes that a road may have
 pub record LanesFit (lanes : ℕ) : Type 0 where
   pub some_lane : 1 ≤ lanes
-  pub few_lanes : lanes ≤ MOST_LANES
+  pub few_lanes : lanes ≤ MAX_LANES
 
 -- a number of cells that a lane may have
 pub record LengthFits (cells : ℕ) : Type 0 where
   pub some_cell : 1 ≤ cells
-  pub few_cells : cells ≤ GREATEST_LENGTH
+  pub few_cells : cells ≤ MAX_LENGTH
 
 -- a limit that a road may have
 pub record LimitFits (limit : ℕ) : Type 0 where
   pub some_limit : 1 ≤ limit
-  pub low_limit : limit ≤ GREATEST_LIMIT
+  pub low_limit : limit ≤ MAX_LIMIT
 
 -- lanes of one length; their count, their length and the limit are those that a road may have
 pub record HasShape (road : Cells) : Type 0 where

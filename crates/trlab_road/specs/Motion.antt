@@ -12,7 +12,7 @@ pub record ComesFrom (answer : ℕ → ℕ) (old : Lane) (y number speed x befor
   pub reaches : y ≡ ahead (length old) x (answer x)
   pub at_speed : speed ≡ answer x
 
--- the motion of one lane: each car goes ahead by its answer, which is its new speed,
+-- the motion of one lane: each car moves by its answer, which is its new speed,
 -- and no cell holds anything else
 pub record LaneMoves (answer : ℕ → ℕ) (old new : Lane) : Type 0 where
   pub same_length : length new ≡ length old
@@ -49,7 +49,7 @@ pub record GoesAhead (old new : Lane) (x number speed : ℕ) : Type 0 where
   pub stands : at new (ahead (length old) x speed) ≡ Some (number, speed)
   pub over_empty : IsClearAhead old x speed
 
--- a lane has as many cars as before, each went ahead over empty cells, and it holds no other
+-- a lane has the same cars as before: each has moved over empty cells, and no other one was added
 pub record CleanLaneMotion (old new : Lane) : Type 0 where
   pub same_count : lane_cars new ≡ lane_cars old
   pub none_lost : (x number before : ℕ)

@@ -2,7 +2,7 @@
 use Rattle.std.specs.Prelude.{◌≡◌, ℕ, ◌+◌, ◌-◌, ◌<◌, ◌≤◌, cond, nat_lt, Some, None, List, [], map, length, slice_index, slice_index_or, ◌⊎◌}
 use Rattle.std.specs.Borrow.{Bor}
 use Rattle.std.specs.List.{range_with_len}
-use Rattle.trlab_bounds.specs.declared.roads.TheConstants.{GREATEST_LIMIT}
+use Rattle.trlab_bounds.specs.declared.roads.TheConstants.{MAX_LIMIT}
 use Rattle.trlab_road.specs.declared.car.Car.{Car}
 use Rattle.trlab_road.specs.declared.fault.RoadFault.{RoadFault}
 use Rattle.trlab_road.specs.declared.fault.RoadFault.TheVariants.{Lanes, Length, Limit, Character, SpeedAboveLimit, Memory, TooManyCars}
@@ -14,7 +14,7 @@ use Rattle.trlab_road.specs.Standing.{standing}
 abbrev pub point : ℕ
 point = 46
 
--- the character of a speed: its digit, and from 10 on a letter, which are a, b and so on
+-- the character of a speed: its digit, and from 10 on a letter, beginning with a
 abbrev pub speed_character : ℕ → ℕ
 speed_character speed = cond (nat_lt speed 10) (48 + speed) (97 + (speed - 10))
 
@@ -92,7 +92,7 @@ IsFaultAt limit pictures l x = HaveShape limit pictures × IsFirstBad limit pict
 
 -- the character of lane l at place x shows some speed, within a limit or not
 abbrev pub ShowsAnySpeed : List (List ℕ) → ℕ → ℕ → Type 0
-ShowsAnySpeed pictures l x = ShowsSpeed GREATEST_LIMIT (character_at pictures l x)
+ShowsAnySpeed pictures l x = ShowsSpeed MAX_LIMIT (character_at pictures l x)
 
 -- the first fault of a limit and pictures, in the order of the faults; memory may always run out
 abbrev pub IsFirstFault : ℕ → List (List ℕ) → RoadFault → Type 0

@@ -5,7 +5,7 @@ use Rattle.trlab_road.specs.declared.fault.RoadFault.TheVariants.{Lanes, Length,
 use Rattle.trlab_road.specs.Cells.{Lane, Cells, at, lane_of}
 use Rattle.trlab_road.specs.Legal.{LanesFit, LengthFits, LimitFits}
 
--- the flat cell of car i, one of n cars on lanes of so many cells each; flat cells count across the lanes,
+-- the flat cell of car i, one of n cars on lanes of `cells` cells each; flat cells count across the lanes,
 -- place by place
 abbrev pub flat_cell : ℕ → ℕ → ℕ → ℕ → ℕ
 flat_cell lanes cells n i = i * (lanes * cells) / n

@@ -3,7 +3,7 @@ use Rattle.std.specs.Prelude.{◌≡◌, ℕ, suc, ◌+◌, ◌<◌, ◌≤◌, 
 use Rattle.std.specs.Global.{Global}
 use Rattle.std.specs.List.{range_with_len}
 use Rattle.trlab_road.specs.declared.car.Car.{Car}
-use Rattle.trlab_road.specs.declared.side.Beside.{Beside}
+use Rattle.trlab_road.specs.declared.gaps.Beside.{Beside}
 use Rattle.trlab_road.specs.LaneCars.{LaneCar}
 use Rattle.trlab_road.specs.Cells.{Cell, Lane, Cells, at, lane_cars}
 use Rattle.trlab_road.specs.Gaps.{greatest, side, sideback, sidegap}
@@ -21,13 +21,13 @@ abbrev pub cells_of : ℕ → List LaneCar → Lane
 cells_of n cars = map (cell_at cars) (range_with_len 0 n)
 
 -- the places of the cars rise, from a place on and below the end
-abbrev pub Rises : ℕ → ℕ → List LaneCar → Type 0
-Rises x n [] = Unit {0}
-Rises x n (car ∷ cars) = (x ≤ car.place) × (car.place < n) × Rises (suc car.place) n cars
+abbrev pub IsSortedFrom : ℕ → ℕ → List LaneCar → Type 0
+IsSortedFrom x n [] = Unit {0}
+IsSortedFrom x n (car ∷ cars) = (x ≤ car.place) × (car.place < n) × IsSortedFrom (suc car.place) n cars
 
 -- the places of the cars rise, below some end
 abbrev pub IsRising : List LaneCar → Type 0
-IsRising cars = (n : ℕ) × Rises 0 n cars
+IsRising cars = (n : ℕ) × IsSortedFrom 0 n cars
 
 -- a placeholder for a car past the end of a list
 abbrev pub no_car : LaneCar
@@ -60,10 +60,10 @@ list_at lists l = slice_index_or (lists_of lists) l []
 
 -- each list is sorted
 pub record AreSorted (n : ℕ) (lists : List (Vec LaneCar Global)) : Type 0 where
-  pub rises : (l : ℕ) → l < length lists → Rises 0 n (list_at lists l)
+  pub rises : (l : ℕ) → l < length lists → IsSortedFrom 0 n (list_at lists l)
 
 -- the invariant of a `Road`: its cells are legal, and the lists of its lanes are sorted
-pub record IsStored (n : ℕ) (lists : List (Vec LaneCar Global)) (road : Cells) : Type 0 where
+pub record IsListedRoad (n : ℕ) (lists : List (Vec LaneCar Global)) (road : Cells) : Type 0 where
   pub legal : IsLegal road
   pub sorted : AreSorted n lists
 

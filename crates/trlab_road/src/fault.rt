@@ -24,7 +24,7 @@ pub enum RoadFault {
     /// The speed at a lane and a place is above the limit.
     #[error("the speed on lane {lane} at place {place} is above the limit")]
     SpeedAboveLimit { lane: u32, place: u32 },
-    /// Memory ran out.
+    /// An allocation failed.
     #[error("memory ran out")]
     Memory,
     /// More cars than cells.

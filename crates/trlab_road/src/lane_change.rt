@@ -1,17 +1,17 @@
-//! The lane change: the cars of two lanes that cross do so at once. On each lane those that stay are
-//! merged with those that come.
+//! The lane change: all cars of two lanes that cross do so at once. On each lane the cars that stay are merged with
+//! those that come.
 
 ghost use Rattle.std.specs.Prelude.{◌≡◌, ◌+◌, ◌<◌, ◌≤◌, ℕ, length, sum_by, IfOk, OnOk, true, false, None, slice_index_or};
 ghost use Rattle.std.specs.Int.{from_bool};
-ghost use Rattle.trlab_bounds.specs.declared.roads.TheConstants.{GREATEST_LENGTH};
+ghost use Rattle.trlab_bounds.specs.declared.roads.TheConstants.{MAX_LENGTH};
 ghost use Rattle.trlab_road.specs.Cells.{Cells, lane_cars};
 ghost use Rattle.trlab_road.specs.LaneChange.{Crosses, LaneCrosses, crosses_at};
-ghost use Rattle.trlab_road.specs.Stored.{Rises, IsRising, AreSorted, IsFirstFrom, cell_at, cells_of, lanes_from, place_of, LaneLeaves, lane_crosses_at};
+ghost use Rattle.trlab_road.specs.Stored.{IsSortedFrom, IsRising, AreSorted, IsFirstFrom, cell_at, cells_of, lanes_from, place_of, LaneLeaves, lane_crosses_at};
 
-use crate::lane_car::{LaneCar, car_at, place_at};
-use crate::lanes::list_of;
-use crate::room::Room;
+use crate::car::{LaneCar, car_at, place_at};
+use crate::lanes::{empty_lanes, list_of};
 use std::alloc::{AllocError, Global};
+use std::mem;
 
 /// A lane before its cars cross: its list, and the index of its first car's answer.
 #[derive(Clone, Copy)]
@@ -32,16 +32,16 @@ fn next_place(cars: &[LaneCar], k: usize, cells: u32) -> u32
     }
 }
 
-/// Puts the cars of a lane that cross into a list; only the proof reads how many cells the lane has.
+/// Puts the cars of a lane that cross into a list. Only the proof reads the number of cells.
 fn leaving_cars(
     leaving: &mut Vec<LaneCar>,
     cells: u32,
     lane: AnsweredLane,
     crosses: &[bool],
 ) -> Result<(), AllocError>
-    requires sorted { Rises 0 cells lane.cars.now }
+    requires sorted { IsSortedFrom 0 cells lane.cars.now }
     requires each { lane.from + length lane.cars.now ≤ length crosses.now }
-    ensures rises { OnOk result (Rises 0 cells leaving.new.items) }
+    ensures rises { OnOk result (IsSortedFrom 0 cells leaving.new.items) }
     ensures leaves { OnOk result (
         let old = cells_of cells lane.entry.cars.now in
         LaneLeaves (lane_crosses_at old crosses.now lane.entry.from)
@@ -74,8 +74,8 @@ fn run_end(lane: AnsweredLane, crosses: &[bool], begin: usize, due: u32) -> usiz
     end
 }
 
-/// Puts the cars of a lane after the lane change, to which these cars come from the other lane, into a
-/// list.
+/// Puts the cars that a lane has after the lane change into a list: those that stay, and those that come from the
+/// other lane.
 fn change_lane(
     next: &mut Vec<LaneCar>,
     cells: u32,
@@ -83,11 +83,11 @@ fn change_lane(
     coming: &[LaneCar],
     crosses: &[bool],
 ) -> Result<(), AllocError>
-    requires small { cells ≤ GREATEST_LENGTH }
-    requires own_sorted { Rises 0 cells own.cars.now }
-    requires coming_sorted { Rises 0 cells coming.now }
+    requires small { cells ≤ MAX_LENGTH }
+    requires own_sorted { IsSortedFrom 0 cells own.cars.now }
+    requires coming_sorted { IsSortedFrom 0 cells coming.now }
     requires own_each { own.from + length own.cars.now ≤ length crosses.now }
-    ensures rises { OnOk result (Rises 0 cells next.new.items) }
+    ensures rises { OnOk result (IsSortedFrom 0 cells next.new.items) }
     ensures crosses { OnOk result (
         let old = cells_of cells own.entry.cars.now in
         LaneCrosses (lane_crosses_at old crosses.now own.entry.from) (λ _. true)
@@ -136,7 +136,7 @@ pub fn change_lanes(
     crosses: &[bool],
 ) -> Result<Vec<Vec<LaneCar>>, AllocError>
     requires two { length lanes.now ≡ 2 }
-    requires small { cells ≤ GREATEST_LENGTH }
+    requires small { cells ≤ MAX_LENGTH }
     requires sorted { AreSorted cells lanes.now }
     requires one_each { sum_by lane_cars (lanes_from cells lanes.now) ≤ length crosses.now }
     ensures sorted { IfOk result (λ next. AreSorted cells next.items) }
@@ -159,4 +159,41 @@ pub fn change_lanes(
     change_lane(&mut next[0], cells, first, &room.from_second, crosses)?;
     change_lane(&mut next[1], cells, second, &room.from_first, crosses)?;
     Ok(next)
+}
+
+/// Memory that is kept from one lane change to the next. No result depends on its contents.
+#[derive(Drop)]
+pub struct Room {
+    /// The lists of a road that is no longer needed.
+    lanes: Vec<Vec<LaneCar>>,
+    /// For the cars that cross from lane 0, and from lane 1.
+    pub(crate) from_first: Vec<LaneCar>,
+    pub(crate) from_second: Vec<LaneCar>,
+}
+
+impl Room {
+    /// A room that has allocated nothing yet.
+    pub fn new(alloc: Global) -> Room {
+        Room {
+            lanes: Vec::new(alloc),
+            from_first: Vec::new(alloc),
+            from_second: Vec::new(alloc),
+        }
+    }
+
+    /// Two lists with unspecified contents.
+    pub(crate) fn two_lists(&mut self, alloc: Global) -> Result<Vec<Vec<LaneCar>>, AllocError>
+        ensures { IfOk result (λ lists. length lists.items ≡ 2) }
+    {
+        let lists = mem::replace(&mut self.lanes, Vec::new(alloc));
+        if lists.len() == 2 {
+            return Ok(lists);
+        }
+        empty_lanes(alloc, 2)
+    }
+
+    /// Keeps lists that are no longer needed.
+    pub(crate) fn keep_lists(&mut self, lists: Vec<Vec<LaneCar>>) {
+        self.lanes = lists;
+    }
 }

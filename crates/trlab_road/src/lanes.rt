@@ -1,16 +1,15 @@
 //! The lanes of a road, each the list of its cars by rising place.
 
 ghost use Rattle.std.specs.Prelude.{ℕ, ◌≡◌, ◌*◌, ◌<◌, ◌≤◌, ◌↔◌, IsTrue, IfOk, [], length, slice_index_or, sum_by};
-ghost use Rattle.trlab_bounds.specs.declared.roads.TheConstants.{GREATEST_LENGTH, MOST_LANES};
+ghost use Rattle.trlab_bounds.specs.declared.roads.TheConstants.{MAX_LENGTH, MAX_LANES};
 ghost use Rattle.trlab_road.specs.Stored.{IsFoundAt, list_at, lists_of, no_car, car_on};
 
-use crate::car::Car;
-use crate::lane_car::LaneCar;
+use crate::car::{Car, LaneCar};
 use std::alloc::{AllocError, Global};
 
 /// The lane of the k-th car in standing order, and its index in the list of the lane.
 pub fn find(lanes: &[Vec<LaneCar>], k: u32) -> (u32, usize)
-    requires few { length lanes.now ≤ MOST_LANES }
+    requires few { length lanes.now ≤ MAX_LANES }
     requires below { k < sum_by length (lists_of lanes.now) }
     ensures { IsFoundAt lanes.now k result.0 result.1 }
 {
@@ -46,13 +45,13 @@ pub fn list_of(lanes: &[Vec<LaneCar>], lane: u32) -> &[LaneCar]
     &lanes[lane as usize]
 }
 
-/// How many cars lanes have.
+/// The number of cars of all lanes.
 pub fn count_cars(lanes: &[Vec<LaneCar>]) -> u32
-    requires few { length lanes.now ≤ MOST_LANES }
+    requires few { length lanes.now ≤ MAX_LANES }
     requires small { (l : ℕ) → l < length lanes.now
-        → length (list_at lanes.now l) ≤ GREATEST_LENGTH }
+        → length (list_at lanes.now l) ≤ MAX_LENGTH }
     ensures value { result ≡ sum_by length (lists_of lanes.now) }
-    ensures few { result ≤ MOST_LANES * GREATEST_LENGTH }
+    ensures few { result ≤ MAX_LANES * MAX_LENGTH }
 {
     let mut count = 0;
     for lane in lanes {
@@ -61,7 +60,7 @@ pub fn count_cars(lanes: &[Vec<LaneCar>]) -> u32
     count
 }
 
-/// So many lanes, with no car.
+/// `count` lanes without cars.
 pub fn empty_lanes(alloc: Global, count: usize) -> Result<Vec<Vec<LaneCar>>, AllocError>
     ensures same_count { IfOk result (λ lanes. length lanes.items ≡ count) }
     ensures empty { IfOk result (λ lanes. (l : ℕ) → list_at lanes.items l ≡ []) }
@@ -84,7 +83,7 @@ pub fn copy_lanes(alloc: Global, lanes: &[Vec<LaneCar>]) -> Result<Vec<Vec<LaneC
     Ok(copies)
 }
 
-/// Whether two lists have the same cars.
+/// Do two lists have the same cars?
 fn same_cars(cars: &[LaneCar], others: &[LaneCar]) -> bool
     ensures { IsTrue result ↔ (cars.now ≡ others.now) }
 {

@@ -1,27 +1,29 @@
-//! Roads for traffic automata: rings of cells, which are kept as lists of cars. The crate reads and
-//! draws pictures, spreads cars evenly, looks at gaps, and moves all cars at once in the two phases of
+//! Roads for traffic automata: rings of cells, kept as lists of cars.
+//!
+//! The crate reads and writes pictures, spaces cars evenly, finds gaps, and moves all cars at once in the two phases of
 //! a step, the lane change and the motion.
+//!
+//! ```text
+//! let road = Road::parse(alloc, 5, &[b"0.0......."]).ok()?;
+//! let gap = road.gap(0); // 1
+//! let picture = road.picture(alloc, 0).ok()?; // "0.0......."
+//! let even = Road::even(alloc, 2, 500, 5, 100).ok()?; // 100 cars on two lanes of 500 cells
+//! ```
 #![tactic(auto)]
 
 mod car;
 mod fault;
-mod gap;
-mod lane_car;
+mod gaps;
 mod lane_change;
 mod lanes;
 pub mod laws;
 mod motion;
 mod picture;
-mod reading;
 mod road;
-mod room;
-mod side;
 mod spreading;
 
-pub use car::Car;
+pub use car::{Car, LaneCar};
 pub use fault::RoadFault;
-pub use gap::Ahead;
-pub use lane_car::LaneCar;
+pub use gaps::{Ahead, Beside};
+pub use lane_change::Room;
 pub use road::Road;
-pub use room::Room;
-pub use side::Beside;

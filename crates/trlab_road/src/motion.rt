@@ -1,39 +1,26 @@
 //! The motion: the cars of each lane move at once, in place in its list. Only the last car can pass the end of
 //! the lane; then it becomes the first.
 
-ghost use Rattle.std.specs.Prelude.{◌≡◌, ◌+◌, ◌<◌, ◌≤◌, ℕ, IfOk, length, slice_index, slice_index_or, sum_by};
-ghost use Rattle.trlab_bounds.specs.declared.roads.TheConstants.{GREATEST_LENGTH, GREATEST_LIMIT};
+ghost use Rattle.std.specs.Prelude.{◌≡◌, ◌+◌, ◌<◌, ◌≤◌, ℕ, length, slice_index, slice_index_or, sum_by};
+ghost use Rattle.trlab_bounds.specs.declared.roads.TheConstants.{MAX_LENGTH, MAX_LIMIT};
 ghost use Rattle.trlab_road.specs.Cells.{lane_cars};
 ghost use Rattle.trlab_road.specs.Motion.{LaneFits, LaneMoves};
 ghost use Rattle.trlab_road.specs.GoneOn.{HaveGoneOn, gone_on};
-ghost use Rattle.trlab_road.specs.Stored.{no_car, place_of, ListsFit, ListsMove, Rises, AreSorted, cells_of, lanes_from, lane_answer};
+ghost use Rattle.trlab_road.specs.Stored.{no_car, place_of, ListsFit, ListsMove, IsSortedFrom, AreSorted, cells_of, lanes_from, lane_answer};
 
-use crate::lane_car::LaneCar;
-use std::alloc::{AllocError, Global};
+use crate::car::LaneCar;
 
-/// How many cars are written together: enough for the compiler to keep the loop and use vector instructions.
+/// The number of cars that are moved together: enough for the compiler to keep the loop and use vector instructions.
 const TOGETHER: usize = 32;
 
-/// The same speeds, each in a byte.
-pub fn in_bytes(alloc: Global, speeds: &[u32]) -> Result<Vec<u8>, AllocError>
-    requires { (k : ℕ) → k < length speeds.now → slice_index speeds.now k ≤ GREATEST_LIMIT }
-    ensures { IfOk result (λ bytes. bytes.items ≡ speeds.now) }
-{
-    let mut bytes = Vec::with_capacity(alloc, speeds.len())?;
-    for speed in speeds {
-        bytes.push(*speed as u8)?;
-    }
-    Ok(bytes)
-}
-
-/// Cars of a list from an index on, after they went ahead.
+/// Cars of a list from an index on, after they have moved.
 #[inline(always)]
 fn gone_together(cars: &[LaneCar], at: usize, speeds: &[u8], from: usize) -> [LaneCar; TOGETHER]
     requires within { at + TOGETHER ≤ length cars.now }
     requires one_each { from + TOGETHER ≤ length speeds.now }
-    requires slow { (k : ℕ) → k < TOGETHER → slice_index speeds.now (from + k) ≤ GREATEST_LIMIT }
+    requires slow { (k : ℕ) → k < TOGETHER → slice_index speeds.now (from + k) ≤ MAX_LIMIT }
     requires short { (k : ℕ) → k < TOGETHER
-        → place_of cars.now (at + k) + slice_index speeds.now (from + k) ≤ GREATEST_LENGTH }
+        → place_of cars.now (at + k) + slice_index speeds.now (from + k) ≤ MAX_LENGTH }
     ensures { (k : ℕ) → k < TOGETHER → slice_index_or result k no_car
         ≡ gone_on (slice_index_or cars.now (at + k) no_car) (slice_index speeds.now (from + k)) }
 {
@@ -47,8 +34,8 @@ fn gone_together(cars: &[LaneCar], at: usize, speeds: &[u8], from: usize) -> [La
 /// A car after it has moved a number of cells ahead.
 #[inline(always)]
 fn go_on(car: LaneCar, speed: u32) -> LaneCar
-    requires slow { speed ≤ GREATEST_LIMIT }
-    requires short { car.place + speed ≤ GREATEST_LENGTH }
+    requires slow { speed ≤ MAX_LIMIT }
+    requires short { car.place + speed ≤ MAX_LENGTH }
     ensures { result ≡ gone_on car speed }
 {
     LaneCar::new(car.number(), car.place() + speed, speed)
@@ -59,9 +46,9 @@ fn go_on(car: LaneCar, speed: u32) -> LaneCar
 /// together.
 fn move_straight(cars: &mut [LaneCar], speeds: &[u8], from: usize)
     requires one_each { from + length cars.old ≤ length speeds.now }
-    requires slow { (k : ℕ) → k < length speeds.now → slice_index speeds.now k ≤ GREATEST_LIMIT }
+    requires slow { (k : ℕ) → k < length speeds.now → slice_index speeds.now k ≤ MAX_LIMIT }
     requires short { (k : ℕ) → k < length cars.old
-        → place_of cars.old k + slice_index speeds.now (from + k) ≤ GREATEST_LENGTH }
+        → place_of cars.old k + slice_index speeds.now (from + k) ≤ MAX_LENGTH }
     ensures { HaveGoneOn speeds.now from cars.old cars.new (length cars.old) }
 {
     let blocks = cars.len() / TOGETHER;
@@ -81,13 +68,13 @@ fn move_straight(cars: &mut [LaneCar], speeds: &[u8], from: usize)
 ///
 /// A car that passes the end was the last, and becomes the first.
 fn move_lane(cars: &mut Vec<LaneCar>, cells: u32, speeds: &[u8], from: usize)
-    requires small { cells ≤ GREATEST_LENGTH }
-    requires sorted { Rises 0 cells cars.old.items }
+    requires small { cells ≤ MAX_LENGTH }
+    requires sorted { IsSortedFrom 0 cells cars.old.items }
     requires one_each { from + length cars.old.items ≤ length speeds.now }
     requires within { LaneFits (lane_answer (cells_of cells cars.old.items) speeds.now from)
         (cells_of cells cars.old.items) }
-    requires slow { (k : ℕ) → k < length speeds.now → slice_index speeds.now k ≤ GREATEST_LIMIT }
-    ensures rises { Rises 0 cells cars.new.items }
+    requires slow { (k : ℕ) → k < length speeds.now → slice_index speeds.now k ≤ MAX_LIMIT }
+    ensures rises { IsSortedFrom 0 cells cars.new.items }
     ensures moves { LaneMoves (lane_answer (cells_of cells cars.old.items) speeds.now from)
         (cells_of cells cars.old.items) (cells_of cells cars.new.items) }
     ensures same_count { length cars.new.items ≡ length cars.old.items }
@@ -110,11 +97,11 @@ fn move_lane(cars: &mut Vec<LaneCar>, cells: u32, speeds: &[u8], from: usize)
 
 /// Moves the cars of all lanes at once; speeds are listed in standing order.
 pub fn move_lanes(lanes: &mut [Vec<LaneCar>], cells: u32, speeds: &[u8])
-    requires small { cells ≤ GREATEST_LENGTH }
+    requires small { cells ≤ MAX_LENGTH }
     requires sorted { AreSorted cells lanes.old }
     requires one_each { sum_by lane_cars (lanes_from cells lanes.old) ≤ length speeds.now }
     requires within { ListsFit cells lanes.old speeds.now }
-    requires slow { (k : ℕ) → k < length speeds.now → slice_index speeds.now k ≤ GREATEST_LIMIT }
+    requires slow { (k : ℕ) → k < length speeds.now → slice_index speeds.now k ≤ MAX_LIMIT }
     ensures sorted { AreSorted cells lanes.new }
     ensures moves { ListsMove cells lanes.old lanes.new speeds.now }
 {

@@ -1,21 +1,27 @@
-//! A road as callers see it: its cells. It is kept as the list of the cars of each lane, by rising place.
+//! Roads. Callers see the cells of a road; the code keeps the list of the cars of each lane, by rising place.
 
-ghost use Rattle.std.specs.Prelude.{◌≡◌, ◌≢◌, ◌⊎◌, ◌<◌, ◌↔◌, length, ◌++◌, IfOk, OnErr, OnOk, IsTrue, MatchResult};
+ghost use Rattle.std.specs.Prelude.{◌≡◌, ◌≢◌, ◌⊎◌, ◌<◌, ◌↔◌, length, ◌++◌, IfOk, OnErr, OnOk, IsTrue, MatchResult, ◌+◌, ◌*◌, ◌≤◌, ℕ, slice_index, slice_index_or, false, Bool};
 ghost use Rattle.trlab_road.specs.declared.fault.RoadFault.{RoadFault};
-ghost use Rattle.trlab_road.specs.Cells.{Cells, cars, lane_of};
+ghost use Rattle.trlab_road.specs.Cells.{Cells, cars, lane_of, IsAt, cars_before};
 ghost use Rattle.trlab_road.specs.Legal.{IsLegal};
 ghost use Rattle.trlab_road.specs.Pictures.{IsFirstFault, Shows, picture, pictures_of};
 ghost use Rattle.trlab_road.specs.Spreading.{CanSpread, IsEven, IsEvenFault};
+ghost use Rattle.trlab_bounds.specs.declared.roads.TheConstants.{MAX_LENGTH, MAX_LIMIT, MAX_LANES};
+ghost use Rattle.trlab_road.specs.declared.car.Car.{Car};
+ghost use Rattle.trlab_road.specs.Gaps.{gap, headspeed, side, sideback, sidegap};
+ghost use Rattle.trlab_road.specs.InLine.{IsFollowed, IsLineFrom, IsLineOf};
+ghost use Rattle.trlab_road.specs.Standing.{IsStanding};
+ghost use Rattle.trlab_road.specs.Stored.{no_car};
+ghost use Rattle.trlab_road.specs.LaneChange.{IsBeside, IsGapBeside, sides, CleanLaneChange, Crosses, MayCross};
+ghost use Rattle.trlab_road.specs.Motion.{IsOnLane, gaps, MayMove, CleanMotion, Moves, in_order};
 
-mod looks;
-mod phases;
-
+use crate::car::{Car, LaneCar, place_at};
 use crate::fault::RoadFault;
-use crate::lane_car::LaneCar;
-use crate::lanes::{copy_lanes, list_of, same_lanes};
-use crate::picture::push_picture;
-use crate::reading::{check_pictures, draw_lanes};
-use crate::room::Room;
+use crate::gaps::{Ahead, Beside, look_ahead, look_beside};
+use crate::lane_change::{Room, change_lanes};
+use crate::lanes::{car_of, copy_lanes, count_cars, find, list_of, same_lanes};
+use crate::motion::move_lanes;
+use crate::picture::{check_pictures, draw_lanes, push_picture};
 use crate::spreading::{check_even, even_lanes};
 use std::alloc::{AllocError, Global};
 use std::marker::Model;
@@ -27,7 +33,7 @@ use std::snapshot::Snapshot;
 #[derive(Drop)]
 pub struct Road {
     limit: u32,
-    /// How many cells each lane has.
+    /// The number of cells of each lane.
     cells: u32,
     /// The cars of each lane by rising place.
     lanes: Vec<Vec<LaneCar>>,
@@ -35,13 +41,13 @@ pub struct Road {
 
 impl Model for Road {
     ghost use Rattle.trlab_road.specs.Cells.{Cells};
-    ghost use Rattle.trlab_road.specs.Stored.{IsStored, lanes_from};
+    ghost use Rattle.trlab_road.specs.Stored.{IsListedRoad, lanes_from};
 
     ghost Value = { Cells };
 
     ghost view = { λ r. record { limit = r.limit; lanes = lanes_from r.cells r.lanes.items } };
 
-    ghost invariant = { λ r. IsStored r.cells r.lanes.items
+    ghost invariant = { λ r. IsListedRoad r.cells r.lanes.items
         (record { limit = r.limit; lanes = lanes_from r.cells r.lanes.items }) };
 }
 
@@ -122,7 +128,7 @@ impl Road {
     ///
     /// # Errors
     ///
-    /// Where memory ran out.
+    /// If an allocation fails.
     pub fn copy(&self, alloc: Global) -> Result<Road, AllocError>
         ensures { IfOk result (λ road. road ≡ self.now) }
     {
@@ -157,7 +163,7 @@ impl Road {
     ///
     /// # Errors
     ///
-    /// Where memory ran out.
+    /// If an allocation fails.
     pub fn picture(&self, alloc: Global, lane: u32) -> Result<Vec<u8>, AllocError>
         requires { lane < length self.now.lanes }
         ensures { IfOk result (λ bytes. bytes.items ≡ picture (lane_of self.now lane)) }
@@ -183,5 +189,205 @@ impl Road {
     /// Gives the memory of this road, which is no longer needed, to the room.
     pub fn leave_to(self, room: &mut Room) {
         room.keep_lists(self.lanes);
+    }
+}
+
+impl Road {
+    /// The number of lanes: 1 or 2.
+    pub fn lanes(&self) -> u32
+        ensures value { result ≡ length self.now.lanes }
+        ensures legal { IsLegal self.now }
+    {
+        self.lanes.len() as u32
+    }
+
+    /// The number of cells of each lane: 1 to 100,000.
+    pub fn length(&self) -> u32
+        ensures value { result ≡ length (lane_of self.now 0) }
+        ensures legal { IsLegal self.now }
+    {
+        self.cells
+    }
+
+    /// The speed limit, 1 to 35 cells per step.
+    pub fn limit(&self) -> u32
+        ensures value { result ≡ self.now.limit }
+        ensures legal { IsLegal self.now }
+    {
+        self.limit
+    }
+
+    /// The number of cars.
+    pub fn cars(&self) -> u32
+        ensures value { result ≡ cars self.now }
+        ensures few { result ≤ MAX_LANES * MAX_LENGTH }
+        ensures legal { IsLegal self.now }
+    {
+        count_cars(&self.lanes)
+    }
+
+    /// The k-th car in standing order, counted from 0.
+    pub fn standing(&self, k: u32) -> Car
+        requires { k < cars self.now }
+        ensures order { IsStanding self.now k result }
+        ensures cell { IsAt self.now result }
+        ensures lane { result.lane < length self.now.lanes }
+        ensures place { result.place < length (lane_of self.now 0) }
+    {
+        let (lane, index) = find(&self.lanes, k);
+        car_of(&self.lanes, lane, index)
+    }
+
+    /// The gap of the k-th car in standing order: the number of empty cells ahead of it, n - 1 for a lone car on a
+    /// lane of n cells (Nagel and Schreckenberg 1992).
+    pub fn gap(&self, k: u32) -> u32
+        requires { k < cars self.now }
+        ensures value { result ≡ slice_index (gaps self.now) k }
+        ensures of_car { IsOnLane gap self.now k result }
+        ensures below { result < length (lane_of self.now 0) }
+    {
+        self.ahead(k).gap
+    }
+
+    /// The headspeed of the k-th car in standing order: the speed of the next car ahead on its own lane, in
+    /// cells per step; its own speed if there is no other car.
+    pub fn headspeed(&self, k: u32) -> u32
+        requires { k < cars self.now }
+        ensures of_car { IsOnLane headspeed self.now k result }
+        ensures within { result ≤ self.now.limit }
+    {
+        self.ahead(k).headspeed
+    }
+
+    /// The `gap` and the `headspeed` of the k-th car in standing order.
+    pub fn ahead(&self, k: u32) -> Ahead
+        requires { k < cars self.now }
+        ensures value { result.gap ≡ slice_index (gaps self.now) k }
+        ensures gap { IsOnLane gap self.now k result.gap }
+        ensures headspeed { IsOnLane headspeed self.now k result.headspeed }
+        ensures below { result.gap < length (lane_of self.now 0) }
+        ensures within { result.headspeed ≤ self.now.limit }
+    {
+        let (lane, index) = find(&self.lanes, k);
+        look_ahead(list_of(&self.lanes, lane), self.cells as usize, index)
+    }
+
+    /// The line from the k-th car in standing order on to the last car of its lane, as the lane keeps it:
+    /// each car but the last is followed by the next car ahead of it.
+    pub fn line_from(&self, k: u32) -> &[LaneCar]
+        requires { k < cars self.now }
+        ensures line { IsLineFrom self.now k result.now }
+        ensures followed { (j : ℕ) → j + 1 < length result.now → IsFollowed self.now (k + j)
+            (slice_index_or result.now j no_car) (slice_index_or result.now (j + 1) no_car) }
+    {
+        let (lane, index) = find(&self.lanes, k);
+        let (_, line) = list_of(&self.lanes, lane).split_at(index);
+        line
+    }
+
+    /// The line of a lane: all its cars by rising place, as the lane keeps them.
+    pub fn line_of(&self, lane: u32) -> &[LaneCar]
+        requires { lane < length self.now.lanes }
+        ensures line { IsLineOf self.now lane result.now }
+        ensures few { length result.now ≤ MAX_LENGTH }
+        ensures slow { (k : ℕ) → k < length result.now
+            → (slice_index_or result.now k no_car).speed ≤ MAX_LIMIT }
+    {
+        list_of(&self.lanes, lane)
+    }
+
+    /// Is the side cell of the k-th car in standing order, at the same place on the other lane, empty?
+    pub fn side(&self, k: u32) -> bool
+        requires below { k < cars self.now }
+        requires two { length self.now.lanes ≡ 2 }
+        ensures value { result ≡ slice_index_or (sides self.now) k false }
+        ensures of_car { IsBeside side self.now k result }
+    {
+        self.beside(k, 0).is_empty
+    }
+
+    /// The other lane, seen from the k-th car in standing order: its `side`, `sidegap` and `sideback`.
+    ///
+    /// If you ask car by car along a lane and pass the `next` of the previous answer as `near`, the search
+    /// continues from there; with any other `near`, such as 0, it is a binary search.
+    pub fn beside(&self, k: u32, near: usize) -> Beside
+        requires below { k < cars self.now }
+        requires two { length self.now.lanes ≡ 2 }
+        ensures value { result.is_empty ≡ slice_index_or (sides self.now) k false }
+        ensures empty { IsBeside side self.now k result.is_empty }
+        ensures ahead { IsGapBeside sidegap self.now k result.ahead }
+        ensures behind { IsGapBeside sideback self.now k result.behind }
+        ensures next { IsBeside cars_before self.now k result.next }
+    {
+        let index = k as usize;
+        let first = list_of(&self.lanes, 0);
+        let second = list_of(&self.lanes, 1);
+        if index < first.len() {
+            let place = place_at(first, index);
+            look_beside(second, self.cells as usize, place, near)
+        } else {
+            let place = place_at(second, index - first.len());
+            look_beside(first, self.cells as usize, place, near)
+        }
+    }
+
+    /// The gap ahead on the other lane in cells, from the side cell of the k-th car in standing order: 0 if the
+    /// side cell is taken, n - 1 on an empty lane of n (Rickert, Nagel, Schreckenberg and Latour 1996).
+    pub fn sidegap(&self, k: u32) -> u32
+        requires below { k < cars self.now }
+        requires two { length self.now.lanes ≡ 2 }
+        ensures { IsGapBeside sidegap self.now k result }
+    {
+        self.beside(k, 0).ahead
+    }
+
+    /// The gap behind on the other lane in cells, from the side cell of the k-th car in standing order: 0 if
+    /// the side cell is taken, n - 1 on an empty lane of n (Rickert, Nagel, Schreckenberg and Latour 1996).
+    pub fn sideback(&self, k: u32) -> u32
+        requires below { k < cars self.now }
+        requires two { length self.now.lanes ≡ 2 }
+        ensures { IsGapBeside sideback self.now k result }
+    {
+        self.beside(k, 0).behind
+    }
+}
+
+impl Road {
+    /// Moves all cars at once by their new speeds, which are listed in standing order. It allocates nothing.
+    pub fn move_cars(&mut self, speeds: &[u8])
+        requires { MayMove self.old speeds.now }
+        ensures moves { (answer : ℕ → ℕ → ℕ)
+            → speeds.now ≡ in_order answer self.old → Moves answer self.old self.new }
+        ensures clean { CleanMotion self.old self.new }
+        ensures legal { IsLegal self.new }
+    {
+        move_lanes(&mut self.lanes, self.cells, speeds);
+    }
+
+    /// The road after the lane change on a road of two lanes: all cars that cross do so at once. The answers are
+    /// listed in standing order. The memory comes from the room.
+    ///
+    /// # Errors
+    ///
+    /// If allocation fails; then the room may have lost its lists. Any room can be used for any lane change, because no
+    /// contract speaks of its contents.
+    pub fn after_lane_change(
+        &self,
+        alloc: Global,
+        room: &mut Room,
+        crosses: &[bool],
+    ) -> Result<Road, AllocError>
+        requires { MayCross self.now crosses.now }
+        ensures crosses { IfOk result (λ next. (answer : ℕ → ℕ → Bool)
+            → crosses.now ≡ in_order answer self.now → Crosses answer self.now next) }
+        ensures clean { IfOk result (λ next. CleanLaneChange self.now next) }
+        ensures legal { IfOk result (λ next. IsLegal next) }
+    {
+        let lanes = change_lanes(alloc, room, &self.lanes, self.cells, crosses)?;
+        Ok(Road {
+            limit: self.limit,
+            cells: self.cells,
+            lanes,
+        })
     }
 }

@@ -1,15 +1,15 @@
 //! Cars evenly spread: the cells of all lanes in a row, place by place, are shared out among the cars.
 
 ghost use Rattle.std.specs.Prelude.{◌≡◌, ◌*◌, ◌/◌, ◌<◌, ◌≤◌, ℕ, length, IfOk, MatchResult};
-ghost use Rattle.trlab_bounds.specs.declared.roads.TheConstants.{GREATEST_LENGTH, MOST_LANES};
+ghost use Rattle.trlab_bounds.specs.declared.roads.TheConstants.{MAX_LENGTH, MAX_LANES};
 ghost use Rattle.trlab_road.specs.Stored.{AreSorted, cells_of, list_at};
 ghost use Rattle.trlab_road.specs.Spreading.{CanSpread, IsEvenFault, IsEvenLane};
 
+use crate::car::LaneCar;
 use crate::fault::RoadFault;
-use crate::lane_car::LaneCar;
 use crate::lanes::empty_lanes;
 use std::alloc::{AllocError, Global};
-use trlab_bounds::roads::{GREATEST_LENGTH, GREATEST_LIMIT, MOST_LANES};
+use trlab_bounds::roads::{MAX_LANES, MAX_LENGTH, MAX_LIMIT};
 
 /// Finds the first fault of a number of lanes, their cells, a limit and a number of cars.
 pub fn check_even(lanes: u32, cells: u32, limit: u32, count: u32) -> Result<(), RoadFault>
@@ -17,13 +17,13 @@ pub fn check_even(lanes: u32, cells: u32, limit: u32, count: u32) -> Result<(), 
         (λ _. CanSpread lanes cells limit count)
         (λ fault. IsEvenFault lanes cells limit count fault) }
 {
-    if lanes == 0 || lanes > MOST_LANES {
+    if lanes == 0 || lanes > MAX_LANES {
         return Err(RoadFault::Lanes);
     }
-    if cells == 0 || cells > GREATEST_LENGTH {
+    if cells == 0 || cells > MAX_LENGTH {
         return Err(RoadFault::Length);
     }
-    if limit == 0 || limit > GREATEST_LIMIT {
+    if limit == 0 || limit > MAX_LIMIT {
         return Err(RoadFault::Limit);
     }
     if count > lanes * cells {
@@ -34,7 +34,7 @@ pub fn check_even(lanes: u32, cells: u32, limit: u32, count: u32) -> Result<(), 
 
 /// The flat cell of a car, one of `count` evenly spaced cars on `cells` cells in all.
 fn flat_cell(cells: usize, count: usize, number: usize) -> usize
-    requires few { cells ≤ MOST_LANES * GREATEST_LENGTH }
+    requires few { cells ≤ MAX_LANES * MAX_LENGTH }
     requires room { count ≤ cells }
     requires below { number < count }
     ensures { result ≡ number * cells / count }
@@ -50,8 +50,8 @@ pub fn even_lanes(
     count: usize,
 ) -> Result<Vec<Vec<LaneCar>>, AllocError>
     requires some { 1 ≤ lanes }
-    requires few { lanes ≤ MOST_LANES }
-    requires small { cells ≤ GREATEST_LENGTH }
+    requires few { lanes ≤ MAX_LANES }
+    requires small { cells ≤ MAX_LENGTH }
     requires room { count ≤ lanes * cells }
     ensures same_lanes { IfOk result (λ next. length next.items ≡ lanes) }
     ensures sorted { IfOk result (λ next. AreSorted cells next.items) }

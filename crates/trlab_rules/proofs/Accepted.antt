@@ -1,7 +1,7 @@
 -- The verifier accepts the programs of the standard rules for every probability: a table of notes checks for
 -- each program, and no note depends on a probability.
 use Rattle.std.proofs.Common.{ℕ, ◌+◌, refl, List, [], ◌∷◌, true, false}
-use Rattle.trlab_bounds.specs.declared.roads.TheConstants.{GREATEST_LIMIT, GREATEST_GAP}
+use Rattle.trlab_bounds.specs.declared.roads.TheConstants.{MAX_LIMIT, MAX_GAP}
 use Rattle.trlab_code.specs.declared.kind.Kind.TheVariants.{Motion, Change}
 use Rattle.trlab_code.specs.declared.instruction.Register.{Register}
 use Rattle.trlab_code.specs.declared.instruction.Register.TheVariants.{R0, R1, R2}
@@ -9,8 +9,8 @@ use Rattle.trlab_code.specs.declared.instruction.Input.{Input}
 use Rattle.trlab_code.specs.declared.instruction.Input.TheVariants.{Limit, Gap}
 use Rattle.trlab_code.specs.declared.instruction.Variable.TheVariants as variable
 use Rattle.trlab_code.specs.Machine.{update}
-use Rattle.trlab_notes.specs.declared.note.Said.{Said}
-use Rattle.trlab_notes.specs.declared.note.Said.TheVariants.{Nothing, Between, Implies}
+use Rattle.trlab_notes.specs.declared.note.AbstractValue.{AbstractValue}
+use Rattle.trlab_notes.specs.declared.note.AbstractValue.TheVariants.{Nothing, Between, Implies}
 use Rattle.trlab_notes.specs.Notes.{said_with_side, known_level, entry}
 use Rattle.trlab_notes.specs.Transfer.{assign, refine_order, refine_flag}
 use Rattle.trlab_verify.specs.Verdict.{IsAccepted}
@@ -22,37 +22,37 @@ abbrev within : Register → Input → Fact
 within r k = record { one = variable.Register r; other = variable.Input k; level = 1 }
 
 -- notes about the first registers only
-abbrev saying : List Said → Known
+abbrev saying : List AbstractValue → Known
 saying said = record { said = said; facts = []; side = false }
 
 -- the same, with facts about the order
-abbrev knowing : List Said → List Fact → Known
+abbrev knowing : List AbstractValue → List Fact → Known
 knowing said facts = record { said = said; facts = facts; side = false }
 
 -- the same, and the side cell is empty
-abbrev beside_empty : List Said → Known
+abbrev beside_empty : List AbstractValue → Known
 beside_empty said = record { said = said; facts = []; side = true }
 
-abbrev speed : Said
-speed = Between 0 GREATEST_LIMIT
+abbrev speed : AbstractValue
+speed = Between 0 MAX_LIMIT
 
-abbrev one_more : Said
-one_more = Between 0 (GREATEST_LIMIT + 1)
+abbrev one_more : AbstractValue
+one_more = Between 0 (MAX_LIMIT + 1)
 
-abbrev limit : Said
-limit = Between 1 GREATEST_LIMIT
+abbrev limit : AbstractValue
+limit = Between 1 MAX_LIMIT
 
-abbrev gap : Said
-gap = Between 0 GREATEST_GAP
+abbrev gap : AbstractValue
+gap = Between 0 MAX_GAP
 
-abbrev one : Said
+abbrev one : AbstractValue
 one = Between 1 1
 
-abbrev flag : Said
+abbrev flag : AbstractValue
 flag = Implies false
 
 -- 0 or 1: the smaller of 1 and the speed in R0
-abbrev some_one : Said
+abbrev some_one : AbstractValue
 some_one = Between 0 1
 
 -- the speed in R0 is within the limit and the gap

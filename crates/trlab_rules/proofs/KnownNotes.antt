@@ -11,13 +11,13 @@ use Rattle.trlab_code.specs.declared.instruction.Variable.{Variable}
 use Rattle.trlab_code.specs.declared.instruction.Variable.TheVariants as variable
 use Rattle.trlab_code.specs.Machine.{register_number, variable_number}
 use Rattle.trlab_code.specs.Program.{Program}
-use Rattle.trlab_code.specs.Flow.{target, falls}
-use Rattle.trlab_notes.specs.declared.note.Said.{Said}
-use Rattle.trlab_notes.specs.declared.note.Said.TheVariants.{Nothing, Between, Implies}
-use Rattle.trlab_notes.specs.declared.reason.Reason.{Reason}
+use Rattle.trlab_code.specs.Flow.{target, falls, on_target}
+use Rattle.trlab_notes.specs.declared.note.AbstractValue.{AbstractValue}
+use Rattle.trlab_notes.specs.declared.note.AbstractValue.TheVariants.{Nothing, Between, Implies}
+use Rattle.trlab_notes.specs.declared.reasons.Reason.{Reason}
 use Rattle.trlab_notes.specs.Notes.{Note, same_variable, said_with_side, known_level, entry_said, entry}
 use Rattle.trlab_notes.specs.Order.{SaysNoMore, IsNoStronger}
-use Rattle.trlab_notes.specs.Reasons.{on_target, reason_against}
+use Rattle.trlab_notes.specs.Reasons.{reason_against}
 use Rattle.trlab_notes.specs.Transfer.{next_note, jump_note}
 use Rattle.trlab_notes.proofs.Variables.{variables, back, below, same_is}
 use Rattle.trlab_notes.proofs.Order.{wider, known_from}
@@ -35,7 +35,7 @@ pub record Fact : Type 0 where
 -- a row of such a table: what is known of the first registers, facts about the order, and whether the side
 -- cell is empty
 pub record Known : Type 0 where
-  pub said : List Said
+  pub said : List AbstractValue
   pub facts : List Fact
   pub side : Bool
 
@@ -43,7 +43,7 @@ abbrev level_by : List Fact → Variable → Variable → ℕ
 level_by [] x y = 0
 level_by (fact ∷ facts) x y = cond (same_variable x fact.one && same_variable y fact.other) fact.level (level_by facts x y)
 
-abbrev said_by : Kind → List Said → Variable → Said
+abbrev said_by : Kind → List AbstractValue → Variable → AbstractValue
 said_by kind said (variable.Register r) = get_or said (register_number r) Nothing
 said_by kind said (variable.Input k) = entry_said kind (variable.Input k)
 
@@ -56,7 +56,7 @@ abbrev unknown : Known
 unknown = record { said = []; facts = []; side = false }
 
 -- the first says no more of a variable than the second
-abbrev says_no_more : Said → Said → Bool
+abbrev says_no_more : AbstractValue → AbstractValue → Bool
 says_no_more Nothing t = true
 says_no_more (Between a b) (Between c d) = nat_le a c && nat_le d b
 says_no_more (Implies p) (Implies q) = not p || q
@@ -66,7 +66,7 @@ implied : (p q : Bool) → (not p || q) ≡ true → IsTrue p → IsTrue q
 implied true q h e = h
 implied false q h e = absurd (cc e)
 
-no_more : (s t : Said) → says_no_more s t ≡ true → SaysNoMore s t
+no_more : (s t : AbstractValue) → says_no_more s t ≡ true → SaysNoMore s t
 no_more Nothing t h = tt
 no_more (Between a b) (Between c d) h = let both = and_parts (nat_le a c) (nat_le d b) h in (leb-true a c both.0, leb-true d b both.1)
 no_more (Between a b) Nothing h = absurd (cc h)

@@ -11,10 +11,10 @@ use Rattle.trlab_code.specs.declared.instruction.Variable.TheVariants as variabl
 use Rattle.trlab_code.specs.declared.instruction.Instr.{Instr}
 use Rattle.trlab_code.specs.declared.instruction.Instr.TheVariants.{Num, Get, Side, Draw, Add, Sub, Min, Jump, JumpAtMost, JumpFalse, Go, Cross, Stay}
 use Rattle.trlab_code.specs.declared.view.View.{View}
-use Rattle.trlab_code.specs.Machine.{Value, Number, Flag, Store, Answer, Goes, Crosses, Stays, State, At, Done, Stuck, update, on_any, on_number, on_flag, write_sized, jump_if, Writes, Ends, Sticks, effect, allows, allows_input, state_after, execute, step, EndsFrom}
+use Rattle.trlab_code.specs.Machine.{Value, Number, Flag, Store, Answer, Goes, Crosses, Stays, MachineState, At, Done, Stuck, update, on_any, on_number, on_flag, write_sized, jump_if, Writes, Ends, Sticks, effect, allows, allows_input, state_after, execute, step, EndsFrom}
 
 -- from a state a program comes to an end with this answer
-pub record Run (kind : Kind) (code : List Instr) (view : View) (words : List ℕ) (state : State) (answer : Answer) : Type 0 where
+pub record Run (kind : Kind) (code : List Instr) (view : View) (words : List ℕ) (state : MachineState) (answer : Answer) : Type 0 where
   pub steps : ℕ
   pub ends : EndsFrom kind code view words state answer steps
 
@@ -24,7 +24,7 @@ done = record { steps = 0; ends = refl }
 
 module _ {kind : Kind} {code : List Instr} {view : View} {words : List ℕ} {pc : ℕ} {s : Store} {answer : Answer} where
   -- the instruction at a place of the code leads to a state, from which the program comes to its end
-  pub row : (i : Instr) (next : State) → slice_get code pc ≡ Some i → allows kind i ≡ true → state_after pc s (effect view words s i) ≡ next → Run kind code view words next answer → Run kind code view words (At pc s) answer
+  pub row : (i : Instr) (next : MachineState) → slice_get code pc ≡ Some i → allows kind i ≡ true → state_after pc s (effect view words s i) ≡ next → Run kind code view words next answer → Run kind code view words (At pc s) answer
   unfolding step
   row i next here allowed leads rest =
       let fetch : execute kind view words pc s (Some i) ≡ next = ap (λ b. cond b (state_after pc s (effect view words s i)) Stuck) allowed ∙ leads in
@@ -47,21 +47,21 @@ module _ {kind : Kind} {code : List Instr} {view : View} {words : List ℕ} {pc 
 
   pub add : (d a b : Register) (m n : ℕ) → slice_get code pc ≡ Some (Add d a b) → s (variable.Register a) ≡ Number m → s (variable.Register b) ≡ Number n → m + n < 2 ^ 32 → Run kind code view words (At (suc pc) (update s (variable.Register d) (Number (m + n)))) answer → Run kind code view words (At pc s) answer
   add d a b m n here first second sized rest =
-      let after : Value → Value → State = λ v w. state_after pc s (on_number v (λ x. on_number w (λ y. write_sized d (x + y)))) in
+      let after : Value → Value → MachineState = λ v w. state_after pc s (on_number v (λ x. on_number w (λ y. write_sized d (x + y)))) in
       row (Add d a b) _ here refl
       (ap (λ v. after v (s (variable.Register b))) first ∙ (ap (λ w. after (Number m) w) second
       ∙ ap (λ t. state_after pc s (cond t (Writes d (Number (m + n))) Sticks)) (lt-ltb (m + n) (2 ^ 32) sized))) rest
 
   pub sub : (d a b : Register) (m n : ℕ) → slice_get code pc ≡ Some (Sub d a b) → s (variable.Register a) ≡ Number m → s (variable.Register b) ≡ Number n → n ≤ m → Run kind code view words (At (suc pc) (update s (variable.Register d) (Number (m - n)))) answer → Run kind code view words (At pc s) answer
   sub d a b m n here first second less rest =
-      let after : Value → Value → State = λ v w. state_after pc s (on_number v (λ x. on_number w (λ y. cond (nat_le y x) (Writes d (Number (x - y))) Sticks))) in
+      let after : Value → Value → MachineState = λ v w. state_after pc s (on_number v (λ x. on_number w (λ y. cond (nat_le y x) (Writes d (Number (x - y))) Sticks))) in
       row (Sub d a b) _ here refl
       (ap (λ v. after v (s (variable.Register b))) first ∙ (ap (λ w. after (Number m) w) second
       ∙ ap (λ t. state_after pc s (cond t (Writes d (Number (m - n))) Sticks)) (le-leb n m less))) rest
 
   pub smaller : (d a b : Register) (m n : ℕ) → slice_get code pc ≡ Some (Min d a b) → s (variable.Register a) ≡ Number m → s (variable.Register b) ≡ Number n → Run kind code view words (At (suc pc) (update s (variable.Register d) (Number (min m n)))) answer → Run kind code view words (At pc s) answer
   smaller d a b m n here first second rest =
-      let after : Value → Value → State = λ v w. state_after pc s (on_number v (λ x. on_number w (λ y. Writes d (Number (min x y))))) in
+      let after : Value → Value → MachineState = λ v w. state_after pc s (on_number v (λ x. on_number w (λ y. Writes d (Number (min x y))))) in
       row (Min d a b) _ here refl (ap (λ v. after v (s (variable.Register b))) first ∙ ap (λ w. after (Number m) w) second) rest
 
   pub jump : (t : ℕ) → slice_get code pc ≡ Some (Jump t) → Run kind code view words (At t s) answer → Run kind code view words (At pc s) answer
@@ -69,7 +69,7 @@ module _ {kind : Kind} {code : List Instr} {view : View} {words : List ℕ} {pc 
 
   at_most : (a b : Register) (t m n : ℕ) (h : Bool) → slice_get code pc ≡ Some (JumpAtMost a b t) → s (variable.Register a) ≡ Number m → s (variable.Register b) ≡ Number n → nat_le m n ≡ h → Run kind code view words (state_after pc s (jump_if h t)) answer → Run kind code view words (At pc s) answer
   at_most a b t m n h here first second test rest =
-      let after : Value → Value → State = λ v w. state_after pc s (on_number v (λ x. on_number w (λ y. jump_if (nat_le x y) t))) in
+      let after : Value → Value → MachineState = λ v w. state_after pc s (on_number v (λ x. on_number w (λ y. jump_if (nat_le x y) t))) in
       row (JumpAtMost a b t) _ here refl
       (ap (λ v. after v (s (variable.Register b))) first ∙ (ap (λ w. after (Number m) w) second ∙ ap (λ z. state_after pc s (jump_if z t)) test)) rest
 
@@ -96,7 +96,7 @@ module _ {kind : Kind} {code : List Instr} {view : View} {words : List ℕ} {pc 
 module _ {code : List Instr} {view : View} {words : List ℕ} {pc : ℕ} {s : Store} where
   pub go : (a : Register) (m : ℕ) → slice_get code pc ≡ Some (Go a) → s (variable.Register a) ≡ Number m → m ≤ view.gap → m ≤ view.limit → Run Motion code view words (At pc s) (Goes m)
   go a m here holds gap limit =
-      let after : Bool → Bool → State = λ p q. state_after pc s (cond (p && q) (Ends (Goes m)) Sticks) in
+      let after : Bool → Bool → MachineState = λ p q. state_after pc s (cond (p && q) (Ends (Goes m)) Sticks) in
       row (Go a) _ here refl
       (ap (λ v. state_after pc s (on_number v (λ x. cond (nat_le x view.gap && nat_le x view.limit) (Ends (Goes x)) Sticks))) holds
       ∙ (ap (λ p. after p (nat_le m view.limit)) (le-leb m view.gap gap) ∙ ap (λ q. after true q) (le-leb m view.limit limit))) done

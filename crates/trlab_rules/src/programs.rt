@@ -1,9 +1,101 @@
-//! The instructions of the standard programs. A jump names the index of an instruction, counted from 0.
+//! The instructions of the standard programs: of Nagel and Schreckenberg (1992), with the slow starts of Barlovic,
+//! Santen, Schadschneider and Schreckenberg (1998), and of Rickert, Nagel, Schreckenberg and Latour (1996), with
+//! distances of this project's own. A jump names the index of an instruction, counted from 0.
 
-mod nasch;
-mod rickert;
-mod vdr;
+ghost use Rattle.std.specs.Prelude.{◌≡◌, IfOk};
+ghost use Rattle.trlab_code.specs.Program.{IsProgram};
+ghost use Rattle.trlab_rules.specs.Standard.{nasch_program, vdr_program, rickert_program};
 
-pub use nasch::nasch_instrs;
-pub use rickert::rickert_instrs;
-pub use vdr::vdr_instrs;
+use std::alloc::{AllocError, Global};
+use trlab_code::Input::{Gap, Limit, SideBack, SideGap, Speed};
+use trlab_code::Instr::{
+    self, Add, Cross, Draw, Get, Go, Jump, JumpAtMost, JumpFalse, Min, Num, Side, Stay, Sub,
+};
+use trlab_code::Register::{R0, R1, R2, R3};
+use trlab_words::Chance;
+
+/// The instructions of the motion of 1992, which brakes with probability `p`.
+///
+/// # Errors
+///
+/// If an allocation fails.
+pub fn nasch_instrs(alloc: Global, p: Chance) -> Result<Vec<Instr>, AllocError>
+    ensures value { IfOk result (λ instrs. instrs.items ≡ (nasch_program p).instrs) }
+    ensures program { IsProgram (nasch_program p) }
+{
+    let instrs = vec![in alloc;
+        Get(R0, Speed),
+        Num(R1, 1),
+        Add(R0, R0, R1),
+        Get(R2, Limit),
+        Min(R0, R0, R2),
+        Get(R2, Gap),
+        Min(R0, R0, R2),
+        Draw(R3, 0, p.get()),
+        JumpFalse(R3, 11),
+        Min(R1, R1, R0),
+        Sub(R0, R0, R1),
+        Go(R0),
+    ]?;
+    Ok(instrs)
+}
+
+/// The instructions of the motion of 1998, which brakes with probability `p0` if the car is stopped, and with
+/// `p` if it moves.
+///
+/// # Errors
+///
+/// If an allocation fails.
+pub fn vdr_instrs(alloc: Global, p: Chance, p0: Chance) -> Result<Vec<Instr>, AllocError>
+    ensures value { IfOk result (λ instrs. instrs.items ≡ (vdr_program p p0).instrs) }
+    ensures program { IsProgram (vdr_program p p0) }
+{
+    let instrs = vec![in alloc;
+        Get(R0, Speed),
+        Num(R1, 1),
+        JumpAtMost(R1, R0, 5),
+        Draw(R3, 0, p0.get()),
+        Jump(6),
+        Draw(R3, 0, p.get()),
+        Add(R0, R0, R1), // from here on as in `nasch`
+        Get(R2, Limit),
+        Min(R0, R0, R2),
+        Get(R2, Gap),
+        Min(R0, R0, R2),
+        JumpFalse(R3, 14),
+        Min(R1, R1, R0),
+        Sub(R0, R0, R1),
+        Go(R0),
+    ]?;
+    Ok(instrs)
+}
+
+/// The instructions of the lane change of 1996, with probability `c`.
+///
+/// # Errors
+///
+/// If an allocation fails.
+pub fn rickert_instrs(alloc: Global, c: Chance) -> Result<Vec<Instr>, AllocError>
+    ensures value { IfOk result (λ instrs. instrs.items ≡ (rickert_program c).instrs) }
+    ensures program { IsProgram (rickert_program c) }
+{
+    let instrs = vec![in alloc;
+        Side(R0),
+        JumpFalse(R0, 15),
+        Get(R1, Speed),
+        Num(R2, 1),
+        Add(R1, R1, R2),
+        Get(R2, Gap),
+        JumpAtMost(R1, R2, 15),
+        Get(R2, SideGap),
+        JumpAtMost(R2, R1, 15),
+        Get(R2, SideBack),
+        Get(R3, Limit),
+        JumpAtMost(R2, R3, 15),
+        Draw(R3, 1, c.get()),
+        JumpFalse(R3, 15),
+        Cross,
+        Stay,
+    ]?;
+    Ok(instrs)
+}

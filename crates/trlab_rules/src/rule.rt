@@ -53,7 +53,7 @@ impl Rule {
     ///
     /// # Errors
     ///
-    /// Where memory ran out.
+    /// If an allocation fails.
     pub fn copy(&self, alloc: Global) -> Result<Rule, AllocError>
         ensures { IfOk result (λ copy. copy ≡ self.now) }
     {

@@ -1,15 +1,41 @@
-//! The published rules, as rules of this laboratory: cars that drive by accepted programs.
+//! The published rules, made of the standard programs, which the verifier accepts.
 
-ghost use Rattle.std.specs.Prelude.{◌≡◌, IfOk, IfErr};
-ghost use Rattle.trlab_rules.specs.declared.fault.StandardFault.TheVariants.{Memory};
+ghost use Rattle.std.specs.Prelude.{◌≡◌, IfOk, IfErr, ◌≤◌};
+ghost use Rattle.trlab_rules.specs.declared.standard.StandardFault.TheVariants.{Memory};
 ghost use Rattle.trlab_rules.specs.Rules.{IsRule};
-ghost use Rattle.trlab_rules.specs.StandardRules.{IsNasch, IsVdr, IsRickert};
+ghost use Rattle.trlab_rules.specs.StandardRules.{IsNasch, IsVdr, IsRickert, IsMotion, IsChange};
+ghost use Rattle.trlab_code.specs.Program.{Program, IsProgram};
+ghost use Rattle.trlab_verify.specs.Verdict.{IsAccepted};
+ghost use Rattle.trlab_rules.specs.Published.{nasch_speed, vdr_speed, rickert_crosses, safe_speed, wording_1992};
+ghost use Rattle.trlab_rules.specs.Standard.{nasch_program, vdr_program, rickert_program};
 
-use crate::checked::{nasch_motion, rickert_change, vdr_motion};
-use crate::fault::StandardFault;
+use crate::programs::{nasch_instrs, rickert_instrs, vdr_instrs};
 use crate::rule::Rule;
-use std::alloc::Global;
+use std::alloc::{AllocError, Global};
+use thiserror::Error;
+use trlab_code::{Code, Instr};
+use trlab_verify::{AcceptedProgram, Change, Motion, ProgramKind, VerifyFault, verify_as};
 use trlab_words::Chance;
+
+/// Why there is no standard rule.
+#[derive(Clone, Copy, Debug, PartialEq, Eq, Error)]
+pub enum StandardFault {
+    /// An allocation failed.
+    #[error("memory ran out")]
+    Memory,
+    /// The verifier refuses a program of the rule. No call returns this, because the verifier accepts these
+    /// programs (law `standard_programs_are_accepted`).
+    #[error("a program of the rule is refused")]
+    Refused,
+}
+
+impl From<AllocError> for StandardFault {
+    ghost from_gives = { λ _ fault. fault ≡ Memory };
+
+    fn from(_: AllocError) -> StandardFault {
+        StandardFault::Memory
+    }
+}
 
 /// The rule of Nagel and Schreckenberg (1992), for one lane or for lanes that no car leaves.
 ///
@@ -18,7 +44,7 @@ use trlab_words::Chance;
 ///
 /// # Errors
 ///
-/// `Memory` if memory runs out; never `Refused`.
+/// `Memory` if an allocation fails; never `Refused`.
 pub fn nasch(alloc: Global, p: Chance) -> Result<Rule, StandardFault>
     ensures published { IfOk result (IsNasch p) }
     ensures rule { IfOk result IsRule }
@@ -33,7 +59,7 @@ pub fn nasch(alloc: Global, p: Chance) -> Result<Rule, StandardFault>
 ///
 /// # Errors
 ///
-/// `Memory` if memory runs out; never `Refused`.
+/// `Memory` if an allocation fails; never `Refused`.
 pub fn vdr(alloc: Global, p: Chance, p0: Chance) -> Result<Rule, StandardFault>
     ensures published { IfOk result (IsVdr p p0) }
     ensures rule { IfOk result IsRule }
@@ -51,7 +77,7 @@ pub fn vdr(alloc: Global, p: Chance, p0: Chance) -> Result<Rule, StandardFault>
 ///
 /// # Errors
 ///
-/// `Memory` if memory runs out; never `Refused`.
+/// `Memory` if an allocation fails; never `Refused`.
 pub fn rickert(alloc: Global, p: Chance, c: Chance) -> Result<Rule, StandardFault>
     ensures published { IfOk result (IsRickert p c) }
     ensures rule { IfOk result IsRule }
@@ -60,4 +86,80 @@ pub fn rickert(alloc: Global, p: Chance, c: Chance) -> Result<Rule, StandardFaul
     let motion = nasch_motion(alloc, p)?;
     let change = rickert_change(alloc, c)?;
     Ok(Rule::new(motion, Some(change)))
+}
+
+/// The program of the kind `K` with these instructions, which the verifier accepts.
+///
+/// # Errors
+///
+/// If an allocation fails.
+fn checked<K: ProgramKind>(
+    alloc: Global,
+    instrs: Vec<Instr>,
+) -> Result<AcceptedProgram<K>, AllocError>
+    requires program { IsProgram (record { kind = K.KIND; instrs = instrs.items }) }
+    requires accepted { IsAccepted K.KIND (record { kind = K.KIND; instrs = instrs.items }) }
+    ensures { let program : Program = record { kind = K.KIND; instrs = instrs.items } in
+        IfOk result (λ accepted. (accepted.program ≡ program) × IsAccepted K.KIND program) }
+{
+    let Some(code) = Code::new(K::KIND, instrs) else {
+        unreachable!()
+    };
+    match verify_as(alloc, code) {
+        Ok(program) => Ok(program),
+        Err((_, VerifyFault::Why { .. })) => unreachable!(),
+        Err((_, VerifyFault::Memory)) => Err(AllocError),
+    }
+}
+
+/// The accepted motion of 1992, which brakes with probability `p`.
+///
+/// # Errors
+///
+/// If an allocation fails.
+fn nasch_motion(alloc: Global, p: Chance) -> Result<Motion, AllocError>
+    ensures { IfOk result (IsMotion (nasch_speed p) (nasch_program p)) }
+{
+    checked(alloc, nasch_instrs(alloc, p)?)
+}
+
+/// The accepted motion of 1998, which brakes with probability `p0` if the car is stopped, and with `p` if it
+/// moves.
+///
+/// # Errors
+///
+/// If an allocation fails.
+fn vdr_motion(alloc: Global, p: Chance, p0: Chance) -> Result<Motion, AllocError>
+    ensures { IfOk result (IsMotion (vdr_speed p p0) (vdr_program p p0)) }
+{
+    checked(alloc, vdr_instrs(alloc, p, p0)?)
+}
+
+/// The accepted lane change of 1996, with probability `c`.
+///
+/// # Errors
+///
+/// If an allocation fails.
+fn rickert_change(alloc: Global, c: Chance) -> Result<Change, AllocError>
+    ensures { IfOk result (IsChange (rickert_crosses c) (rickert_program c)) }
+{
+    checked(alloc, rickert_instrs(alloc, c)?)
+}
+
+/// The speed of a car after acceleration and slowing down, as Nagel and Schreckenberg worded it in 1992.
+///
+/// They speak of the distance to the car ahead, which is one more than the gap, all in cells: a car whose speed
+/// is below the limit goes one faster if the distance is above its speed plus one, and then a car whose speed
+/// is at least the distance goes one less than the distance. For a speed of at most the limit this is the
+/// minimum of the speed plus one, the limit and the gap.
+pub fn slowed_1992(speed: u32, limit: u32, gap: u32) -> u32
+    ensures wording { result ≡ wording_1992 speed limit gap }
+    ensures safe { speed ≤ limit → result ≡ safe_speed speed limit gap }
+{
+    let accelerated = if speed < limit && speed < gap {
+        speed + 1
+    } else {
+        speed
+    };
+    accelerated.min(gap)
 }

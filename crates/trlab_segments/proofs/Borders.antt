@@ -12,13 +12,13 @@ range_append a zero k = let e : zero + k ≡ k = omega arith in let f : a ≡ a 
 range_append a (suc n) k = let e : suc n + k ≡ suc (n + k) = omega arith in let f : a + 1 + n ≡ a + suc n = omega arith in
     ap (range_with_len a) e ∙ ap (λ (z : List ℕ). a ∷ z) (range_append (a + 1) n k ∙ ap (λ (z : ℕ). range_with_len (a + 1) n ++ range_with_len z k) f)
 
--- the list of one part more ends with that part
+-- with one more part, the list ends with that part
 pub flat_map_range_more : {A : Type 0} (f : ℕ → List A) (n : ℕ) → flat_map f (range_with_len 0 (n + 1)) ≡ flat_map f (range_with_len 0 n) ++ f n
 flat_map_range_more f n =
     let z : 0 + n ≡ n = omega arith in
     ap (flat_map f) (range_append 0 n 1) ∙ flat_map-append f (range_with_len 0 n) ((0 + n) ∷ []) ∙ ap (λ k. flat_map f (range_with_len 0 n) ++ k) (append-nil (f (0 + n)) ∙ ap f z)
 
--- with borders that never go back, from 0 on, the parts up to the border k are all up to there
+-- if borders begin with 0 and never decrease, the parts up to border k are all numbers below it
 segments_up_to : (border : ℕ → ℕ) (k : ℕ) → border 0 ≡ 0 → ((i : ℕ) → border i ≤ border (i + 1))
     → flat_map (λ i. range_with_len (border i) (border (i + 1) - border i)) (range_with_len 0 k) ≡ range_with_len 0 (border k)
 segments_up_to border zero start rises = sym (ap (range_with_len 0) start)
@@ -52,12 +52,11 @@ first_of_all cars count some =
 pub begin_and_end : (cars count : ℕ) → 0 < count → (first_car cars count 0 ≡ 0) × (first_car cars count count ≡ cars)
 begin_and_end cars count some = (first_of_none cars count some, first_of_all cars count some)
 
--- after the last segment of some workers there is no car, also where no car is there
-pub last_behind : (cars count workers : ℕ) → 0 < workers → count ≡ segment_count cars workers → first_car cars count count ≡ cars
-last_behind zero count workers some is = let none : count ≡ 0 = is ∙ omega arith in rw none refl
-last_behind (suc n) count workers some is =
-    let any : 0 < count = omega (arith, is) in
-    first_of_all (suc n) count any
+-- if there are at least as many segments as workers get, there is no car after the last one
+pub no_car_behind : (cars count workers : ℕ) → 0 < workers → segment_count cars workers ≤ count → first_car cars count count ≡ cars
+no_car_behind zero zero workers some enough = refl
+no_car_behind zero (suc n) workers some enough = (begin_and_end 0 (suc n) (omega arith)).1
+no_car_behind (suc n) count workers some enough = (begin_and_end (suc n) count (omega (arith, some, enough))).1
 
 pub have_cars : (cars count i : ℕ) → 0 < count → count ≤ cars → first_car cars count i < first_car cars count (i + 1)
 have_cars cars count i some few =

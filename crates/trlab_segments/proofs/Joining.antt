@@ -2,28 +2,28 @@
 use Rattle.std.proofs.Common.{◌≡◌, Bool, true, false, List, [], ◌++◌, ◌||◌, Option, Some, None, IfSome, MatchOption, Result, Ok, Err, IfOk, IsOkAnd, Vec, refl, All, map, ap, sym, ◌∙◌, subst}
 use Rattle.std.proofs.lemmas.List.{map-append}
 use Rattle.std.proofs.lemmas.List.Elements.{All-append}
-use Rattle.trlab_segments.specs.Answered.{HasParts, number_of}
+use Rattle.trlab_segments.specs.Answered.{HasParts, ticket_of}
 use Rattle.trlab_segments.specs.Drawers.{IsFrom, IsJoined, IsNew, Joins, is_ended, tickets_of}
-use Rattle.trlab_segments.specs.declared.tickets.drawer.Drawer.{Drawer}
-use Rattle.trlab_segments.specs.declared.tickets.drawer.Tickets.{Tickets}
-use Rattle.trlab_segments.specs.declared.phase.part.Part.{Part}
+use Rattle.trlab_segments.specs.declared.tickets.Drawer.{Drawer}
+use Rattle.trlab_segments.specs.declared.tickets.Tickets.{Tickets}
+use Rattle.trlab_segments.specs.declared.parts.Part.{Part}
 
 or_true : (x : Bool) → (x || true) ≡ true
 or_true true = refl
 or_true false = refl
 
 module _ {A : Type 0} (Fits : Part A → Type 0) (t : Tickets) where
-  -- who drew nothing, or another, has its parts: these are those of both
+  -- the parts of two drawers are those of the joined drawer
   both_parts : (d e f : Drawer) (some more all : List (Part A)) → HasParts Fits d some → HasParts Fits e more
       → all ≡ some ++ more → Joins t d e f → HasParts Fits f all
   both_parts d e f some more all first second items joins = record {
-    tickets = ap (map number_of) items ∙ (map-append number_of some more
-        ∙ (ap (λ xs. xs ++ map number_of more) first.tickets ∙ ap (λ xs. tickets_of d ++ xs) second.tickets ∙ sym joins.tickets));
+    tickets = ap (map ticket_of) items ∙ (map-append ticket_of some more
+        ∙ (ap (λ xs. xs ++ map ticket_of more) first.tickets ∙ ap (λ xs. tickets_of d ++ xs) second.tickets ∙ sym joins.tickets));
     right = subst (All Fits) (sym items) (All-append Fits some more first.right second.right);
     ended = joins.ended ∙ ap (λ x. x || is_ended e) first.ended;
   }
 
-  -- the same, where both were told
+  -- the same for results of workers, if both succeeded
   pub told_parts : {B E : Type 0} (d e f : Drawer) (some more all : Result (Vec (Part A) B) E)
       → IfOk some (λ parts. HasParts Fits d parts.items) → IfOk more (λ parts. HasParts Fits e parts.items)
       → IfOk all (λ v. IsOkAnd some (λ a. IsOkAnd more (λ b. v.items ≡ a.items ++ b.items)))
@@ -34,7 +34,7 @@ module _ {A : Type 0} (Fits : Part A → Type 0) (t : Tickets) where
   told_parts d e f (Ok a) (Ok b) (Ok v) first second items joins =
       both_parts d e f a.items b.items v.items first second items joins
 
-  -- parts that were deposited before, and more
+  -- earlier deposits, and more parts
   pub all_parts : (before : Option Drawer) (e f : Drawer) (some more all : List (Part A))
       → MatchOption before (some ≡ []) (λ d. IsFrom t d × HasParts Fits d some) → IsFrom t e × HasParts Fits e more
       → all ≡ some ++ more → IsJoined t before e f → IsFrom t f × HasParts Fits f all
@@ -44,7 +44,7 @@ module _ {A : Type 0} (Fits : Part A → Type 0) (t : Tickets) where
   all_parts (Some d) e f some more all deposited done items joins =
       (joins.from, both_parts d e f some more all deposited.1 done.1 items joins)
 
-  -- the same, where more was told
+  -- the same if more parts are the result of a worker
   pub all_told : {B E : Type 0} (before : Option Drawer) (e f : Drawer) (some all : List (Part A)) (told : Result (Vec (Part A) B) E)
       → MatchOption before (some ≡ []) (λ d. IsFrom t d × HasParts Fits d some)
       → IsFrom t e × IfOk told (λ more. HasParts Fits e more.items) → IsOkAnd told (λ more. all ≡ some ++ more.items)
@@ -65,13 +65,13 @@ module _ {A : Type 0} (Fits : Part A → Type 0) (t : Tickets) where
     },
   )
 
--- what was deposited came from these tickets
+-- a deposit came from these tickets
 pub deposited_from : (t : Tickets) (before : Option Drawer) (Empty : Type 0) (Has : Drawer → Type 0)
     → MatchOption before Empty (λ d. IsFrom t d × Has d) → IfSome before (IsFrom t)
 deposited_from t None Empty Has deposited = tt
 deposited_from t (Some d) Empty Has deposited = deposited.0
 
--- what is joined came from these tickets
+-- a joined drawer came from these tickets
 pub joined_from : (t : Tickets) (before : Option Drawer) (d all : Drawer) → IsFrom t d → IsJoined t before d all → IsFrom t all
 joined_from t None d all from same = subst (IsFrom t) (sym same) from
 joined_from t (Some b) d all from joins = joins.from

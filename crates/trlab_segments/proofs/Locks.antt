@@ -8,13 +8,13 @@ use Rattle.atomic_table.proofs.Lists.{set_here}
 use Rattle.trlab_segments.specs.KeyedLocks.{Guarded, Seized}
 
 module _ {T K : Type 0} (Fits : T → Type 0) where
-  -- whoever has the value puts one back that fits
+  -- a thread that has the value puts one back that fits
   pub releases : (id : ℕ) (m : Me (Option T) K) (v : K) (value : T) (more : List (ℕ × Option T)) → m ≡ (v, (0, Some value) ∷ more) → Fits value
       → Allows (Guarded Fits) 1 id m 0 (λ _. 0) (λ _ _. Unit {0})
   releases id m v value more e ok = subst (λ (x : Me (Option T) K). Allows (Guarded Fits) 1 id x 0 (λ _. 0) (λ _ _. Unit {0})) (sym e)
       (λ s g wide me _. (v, gives, tt, (length-set s.words 0 0 ∙ g.0, λ _. (value, set_here s.homes 0 (some (Some value)) (omega arith), ok)), tt))
 
-  -- whoever finds 0 has a value that fits
+  -- a thread that finds 0 has a value that fits
   pub seizes : (n : ℕ) (v : K) → Arrives (Guarded Fits) n 0 (λ _. 1) (λ r m. r ≡ 0 → Seized {K = K} Fits m)
   seizes n v s g wide _ =
       let long = g.0 in

@@ -1,12 +1,12 @@
--- What the cars of a part of a road answer, and the parts that a worker asked.
+-- The answers of the cars of a part of a road, and the parts that a worker asked.
 use Rattle.std.specs.Prelude.{◌≡◌, ℕ, ◌+◌, ◌<◌, true, Bool, List, All, map, length, slice_index_or}
 use Rattle.std.specs.Prelude.{Result, IfOk, Vec}
 use Rattle.trlab_machine.specs.declared.dice.Dice.{Dice}
 use Rattle.trlab_road.specs.Cells.{Cells, cars}
-use Rattle.trlab_segments.specs.declared.phase.part.Part.{Part}
+use Rattle.trlab_segments.specs.declared.parts.Part.{Part}
 use Rattle.trlab_segments.specs.declared.phase.Phase.{Phase}
-use Rattle.trlab_segments.specs.declared.tickets.drawer.Drawer.{Drawer}
-use Rattle.trlab_segments.specs.declared.tickets.drawer.Tickets.{Tickets}
+use Rattle.trlab_segments.specs.declared.tickets.Drawer.{Drawer}
+use Rattle.trlab_segments.specs.declared.tickets.Tickets.{Tickets}
 use Rattle.trlab_segments.specs.Drawers.{IsFrom, is_ended, passes_of, tickets_of}
 use Rattle.trlab_segments.specs.Segments.{first_car}
 use Rattle.trlab_step.specs.Answers.{IsCrossesPart, IsSpeedsPart}
@@ -14,19 +14,19 @@ use Rattle.trlab_verify.specs.CheckedProgram.{CheckedProgram}
 use Rattle.std.specs.Borrow.{Bor}
 use Rattle.trlab_road.specs.declared.road.Road.{Road}
 
--- speeds can be asked on any road
+-- motion programs run on any road
 abbrev pub HasLanes : Cells → Type 0
 HasLanes road = Unit {0}
 
--- lane changes are asked on a road of two lanes
+-- change programs run on a road of two lanes
 abbrev pub HasTwoLanes : Cells → Type 0
 HasTwoLanes road = length road.lanes ≡ 2
 
--- the number of the segment of a part
-abbrev pub number_of : {A : Type 0} → Part A → ℕ
-number_of p = p.number
+-- the number of a part's segment
+abbrev pub ticket_of : {A : Type 0} → Part A → ℕ
+ticket_of p = p.number
 
--- a part has what a program answers to the cars of its segment, where the cars are cut into so many
+-- a part has the answers of a program to the cars of its segment, one of `count`
 abbrev pub AnswersSegment : {P A : Type 0} → (P → Dice → Cells → ℕ → ℕ → List A → Type 0)
     → P → Dice → Cells → ℕ → Part A → Type 0
 AnswersSegment answers program dice road count p =
@@ -40,23 +40,23 @@ IsPart answers phase = AnswersSegment answers phase.program.now phase.dice.now p
 
 -- a drawer has ended, and these are the parts of the tickets that it drew, in its order
 pub record HasParts {A : Type 0} (Fits : Part A → Type 0) (d : Drawer) (parts : List (Part A)) : Type 0 where
-  pub tickets : map number_of parts ≡ tickets_of d
+  pub tickets : map ticket_of parts ≡ tickets_of d
   pub right : All Fits parts
   pub ended : is_ended d ≡ true
 
--- what workers come back with: their drawer with its passes, and the parts, if memory was there
+-- workers return their drawer with its passes, and the parts, unless an allocation failed
 abbrev pub HasWorked : {A B E : Type 0} → (Part A → Type 0) → Tickets → Drawer
     → Drawer × Result (Vec (Part A) B) E → Type 0
 HasWorked Fits tickets d told =
     IsFrom tickets told.0 × (passes_of told.0 ≡ passes_of d)
     × IfOk told.1 (λ parts. HasParts Fits told.0 parts.items)
 
--- the part at this place has this number
+-- the part at this index has this number
 abbrev pub HasNumber : {A : Type 0} → List (Part A) → ℕ → ℕ → Type 0
 HasNumber parts place number =
-    (place < length parts) × ((other : Part _) → number_of (slice_index_or parts place other) ≡ number)
+    (place < length parts) × ((other : Part _) → ticket_of (slice_index_or parts place other) ≡ number)
 
--- a call that can be made on any road, and tells the speeds of all its cars, if memory was there
+-- a call on any road returns the speeds of all its cars, unless an allocation fails
 abbrev pub TellsSpeeds : {A B E : Type 0} → (A → Bor Road → Bor CheckedProgram → Bor Dice → Type 0)
     → (A → Bor Road → Bor CheckedProgram → Bor Dice → Result (Vec ℕ B) E → Type 0) → Type 0
 TellsSpeeds pre post = (alloc : _) (road : Bor Road) (motion : Bor CheckedProgram) (dice : Bor Dice)
@@ -64,7 +64,7 @@ TellsSpeeds pre post = (alloc : _) (road : Bor Road) (motion : Bor CheckedProgra
     × ((told : _) → post alloc road motion dice told
     → IfOk told (λ speeds. IsSpeedsPart motion.now dice.now road.now 0 (cars road.now) speeds.items))
 
--- a call that can be made on a road of two lanes, and tells which of all its cars cross, if memory was there
+-- a call on a road of two lanes returns which of its cars cross, unless an allocation fails
 abbrev pub TellsCrosses : {A B E : Type 0} → (A → Bor Road → Bor CheckedProgram → Bor Dice → Type 0)
     → (A → Bor Road → Bor CheckedProgram → Bor Dice → Result (Vec Bool B) E → Type 0) → Type 0
 TellsCrosses pre post = (alloc : _) (road : Bor Road) (change : Bor CheckedProgram) (dice : Bor Dice)

@@ -1,14 +1,14 @@
--- What callers see of tickets and drawers.
+-- Tickets and drawers as callers see them.
 use Rattle.std.specs.Prelude.{◌≡◌, ℕ, ◌+◌, ◌<◌, ◌≤◌, Bool, false, ◌||◌, List, [], ◌∷◌, ◌++◌}
 use Rattle.std.specs.Prelude.{Option, MatchOption}
-use Rattle.trlab_segments.specs.declared.tickets.drawer.Tickets.{Tickets}
-use Rattle.trlab_segments.specs.declared.tickets.drawer.Drawer.{Drawer}
+use Rattle.trlab_segments.specs.declared.tickets.Tickets.{Tickets}
+use Rattle.trlab_segments.specs.declared.tickets.Drawer.{Drawer}
 
 -- the tickets are the numbers below this
 abbrev pub count_of : Tickets → ℕ
 count_of t = t.plan.count
 
--- as many drawers can there be
+-- the maximum number of drawers
 abbrev pub drawers_of : Tickets → ℕ
 drawers_of t = t.plan.drawers
 
@@ -44,24 +44,24 @@ IsNew tickets d = IsFrom tickets d × (tickets_of d ≡ [])
 abbrev pub HasAll : Tickets → Drawer → Type 0
 HasAll t d = passes_of d ≡ drawers_of t
 
--- a drawer has drawn one ticket more, which is below the count and above those before
+-- a drawer has drawn one more ticket, which is below the count and above its earlier ones
 abbrev pub Draws : Tickets → Drawer → ℕ → Drawer → Type 0
 Draws t old i new =
     (i < count_of t) × (least_of old ≤ i)
     × (tickets_of new ≡ tickets_of old ++ i ∷ []) × (least_of new ≡ i + 1) × (is_ended new ≡ false)
 
--- a drawer that is handed back is the one that came
-abbrev pub IsSame : Drawer → Drawer → Type 0
-IsSame d e =
+-- an unchanged drawer
+abbrev pub IsSameDrawer : Drawer → Drawer → Type 0
+IsSameDrawer d e =
     (d.seat.table_id ≡ e.seat.table_id) × (d.seat.me ≡ e.seat.me)
     × (d.passes ≡ e.passes) × (d.ended ≡ e.ended)
 
--- a drawer has what one drew, and then what another drew
+-- a drawer has the tickets of one, and then those of another
 pub record Joins (t : Tickets) (one other all : Drawer) : Type 0 where
   pub from : IsFrom t all
   pub tickets : tickets_of all ≡ tickets_of one ++ tickets_of other
   pub ended : is_ended all ≡ (is_ended one || is_ended other)
 
--- a drawer has what another drew before, if there is one, and then what a second drew
+-- a drawer has the tickets of an earlier one, if there is one, and then those of a second
 abbrev pub IsJoined : Tickets → Option Drawer → Drawer → Drawer → Type 0
 IsJoined tickets before d all = MatchOption before (all ≡ d) (λ b. Joins tickets b d all)

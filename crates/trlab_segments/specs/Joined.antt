@@ -1,4 +1,4 @@
--- The answers of parts that follow on each other are those of the whole.
+-- The answers of two adjacent parts, one after the other, are those of both.
 use Rattle.std.proofs.Common.{◌≡◌, ℕ, ◌+◌, ◌-◌, ◌<◌, ◌≤◌, ◌++◌, Bool, true, false, List, [], length, get_or}
 use Rattle.std.proofs.Common.{refl, sym, subst, inl, inr, arith, length-append}
 use Rattle.std.proofs.lemmas.Bool.{cases_lt}
@@ -11,7 +11,7 @@ use Rattle.trlab_step.specs.Answers.{CrossesFreePart, FitsPart, IsCrossesPart, I
 use Rattle.trlab_step.proofs.PartLaws.{speeds_join as join_speeds, crossings_join as join_crossings}
 use Rattle.trlab_verify.specs.CheckedProgram.{CheckedProgram}
 
--- what holds of each element of two lists, by its index, holds of the elements of both together
+-- a fact that holds of each element of two lists, by its index, holds of the elements of both together
 both : {X : Type 0} (none : X) (P : ℕ → X → Type 0) (xs ys : List X)
     → ((k : ℕ) → k < length xs → P k (get_or xs k none))
     → ((k : ℕ) → k < length ys → P (length xs + k) (get_or ys k none))
@@ -28,7 +28,7 @@ both none P xs ys first second k below =
           subst (P k) (sym (get_or-append_right xs ys (length xs) k none refl past)) there
     ]
 
--- no car answers no speed
+-- for no cars, the empty list has the speeds
 pub speeds_begin : (motion : CheckedProgram) (dice : Dice) (road : Cells)
     → IsSpeedsPart motion dice road 0 0 []
 speeds_begin motion dice road = (
@@ -39,7 +39,7 @@ speeds_begin motion dice road = (
   },
 )
 
--- speeds of two parts that are within the gaps and the limit, one after the other, are so too
+-- if the speeds of two parts are within the gaps and the limit, so are both together
 fits_join : (road : Cells) (from middle : ℕ) (first second : List ℕ) → middle ≡ from + length first
     → FitsPart road from first → FitsPart road middle second → FitsPart road from (first ++ second)
 fits_join road from middle first second behind a b =
@@ -60,7 +60,7 @@ speeds_join motion dice road from middle to first second a b = (
   fits_join road from middle first second (sym a.0.one_each) a.1 b.1,
 )
 
--- no car answers nothing
+-- for no cars, the empty list has the lane changes
 pub crosses_begin : (change : CheckedProgram) (dice : Dice) (road : Cells)
     → IsCrossesPart change dice road 0 0 []
 crosses_begin change dice road = (
@@ -68,7 +68,7 @@ crosses_begin change dice road = (
   record { side_empty = λ k below. absurd (omega (arith, below)) },
 )
 
--- cars of two parts that cross to empty cells only, one after the other, do so too
+-- if the cars of two parts cross only to empty cells, so do both together
 free_join : (road : Cells) (from middle : ℕ) (first second : List Bool) → middle ≡ from + length first
     → CrossesFreePart road from first → CrossesFreePart road middle second
     → CrossesFreePart road from (first ++ second)
@@ -79,7 +79,7 @@ free_join road from middle first second behind a b =
           (λ k below. subst (λ i. IsFree i (get_or second k false)) (place k) (b.side_empty k below));
     }
 
--- whoever crosses in one of two parts, one after the other, crosses in both together
+-- the lane changes of two parts, one after the other, are those of both
 pub crosses_join : (change : CheckedProgram) (dice : Dice) (road : Cells) (from middle to : ℕ)
     → (first second : List Bool)
     → IsCrossesPart change dice road from middle first → IsCrossesPart change dice road middle to second

@@ -1,4 +1,4 @@
--- The rule of a lock with one word and one slot: where the word is 0, the value lies in the slot.
+-- The rule of a lock with one word and one slot: while the word is 0, the value is in the slot.
 use Rattle.std.specs.Prelude.{◌≡◌, ◌∷◌, [], Option, Some, slice_index, length}
 use mathlib.Core.Option.{some}
 use lib.ListN.{get_elem?}
@@ -9,14 +9,14 @@ module _ {T K : Type 0} where
   abbrev pub HasAtHome : (T → Type 0) → State (Option T) K → Type 0
   HasAtHome Fits s = (value : T) × (get_elem? s.homes 0 ≡ some (some (Some value))) × Fits value
 
-  -- where the word is 0, a value is at home, and fits
+  -- while the word is 0, a value is at home, and fits
   abbrev pub Guarded : (T → Type 0) → State (Option T) K → Type 0
   Guarded Fits s = (length s.words ≡ 1) × (slice_index s.words 0 ≡ 0 → HasAtHome Fits s)
 
-  -- whoever finds 0 has the slot, with a value that fits
+  -- a thread that finds 0 has the slot, with a value that fits
   abbrev pub Seized : (T → Type 0) → Me (Option T) K → Type 0
   Seized Fits m = (value : T) × (m.1 ≡ (0, Some value) ∷ []) × Fits value
 
-  -- has the slot, and nothing else
+  -- a thread has the slot, and nothing else
   abbrev pub HasOnly : Me (Option T) K → Type 0
   HasOnly m = (held : Option T) × (m.1 ≡ (0, held) ∷ [])

@@ -4,21 +4,21 @@ use Rattle.std.specs.List.{range_with_len, flat_map}
 use mathlib.Core.Option.{some}
 use lib.ListN.{get_elem?}
 use Rattle.atomic_table.specs.Table.{State}
-use Rattle.trlab_bounds.specs.declared.runs.TheConstants.{MOST_WORKERS}
-use Rattle.trlab_segments.specs.declared.tickets.knowledge.Plan.{Plan}
-use Rattle.trlab_segments.specs.declared.tickets.knowledge.Knowledge.{Knowledge}
+use Rattle.trlab_bounds.specs.declared.runs.TheConstants.{MAX_WORKERS}
+use Rattle.trlab_segments.specs.declared.ticket_rule.Plan.{Plan}
+use Rattle.trlab_segments.specs.declared.ticket_rule.TicketKnowledge.{TicketKnowledge}
 use Rattle.trlab_segments.specs.Knowledge.{IsWhole}
 use Rattle.trlab_segments.specs.Rule.{KeepsTickets, counter_of}
 use Rattle.trlab_segments.specs.Segments.{segment_count, first_car, segment}
 
--- the counter is at most the count, and one more for each drawer that there can be
+-- the counter is at most the count plus the maximum number of drawers
 abbrev pub CounterIsBounded : Type 0
-CounterIsBounded = (plan : Plan) (s : State ℕ Knowledge)
-    → KeepsTickets plan s → counter_of s ≤ plan.count + MOST_WORKERS
+CounterIsBounded = (plan : Plan) (s : State ℕ TicketKnowledge)
+    → KeepsTickets plan s → counter_of s ≤ plan.count + MAX_WORKERS
 
--- a drawer with all passes has every ticket, once, just where the counter has come to the count
+-- a drawer with all passes has every ticket, once, exactly if the counter has reached the count
 abbrev pub AllPassesHaveAllTickets : Type 0
-AllPassesHaveAllTickets = (plan : Plan) (s : State ℕ Knowledge) (seat : ℕ) (mine : Knowledge)
+AllPassesHaveAllTickets = (plan : Plan) (s : State ℕ TicketKnowledge) (seat : ℕ) (mine : TicketKnowledge)
     → KeepsTickets plan s → get_elem? s.views seat ≡ some mine → mine.passes ≡ plan.drawers
     → IsWhole mine.tickets plan.count ↔ (plan.count ≤ counter_of s)
 
@@ -38,7 +38,7 @@ SegmentsAreAllCars = (cars workers : ℕ) → 0 < workers
     → flat_map (segment cars (segment_count cars workers)) (range_with_len 0 (segment_count cars workers))
     ≡ range_with_len 0 cars
 
--- what the cars of each segment answer, one segment after the other, is what all cars answer
+-- the answers of the segments, one after the other, are the answers of all cars
 abbrev pub AnswersJoin : Type 0 → Type 0
 AnswersJoin A = (cars workers : ℕ) (answer : ℕ → A) → 0 < workers
     → let count = segment_count cars workers in

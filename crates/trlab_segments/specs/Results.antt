@@ -1,16 +1,16 @@
--- The results of a phase so far: the passes that no helper has taken, and what helpers deposited.
+-- The results of a phase so far: the passes that no helper has taken, and the deposits of helpers.
 use Rattle.std.specs.Prelude.{◌≡◌, ℕ, List, [], Option, IfSome, MatchOption, Result, IfOk, Vec}
 use Rattle.trlab_machine.specs.declared.dice.Dice.{Dice}
 use Rattle.trlab_road.specs.Cells.{Cells, cars}
 use Rattle.trlab_segments.specs.Answered.{AnswersSegment, HasParts}
 use Rattle.trlab_segments.specs.Drawers.{IsFrom, IsNew, count_of}
 use Rattle.trlab_segments.specs.Segments.{first_car}
-use Rattle.trlab_segments.specs.declared.tickets.drawer.Drawer.{Drawer}
-use Rattle.trlab_segments.specs.declared.phase.part.Part.{Part}
+use Rattle.trlab_segments.specs.declared.tickets.Drawer.{Drawer}
+use Rattle.trlab_segments.specs.declared.parts.Part.{Part}
 use Rattle.trlab_segments.specs.declared.pool.brief.Brief.{Brief}
 use Rattle.trlab_segments.specs.declared.pool.results.Results.{Results}
 
--- this is asked of the cars of this road
+-- a brief has this program, these dice and this road
 abbrev pub AsksOf : {P : Type 0} → P → Dice → Cells → Brief P → Type 0
 AsksOf program dice road b = (b.program ≡ program) × (b.dice ≡ dice) × (b.road ≡ road)
 
@@ -18,33 +18,33 @@ AsksOf program dice road b = (b.program ≡ program) × (b.dice ≡ dice) × (b.
 abbrev pub IsCutWhole : {P : Type 0} → Brief P → Type 0
 IsCutWhole b = first_car (cars b.road) (count_of b.tickets) (count_of b.tickets) ≡ cars b.road
 
--- a part has what the cars of its segment answer to what is asked
+-- a part has the answers to a brief of the cars of its segment
 abbrev pub IsRight : {P A : Type 0} → (P → Dice → Cells → ℕ → ℕ → List A → Type 0)
     → Brief P → Part A → Type 0
 IsRight answers b = AnswersSegment answers b.program b.dice b.road (count_of b.tickets)
 
--- what a drawer drew, and the right answers of it
+-- a drawer came from the brief's tickets, and these are the right answers of its segments
 abbrev pub HasDone : {P A : Type 0} → (P → Dice → Cells → ℕ → ℕ → List A → Type 0)
     → Brief P → Drawer → List (Part A) → Type 0
 HasDone answers b d parts = IsFrom b.tickets d × HasParts (IsRight answers b) d parts
 
--- the same, if memory was there
+-- the same, unless an allocation failed
 abbrev pub TellsDone : {P A B E : Type 0} → (P → Dice → Cells → ℕ → ℕ → List A → Type 0)
     → Brief P → Drawer → Result (Vec (Part A) B) E → Type 0
 TellsDone answers b d told =
     IsFrom b.tickets d × IfOk told (λ parts. HasParts (IsRight answers b) d parts.items)
 
--- what was deposited, if anything was
+-- the deposit, if there is one
 abbrev pub IsDeposited : {P A : Type 0} → (P → Dice → Cells → ℕ → ℕ → List A → Type 0)
     → Brief P → Option Drawer → List (Part A) → Type 0
 IsDeposited answers b deposited parts = MatchOption deposited (parts ≡ []) (λ d. HasDone answers b d parts)
 
--- what all cars answer to what is asked
+-- the answers of all cars to a brief
 abbrev pub AnswersAll : {P A : Type 0} → (P → Dice → Cells → ℕ → ℕ → List A → Type 0)
     → Brief P → List A → Type 0
 AnswersAll answers b found = answers b.program b.dice b.road 0 (cars b.road) found
 
--- what was asked can be, the passes that are left are new, and what was deposited is right
+-- the program can be run on the road, the passes that are left are new, and the deposit is right
 pub record AreResults {P A : Type 0} (answers : P → Dice → Cells → ℕ → ℕ → List A → Type 0)
     (can_ask : Cells → Type 0) (b : Brief P) (r : Results A) : Type 0 where
   pub lanes : can_ask b.road

@@ -1,56 +1,57 @@
--- The rule of tickets: what holds of the one counter that drawers share, which is the next ticket, and of
--- all that they know, before and after each atomic step.
+-- The rule of tickets: an invariant of the one counter that drawers share, which is the next ticket, and of
+-- their knowledge, before and after each atomic step.
 use Rattle.std.specs.Prelude.{◌≡◌, ℕ, ◌+◌, ◌<◌, ◌≤◌, ◌^◌, min, true, List, length, slice_index, sum_by}
 use mathlib.Core.Option.{some}
 use lib.ListN.{get_elem?}
 use Rattle.atomic_table.specs.Table.{State, Step, Me}
-use Rattle.trlab_bounds.specs.declared.runs.TheConstants.{MOST_WORKERS}
-use Rattle.trlab_segments.specs.declared.tickets.knowledge.Plan.{Plan}
-use Rattle.trlab_segments.specs.declared.tickets.knowledge.Knowledge.{Knowledge}
-use Rattle.trlab_segments.specs.Knowledge.{times, once_below, IsWhole, no_knowledge, with_ticket, at_end}
+use Rattle.trlab_bounds.specs.declared.runs.TheConstants.{MAX_WORKERS}
+use Rattle.trlab_segments.specs.declared.ticket_rule.Plan.{Plan}
+use Rattle.trlab_segments.specs.declared.ticket_rule.TicketKnowledge.{TicketKnowledge}
+use Rattle.trlab_strands.specs.Knowledge.{once_below}
+use Rattle.trlab_segments.specs.Knowledge.{times, IsWhole, no_knowledge, with_ticket, at_end}
 use Rattle.trlab_segments.specs.Knowledge.{passes_at_end}
 
 -- the counter, the word that drawers share: no ticket below it is left
-abbrev pub counter_of : State ℕ Knowledge → ℕ
+abbrev pub counter_of : State ℕ TicketKnowledge → ℕ
 counter_of s = slice_index s.words 0
 
--- whoever has no pass knows nothing; others know this plan, and have ended only where no ticket is left
-pub record IsSound (plan : Plan) (counter : ℕ) (k : Knowledge) : Type 0 where
+-- a seat without a pass knows nothing; the others know this plan, and have ended only if no ticket is left
+pub record IsSoundDrawer (plan : Plan) (counter : ℕ) (k : TicketKnowledge) : Type 0 where
   pub idle : k.passes ≡ 0 → k ≡ no_knowledge
   pub same_plan : 0 < k.passes → k.plan ≡ plan
   pub late : k.ended ≡ true → plan.count ≤ counter
   pub rises : k.least ≤ counter
 
--- each ticket that the counter has passed was drawn by one drawer, once, and no other number by any; the
+-- each ticket that the counter has passed was drawn by one drawer, once, and no other number was drawn; the
 -- passes add up to the drawers, and beyond the count the counter rises only by passes that have ended
-pub record AreSound (plan : Plan) (counter : ℕ) (known : List Knowledge) : Type 0 where
+pub record AreSoundDrawers (plan : Plan) (counter : ℕ) (known : List TicketKnowledge) : Type 0 where
   pub passes : sum_by (λ k. k.passes) known ≡ plan.drawers
   pub once : (x : ℕ) → sum_by (λ k. times x k.tickets) known ≡ once_below x (min plan.count counter)
   pub counter_is : counter ≤ plan.count + sum_by passes_at_end known
-  pub each : (seat : ℕ) (k : Knowledge) → get_elem? known seat ≡ some k → IsSound plan counter k
+  pub each : (seat : ℕ) (k : TicketKnowledge) → get_elem? known seat ≡ some k → IsSoundDrawer plan counter k
 
 -- the rule
-pub record KeepsTickets (plan : Plan) (s : State ℕ Knowledge) : Type 0 where
+pub record KeepsTickets (plan : Plan) (s : State ℕ TicketKnowledge) : Type 0 where
   pub one_word : length s.words ≡ 1
   pub count : plan.count < 2 ^ 32
-  pub drawers : plan.drawers ≤ MOST_WORKERS
-  pub known : AreSound plan (counter_of s) s.views
+  pub drawers : plan.drawers ≤ MAX_WORKERS
+  pub known : AreSoundDrawers plan (counter_of s) s.views
 
--- to draw: a number below the count is the drawer's next ticket, and another ends it
-abbrev pub DrawsTicket : Step ℕ → Me ℕ Knowledge → ℕ → Me ℕ Knowledge → Type 0
+-- to draw: a number below the count is the drawer's next ticket, and any other number ends it
+abbrev pub DrawsTicket : Step ℕ → Me ℕ TicketKnowledge → ℕ → Me ℕ TicketKnowledge → Type 0
 DrawsTicket s old found new =
     (new.1 ≡ old.1) × (old.0.least ≤ found)
     × (found < old.0.plan.count → new.0 ≡ with_ticket old.0 found)
     × (old.0.plan.count ≤ found → new.0 ≡ at_end old.0)
 
--- what a drawer learns from the counter: it has at most all passes, and with all of them each ticket
--- that the counter has passed; where it has ended, the counter has passed them all
-pub record Learns (counter : ℕ) (k : Knowledge) : Type 0 where
+-- a drawer learns from the counter that it has at most all passes, and with all of them each ticket that the
+-- counter has passed; if it has ended, the counter has passed them all
+pub record LearnsCounter (counter : ℕ) (k : TicketKnowledge) : Type 0 where
   pub passes : k.passes ≤ k.plan.drawers
-  pub drawers : k.plan.drawers ≤ MOST_WORKERS
+  pub drawers : k.plan.drawers ≤ MAX_WORKERS
   pub whole : k.passes ≡ k.plan.drawers → IsWhole k.tickets (min k.plan.count counter)
   pub late : k.ended ≡ true → k.plan.count ≤ counter
 
 -- to read the counter: nothing changes
-abbrev pub ReadsCounter : Step ℕ → Me ℕ Knowledge → ℕ → Me ℕ Knowledge → Type 0
-ReadsCounter s old found new = (new ≡ old) × Learns found old.0
+abbrev pub ReadsCounter : Step ℕ → Me ℕ TicketKnowledge → ℕ → Me ℕ TicketKnowledge → Type 0
+ReadsCounter s old found new = (new ≡ old) × LearnsCounter found old.0

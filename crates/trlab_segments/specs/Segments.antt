@@ -1,13 +1,12 @@
--- The cars of a road in standing order, cut into segments that follow on each other. A ticket of a
--- phase is the number of a segment.
+-- The cars of a road in standing order, cut into adjacent segments. A ticket is the number of a segment.
 use Rattle.std.specs.Prelude.{ℕ, ◌+◌, ◌-◌, ◌*◌, ◌/◌, min, List}
 use Rattle.std.specs.List.{range_with_len}
 
--- how many segments there are: four a worker, but none without a car
+-- the number of segments: four per worker, but none without a car
 abbrev pub segment_count : ℕ → ℕ → ℕ
 segment_count cars workers = min cars (4 * workers)
 
--- the first car of segment i, where the cars are cut into so many
+-- the first car of segment i of `count`
 abbrev pub first_car : ℕ → ℕ → ℕ → ℕ
 first_car cars count i = i * cars / count
 

@@ -1,4 +1,4 @@
--- How many workers take part.
+-- The number of workers.
 use Rattle.std.specs.Prelude.{ℕ}
 use Rattle.trlab_segments.specs.declared.crew.Crew.{Crew}
 use Rattle.trlab_segments.specs.declared.pool.Pool.{Pool}

@@ -1,47 +1,56 @@
-//! The workers of a step, who ask the cars of a road together.
+//! The workers of a single step: the threads of a crew end with each phase, so they borrow the road, and nobody waits
+//! for a lock.
 
-mod calls;
-mod opening;
-mod sharing;
-mod step;
-
-ghost use Rattle.std.specs.Prelude.{◌≡◌, ◌<◌, ◌≤◌, IfOk};
-ghost use Rattle.trlab_bounds.specs.declared.runs.TheConstants.{MOST_WORKERS};
+ghost use Rattle.std.specs.Prelude.{◌≡◌, ◌<◌, ◌≤◌, [], IfOk};
+ghost use Rattle.std.specs.Thread.{IsSend, IsSync};
+ghost use Rattle.trlab_bounds.specs.declared.runs.TheConstants.{MAX_WORKERS};
 ghost use Rattle.trlab_road.specs.Cells.{cars};
-ghost use Rattle.trlab_segments.specs.Answered.{HasTwoLanes};
-ghost use Rattle.trlab_step.specs.Answers.{IsCrossesPart, IsSpeedsPart};
+ghost use Rattle.trlab_segments.specs.Answered.{HasTwoLanes, HasWorked, IsPart, TellsCrosses, TellsSpeeds};
+ghost use Rattle.trlab_segments.specs.Drawers.{IsFrom, count_of, tickets_of};
+ghost use Rattle.trlab_step.specs.Answers.{IsCrossesPart, IsSpeedsPart, dice_of};
+ghost use Rattle.trlab_step.specs.Next.{TellsNext};
 
-use crate::crew::sharing::share;
-use crate::gate::Gate;
-use crate::phase::lineup::line_up;
+use crate::parts::{Part, joined, line_up, work};
 use crate::phase::{Asked, Phase};
-use crate::segment::segment_count;
-use crate::tickets::Tickets;
-pub use calls::Calls;
+use crate::segment::{Gate, segment_count};
+use crate::tickets::{Drawer, Tickets};
 use std::alloc::{AllocError, Global};
-use std::thread::Threads;
-pub use step::step_shared;
+use std::thread::{Threads, join};
 use trlab_machine::Dice;
 use trlab_road::Road;
+use trlab_rules::Rule;
+use trlab_step::{Executor, StepFault, StepObserver, StepTally, step_road_by};
 use trlab_verify::{Change, Motion};
+use trlab_words::Key;
 
-/// 1 to 16 workers and their gate. The calling thread is worker 0; the others are started for each
-/// phase, and have ended when its answers are there.
+/// 1 to 16 workers and their gate. The calling thread is worker 0; the others are started for each phase, and have
+/// ended when its answers are there.
 #[derive(Drop)]
 pub struct Crew<'a, R, G> {
     rt: &'a R,
     gate: &'a G,
     workers: u32,
     ghost some: { 0 < workers },
-    ghost few: { workers ≤ MOST_WORKERS },
+    ghost few: { workers ≤ MAX_WORKERS },
 }
 
 impl<'a, R: Threads + Sync, G: Gate + Sync> Crew<'a, R, G> {
+    ghost use Rattle.trlab_segments.specs.Workers.{crew_workers};
+
+    /// A crew of `workers` workers, each of which passes the gate before each segment.
+    pub fn new(rt: &'a R, workers: u32, gate: &'a G) -> Crew<'a, R, G>
+        requires some { 0 < workers }
+        requires few { workers ≤ MAX_WORKERS }
+        ensures { crew_workers result ≡ workers }
+    {
+        Crew { rt, gate, workers }
+    }
+
     /// The answers of all cars of a phase, in standing order.
     ///
     /// # Errors
     ///
-    /// Where an allocation was refused to any worker.
+    /// If an allocation fails in any worker.
     fn ask<A: Copy + Drop + Send, P: Asked<A> + Sync>(
         &self,
         alloc: Global,
@@ -55,18 +64,20 @@ impl<'a, R: Threads + Sync, G: Gate + Sync> Crew<'a, R, G> {
         let (tickets, drawer) = Tickets::start(alloc, count, self.workers)?;
         let (drawer, parts) = share(self.rt, alloc, phase, &tickets, drawer, self.gate);
         let parts = parts?;
-        // Each worker has come back with its pass, and had found no ticket left.
+        let mut answers = Vec::new(alloc);
+        // Each worker has returned its pass, and had found no ticket left.
         match tickets.finish(drawer) {
-            Ok(()) => line_up(alloc, phase, count, &parts),
+            Ok(()) => line_up(&mut answers, phase, count, &parts)?,
             Err(_) => unreachable!(),
         }
+        Ok(answers)
     }
 
     /// The speeds that a motion program answers to all cars of a road, in standing order, each in a byte.
     ///
     /// # Errors
     ///
-    /// Where an allocation was refused to any worker.
+    /// If an allocation fails in any worker.
     pub fn speeds(
         &self,
         alloc: Global,
@@ -91,7 +102,7 @@ impl<'a, R: Threads + Sync, G: Gate + Sync> Crew<'a, R, G> {
     ///
     /// # Errors
     ///
-    /// Where an allocation was refused to any worker.
+    /// If an allocation fails in any worker.
     pub fn crossings(
         &self,
         alloc: Global,
@@ -112,4 +123,145 @@ impl<'a, R: Threads + Sync, G: Gate + Sync> Crew<'a, R, G> {
             },
         )
     }
+}
+
+/// An executor by two calls: one for speeds, and one for lane changes. A `Crew` is not an `Executor` itself, because
+/// a method of a trait cannot yet start threads that call a gate of any type; a closure can.
+#[derive(Drop)]
+pub struct Calls<S, C> {
+    speeds: S,
+    crossings: C,
+}
+
+impl<S, C> Calls<S, C> {
+    /// An executor by these calls.
+    pub fn new(speeds: S, crossings: C) -> Calls<S, C>
+        ensures speeds { result.speeds ≡ speeds }
+        ensures crossings { result.crossings ≡ crossings }
+    {
+        Calls { speeds, crossings }
+    }
+}
+
+impl<
+    S: Fn(Global, &Road, &Motion, &Dice) -> Result<Vec<u8>, AllocError>,
+    C: Fn(Global, &Road, &Change, &Dice) -> Result<Vec<bool>, AllocError>,
+> Executor for Calls<S, C> {
+    ghost is_ready = { λ calls. TellsSpeeds (S.pre calls.speeds) (S.post calls.speeds)
+        × TellsCrosses (C.pre calls.crossings) (C.post calls.crossings) };
+
+    fn speeds<O: StepObserver>(
+        &self,
+        alloc: Global,
+        answers: &mut Vec<u8>,
+        road: &mut Road,
+        motion: &Motion,
+        dice: &Dice,
+        observer: &mut O,
+    ) -> Result<(), AllocError> {
+        observer.observe(road);
+        *answers = (self.speeds)(alloc, &*road, motion, dice)?;
+        Ok(())
+    }
+
+    fn crossings<O: StepObserver>(
+        &self,
+        alloc: Global,
+        answers: &mut Vec<bool>,
+        road: &mut Road,
+        change: &Change,
+        dice: &Dice,
+        observer: &mut O,
+    ) -> Result<(), AllocError> {
+        observer.observe(road);
+        *answers = (self.crossings)(alloc, &*road, change, dice)?;
+        Ok(())
+    }
+}
+
+/// Lets as many workers ask the cars as the drawer has passes. Each but the last has a thread of its own; the last is
+/// worker 0, and works on this thread once the others were started. If a thread cannot be started, its work is done
+/// here too.
+///
+/// # Errors
+///
+/// The second part is an error if an allocation fails in any worker.
+fn share<A: Drop + Send, P: Asked<A> + Sync, R: Threads + Sync, G: Gate + Sync>(
+    rt: &R,
+    alloc: Global,
+    phase: &Phase<P>,
+    tickets: &Tickets,
+    drawer: Drawer,
+    gate: &G,
+) -> (Drawer, Result<Vec<Part<A>>, AllocError>)
+    requires from { IsFrom tickets.now drawer }
+    requires fresh { tickets_of drawer ≡ [] }
+    requires lanes { P.can_ask phase.now.road.now }
+    ensures { HasWorked (IsPart P.answers phase.now (count_of tickets.now)) tickets.now drawer result }
+{
+    let mut drawer = drawer;
+    let worker = drawer.passes() - 1;
+    if worker == 0 {
+        let parts = work(alloc, phase, tickets, &mut drawer, worker, gate);
+        return (drawer, parts);
+    }
+    let mut theirs = tickets.split(&mut drawer);
+    let ((theirs, some), (mine, more)) = join(
+        rt,
+        move || -> (Drawer, Result<Vec<Part<A>>, AllocError>)
+            requires { IsFrom tickets.now theirs × (tickets_of theirs ≡ []) × P.can_ask phase.now.road.now }
+            ensures { HasWorked (IsPart P.answers phase.entry.now (count_of tickets.entry.now))
+                tickets.entry.now theirs result }
+        {
+            let parts = work(alloc, phase, tickets, &mut theirs, worker, gate);
+            (theirs, parts)
+        },
+        move || -> (Drawer, Result<Vec<Part<A>>, AllocError>)
+            requires { IsSync R.row × IsSync G.row × IsSync P.row × IsSend A.row
+                × IsFrom tickets.now drawer × (tickets_of drawer ≡ []) × P.can_ask phase.now.road.now }
+            ensures { HasWorked (IsPart P.answers phase.entry.now (count_of tickets.entry.now))
+                tickets.entry.now drawer result }
+        { share(rt, alloc, phase, tickets, drawer, gate) },
+    );
+    (tickets.gather(theirs, mine), joined(some, more))
+}
+
+/// The next road as `step_road` returns it, with 1 to 16 workers. It is the same for every number of workers and
+/// every gate.
+///
+/// The cars are cut into segments, four per worker but none without a car. In each of the two phases a
+/// worker draws the number of the next segment, passes the gate and asks its cars, until none is left. The
+/// calling thread is worker 0, and draws once the others were started; it also does the work of those that
+/// cannot be started.
+///
+/// # Errors
+///
+/// Those of `step_road`: `LanesMismatch` if the rule has a change program and the road has one lane, and
+/// `Memory` if an allocation fails, in any thread. All threads have ended then.
+pub fn step_shared<R: Threads + Sync, G: Gate + Sync>(
+    rt: &R,
+    alloc: Global,
+    road: &Road,
+    rule: &Rule,
+    key: &Key,
+    number: u32,
+    step: u32,
+    workers: u32,
+    gate: &G,
+) -> Result<(Road, StepTally), StepFault>
+    requires some_worker { 0 < workers }
+    requires few_workers { workers ≤ MAX_WORKERS }
+    ensures { TellsNext rule.now (dice_of key.now.0 number step) road.now result }
+{
+    let crew = Crew::new(rt, workers, gate);
+    let dice = Dice::new(key, number, step);
+    let calls = Calls::new(
+        |alloc: Global, road: &Road, motion: &Motion, dice: &Dice| crew.speeds(
+            alloc, road, motion, dice,
+        ),
+        |alloc: Global, road: &Road, change: &Change, dice: &Dice| -> Result<Vec<bool>, AllocError>
+            requires { HasTwoLanes road.now }
+        { crew.crossings(alloc, road, change, dice) },
+    );
+    step_road_by(&calls, alloc, road, rule, &dice)
 }

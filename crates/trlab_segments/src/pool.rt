@@ -1,23 +1,25 @@
 //! The pool of a run: the calling thread, and the helpers that live as long as the run.
 
 mod ask;
-mod asker;
 mod brief;
 mod keyed_lock;
-mod opening;
 mod rendezvous;
 mod results;
 mod task;
-mod task_slot;
 
-ghost use Rattle.std.specs.Prelude.{◌<◌, ◌≤◌};
-ghost use Rattle.trlab_bounds.specs.declared.runs.TheConstants.{MOST_WORKERS};
+ghost use Rattle.std.specs.Prelude.{◌≡◌, ◌/◌, ◌<◌, ◌≤◌, max};
+ghost use Rattle.trlab_bounds.specs.declared.runs.TheConstants.{MAX_WORKERS};
+ghost use Rattle.trlab_segments.specs.declared.pool.TheConstants.{CARS_PER_WORKER};
 
-use crate::gate::Gate;
 use crate::pool::rendezvous::{Rendezvous, help_all};
+use crate::segment::Gate;
 use std::alloc::Global;
 use std::sync::Wait;
+use std::thread;
 use std::thread::{Threads, join_mut};
+
+/// How many cars keep a worker busy for longer than it takes to wake one.
+pub const CARS_PER_WORKER: u32 = 1000;
 
 /// 1 to 16 workers and their gate. The calling thread is worker 0; the others are started once, for a
 /// whole run, and help with its phases.
@@ -28,10 +30,44 @@ pub struct Pool<'a, R, G> {
     rendezvous: Rendezvous,
     workers: u32,
     ghost some: { 0 < workers },
-    ghost few: { workers ≤ MOST_WORKERS },
+    ghost few: { workers ≤ MAX_WORKERS },
 }
 
 impl<'a, R: Threads + Wait + Sync, G: Gate + Sync> Pool<'a, R, G> {
+    ghost use Rattle.trlab_segments.specs.Workers.{pool_workers};
+
+    /// A pool of `workers` workers, each of which passes the gate before each segment. A single worker asks all cars
+    /// at once, and passes no gate.
+    pub fn new(rt: &'a R, workers: u32, gate: &'a G) -> Pool<'a, R, G>
+        requires some { 0 < workers }
+        requires few { workers ≤ MAX_WORKERS }
+        ensures { pool_workers result ≡ workers }
+    {
+        Pool {
+            rt,
+            gate,
+            rendezvous: Rendezvous::new(),
+            workers,
+        }
+    }
+
+    /// As many of these workers as make the work faster on a road with `cars` cars: at most one per processor, and
+    /// one per 1000 cars. Between two phases that are close they stay awake.
+    pub fn sparing(self, cars: u32) -> Pool<'a, R, G>
+        ensures some { 0 < pool_workers result }
+        ensures few { pool_workers result ≤ pool_workers self.entry }
+        ensures used { pool_workers result ≤ max 1 (cars / CARS_PER_WORKER) }
+    {
+        let most = within_processors(self.rt, self.workers);
+        let busy = busy_workers(cars);
+        Pool {
+            rt: self.rt,
+            gate: self.gate,
+            rendezvous: Rendezvous::watchful(),
+            workers: if busy < most { busy } else { most },
+        }
+    }
+
     /// Drives a run, while helpers wait for its phases. All helpers have ended when it returns, and a second run starts
     /// none. If no thread can be started, the run goes on without helpers.
     pub fn run<T, D: FnMut() -> T>(&self, alloc: Global, drive: &mut D) -> T
@@ -45,18 +81,44 @@ impl<'a, R: Threads + Wait + Sync, G: Gate + Sync> Pool<'a, R, G> {
         let gate = self.gate;
         let rendezvous = &self.rendezvous;
         let helpers = self.workers - 1;
-        let (_, told) = join_mut(
+        let (_, driven) = join_mut(
             rt,
             &mut || help_all(rt, alloc, rendezvous, helpers, gate),
             &mut || -> T
                 requires { D.pre drive.now }
                 ensures { D.step drive.entry.now result drive.exit.now }
             {
-                let told = drive();
+                let driven = drive();
                 rendezvous.close();
-                told
+                driven
             },
         );
-        told
+        driven
     }
+}
+
+/// As many of these workers as there are processors; one if their number is unknown.
+fn within_processors<R: Threads>(rt: &R, workers: u32) -> u32
+    requires { 0 < workers }
+    ensures some { 0 < result }
+    ensures few { result ≤ workers }
+{
+    let processors = match thread::available_parallelism(rt) {
+        Ok(count) => count.get(),
+        Err(_) => 1,
+    };
+    if processors < workers as usize {
+        processors as u32
+    } else {
+        workers
+    }
+}
+
+/// The number of workers that a road with `cars` cars keeps busy, at least one.
+fn busy_workers(cars: u32) -> u32
+    ensures some { 0 < result }
+    ensures used { result ≤ max 1 (cars / CARS_PER_WORKER) }
+{
+    let share = cars / CARS_PER_WORKER;
+    if share == 0 { 1 } else { share }
 }

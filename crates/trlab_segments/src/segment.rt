@@ -1,26 +1,26 @@
-//! The cars of a road in standing order, cut into segments of nearly one size. There are more segments
-//! than workers, so that none waits long for the last of them.
+//! The cars of a road in standing order, cut into segments of nearly one size, and the gate before each segment. There
+//! are more segments than workers, so that none waits long for the last of them.
 
 ghost use Rattle.std.specs.Prelude.{◌≡◌, ◌+◌, ◌<◌, ◌≤◌};
-ghost use Rattle.trlab_bounds.specs.declared.runs.TheConstants.{MOST_WORKERS};
+ghost use Rattle.trlab_bounds.specs.declared.runs.TheConstants.{MAX_WORKERS};
 ghost use Rattle.trlab_segments.specs.Segments.{first_car, segment_count};
 
-/// Cars in standing order, from one up to but not another.
+/// Successive cars in standing order: `from` up to but not `to`.
 #[derive(Clone, Copy)]
 pub struct Segment {
     pub from: u32,
     pub to: u32,
 }
 
-/// How many segments there are for 1 to 16 workers: four a worker, but no more than there are cars.
+/// The number of segments for 1 to 16 workers: four per worker, but at most one per car.
 pub fn segment_count(cars: u32, workers: u32) -> u32
-    requires { (0 < workers) × (workers ≤ MOST_WORKERS) }
+    requires { (0 < workers) × (workers ≤ MAX_WORKERS) }
     ensures { result ≡ segment_count cars workers }
 {
     cars.min(4 * workers)
 }
 
-/// The car with which segment `number` of `count` begins, into which the cars of a road are cut.
+/// The first car of segment `number` of `count` on a road of `cars` cars.
 fn first_car(cars: u32, count: u32, number: u32) -> u32
     requires any { 0 < count }
     requires number { number ≤ count }
@@ -31,7 +31,7 @@ fn first_car(cars: u32, count: u32, number: u32) -> u32
 }
 
 impl Segment {
-    /// Segment `number` of `count`, into which the cars of a road are cut.
+    /// Segment `number` of `count` on a road of `cars` cars.
     pub fn of(cars: u32, count: u32, number: u32) -> Segment
         requires { number < count }
         ensures from { result.from ≡ first_car cars count number }
@@ -43,4 +43,20 @@ impl Segment {
             to: first_car(cars, count, number + 1),
         }
     }
+}
+
+/// Workers pass it before they ask the cars of a segment. A gate influences no answer; it may hold a worker up, so
+/// that a test sees several at work.
+pub trait Gate {
+    /// Lets a worker (0 is the calling thread) begin a segment of a phase (0 is the lane change, 1 the
+    /// motion) of a step of the road with this number.
+    fn pass(&self, number: u32, worker: u32, phase: u32, segment: u32);
+}
+
+/// A gate that every worker passes at once.
+#[derive(Clone, Copy)]
+pub struct OpenGate;
+
+impl Gate for OpenGate {
+    fn pass(&self, _number: u32, _worker: u32, _phase: u32, _segment: u32) {}
 }

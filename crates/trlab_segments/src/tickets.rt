@@ -1,29 +1,53 @@
-//! How tickets are drawn: each call is one atomic step, or two, and waits for no other drawer.
-
-mod drawer;
-mod knowledge;
+//! Tickets and their drawers: one shared counter, which is the next ticket, and for each drawer a seat at it. Each
+//! call is one atomic step, or two, and waits for no other drawer.
 
 ghost use Rattle.std.specs.Prelude.{◌≡◌, ◌<◌, ◌≤◌, ◌+◌, [], ◌++◌, ◌||◌, ◌↔◌, true};
 ghost use Rattle.std.specs.Prelude.{None, IfOk, IfErr, IsOk, IfSome, IfNone};
-ghost use Rattle.trlab_bounds.specs.declared.runs.TheConstants.{MOST_WORKERS};
-ghost use Rattle.trlab_segments.specs.Drawers.{IsFrom, IsFresh, HasAll, Draws, IsSame};
-ghost use Rattle.trlab_segments.specs.Drawers.{count_of, drawers_of, passes_of, tickets_of, is_ended};
-ghost use Rattle.trlab_segments.specs.Knowledge.{IsWhole};
 
-use crate::tickets::knowledge::{DrawNext, OnePass, Plan, ReadCounter, Together};
-use atomic_table::Table;
-pub use drawer::{Drawer, Tickets};
+use crate::ticket_rule::{
+    DrawNext, JoinDrawers, OncePerTicket, OnePass, Plan, ReadCounter, TicketKnowledge,
+};
+use atomic_table::{Seat, Table};
 use std::alloc::{AllocError, Global};
 
+/// The numbers below a count, each to be drawn once, by any of up to 16 drawers. Threads may share
+/// it by reference: its counter changes in atomic steps, and nothing of it is locked.
+#[derive(Drop)]
+pub struct Tickets {
+    pub(crate) plan: Plan,
+    pub(crate) table: Table<u8, TicketKnowledge, Plan, OncePerTicket, Global>,
+    ghost one_word: { table.shared.table_id.words ≡ 1 },
+    ghost no_slot: { table.shared.table_id.slots ≡ 0 },
+    ghost same_plan: { table.shared.key ≡ plan },
+}
+
+/// Draws tickets, with one pass or more. A pass is the right to draw; a drawer with two passes can be split. Only
+/// contracts see the tickets that it drew, so they take no memory.
+#[derive(Drop)]
+pub struct Drawer {
+    pub(crate) passes: u32,
+    pub(crate) ended: bool,
+    pub(crate) seat: Seat<u8, TicketKnowledge>,
+    ghost no_slot: { seat.me.1 ≡ [] },
+    ghost some: { 0 < passes },
+    ghost passes_are: { seat.me.0.passes ≡ passes },
+    ghost ended_is: { seat.me.0.ended ≡ ended },
+}
+
 impl Tickets {
+    ghost use Rattle.trlab_bounds.specs.declared.runs.TheConstants.{MAX_WORKERS};
+    ghost use Rattle.trlab_segments.specs.Drawers.{IsFrom, IsFresh, HasAll, Draws, IsSameDrawer};
+    ghost use Rattle.trlab_segments.specs.Drawers.{count_of, drawers_of, passes_of, tickets_of, is_ended};
+    ghost use Rattle.trlab_segments.specs.Knowledge.{IsWhole};
+
     /// The tickets 0 up to but not `count`, and their first drawer, with a pass for each of 1 to 16
     /// drawers.
     ///
     /// # Errors
     ///
-    /// Where there is no memory for the counter.
+    /// If the counter cannot be allocated.
     pub fn start(alloc: Global, count: u32, drawers: u32) -> Result<(Tickets, Drawer), AllocError>
-        requires { (0 < drawers) × (drawers ≤ MOST_WORKERS) }
+        requires { (0 < drawers) × (drawers ≤ MAX_WORKERS) }
         ensures from { IfOk result (λ r. IsFrom r.0 r.1) }
         ensures count { IfOk result (λ r. count_of r.0 ≡ count) }
         ensures drawers { IfOk result (λ r. (drawers_of r.0 ≡ drawers) × (passes_of r.1 ≡ drawers)) }
@@ -40,8 +64,8 @@ impl Tickets {
         Ok((tickets, drawer))
     }
 
-    /// The next ticket, which no drawer drew before, or none where all are drawn. The drawer has then
-    /// ended: from there on it answers none without a step.
+    /// The next ticket, which no drawer drew before; `None` if all are drawn. The drawer has then
+    /// ended: from then on it returns `None` without an atomic step.
     pub fn draw(&self, drawer: &mut Drawer) -> Option<u32>
         requires { IsFrom self.now drawer.old }
         ensures from { IsFrom self.now drawer.new }
@@ -66,8 +90,8 @@ impl Tickets {
         }
     }
 
-    /// A drawer with one pass of a drawer that has two or more, which keeps the others and its
-    /// tickets. Where it has ended, both have.
+    /// Takes one pass from a drawer that has two or more, and returns a drawer with it. The first keeps its tickets;
+    /// if it has ended, both have.
     pub fn split(&self, drawer: &mut Drawer) -> Drawer
         requires from { IsFrom self.now drawer.old }
         requires more { 1 < passes_of drawer.old }
@@ -86,7 +110,7 @@ impl Tickets {
         }
     }
 
-    /// One drawer with the passes and tickets of both, ended where one of them has.
+    /// One drawer with the passes and tickets of both, ended if one of them has.
     pub fn gather(&self, one: Drawer, other: Drawer) -> Drawer
         requires { IsFrom self.now one × IsFrom self.now other }
         ensures from { IsFrom self.now result }
@@ -104,8 +128,10 @@ impl Tickets {
             ended: other_ended,
             seat: joined,
         } = other;
-        self.table.shared.join_seat::<Together>(&mut seat, joined);
-        // A look at the counter tells that the passes are no more than the drawers, so that they add up.
+        self.table
+            .shared
+            .join_seat::<JoinDrawers>(&mut seat, joined);
+        // By a look at the counter the passes are at most the drawers, so their sum does not overflow.
         self.table.shared.load::<ReadCounter>(&mut seat, 0);
         Drawer {
             passes: some + more,
@@ -114,16 +140,16 @@ impl Tickets {
         }
     }
 
-    /// Ends the tickets where the drawer has all passes and all tickets, each of which was then drawn
-    /// once. A drawer with all passes that has ended has them.
+    /// Ends the tickets if the drawer has all passes and all tickets; each ticket was then drawn once. A drawer with
+    /// all passes that has ended has all tickets.
     ///
     /// # Errors
     ///
-    /// Gives tickets and drawer back where the drawer has not all passes, or a ticket is left.
+    /// Returns tickets and drawer if the drawer does not have all passes, or a ticket is left.
     pub fn finish(self, drawer: Drawer) -> Result<(), (Tickets, Drawer)>
         requires { IsFrom self drawer }
         ensures ok { IsOk result ↔ HasAll self drawer × IsWhole (tickets_of drawer) (count_of self) }
-        ensures err { IfErr result (λ r. (r.0 ≡ self) × IsSame r.1 drawer) }
+        ensures err { IfErr result (λ r. (r.0 ≡ self) × IsSameDrawer r.1 drawer) }
         ensures ended { HasAll self drawer → is_ended drawer ≡ true → IsOk result }
     {
         let mut drawer = drawer;
@@ -140,7 +166,9 @@ impl Tickets {
 }
 
 impl Drawer {
-    /// How many passes it has, 1 to 16.
+    ghost use Rattle.trlab_segments.specs.Drawers.{passes_of};
+
+    /// The number of its passes, 1 to 16.
     pub fn passes(&self) -> u32
         ensures { result ≡ passes_of self.now }
     {

@@ -11,7 +11,7 @@ use Rattle.trlab_step.specs.Progress.{IsUnderway, Progress}
 use Rattle.trlab_sequential_book.specs.declared.event.Call.{Call}
 use Rattle.trlab_sequential_book.specs.declared.event.Offered.{Offered}
 use Rattle.trlab_sequential_book.specs.Answers.{back_reply, done_reply, number_reply, order_reply, seen_reply}
-use Rattle.trlab_sequential_book.specs.declared.ran.Ran.{Ran}
+use Rattle.trlab_sequential_book.specs.declared.lease.ExecutedStep.{ExecutedStep}
 use Rattle.trlab_step.proofs.RunLaws.{road_at_is_one}
 use Rattle.trlab_sequential_book.specs.Jobs.{run_of, start_of}
 use Rattle.trlab_sequential_book.specs.Sheets.{AreInForce}
@@ -23,9 +23,9 @@ use Rattle.trlab_sequential_book.specs.declared.event.Reply.TheVariants.{Done, L
 use Rattle.trlab_sequential_book.specs.declared.order.Order.{Order}
 use Rattle.trlab_step.specs.Run.{IsRoadAt, Sheet, in_force}
 use Rattle.trlab_sequential_book.specs.Comparison.{IsFresh, IsLent, IsOwnRun, IsRuleAt, IsSame, IsSeen, IsSnapshotOf, LeaseCall}
-use Rattle.trlab_sequential_book.specs.Machine.{JobState, Outcome, Served, State, after, is_free, is_full, is_out, is_own, giving_back, leasing, next_after, on_free, on_job, reading, refused, reply_of, served}
+use Rattle.trlab_sequential_book.specs.Machine.{JobState, Outcome, Served, BookState, after, is_free, is_full, is_out, is_own, giving_back, leasing, next_after, on_free, on_job, reading, refused, reply_of, served}
 
--- a job that is there
+-- a job that exists
 pub found : (jobs : List JobState) (i : ℕ) (j : JobState) → i < length jobs → j ≡ slice_index_or jobs i j → slice_get jobs i ≡ Some j
 found jobs i j h e = slice_get-get_or jobs i j h ∙ sym (ap Some e)
 
@@ -34,7 +34,7 @@ on_found jobs i j f e =
     let t : Option JobState → Served = λ o. elim o [ None ↦ record { reply = Refused NoSuchJob; jobs = jobs } | Some k ↦ record { reply = (f k).reply; jobs = slice_set jobs i (f k).job } ] in
     ap t e
 
--- a job that is not there
+-- a job that does not exist
 pub on_none : (jobs : List JobState) (i : ℕ) (f : JobState → Outcome) → length jobs ≤ i → on_job jobs i f ≡ record { reply = Refused NoSuchJob; jobs = jobs }
 on_none jobs i f h =
     let t : Option JobState → Served = λ o. elim o [ None ↦ record { reply = Refused NoSuchJob; jobs = jobs } | Some k ↦ record { reply = (f k).reply; jobs = slice_set jobs i (f k).job } ] in
@@ -67,7 +67,7 @@ rule_found jobs i j (Ok o) h e at k =
     let P : Option JobState → Type 0 = λ x. MatchOption x ⊥ (λ s. in_force s.sheet o.step ≡ Some o.rule) in
     subst P (sym here) k
 
--- what a call on a job that is there replies, and the jobs after it
+-- the reply to a call on a job that exists, and the jobs after it
 pub reply_found : (jobs : List JobState) (i : ℕ) (j : JobState) (f : JobState → Outcome) → i < length jobs → j ≡ slice_index_or jobs i j → (f j).reply ≡ (on_job jobs i f).reply
 reply_found jobs i j f h e = sym (ap (λ s. s.reply) (on_found jobs i j f (found jobs i j h e)))
 
@@ -78,7 +78,7 @@ reply_made jobs i old f false told h e n = n ∙ reply_found jobs i old f h e
 pub jobs_found : (jobs : List JobState) (i : ℕ) (j : JobState) (f : JobState → Outcome) → i < length jobs → j ≡ slice_index_or jobs i j → slice_set jobs i (f j).job ≡ (on_job jobs i f).jobs
 jobs_found jobs i j f h e = sym (ap (λ s. s.jobs) (on_found jobs i j f (found jobs i j h e)))
 
--- a snapshot of a job that is there
+-- a snapshot of a job that exists
 pub seen_found : (jobs : List JobState) (i : ℕ) (j : JobState) (seen : Progress) → i < length jobs → j ≡ slice_index_or jobs i j → IsSnapshotOf j seen → IsSeen jobs i seen
 seen_found jobs i j seen h e is =
     let P : Option JobState → Type 0 = λ o. MatchOption o ⊥ (λ k. IsSnapshotOf k seen) in
@@ -88,7 +88,7 @@ pub seen_told : (jobs : List JobState) (i : ℕ) (j : JobState) (seen : Progress
 seen_told jobs i j seen h e is =
     ap (λ n. Seen n (length seen.sheet)) is.step ∙ ap (λ (s : Sheet). Seen j.done (length s)) is.sheet ∙ reply_found jobs i j reading h e
 
--- the lease of a job that is there runs its road
+-- the lease of a job that exists runs its road
 pub own_found : (jobs : List JobState) (i : ℕ) (j : JobState) (lease : LeaseState) → i < length jobs → j ≡ slice_index_or jobs i j → lease.job ≡ i → IsSame jobs lease → IsOwnRun j lease
 own_found jobs i j lease h e job same =
     let here : slice_get jobs lease.job ≡ Some j = ap (slice_get jobs) job ∙ found jobs i j h e in
@@ -96,11 +96,11 @@ own_found jobs i j lease h e job same =
     subst P here same
 
 -- the call `lease` of a book in which a job is free
-served_free : (s : State) (i : ℕ) (j : JobState) → position is_free s.jobs ≡ Some i → i < length s.jobs → j ≡ slice_index_or s.jobs i j
+served_free : (s : BookState) (i : ℕ) (j : JobState) → position is_free s.jobs ≡ Some i → i < length s.jobs → j ≡ slice_index_or s.jobs i j
     → served s LeaseCall ≡ record { reply = Leased i s.next j.done j.steps; jobs = slice_set s.jobs i (leasing i s.next j).job }
 served_free s i j free h e = ap (on_free s.jobs s.next) free ∙ on_found s.jobs i j (leasing i s.next) (found s.jobs i j h e)
 
-pub lease_told : (s now : State) (i : ℕ) (j : JobState) (lease : LeaseState) → s ≡ now → is_full now ≡ false → position is_free s.jobs ≡ Some i → i < length s.jobs → j ≡ slice_index_or s.jobs i j
+pub lease_told : (s now : BookState) (i : ℕ) (j : JobState) (lease : LeaseState) → s ≡ now → is_full now ≡ false → position is_free s.jobs ≡ Some i → i < length s.jobs → j ≡ slice_index_or s.jobs i j
     → lease.job ≡ i → IsFresh j s.next lease → Leased lease.job lease.number lease.step lease.steps ≡ reply_of now LeaseCall
 lease_told s now i j lease view room free h e job fresh =
     let told : reply_of s LeaseCall ≡ Leased i s.next j.done j.steps =
@@ -109,25 +109,25 @@ lease_told s now i j lease view room free h e job fresh =
     let step = fresh.step in
     let steps = fresh.steps in
     let mine : Leased lease.job lease.number lease.step lease.steps ≡ reply_of s LeaseCall = cc in
-    mine ∙ ap (λ (t : State). reply_of t LeaseCall) view
+    mine ∙ ap (λ (t : BookState). reply_of t LeaseCall) view
 
-pub lease_leads : (s now : State) (i : ℕ) (j new : JobState) → s ≡ now → is_full now ≡ false → position is_free s.jobs ≡ Some i → i < length s.jobs → j ≡ slice_index_or s.jobs i j
+pub lease_leads : (s now : BookState) (i : ℕ) (j new : JobState) → s ≡ now → is_full now ≡ false → position is_free s.jobs ≡ Some i → i < length s.jobs → j ≡ slice_index_or s.jobs i j
     → new ≡ (leasing i s.next j).job → record { count = s.count + 1; next = s.next + 1; jobs = slice_set s.jobs i new } ≡ after now LeaseCall
 lease_leads s now i j new view room free h e made =
-    let with : JobState → State = λ k. record { count = s.count + 1; next = s.next + 1; jobs = slice_set s.jobs i k } in
-    let by : Served → State = λ r. record { count = s.count + 1; next = next_after s.next r.reply; jobs = r.jobs } in
+    let with : JobState → BookState = λ k. record { count = s.count + 1; next = s.next + 1; jobs = slice_set s.jobs i k } in
+    let by : Served → BookState = λ r. record { count = s.count + 1; next = next_after s.next r.reply; jobs = r.jobs } in
     let leads : after s LeaseCall ≡ with (leasing i s.next j).job =
     cond-false (is_full s) s (by (served s LeaseCall)) (ap is_full view ∙ room) ∙ ap by (served_free s i j free h e) in
-    ap with made ∙ sym leads ∙ ap (λ (t : State). after t LeaseCall) view
+    ap with made ∙ sym leads ∙ ap (λ (t : BookState). after t LeaseCall) view
 
-pub lease_lent : (s now : State) (i : ℕ) (j : JobState) (lease : LeaseState) → s ≡ now → i < length s.jobs → j ≡ slice_index_or s.jobs i j
+pub lease_lent : (s now : BookState) (i : ℕ) (j : JobState) (lease : LeaseState) → s ≡ now → i < length s.jobs → j ≡ slice_index_or s.jobs i j
     → lease.job ≡ i → IsFresh j s.next lease → IsLent now.jobs now.next (Some lease)
 lease_lent s now i j lease view h e job fresh =
     let here : slice_get s.jobs lease.job ≡ Some j = ap (slice_get s.jobs) job ∙ found s.jobs i j h e in
     let P : Option JobState → Type 0 = λ o. MatchOption o ⊥ (λ k. IsFresh k s.next lease) in
-    subst (λ (t : State). IsLent t.jobs t.next (Some lease)) view (subst P (sym here) fresh)
+    subst (λ (t : BookState). IsLent t.jobs t.next (Some lease)) view (subst P (sym here) fresh)
 
--- what it means that a lease is the one that is out
+-- the parts of `is_own`
 pub own_parts : (lease : Offered) (job : JobState) → is_own lease job ≡ true → (lease.base ≡ job.done) × (lease.step ≤ job.high) × (lease.same ≡ true)
 own_parts lease job h =
     let a = (and_parts (is_out lease.number job.out) ((lease.base == job.done) && (not (ltb job.high lease.step) && lease.same)) h).1 in
@@ -150,13 +150,13 @@ fresh_run job lease road sum run key number base none = record {
   key = key;
   number = number;
   base = subst (λ (r : Cells). IsRoadAt (start_of job.seed) job.sheet job.done r) (sym base) (sum, run.comes);
-  rules = λ k ran at. absurd (no_run k ran (subst (λ (xs : List Ran). slice_get xs k ≡ Some ran) none at));
+  rules = λ k ran at. absurd (no_run k ran (subst (λ (xs : List ExecutedStep). slice_get xs k ≡ Some ran) none at));
 }
   where
-    no_run : (k : ℕ) (ran : Ran) → slice_get [] k ≡ Some ran → ⊥
+    no_run : (k : ℕ) (ran : ExecutedStep) → slice_get [] k ≡ Some ran → ⊥
     no_run k ran at = cc
 
--- what a lease has that goes out
+-- a lease that goes out is fresh
 pub lent : (job now : JobState) (number : ℕ) (lease : LeaseState) (road : Cells) (sum : StepTally) → job ≡ now → IsUnderway (run_of now.seed now.sheet now.done road sum)
     → lease.key ≡ job.seed.key → lease.road_number ≡ job.seed.number → lease.base.road ≡ road → lease.applied ≡ []
     → lease.number ≡ number → lease.steps ≡ job.steps → lease.base.step ≡ job.done → lease.step ≡ job.done → IsFresh now number lease
@@ -169,7 +169,7 @@ lent job now number lease road sum view run key own base none number_is steps ba
       own = fresh_run job lease road sum (of_job job now road sum view run) key own base none;
     })
 
--- a lease that began at the job's road, under its key and number, runs the road where its rules are in force
+-- a lease that began at the job's road, under its key and number, runs the road if its rules are in force
 pub runs_where : (job now : JobState) (lease : LeaseState) (road : Cells) (sum : StepTally) (b : Bool) → job ≡ now → IsUnderway (run_of now.seed now.sheet now.done road sum)
     → lease.key ≡ job.seed.key → lease.road_number ≡ job.seed.number → lease.base.road ≡ road
     → IsTrue b ↔ AreInForce job.sheet lease.base.step lease.applied → IsTrue b ↔ IsOwnRun now lease
@@ -185,7 +185,7 @@ pub runs_not : (job now : JobState) (lease : LeaseState) (road : Cells) (sum : S
 runs_not job now lease road sum view run other own =
     other (road_at_is_one (start_of now.seed) now.sheet now.done lease.base.road road own.base (sum, run.comes))
 
--- a lease that is given back is refused where it is not the one that is out, and taken where it is
+-- a lease that is given back is refused if it is not the one that is out, and accepted if it is
 pub back_refused : (lease : Offered) (job : JobState) → is_own lease job ≡ false → giving_back lease job ≡ refused StrangerLease job
 back_refused lease job other = ap (λ own. if own then record { reply = Done; job = record job { done = lease.step; out = None } } else refused StrangerLease job) other
 
@@ -201,41 +201,41 @@ back_made lease job now step view own at =
     ∙ sym (ap (λ own. (if own then record { reply = Done; job = record now { done = lease.step; out = None } } else refused StrangerLease now).job) own)
 
 -- the reply to a call, and the state after it, of a book that is full
-pub full_told : (s : State) (call : Call) → is_full s ≡ true → Refused HistoryFull ≡ reply_of s call
+pub full_told : (s : BookState) (call : Call) → is_full s ≡ true → Refused HistoryFull ≡ reply_of s call
 full_told s call full = sym (cond-true (is_full s) (Refused HistoryFull) (served s call).reply full)
 
-pub full_stays : (s : State) (call : Call) → is_full s ≡ true → s ≡ after s call
+pub full_stays : (s : BookState) (call : Call) → is_full s ≡ true → s ≡ after s call
 full_stays s call full =
-    let next : State = record { count = s.count + 1; next = next_after s.next (served s call).reply; jobs = (served s call).jobs } in
+    let next : BookState = record { count = s.count + 1; next = next_after s.next (served s call).reply; jobs = (served s call).jobs } in
     sym (cond-true (is_full s) s next full)
 
--- the same of one that is not full, for a call for which memory may have run out and that lends nothing
-pub told_made : (s now : State) (m : Bool) (call : Call) (told : Reply) → s ≡ now → is_full now ≡ false
+-- the same for a book that is not full, and a call that lends nothing and in which an allocation may have failed
+pub told_made : (s now : BookState) (m : Bool) (call : Call) (told : Reply) → s ≡ now → is_full now ≡ false
     → MatchBool m (Unit {0}) (told ≡ (served s call).reply) → MatchBool m (Unit {0}) (told ≡ reply_of now call)
 told_made s now true call told view room made = tt
 told_made s now false call told view room made =
-    made ∙ sym (cond-false (is_full s) (Refused HistoryFull) (served s call).reply (ap is_full view ∙ room)) ∙ ap (λ (t : State). reply_of t call) view
+    made ∙ sym (cond-false (is_full s) (Refused HistoryFull) (served s call).reply (ap is_full view ∙ room)) ∙ ap (λ (t : BookState). reply_of t call) view
 
-pub leads_made : (s now : State) (m : Bool) (call : Call) (told : Reply) (jobs : List JobState) → s ≡ now → is_full now ≡ false → m ≡ false → next_after s.next told ≡ s.next
+pub leads_made : (s now : BookState) (m : Bool) (call : Call) (told : Reply) (jobs : List JobState) → s ≡ now → is_full now ≡ false → m ≡ false → next_after s.next told ≡ s.next
     → MatchBool m (Unit {0}) (told ≡ (served s call).reply) → MatchBool m (jobs ≡ s.jobs) (jobs ≡ (served s call).jobs)
     → MatchBool m (record { count = s.count + 1; next = s.next; jobs = jobs } ≡ now) (record { count = s.count + 1; next = s.next; jobs = jobs } ≡ after now call)
 leads_made s now true call told jobs view room kept next made put = absurd (false≢true (sym kept))
 leads_made s now false call told jobs view room kept next made put =
-    let by : ℕ → List JobState → State = λ n xs. record { count = s.count + 1; next = n; jobs = xs } in
+    let by : ℕ → List JobState → BookState = λ n xs. record { count = s.count + 1; next = n; jobs = xs } in
     ap (by s.next) put ∙ ap (λ n. by n (served s call).jobs) (sym next ∙ ap (next_after s.next) made)
     ∙ sym (cond-false (is_full s) s (by (next_after s.next (served s call).reply) (served s call).jobs) (ap is_full view ∙ room))
-    ∙ ap (λ (t : State). after t call) view
+    ∙ ap (λ (t : BookState). after t call) view
 
--- a call that lends nothing is counted, unless memory ran out
-pub counted : (s now : State) (m : Bool) (call : Call) (told : Reply) (jobs : List JobState) (count : ℕ) → s ≡ now → is_full now ≡ false → next_after s.next told ≡ s.next
+-- a call that lends nothing is counted, unless an allocation fails
+pub counted : (s now : BookState) (m : Bool) (call : Call) (told : Reply) (jobs : List JobState) (count : ℕ) → s ≡ now → is_full now ≡ false → next_after s.next told ≡ s.next
     → MatchBool m (count ≡ s.count) (count ≡ s.count + 1)
     → MatchBool m (Unit {0}) (told ≡ (served s call).reply) → MatchBool m (jobs ≡ s.jobs) (jobs ≡ (served s call).jobs)
     → MatchBool m (record { count = count; next = s.next; jobs = jobs } ≡ now) (record { count = count; next = s.next; jobs = jobs } ≡ after now call)
 counted s now true call told jobs count view room next more made put =
-    let by : ℕ → List JobState → State = λ n xs. record { count = n; next = s.next; jobs = xs } in
+    let by : ℕ → List JobState → BookState = λ n xs. record { count = n; next = s.next; jobs = xs } in
     ap (λ (n : ℕ). by n jobs) more ∙ ap (by s.count) put ∙ view
 counted s now false call told jobs count view room next more made put =
-    let by : ℕ → State = λ n. record { count = n; next = s.next; jobs = jobs } in
+    let by : ℕ → BookState = λ n. record { count = n; next = s.next; jobs = jobs } in
     ap by more ∙ leads_made s now false call told jobs view room refl next made put
 
 -- replies that lend nothing
@@ -259,7 +259,7 @@ pub next_back : (next : ℕ) (answer : Result (Unit {0}) (LeaseState × BookFaul
 next_back next (Ok done) = refl
 next_back next (Err handed) = refl
 
--- a call that changes no job, whether memory ran out or not
+-- a call that changes no job, whether an allocation failed or not
 pub same_jobs : (m : Bool) (jobs others : List JobState) → others ≡ jobs → MatchBool m (jobs ≡ jobs) (jobs ≡ others)
 same_jobs true jobs others same = refl
 same_jobs false jobs others same = sym same
@@ -270,11 +270,11 @@ told_seen jobs seen i m told same made =
     subst (λ (xs : List JobState). MatchBool m (Unit {0}) (told ≡ (on_job xs i reading).reply)) same made
 
 -- the call `lease` of a book in which no job is free
-pub none_told : (s now : State) → s ≡ now → is_full now ≡ false → position is_free s.jobs ≡ None → NoLease ≡ reply_of now LeaseCall
+pub none_told : (s now : BookState) → s ≡ now → is_full now ≡ false → position is_free s.jobs ≡ None → NoLease ≡ reply_of now LeaseCall
 none_told s now view room none =
     told_made s now false LeaseCall NoLease view room (sym (ap (λ (o : Option ℕ). (on_free s.jobs s.next o).reply) none))
 
-pub none_leads : (s now : State) → s ≡ now → is_full now ≡ false → position is_free s.jobs ≡ None → record { count = s.count + 1; next = s.next; jobs = s.jobs } ≡ after now LeaseCall
+pub none_leads : (s now : BookState) → s ≡ now → is_full now ≡ false → position is_free s.jobs ≡ None → record { count = s.count + 1; next = s.next; jobs = s.jobs } ≡ after now LeaseCall
 none_leads s now view room none =
     leads_made s now false LeaseCall NoLease s.jobs view room refl refl (sym (ap (λ (o : Option ℕ). (on_free s.jobs s.next o).reply) none))
     (sym (ap (λ (o : Option ℕ). (on_free s.jobs s.next o).jobs) none))

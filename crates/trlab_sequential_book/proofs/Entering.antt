@@ -1,4 +1,4 @@
--- A rule that enters a sheet: the sheet stays one, and what was in force before stays in force.
+-- A rule that enters a sheet: the result is a sheet, and earlier steps keep their rules.
 use Rattle.std.proofs.Common.{◌≡◌, ℕ, zero, suc, ◌+◌, ◌<◌, ◌≤◌, Bool, [], ◌∷◌, ◌++◌, ap, sym, ◌∙◌, refl, arith, length, ltb, length-append, append-nil, ◌≢◌, ◌==◌, ◌||◌, not, true, false, subst}
 use Rattle.std.proofs.lemmas.Bool.{ltb-true, lt-ltb, le-ltb, lt-leb, cond_both, cond-true, cond-false, ltb-false}
 use Rattle.std.proofs.lemmas.List.Elements.{filter-append, All-filter, All-append}
@@ -69,20 +69,20 @@ pub sheet_at : (xs : Sheet) (last : ℕ × Programs) (from : ℕ) (rule : Progra
 sheet_at xs last from rule is e =
     let a = length-append xs (last ∷ []) in
     let b = length-append xs ((from, rule) ∷ []) in
-    let few = is.few in
-    record { is_sheet = is_sheet_at xs last (from, rule) e is.is_sheet; few = omega arith }
+    let few = is.at_most_max in
+    record { is_sheet = is_sheet_at xs last (from, rule) e is.is_sheet; at_most_max = omega arith }
 
 pub sheet_after : (xs : Sheet) (last : ℕ × Programs) (from : ℕ) (rule : Programs) → IsBookSheet (xs ++ last ∷ []) → last.0 < from → length (xs ++ last ∷ []) < 1024 → IsBookSheet ((xs ++ last ∷ []) ++ (from, rule) ∷ [])
 sheet_after xs last from rule is e few =
     let b = length-append (xs ++ last ∷ []) ((from, rule) ∷ []) in
-    record { is_sheet = is_sheet_after xs last (from, rule) e is.is_sheet; few = omega arith }
+    record { is_sheet = is_sheet_after xs last (from, rule) e is.is_sheet; at_most_max = omega arith }
 
 pub begin_before : (from : ℕ) (xs : Sheet) (last : ℕ × Programs) → BeginBy from (xs ++ last ∷ []) → last.0 ≢ from → last.0 < from
 begin_before from xs last begin other =
     let by = begin_last from xs last begin in
     omega arith
 
--- what was entered begins there or before
+-- after a rule has entered, all entries begin at its step or before
 pub begin_entered : (from : ℕ) (rule : Programs) (sheet : Sheet) → BeginBy from (entered sheet from rule)
 begin_entered from rule [] = (omega arith, tt)
 begin_entered from rule (x ∷ sheet) =
@@ -124,7 +124,7 @@ comes_entered seed sheet from rule (suc step) road sum h rises is comes = (
   },
 )
 
--- a rule for the lanes that enters at a step or later leaves the run as it is
+-- a rule for the lanes that enters at the steps done or later does not change the run
 pub underway_entered : (seed : Seed) (sheet : Sheet) (from : ℕ) (rule : Programs) (step : ℕ) (road : Cells) (sum : StepTally) → step ≤ from → IsRuleFor (length seed.road.lanes) rule → IsSheet (entered sheet from rule)
     → IsUnderway (record { seed = seed; sheet = sheet; step = step; road = road; sum = sum })
     → IsUnderway (record { seed = seed; sheet = entered sheet from rule; step = step; road = road; sum = sum })
@@ -141,7 +141,7 @@ underway_entered seed sheet from rule step road sum h suits is on =
       comes = comes_entered seed sheet from rule step road sum h (rises_from_0 sheet on.suits.is_sheet) is on.comes;
     }
 
--- what entering a rule in a job replies, and the job after it
+-- the reply to a replacement, and the job after it
 pub rule_taken : (job now : JobState) (rule : Programs) (sheet : Sheet) → job ≡ now → (now.cancelled || (now.high == now.steps)) ≡ false → suits rule now.seed.road ≡ true → sheet ≡ entered job.sheet job.high rule → length sheet ≤ 1024
     → record { reply = Number job.high; job = record job { sheet = sheet } } ≡ replacing rule now
 rule_taken job now rule sheet view under suit put few =

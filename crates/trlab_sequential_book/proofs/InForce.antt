@@ -1,4 +1,4 @@
--- The entry in force is the last whose step has come.
+-- The entry in force is the last one that has begun.
 use Rattle.std.proofs.Common.{◌≡◌, ℕ, zero, suc, ◌+◌, ◌<◌, ◌≤◌, Bool, List, [], ◌∷◌, subst, inl, inr, length, get_or, refl, sym, ap, ◌∙◌, arith, true, false}
 use Rattle.std.proofs.lemmas.Bool.{le-leb, lt-leb, false≢true}
 use Rattle.std.proofs.lemmas.Option.{slice_get-get_or}
@@ -7,7 +7,7 @@ use Rattle.std.specs.Prelude.{All, slice_get, Option, Some, None, nat_le, unwrap
 use Rattle.std.specs.List.{AllWithin}
 use Rattle.trlab_rules.specs.Rules.{Programs}
 use Rattle.trlab_step.specs.Run.{Sheet, Rises, IsSheet, in_force}
-use Rattle.trlab_sequential_book.specs.declared.ran.Ran.{Ran}
+use Rattle.trlab_sequential_book.specs.declared.lease.ExecutedStep.{ExecutedStep}
 use Rattle.trlab_sequential_book.specs.Leases.{IsSteady}
 use Rattle.trlab_sequential_book.specs.Sheets.{AreInForce, entry_in_force}
 
@@ -16,12 +16,12 @@ pub rises_from_0 : (sheet : Sheet) → IsSheet sheet → Rises 0 sheet
 rises_from_0 [] is = absurd is
 rises_from_0 (first ∷ later) is = (omega arith, rw is.0 is.1)
 
--- where no step has come, no entry is in force
+-- if no entry has begun, none is in force
 none_begun : (sheet : Sheet) (step : ℕ) → AllWithin (λ (entry : ℕ × Programs). nat_le entry.0 step ≡ false) sheet 0 (length sheet) → entry_in_force sheet step ≡ None
 none_begun [] step late = refl
 none_begun (entry ∷ sheet) step late = rw (late 0 entry (omega arith) (omega arith)) refl
 
--- where those up to one have come, and no more, that one is in force
+-- if the entries up to one have begun, and no more, this one is in force
 pub some_begun : (sheet : Sheet) (step k : ℕ) (d : ℕ × Programs) → k < length sheet
     → AllWithin (λ (entry : ℕ × Programs). nat_le entry.0 step ≡ true) sheet 0 (k + 1)
     → AllWithin (λ (entry : ℕ × Programs). nat_le entry.0 step ≡ false) sheet (k + 1) (length sheet)
@@ -66,14 +66,14 @@ none_in_force (entry ∷ sheet) least step rises below =
     rw (lt-leb entry.0 step (omega arith)) refl
 
 -- the rules that were applied in the first steps are those in force
-pub record FirstInForce (sheet : Sheet) (step : ℕ) (applied : List Ran) (count : ℕ) : Type 0 where
-  pub each : (k : ℕ) (ran : Ran) → k < count → slice_get applied k ≡ Some ran → in_force sheet (step + k) ≡ Some ran.rule
+pub record FirstInForce (sheet : Sheet) (step : ℕ) (applied : List ExecutedStep) (count : ℕ) : Type 0 where
+  pub each : (k : ℕ) (ran : ExecutedStep) → k < count → slice_get applied k ≡ Some ran → in_force sheet (step + k) ≡ Some ran.rule
 
-one_ran : {a b : Ran} → Some a ≡ Some b → a ≡ b
+one_ran : {a b : ExecutedStep} → Some a ≡ Some b → a ≡ b
 one_ran e = cc
 
 -- one more of them
-pub one_more_in_force : (sheet : Sheet) (step : ℕ) (applied : List Ran) (i : ℕ) (item : Ran) → FirstInForce sheet step applied i → i < length applied → item ≡ get_or applied i item
+pub one_more_in_force : (sheet : Sheet) (step : ℕ) (applied : List ExecutedStep) (i : ℕ) (item : ExecutedStep) → FirstInForce sheet step applied i → i < length applied → item ≡ get_or applied i item
     → in_force sheet (step + i) ≡ Some item.rule → FirstInForce sheet step applied (i + 1)
 one_more_in_force sheet step applied i item before h e here = record {
   each = λ k ran below at. (
@@ -82,22 +82,22 @@ one_more_in_force sheet step applied i item before h e here = record {
         | inl same ↦ (
             let found : slice_get applied i ≡ Some item = slice_get-get_or applied i item h ∙ sym (ap Some e) in
             let is : item ≡ ran = one_ran (sym found ∙ subst (λ n. slice_get applied n ≡ Some ran) same at) in
-            rw same (here ∙ ap (λ (r : Ran). Some r.rule) is))
+            rw same (here ∙ ap (λ (r : ExecutedStep). Some r.rule) is))
         | inr less ↦ before.each k ran less at
       ]);
 }
 
 -- all of them
-pub all_in_force : (sheet : Sheet) (step : ℕ) (applied : List Ran) (count : ℕ) → FirstInForce sheet step applied count → length applied ≤ count → AreInForce sheet step applied
+pub all_in_force : (sheet : Sheet) (step : ℕ) (applied : List ExecutedStep) (count : ℕ) → FirstInForce sheet step applied count → length applied ≤ count → AreInForce sheet step applied
 all_in_force sheet step applied count first all k ran at = first.each k ran (within applied k ran count at all) at
   where
-    within : (applied : List Ran) (k : ℕ) (ran : Ran) (count : ℕ) → slice_get applied k ≡ Some ran → length applied ≤ count → k < count
+    within : (applied : List ExecutedStep) (k : ℕ) (ran : ExecutedStep) (count : ℕ) → slice_get applied k ≡ Some ran → length applied ≤ count → k < count
     within [] k ran count at all = absurd cc
     within (x ∷ xs) zero ran count at all = omega arith
     within (x ∷ xs) (suc k) ran zero at all = absurd (omega arith)
     within (x ∷ xs) (suc k) ran (suc count) at all = let rest = within xs k ran count at (omega arith) in omega arith
 
--- an entry is within the sheet's last step, and where that has come the last rule is in force
+-- an entry begins no later than the last one; if the last one has begun, its rule is in force
 pub record IsLastIn (least : ℕ) (sheet : Sheet) (step : ℕ) (entry : ℕ × Programs) : Type 0 where
   pub above : least ≤ entry.0
   pub in_force_there : entry.0 ≤ step → in_force sheet step ≡ Some entry.1
@@ -125,27 +125,27 @@ last_in_force least (x ∷ y ∷ more) step (suc n) entry rises at long =
           rw (le-leb x.0 step begun, later.in_force_there come) refl);
     }
 
--- one rule is in force from a step on, and one rule was applied: all were in force where the first was
-pub steady_in_force : (sheet : Sheet) (step n : ℕ) (entry : ℕ × Programs) (ran : Ran) (applied : List Ran) → IsSheet sheet
+-- one rule is in force from a step on, and all steps have one rule: all are in force if the first is
+pub steady_in_force : (sheet : Sheet) (step n : ℕ) (entry : ℕ × Programs) (ran : ExecutedStep) (applied : List ExecutedStep) → IsSheet sheet
     → slice_get sheet n ≡ Some entry → length sheet ≡ suc n → entry.0 ≤ step → IsSteady applied
     → slice_get applied 0 ≡ Some ran → entry.1 ≡ ran.rule → AreInForce sheet step applied
 steady_in_force sheet step n entry ran [] is at long come steady begins same k other found = absurd cc
 steady_in_force sheet step n entry ran (x ∷ more) is at long come steady begins same zero other found =
     let here : other ≡ ran = one_ran (sym found ∙ begins) in
     (last_in_force 0 sheet (step + 0) n entry (rises_from_0 sheet is) at long).in_force_there (omega arith)
-    ∙ ap Some (same ∙ ap (λ (r : Ran). r.rule) (sym here))
+    ∙ ap Some (same ∙ ap (λ (r : ExecutedStep). r.rule) (sym here))
 steady_in_force sheet step n entry ran (x ∷ more) is at long come steady begins same (suc k) other found =
     let first : x ≡ ran = one_ran begins in
     (last_in_force 0 sheet (step + suc k) n entry (rises_from_0 sheet is) at long).in_force_there (omega arith)
-    ∙ ap Some (same ∙ ap (λ (r : Ran). r.rule) (sym first) ∙ sym (one_of more k other (λ r. r.rule ≡ x.rule) steady found))
+    ∙ ap Some (same ∙ ap (λ (r : ExecutedStep). r.rule) (sym first) ∙ sym (one_of more k other (λ r. r.rule ≡ x.rule) steady found))
   where
-    one_of : (more : List Ran) (k : ℕ) (other : Ran) (P : Ran → Type 0) → All P more → slice_get more k ≡ Some other → P other
+    one_of : (more : List ExecutedStep) (k : ℕ) (other : ExecutedStep) (P : ExecutedStep → Type 0) → All P more → slice_get more k ≡ Some other → P other
     one_of [] k other P all at = absurd cc
     one_of (y ∷ more) zero other P all at = subst P (one_ran at) (all 0 y (omega arith))
     one_of (y ∷ more) (suc k) other P all at = one_of more k other P (λ i d h. all (suc i) d (omega arith)) at
 
--- and the other way round
-pub first_in_force : (sheet : Sheet) (step n : ℕ) (entry : ℕ × Programs) (ran : Ran) (applied : List Ran) → IsSheet sheet
+-- the converse
+pub first_in_force : (sheet : Sheet) (step n : ℕ) (entry : ℕ × Programs) (ran : ExecutedStep) (applied : List ExecutedStep) → IsSheet sheet
     → slice_get sheet n ≡ Some entry → length sheet ≡ suc n → entry.0 ≤ step
     → slice_get applied 0 ≡ Some ran → AreInForce sheet step applied → entry.1 ≡ ran.rule
 first_in_force sheet step n entry ran applied is at long come begins all =

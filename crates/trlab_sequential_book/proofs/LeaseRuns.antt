@@ -14,15 +14,15 @@ use Rattle.trlab_step.specs.declared.tally.StepTally.{StepTally}
 use Rattle.trlab_step.proofs.RunLaws.{run_goes_on, road_at_is_one}
 use Rattle.trlab_step.specs.Progress.{IsUnderway}
 use Rattle.trlab_step.proofs.OnTheWay.{IsSmallSum, like_start, room_for}
-use Rattle.trlab_sequential_book.specs.declared.ran.Ran.{Ran}
+use Rattle.trlab_sequential_book.specs.declared.lease.ExecutedStep.{ExecutedStep}
 use Rattle.trlab_sequential_book.specs.Sheets.{AreInForce}
 use Rattle.trlab_sequential_book.specs.Leases.{LeadsTo, LeaseState, IsLease, one_more}
 use Rattle.trlab_sequential_book.specs.Comparison.{IsOwnRun}
 use Rattle.trlab_sequential_book.specs.Jobs.{start_of, run_of}
 use Rattle.trlab_sequential_book.specs.Machine.{JobState}
 
--- one step more
-pub leads_push : (key : List ℕ) (number step : ℕ) (road last next : Cells) (xs : List Ran) (ran : Ran) → LeadsTo key number step road xs last
+-- one more step
+pub leads_push : (key : List ℕ) (number step : ℕ) (road last next : Cells) (xs : List ExecutedStep) (ran : ExecutedStep) → LeadsTo key number step road xs last
     → IsNext ran.rule (dice_of key number (step + length xs)) last next ran.tally → LeadsTo key number step road (xs ++ ran ∷ []) next
 leads_push key number step road last next [] ran leads is =
     let e : step + 0 ≡ step = omega arith in
@@ -35,18 +35,18 @@ leads_push key number step road last next (x ∷ xs) ran leads is =
     (leads.0, leads.1, leads_push key number (step + 1) leads.0 last next xs ran leads.2 (subst P e is))
 
 -- a run on its way, and steps that lead it on under the rules in force, to a last road
-pub record WayOn (seed : Seed) (sheet : Sheet) (step : ℕ) (sum : StepTally) (ran : List Ran) (last : Cells) : Type 0 where
+pub record WayOn (seed : Seed) (sheet : Sheet) (step : ℕ) (sum : StepTally) (ran : List ExecutedStep) (last : Cells) : Type 0 where
   pub road : Cells
   pub run : IsUnderway (record { seed = seed; sheet = sheet; step = step; road = road; sum = sum })
   pub leads : LeadsTo seed.key seed.number step road ran last
   pub rules : AreInForce sheet step ran
 
--- what one of these steps brings: a sum that is still small, and a way on
-pub record GoneOn (seed : Seed) (sheet : Sheet) (step : ℕ) (sum : StepTally) (ran : Ran) (more : List Ran) (last : Cells) : Type 0 where
+-- after one of these steps the sum is still small, and the others lead on
+pub record GoneOn (seed : Seed) (sheet : Sheet) (step : ℕ) (sum : StepTally) (ran : ExecutedStep) (more : List ExecutedStep) (last : Cells) : Type 0 where
   pub small : IsSmallSum (suc step) (tally_sum sum ran.tally)
   pub way : WayOn seed sheet (step + 1) (if nat_le seed.warm step then tally_sum sum ran.tally else sum) more last
 
-pub go_on : (seed : Seed) (sheet : Sheet) (step : ℕ) (sum : StepTally) (ran : Ran) (more : List Ran) (last : Cells) → WayOn seed sheet step sum (ran ∷ more) last → GoneOn seed sheet step sum ran more last
+pub go_on : (seed : Seed) (sheet : Sheet) (step : ℕ) (sum : StepTally) (ran : ExecutedStep) (more : List ExecutedStep) (last : Cells) → WayOn seed sheet step sum (ran ∷ more) last → GoneOn seed sheet step sum ran more last
 go_on seed sheet step sum ran more last way =
     let next = way.leads.0 in
     let is : IsNext ran.rule (dice_of seed.key seed.number step) way.road next ran.tally = way.leads.1 in
@@ -82,7 +82,7 @@ way_of_lease job lease road sum run is own base =
       rules = subst (λ s. AreInForce job.sheet s lease.applied) base own.rules;
     }
 
--- the same, where the job is seen through its model
+-- the same for a job that is seen through its model
 pub way_begins : (state now : JobState) (lease : LeaseState) (road : Cells) (sum : StepTally) → state ≡ now → IsUnderway (run_of state.seed state.sheet state.done road sum) → IsLease lease
     → IsOwnRun now lease → lease.base.step ≡ now.done → WayOn (start_of now.seed) now.sheet state.done sum lease.applied lease.road
 way_begins state now lease road sum view run is own base =
@@ -90,17 +90,17 @@ way_begins state now lease road sum view run is own base =
     subst P view (λ mine at. way_of_lease state lease road sum run is mine at) own base
 
 -- one step of a list of them
-pub go_on_at : (seed : Seed) (sheet : Sheet) (step : ℕ) (sum : StepTally) (xs : List Ran) (i : ℕ) (ran : Ran) (last : Cells) → i < length xs → ran ≡ get_or xs i ran
+pub go_on_at : (seed : Seed) (sheet : Sheet) (step : ℕ) (sum : StepTally) (xs : List ExecutedStep) (i : ℕ) (ran : ExecutedStep) (last : Cells) → i < length xs → ran ≡ get_or xs i ran
     → WayOn seed sheet step sum (drop i xs) last → GoneOn seed sheet step sum ran (drop (i + 1) xs) last
 go_on_at seed sheet step sum xs i ran last h e way =
     go_on seed sheet step sum ran (drop (i + 1) xs) last
-    (subst (λ (v : List Ran). WayOn seed sheet step sum v last) (drop_more xs i ran h ∙ ap (λ r. r ∷ drop (i + 1) xs) (sym e)) way)
+    (subst (λ (v : List ExecutedStep). WayOn seed sheet step sum v last) (drop_more xs i ran h ∙ ap (λ r. r ∷ drop (i + 1) xs) (sym e)) way)
 
--- a lease that runs one step more stays one
+-- a lease that runs one more step stays a lease
 lease_goes_on : (lease : LeaseState) (rule : Programs) (tally : StepTally) (next : Cells) (dice : Dice) → dice.key ≡ lease.key.0 → dice.road ≡ lease.road_number → dice.step ≡ lease.step
     → IsNext rule dice lease.road next tally → IsLease lease → IsLease (one_more lease rule tally next)
 lease_goes_on lease rule tally next dice a b d is on =
-    let ran : Ran = record { rule = rule; tally = tally } in
+    let ran : ExecutedStep = record { rule = rule; tally = tally } in
     let more = length-append lease.applied (ran ∷ []) in
     let at = on.steps_run in
     let here : IsNext rule (dice_of lease.key.0 lease.road_number lease.step) lease.road next tally = subst (λ (one : Dice). IsNext rule one lease.road next tally) (same_dice dice lease.key.0 lease.road_number lease.step a b d) is in
@@ -111,7 +111,7 @@ lease_goes_on lease rule tally next dice a b d is on =
     }
 
 -- the step that a lease has run under a copy of a rule
-pub has_stepped : (lease old : LeaseState) (under rule : Programs) (tally : StepTally) (next : Cells) (dice : Dice) (applied : List Ran) → lease ≡ old → rule ≡ under → dice.key ≡ lease.key.0 → dice.road ≡ lease.road_number → dice.step ≡ lease.step
+pub has_stepped : (lease old : LeaseState) (under rule : Programs) (tally : StepTally) (next : Cells) (dice : Dice) (applied : List ExecutedStep) → lease ≡ old → rule ≡ under → dice.key ≡ lease.key.0 → dice.road ≡ lease.road_number → dice.step ≡ lease.step
     → IsNext rule dice lease.road next tally → applied ≡ lease.applied ++ record { rule = rule; tally = tally } ∷ []
     → (sum : StepTally) × IsNext under (dice_of old.key.0 old.road_number old.step) old.road next sum
     × (record lease { step = lease.step + 1; road = next; applied = applied } ≡ one_more old under sum next)
@@ -122,23 +122,23 @@ has_stepped lease old under rule tally next dice applied view copied a b d is pu
     subst P view (
       tally,
       subst (λ (r : Programs). IsNext r (dice_of lease.key.0 lease.road_number lease.step) lease.road next tally) copied here,
-      ap (λ (xs : List Ran). (record lease { step = lease.step + 1; road = next; applied = xs }))
+      ap (λ (xs : List ExecutedStep). (record lease { step = lease.step + 1; road = next; applied = xs }))
           (pushed ∙ ap (λ (r : Programs). lease.applied ++ record { rule = r; tally = tally } ∷ []) copied),
     )
 
 -- a lease of which neither the road nor the steps that it has run change, as seen from inside
-pub still : (lease now : LeaseState) (road : Cells) (applied : List Ran) → road ≡ lease.road → applied ≡ lease.applied → lease ≡ now → record lease { road = road; applied = applied } ≡ now
+pub still : (lease now : LeaseState) (road : Cells) (applied : List ExecutedStep) → road ≡ lease.road → applied ≡ lease.applied → lease ≡ now → record lease { road = road; applied = applied } ≡ now
 still lease now road applied r a view =
-    ap (λ (c : Cells). (record lease { road = c; applied = applied })) r ∙ ap (λ (xs : List Ran). (record lease { applied = xs })) a ∙ view
+    ap (λ (c : Cells). (record lease { road = c; applied = applied })) r ∙ ap (λ (xs : List ExecutedStep). (record lease { applied = xs })) a ∙ view
 
-pub still_lease : (lease : LeaseState) (road : Cells) (applied : List Ran) → road ≡ lease.road → applied ≡ lease.applied → IsLease lease → IsLease (record lease { road = road; applied = applied })
+pub still_lease : (lease : LeaseState) (road : Cells) (applied : List ExecutedStep) → road ≡ lease.road → applied ≡ lease.applied → IsLease lease → IsLease (record lease { road = road; applied = applied })
 still_lease lease road applied r a is =
     subst (λ (l : LeaseState). IsLease l) (sym (still lease lease road applied r a refl)) is
 
--- a lease that runs one step more stays one, with the steps that it has run
-pub lease_grows : (lease : LeaseState) (rule : Programs) (tally : StepTally) (next : Cells) (dice : Dice) (applied : List Ran) → dice.key ≡ lease.key.0 → dice.road ≡ lease.road_number → dice.step ≡ lease.step
+-- a lease that runs one more step stays a lease, with the steps that it has run
+pub lease_grows : (lease : LeaseState) (rule : Programs) (tally : StepTally) (next : Cells) (dice : Dice) (applied : List ExecutedStep) → dice.key ≡ lease.key.0 → dice.road ≡ lease.road_number → dice.step ≡ lease.step
     → IsNext rule dice lease.road next tally → applied ≡ lease.applied ++ record { rule = rule; tally = tally } ∷ [] → IsLease lease
     → IsLease (record lease { step = lease.step + 1; road = next; applied = applied })
 lease_grows lease rule tally next dice applied a b d is pushed on =
-    subst (λ (xs : List Ran). IsLease (record lease { step = lease.step + 1; road = next; applied = xs })) (sym pushed)
+    subst (λ (xs : List ExecutedStep). IsLease (record lease { step = lease.step + 1; road = next; applied = xs })) (sym pushed)
     (lease_goes_on lease rule tally next dice a b d is on)

@@ -1,5 +1,5 @@
 pub mod InForce
-pub mod SpeltRules
+pub mod EncodedRules
 pub mod Entering
 pub mod LeaseRuns
 pub mod Booking

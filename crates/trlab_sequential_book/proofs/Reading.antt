@@ -1,4 +1,4 @@
--- What is read of a job is the road to which one worker drives.
+-- A read of a job shows the road of one worker.
 use Rattle.std.proofs.Common.{ℕ}
 use Rattle.trlab_step.proofs.Driving.{runs_are_driven}
 use Rattle.trlab_step.proofs.RunLaws.{road_is_one, run_comes_to_road}

@@ -17,13 +17,13 @@ use Rattle.trlab_sequential_book.specs.declared.event.Reply.TheVariants as reply
 use Rattle.trlab_sequential_book.specs.declared.fault.BookFault.TheVariants as fault
 use Rattle.trlab_sequential_book.specs.Comparison.{IsSnapshotOf}
 use Rattle.trlab_sequential_book.specs.Leases.{suits}
-use Rattle.trlab_sequential_book.specs.Machine.{JobState, Outcome, Served, State, after, cancelling, giving_back, is_free, is_full, is_own, leasing, new_job, next_after, on_free, on_job, ordering, reading, replacing, reply_of, revoking, served, start}
+use Rattle.trlab_sequential_book.specs.Machine.{JobState, Outcome, Served, BookState, after, cancelling, giving_back, is_free, is_full, is_own, leasing, new_job, next_after, on_free, on_job, ordering, reading, replacing, reply_of, revoking, served, start}
 use Rattle.trlab_sequential_book.specs.Replay.{Replays, call_of, event, replies_from, state_from, told_by}
 use Rattle.trlab_sequential_book.specs.Sheets.{entered}
 use Rattle.trlab_sequential_book.specs.Submits.{IsSubmitted, JobsAreSubmitted, SnapshotsAreOfSubmits, SubmitsHaveTheirNumbers}
 use Rattle.trlab_sequential_book.proofs.Booking.{on_found}
 
--- a job keeps where it started, and how many steps it has
+-- a job keeps its seed and its number of steps
 record Keeps (old new : JobState) : Type 0 where
   seed : new.seed ≡ old.seed
   steps : new.steps ≡ old.steps
@@ -71,7 +71,7 @@ record Was (jobs : List JobState) (number : ℕ) (job : JobState) : Type 0 where
 still : (jobs : List JobState) (number : ℕ) (job : JobState) → slice_get jobs number ≡ Some job → Was jobs number job
 still jobs number job at = record { old = job; there = at; keeps = same_job job }
 
--- a job of a list of which one was put in place of another that it keeps
+-- a job of a list in which another job was replaced by one with the same seed and steps
 set_was : (jobs : List JobState) (index number : ℕ) (put job was : JobState) → slice_get jobs index ≡ Some was → Keeps was put → slice_get (slice_set jobs index put) number ≡ Some job → Was jobs number job
 set_was jobs index number put job was here keeps at =
     let size = length-set jobs index put in
@@ -119,13 +119,13 @@ push_was (first ∷ jobs) last job (suc number) at = elim (push_was jobs last jo
   | inr new ↦ inr (ap suc new.0, new.1)
 ]
 
--- a call submitted this job, and was replied its number
+-- a call submitted this job, and was answered with its number
 abbrev Submits : Call → Reply → ℕ → JobState → Type 0
 Submits asked told number job =
     (rule : Programs) × (asked ≡ call.Submit job.seed rule job.steps) × (told ≡ reply.Number number)
 
--- what a call leaves: each job was there before or is submitted by the call; no job goes, and a submit that is
--- replied a number has put one job after the others
+-- after a call, each job was there before or is submitted by the call; no job is removed, and a submit that was
+-- answered with a number has added one job at the end
 record Left (jobs : List JobState) (asked : Call) (told : Reply) (now : List JobState) : Type 0 where
   from : (number : ℕ) (job : JobState) → slice_get now number ≡ Some job → Was jobs number job ⊎ Submits asked told number job
   grows : length jobs ≤ length now
@@ -181,7 +181,7 @@ submit_by true c jobs seed rule steps = nothing_done jobs (call.Submit seed rule
 submit_by false true jobs seed rule steps = pushed jobs seed rule steps
 submit_by false false jobs seed rule steps = nothing_done jobs (call.Submit seed rule steps) (reply.Refused fault.Full) not_full
 
-served_left : (book : State) (asked : Call) → Left book.jobs asked (served book asked).reply (served book asked).jobs
+served_left : (book : BookState) (asked : Call) → Left book.jobs asked (served book asked).reply (served book asked).jobs
 served_left book (call.Submit seed rule steps) = submit_by (not (suits rule seed.road)) (ltb (length book.jobs) 256) book.jobs seed rule steps
 served_left book (call.Replace job rule) = left_one _ _ _ _ (λ s r n is. absurd cc) (on_one book.jobs job (replacing rule) (replacing_keeps rule))
 served_left book call.Lease = left_one _ _ _ _ (λ s r n is. absurd cc) (after_lease book.jobs book.next (position is_free book.jobs))
@@ -191,16 +191,16 @@ served_left book (call.Revoke job) = left_one _ _ _ _ (λ s r n is. absurd cc) (
 served_left book (call.Cancel job) = left_one _ _ _ _ (λ s r n is. absurd cc) (on_one book.jobs job cancelling cancelling_keeps)
 served_left book (call.Read job) = left_one _ _ _ _ (λ s r n is. absurd cc) (on_one book.jobs job reading same_job)
 
-full_by : (b : Bool) (book next : State) (asked : Call) (told : Reply) → Left book.jobs asked told next.jobs → Left book.jobs asked (if b then reply.Refused fault.HistoryFull else told) (if b then book else next).jobs
+full_by : (b : Bool) (book next : BookState) (asked : Call) (told : Reply) → Left book.jobs asked told next.jobs → Left book.jobs asked (if b then reply.Refused fault.HistoryFull else told) (if b then book else next).jobs
 full_by true book next asked told left = nothing_done book.jobs asked (reply.Refused fault.HistoryFull) not_any
 full_by false book next asked told left = left
 
-call_left : (book : State) (asked : Call) → Left book.jobs asked (reply_of book asked) (after book asked).jobs
+call_left : (book : BookState) (asked : Call) → Left book.jobs asked (reply_of book asked) (after book asked).jobs
 call_left book asked =
-    let later : State = record { count = book.count + 1; next = next_after book.next (served book asked).reply; jobs = (served book asked).jobs } in
+    let later : BookState = record { count = book.count + 1; next = next_after book.next (served book asked).reply; jobs = (served book asked).jobs } in
     full_by (is_full book) book later asked (served book asked).reply (served_left book asked)
 
--- a call among calls submitted this job, and was replied its number
+-- one of the calls submitted this job, and was answered with its number
 record SubmitsAmong (calls : List Call) (replies : List Reply) (number : ℕ) (job : JobState) : Type 0 where
   k : ℕ
   rule : Programs
@@ -215,7 +215,7 @@ kept_submit asked told number old job keeps submits = (
 )
 
 -- each job after some calls was there before them, or one of them submitted it
-from_calls : (calls : List Call) (book : State) (number : ℕ) (job : JobState) → slice_get (state_from book calls).jobs number ≡ Some job
+from_calls : (calls : List Call) (book : BookState) (number : ℕ) (job : JobState) → slice_get (state_from book calls).jobs number ≡ Some job
     → Was book.jobs number job ⊎ SubmitsAmong calls (replies_from book calls) number job
 from_calls [] book number job at = inl (still book.jobs number job at)
 from_calls (asked ∷ calls) book number job at = elim (from_calls calls (after book asked) number job at) [
@@ -226,7 +226,7 @@ from_calls (asked ∷ calls) book number job at = elim (from_calls calls (after 
   ]
 ]
 
--- what a history has at an index, by its call and its reply
+-- the event of a history at an index, from its call and its reply
 event_at : (history : List Event) (k : ℕ) (asked : Call) (told : Reply) → slice_get (map call_of history) k ≡ Some asked → slice_get (map told_by history) k ≡ Some told → slice_get history k ≡ Some (event asked told)
 event_at [] k asked told a b = absurd (none-some asked a)
 event_at (first ∷ history) zero asked told a b = ap (λ (c : Call). Some (event c first.reply)) (same_Some first.call asked a) ∙ ap (λ (r : Reply). Some (event asked r)) (same_Some first.reply told b)
@@ -235,13 +235,13 @@ event_at (first ∷ history) (suc k) asked told a b = event_at history k asked t
 pub jobs_are_submitted : JobsAreSubmitted
 jobs_are_submitted history book number job replays at =
     let calls = map call_of history in
-    let state : (state_from start calls).jobs ≡ book.jobs = ap (λ (s : State). s.jobs) (sym replays.state_is) in
+    let state : (state_from start calls).jobs ≡ book.jobs = ap (λ (s : BookState). s.jobs) (sym replays.state_is) in
     elim (from_calls calls start number job (ap (λ (jobs : List JobState). slice_get jobs number) state ∙ at)) [
       | inl was ↦ absurd (none-some was.old was.there)
       | inr one ↦ record { k = one.k; rule = one.rule; submit = event_at history one.k _ _ one.asked (ap (λ (replies : List Reply). slice_get replies one.k) replays.replies ∙ one.told) }
     ]
 
-of_job : (history : List Event) (book : State) (number : ℕ) (seen : Progress) → Replays history book → (found : Option JobState) → slice_get book.jobs number ≡ found → MatchOption found ⊥ (λ job. IsSnapshotOf job seen)
+of_job : (history : List Event) (book : BookState) (number : ℕ) (seen : Progress) → Replays history book → (found : Option JobState) → slice_get book.jobs number ≡ found → MatchOption found ⊥ (λ job. IsSnapshotOf job seen)
     → (job : JobState) × IsSubmitted history number job × IsSnapshotOf job seen
 of_job history book number seen replays None none is = absurd is
 of_job history book number seen replays (Some job) here is = (job, jobs_are_submitted history book number job replays here, is)
@@ -249,8 +249,8 @@ of_job history book number seen replays (Some job) here is = (job, jobs_are_subm
 pub snapshots_are_of_submits : SnapshotsAreOfSubmits
 snapshots_are_of_submits history book number seen replays is = of_job history book number seen replays (slice_get book.jobs number) refl is
 
--- a submit after some calls is replied a number that no earlier job has
-later_number : (calls : List Call) (book : State) (k number : ℕ) (seed : Seed) (rule : Programs) (steps : ℕ) → slice_get calls k ≡ Some (call.Submit seed rule steps) → slice_get (replies_from book calls) k ≡ Some (reply.Number number)
+-- a submit after some calls is answered with a number that no earlier job has
+later_number : (calls : List Call) (book : BookState) (k number : ℕ) (seed : Seed) (rule : Programs) (steps : ℕ) → slice_get calls k ≡ Some (call.Submit seed rule steps) → slice_get (replies_from book calls) k ≡ Some (reply.Number number)
     → length book.jobs ≤ number
 later_number [] book k number seed rule steps a b = absurd (none-some (call.Submit seed rule steps) a)
 later_number (asked ∷ calls) book zero number seed rule steps a b =
@@ -261,14 +261,14 @@ later_number (asked ∷ calls) book (suc k) number seed rule steps a b =
     omega (arith, rest, grows)
 
 -- the first submit has put its job there, so that no later one has its number
-not_later : (asked : Call) (calls : List Call) (book : State) (k number : ℕ) (seed other : Seed) (rule another : Programs) (steps more : ℕ) → asked ≡ call.Submit seed rule steps → reply_of book asked ≡ reply.Number number
+not_later : (asked : Call) (calls : List Call) (book : BookState) (k number : ℕ) (seed other : Seed) (rule another : Programs) (steps more : ℕ) → asked ≡ call.Submit seed rule steps → reply_of book asked ≡ reply.Number number
     → slice_get calls k ≡ Some (call.Submit other another more) → slice_get (replies_from (after book asked) calls) k ≡ Some (reply.Number number) → ⊥
 not_later asked calls book k number seed other rule another steps more is said a b =
     let size = ((call_left book asked).counted seed rule steps number is said).1 in
     let rest = later_number calls (after book asked) k number other another more a b in
     absurd (omega (arith, size, rest))
 
-apart : (calls : List Call) (book : State) (j k number : ℕ) (seed other : Seed) (rule another : Programs) (steps more : ℕ) → slice_get calls j ≡ Some (call.Submit seed rule steps) → slice_get (replies_from book calls) j ≡ Some (reply.Number number)
+apart : (calls : List Call) (book : BookState) (j k number : ℕ) (seed other : Seed) (rule another : Programs) (steps more : ℕ) → slice_get calls j ≡ Some (call.Submit seed rule steps) → slice_get (replies_from book calls) j ≡ Some (reply.Number number)
     → slice_get calls k ≡ Some (call.Submit other another more) → slice_get (replies_from book calls) k ≡ Some (reply.Number number) → j ≡ k
 apart [] book j k number seed other rule another steps more a b c d = absurd (none-some (call.Submit seed rule steps) a)
 apart (asked ∷ calls) book zero zero number seed other rule another steps more a b c d = refl
@@ -278,7 +278,7 @@ apart (asked ∷ calls) book (suc j) zero number seed other rule another steps m
     absurd (not_later asked calls book j number other seed another rule more steps (same_Some asked _ c) (same_Some (reply_of book asked) _ d) a b)
 apart (asked ∷ calls) book (suc j) (suc k) number seed other rule another steps more a b c d = ap suc (apart calls (after book asked) j k number seed other rule another steps more a b c d)
 
--- what an event of a history has
+-- the call and the reply of an event in a history
 call_at : (history : List Event) (k : ℕ) (asked : Call) (told : Reply) → slice_get history k ≡ Some (event asked told) → (slice_get (map call_of history) k ≡ Some asked) × (slice_get (map told_by history) k ≡ Some told)
 call_at [] k asked told at = absurd (none-some (event asked told) at)
 call_at (first ∷ history) zero asked told at =

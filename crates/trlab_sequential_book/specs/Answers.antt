@@ -1,4 +1,4 @@
--- Replies that the answers of calls stand for.
+-- The replies that correspond to the results of calls.
 use Rattle.std.specs.Prelude.{◌≡◌, ℕ, Bool, true, false, Result, Ok, Err, length, Option, Some, None, MatchBool}
 use Rattle.trlab_step.specs.Progress.{Progress}
 use Rattle.trlab_sequential_book.specs.declared.fault.BookFault.{BookFault}
@@ -8,9 +8,9 @@ use Rattle.trlab_sequential_book.specs.declared.event.Reply.{Reply}
 use Rattle.trlab_sequential_book.specs.declared.event.Reply.TheVariants.{Refused, Number, Done, Ordered, Seen, Leased, NoLease}
 use Rattle.trlab_sequential_book.specs.declared.order.Order.{Order}
 use Rattle.trlab_sequential_book.specs.Leases.{LeaseState}
-use Rattle.trlab_sequential_book.specs.Machine.{State, reply_of, after}
+use Rattle.trlab_sequential_book.specs.Machine.{BookState, reply_of, after}
 
--- the call was refused since memory ran out
+-- the call was refused because an allocation failed
 abbrev pub is_memory : {A : Type 0} → Result A BookFault → Bool
 is_memory (Err Memory) = true
 is_memory _ = false
@@ -30,7 +30,7 @@ abbrev pub order_reply : Result Order BookFault → Reply
 order_reply (Ok order) = Ordered order.job order.lease order.step order.from
 order_reply (Err fault) = Refused fault
 
--- of `give_back`, which hands the lease back where it is refused
+-- of `give_back`, whose error contains the lease
 abbrev pub back_reply : Result (Unit {0}) (LeaseState × BookFault) → Reply
 back_reply (Ok done) = Done
 back_reply (Err handed) = Refused handed.1
@@ -46,16 +46,16 @@ lease_reply (Ok None) = NoLease
 lease_reply (Ok (Some lease)) = Leased lease.job lease.number lease.step lease.steps
 lease_reply (Err fault) = Refused fault
 
--- a call refused for memory or a full history is no event
+-- a call that was refused for memory or a full history is not an event
 abbrev pub is_event : Reply → Bool
 is_event (Refused Memory) = false
 is_event (Refused HistoryFull) = false
 is_event _ = true
 
--- a call replies as the machine does, unless memory ran out
-abbrev pub RepliesAs : Bool → Reply → State → Call → Type 0
+-- a call has the reply of the machine, unless an allocation failed
+abbrev pub RepliesAs : Bool → Reply → BookState → Call → Type 0
 RepliesAs ran_out told book call = MatchBool ran_out (Unit {0}) (told ≡ reply_of book call)
 
--- a call leads to the machine's state; where memory ran out it changes nothing
-abbrev pub LeadsAs : Bool → State → Call → State → Type 0
+-- a call leads to the state of the machine; if an allocation failed it changes nothing
+abbrev pub LeadsAs : Bool → BookState → Call → BookState → Type 0
 LeadsAs ran_out book call new = MatchBool ran_out (new ≡ book) (new ≡ after book call)

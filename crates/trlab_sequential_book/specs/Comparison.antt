@@ -1,4 +1,4 @@
--- What a lease, an order and a snapshot have of a job of the book.
+-- How leases, orders and snapshots belong to the jobs of a book.
 use Rattle.std.specs.Prelude.{◌≡◌, ℕ, Bool, List, slice_get, MatchOption, Option, Some, None}
 use Rattle.trlab_step.specs.Run.{IsRoadAt, in_force}
 use Rattle.trlab_step.specs.Progress.{Progress}
@@ -11,7 +11,7 @@ use Rattle.trlab_sequential_book.specs.Machine.{JobState}
 use Rattle.trlab_sequential_book.specs.Jobs.{start_of}
 use Rattle.trlab_sequential_book.specs.Sheets.{AreInForce}
 
--- a lease as the machine sees it
+-- the parts of a lease that the machine sees
 abbrev pub offered : LeaseState → Bool → Offered
 offered lease same = record {
   job = lease.job;
@@ -21,34 +21,34 @@ offered lease same = record {
   same = same;
 }
 
--- the lease runs the job's road: its key and its number are the job's, it began at the job's road, and the
--- rules that it applied are those in force
+-- the lease runs the job's road: it has the key and the number of the job, it began at the job's road, and its
+-- steps were run under the rules in force
 pub record IsOwnRun (job : JobState) (lease : LeaseState) : Type 0 where
   pub key : lease.key ≡ job.seed.key
   pub number : lease.road_number ≡ job.seed.number
   pub base : IsRoadAt (start_of job.seed) job.sheet job.done lease.base.road
   pub rules : AreInForce job.sheet lease.base.step lease.applied
 
--- what an offered lease has to say by `same`: there is its job, and the lease runs the job's road
+-- the meaning of `same` in an offered lease: its job exists, and the lease runs the job's road
 abbrev pub IsSame : List JobState → LeaseState → Type 0
 IsSame jobs lease = MatchOption (slice_get jobs lease.job) ⊥ (λ job. IsOwnRun job lease)
 
--- the order's rule is the one that its job's sheet has in force at its step
+-- the order has the rule that is in force at its step in the job's sheet
 abbrev pub IsRuleAt : List JobState → Order → Type 0
 IsRuleAt jobs order =
     MatchOption (slice_get jobs order.job) ⊥ (λ job. in_force job.sheet order.step ≡ Some order.rule)
 
--- what a snapshot has of a job; its road and its tally are right by its type
+-- a snapshot of this job; the type of snapshots guarantees its road and its tally
 pub record IsSnapshotOf (job : JobState) (seen : Progress) : Type 0 where
   pub seed : seen.seed ≡ start_of job.seed
   pub sheet : seen.sheet ≡ job.sheet
   pub step : seen.step ≡ job.done
 
--- the snapshot is one of this job of the list
+-- a snapshot of the job with this number
 abbrev pub IsSeen : List JobState → ℕ → Progress → Type 0
 IsSeen jobs index seen = MatchOption (slice_get jobs index) ⊥ (λ job. IsSnapshotOf job seen)
 
--- a lease that has just gone out: it stands at the job's road, and has run nothing
+-- a lease that has just gone out: it has the job's road, and has run no step
 pub record IsFresh (job : JobState) (number : ℕ) (lease : LeaseState) : Type 0 where
   pub number_is : lease.number ≡ number
   pub steps : lease.steps ≡ job.steps
@@ -56,15 +56,15 @@ pub record IsFresh (job : JobState) (number : ℕ) (lease : LeaseState) : Type 0
   pub step : lease.step ≡ job.done
   pub own : IsOwnRun job lease
 
--- the lease that went out, if one did, is a fresh one of its job
+-- the lease that went out, if any, is a fresh one of its job
 abbrev pub IsLent : List JobState → ℕ → Option LeaseState → Type 0
 IsLent jobs number None = Unit {0}
 IsLent jobs number (Some lease) = MatchOption (slice_get jobs lease.job) ⊥ (λ job. IsFresh job number lease)
 
--- the call `lease`, which has the name of what it answers
+-- the call `lease`, under another name than the type of its result
 abbrev pub LeaseCall : Call
 LeaseCall = call.Lease
 
--- the call `order`, which has it too
+-- the call `order`, likewise
 abbrev pub OrderCall : Offered → Call
 OrderCall lease = call.Order lease

@@ -1,4 +1,4 @@
--- The road to which the run of a seed has come.
+-- Roads of the run of a seed, in memory that is shared.
 use Rattle.std.specs.Prelude.{Option, Some, None}
 use Rattle.std.specs.Arc.{arc_value}
 use Rattle.std.specs.Global.{Global}
@@ -6,7 +6,7 @@ use Rattle.std.specs.declared.sync.Arc.{Arc}
 use Rattle.trlab_road.specs.Cells.{Cells}
 use Rattle.trlab_sequential_book.specs.declared.seed.Seed.{Seed}
 
--- a road of its own, or else that of the seed
+-- the road that was stored, or else that of the seed
 abbrev pub held_road : Option (Arc Cells Global) → Seed → Cells
 held_road None seed = seed.road
 held_road (Some road) seed = arc_value road

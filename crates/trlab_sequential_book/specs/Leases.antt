@@ -1,4 +1,4 @@
--- Leases: the steps that they have run, and one step more.
+-- Leases: the steps that they have run, and one more step.
 use Rattle.std.specs.Prelude.{◌≡◌, ℕ, ◌+◌, ◌==◌, ◌&&◌, not, is_some, Bool, true, List, [], ◌∷◌, ◌++◌, length, All}
 use Rattle.trlab_road.specs.Cells.{Cells}
 use Rattle.trlab_rules.specs.Rules.{Programs}
@@ -6,23 +6,23 @@ use Rattle.trlab_words.specs.declared.key.Key.{Key}
 use Rattle.trlab_step.specs.Answers.{dice_of}
 use Rattle.trlab_step.specs.Next.{IsNext}
 use Rattle.trlab_step.specs.declared.tally.StepTally.{StepTally}
-use Rattle.trlab_sequential_book.specs.declared.ran.Ran.{Ran}
+use Rattle.trlab_sequential_book.specs.declared.lease.ExecutedStep.{ExecutedStep}
 use Rattle.trlab_sequential_book.specs.declared.order.Order.{Order}
 
--- these steps in turn, the first of this number, lead from one road to another
-abbrev pub LeadsTo : List ℕ → ℕ → ℕ → Cells → List Ran → Cells → Type 0
+-- these steps, numbered from `step`, lead from one road to another
+abbrev pub LeadsTo : List ℕ → ℕ → ℕ → Cells → List ExecutedStep → Cells → Type 0
 LeadsTo key number step road [] last = last ≡ road
 LeadsTo key number step road (ran ∷ more) last =
     (next : Cells) × IsNext ran.rule (dice_of key number step) road next ran.tally
     × LeadsTo key number (step + 1) next more last
 
--- from where a lease began: a step of its job, and the road there
+-- where a lease began: a step of its job, and the road there
 pub record Base : Type 0 where
   pub step : ℕ
   pub road : Cells
 
--- a lease: the job and its steps, the number of the lease, the words of the job's road, from where the
--- lease began, the step and the road to which it has come, and the steps that it has run between them
+-- a lease: the job, the number of the lease, the steps of the job, the key and the number that determine the
+-- random numbers, where it began, its next step and the road before it, and the steps that were run
 pub record LeaseState : Type 0 where
   pub job : ℕ
   pub number : ℕ
@@ -32,10 +32,10 @@ pub record LeaseState : Type 0 where
   pub base : Base
   pub step : ℕ
   pub road : Cells
-  pub applied : List Ran
+  pub applied : List ExecutedStep
 
--- a lease by its parts
-abbrev pub lease_state : ℕ → ℕ → ℕ → Key → ℕ → Base → ℕ → Cells → List Ran → LeaseState
+-- a lease from its parts
+abbrev pub lease_state : ℕ → ℕ → ℕ → Key → ℕ → Base → ℕ → Cells → List ExecutedStep → LeaseState
 lease_state job number steps key road_number base step road applied = record {
   job = job;
   number = number;
@@ -48,28 +48,28 @@ lease_state job number steps key road_number base step road applied = record {
   applied = applied;
 }
 
--- the road of a lease is what its applied rules give from its base
+-- the steps that were run lead from the base of the lease to its road
 pub record IsLease (lease : LeaseState) : Type 0 where
   pub steps_run : lease.step ≡ lease.base.step + length lease.applied
   pub leads : LeadsTo lease.key.0 lease.road_number lease.base.step lease.base.road lease.applied lease.road
 
--- all steps were run under one rule
-abbrev pub IsSteady : List Ran → Type 0
+-- all steps have the same rule
+abbrev pub IsSteady : List ExecutedStep → Type 0
 IsSteady [] = Unit {0}
-IsSteady (first ∷ more) = All (λ (ran : Ran). ran.rule ≡ first.rule) more
+IsSteady (first ∷ more) = All (λ (ran : ExecutedStep). ran.rule ≡ first.rule) more
 
--- a rule suits a road: a change program does not suit one lane
+-- a rule suits a road: a change program needs two lanes
 abbrev pub suits : Programs → Cells → Bool
 suits rule road = not (is_some rule.change && length road.lanes == 1)
 
--- the order is for this lease at the step where it stands, and its rule suits the road
+-- the order is for the next step of this lease, and its rule suits the road
 pub record FitsOrder (lease : LeaseState) (order : Order) : Type 0 where
   pub job : order.job ≡ lease.job
   pub number : order.lease ≡ lease.number
   pub step : order.step ≡ lease.step
   pub rule : suits order.rule lease.road ≡ true
 
--- a lease with one step more, run under a rule
+-- a lease with one more step, run under a rule
 abbrev pub one_more : LeaseState → Programs → StepTally → Cells → LeaseState
 one_more lease rule tally next = record lease {
   step = lease.step + 1;
@@ -77,7 +77,7 @@ one_more lease rule tally next = record lease {
   applied = lease.applied ++ record { rule = rule; tally = tally } ∷ [];
 }
 
--- the order fits, and the lease has run one step more, under its rule
+-- the order fits, and the lease has run one more step, under its rule
 pub record HasRun (old : LeaseState) (order : Order) (new : LeaseState) : Type 0 where
   pub fits : FitsOrder old order
   pub tally : StepTally

@@ -1,4 +1,4 @@
-pub mod Spelt
+pub mod Encoded
 pub mod Sheets
 pub mod Held
 pub mod Leases

@@ -1,4 +1,4 @@
--- The job book as a machine: what each call replies, and the state after it. It has no road but those of the
+-- The book of jobs as a machine: the reply to each call, and the state after it. Its only roads are those of the
 -- seeds.
 use Rattle.std.specs.Prelude.{ℕ, ◌+◌, ◌==◌, max, Bool, true, false, ◌&&◌, ◌||◌, not, ltb, List, [], ◌∷◌, ◌++◌, length, slice_get, slice_set, Option, Some, None, is_some, if◌then◌else◌}
 use Rattle.std.specs.List.{position}
@@ -15,8 +15,8 @@ use Rattle.trlab_sequential_book.specs.declared.event.Reply.TheVariants as reply
 use Rattle.trlab_sequential_book.specs.Leases.{suits}
 use Rattle.trlab_sequential_book.specs.Sheets.{begin_in_force, entered}
 
--- a job: what it runs, how many steps, how many were ever ordered and how many are done, whether it was
--- cancelled, and the number of the lease that is out
+-- a job: its seed and its rules, how many steps it has, how many were ever ordered and how many are done,
+-- whether it was cancelled, and the number of the lease that is out
 pub record JobState : Type 0 where
   pub seed : Seed
   pub sheet : Sheet
@@ -26,7 +26,7 @@ pub record JobState : Type 0 where
   pub cancelled : Bool
   pub out : Option ℕ
 
--- a job by its parts
+-- a job from its parts
 abbrev pub job_state : Seed → Sheet → ℕ → ℕ → ℕ → Bool → Option ℕ → JobState
 job_state seed sheet steps high done cancelled out = record {
   seed = seed;
@@ -38,30 +38,30 @@ job_state seed sheet steps high done cancelled out = record {
   out = out;
 }
 
--- a book: how many events it had, the number of its next lease, and its jobs
-pub record State : Type 0 where
+-- a book: how many events there were, the number of the next lease, and the jobs
+pub record BookState : Type 0 where
   pub count : ℕ
   pub next : ℕ
   pub jobs : List JobState
 
 -- an empty book
-abbrev pub start : State
+abbrev pub start : BookState
 start = record { count = 0; next = 0; jobs = [] }
 
--- what a call on one job replies, and the job after it
+-- the reply to a call on one job, and the job after it
 pub record Outcome : Type 0 where
   pub reply : Reply
   pub job : JobState
 
--- a refusal leaves the job as it is
+-- a refusal does not change the job
 abbrev pub refused : BookFault → JobState → Outcome
 refused fault job = record { reply = reply.Refused fault; job = job }
 
--- a job as it is submitted
+-- a job when it is submitted
 abbrev pub new_job : Seed → Programs → ℕ → JobState
 new_job seed rule steps = job_state seed ((0, rule) ∷ []) steps 0 0 false None
 
--- a rule enters from the first step on that was never ordered
+-- a rule enters at the first step that was never ordered
 abbrev pub replacing : Programs → JobState → Outcome
 replacing rule job =
     if job.cancelled || (job.high == job.steps) then refused fault.Ended job
@@ -77,13 +77,13 @@ abbrev pub is_out : ℕ → Option ℕ → Bool
 is_out number None = false
 is_out number (Some out) = out == number
 
--- the lease is the one out, it began where the job stands, it is not above what was ordered, and it is one
--- of this job's road and rules
+-- the lease is the one that is out, it began at the steps done, it has run no step that was not ordered, and
+-- it runs the job's road
 abbrev pub is_own : Offered → JobState → Bool
 is_own lease job =
     is_out lease.number job.out && ((lease.base == job.done) && (not (ltb job.high lease.step) && lease.same))
 
--- the lease is told the rule in force where it stands
+-- the reply has the rule in force at the lease's next step
 abbrev pub ordering : Offered → JobState → Outcome
 ordering lease job =
     if job.cancelled || (lease.step == job.steps) then refused fault.Ended job
@@ -92,7 +92,7 @@ ordering lease job =
       job = record job { high = max job.high (lease.step + 1) };
     } else refused fault.StrangerLease job
 
--- the job stands where the lease has come to
+-- the job takes over the steps of the lease
 abbrev pub giving_back : Offered → JobState → Outcome
 giving_back lease job =
     if is_own lease job then record { reply = reply.Done; job = record job { done = lease.step; out = None } }
@@ -104,7 +104,7 @@ revoking job =
     if is_some job.out then record { reply = reply.Done; job = record job { out = None } }
     else refused fault.StrangerLease job
 
--- the job ends, and its lease
+-- the job ends and its lease
 abbrev pub cancelling : JobState → Outcome
 cancelling job =
     if job.cancelled || (job.done == job.steps) then refused fault.Ended job
@@ -114,7 +114,7 @@ cancelling job =
 abbrev pub reading : JobState → Outcome
 reading job = record { reply = reply.Seen job.done (length job.sheet); job = job }
 
--- a job that can go out
+-- a job that can be leased
 abbrev pub is_free : JobState → Bool
 is_free job = not (is_some job.out) && (not job.cancelled && ltb job.done job.steps)
 
@@ -123,24 +123,24 @@ abbrev pub leasing : ℕ → ℕ → JobState → Outcome
 leasing index number job =
     record { reply = reply.Leased index number job.done job.steps; job = record job { out = Some number } }
 
--- what a call replies, and the jobs after it
+-- the reply to a call, and the jobs after it
 pub record Served : Type 0 where
   pub reply : Reply
   pub jobs : List JobState
 
--- a call on a job of the list
+-- a call on the job with this number
 abbrev pub on_job : List JobState → ℕ → (JobState → Outcome) → Served
 on_job jobs index outcome = elim (slice_get jobs index) [
   | None ↦ record { reply = reply.Refused fault.NoSuchJob; jobs = jobs }
   | Some job ↦ record { reply = (outcome job).reply; jobs = slice_set jobs index (outcome job).job }
 ]
 
--- a lease of the job that was found to be free
+-- a lease of the free job that was found
 abbrev pub on_free : List JobState → ℕ → Option ℕ → Served
 on_free jobs number None = record { reply = reply.NoLease; jobs = jobs }
 on_free jobs number (Some index) = on_job jobs index (leasing index number)
 
--- a job is submitted where its rule suits its road, up to 256 of them
+-- a job is accepted if its rule suits its road and there are fewer than 256
 abbrev pub submitting : List JobState → Seed → Programs → ℕ → Served
 submitting jobs seed rule steps =
     if not (suits rule seed.road) then record { reply = reply.Refused fault.LanesMismatch; jobs = jobs }
@@ -148,8 +148,8 @@ submitting jobs seed rule steps =
     then record { reply = reply.Number (length jobs); jobs = jobs ++ new_job seed rule steps ∷ [] }
     else record { reply = reply.Refused fault.Full; jobs = jobs }
 
--- the least job that is free goes out; all other calls but `submit` are on the job that they name
-abbrev pub served : State → Call → Served
+-- `lease` lends the first job that is free; the other calls, except `submit`, are on the job that they name
+abbrev pub served : BookState → Call → Served
 served book (call.Submit seed rule steps) = submitting book.jobs seed rule steps
 served book (call.Replace job rule) = on_job book.jobs job (replacing rule)
 served book call.Lease = on_free book.jobs book.next (position is_free book.jobs)
@@ -159,21 +159,21 @@ served book (call.Revoke job) = on_job book.jobs job revoking
 served book (call.Cancel job) = on_job book.jobs job cancelling
 served book (call.Read job) = on_job book.jobs job reading
 
--- the number of the next lease rises where one went out
+-- the number of the next lease rises if one went out
 abbrev pub next_after : ℕ → Reply → ℕ
 next_after next (reply.Leased job number step steps) = next + 1
 next_after next _ = next
 
 -- a book that has had 1000000 events refuses each call
-abbrev pub is_full : State → Bool
+abbrev pub is_full : BookState → Bool
 is_full book = not (ltb book.count 1000000)
 
 -- the reply to a call
-abbrev pub reply_of : State → Call → Reply
+abbrev pub reply_of : BookState → Call → Reply
 reply_of book call = if is_full book then reply.Refused fault.HistoryFull else (served book call).reply
 
--- the state after a call: each counts as an event, but where the book is full
-abbrev pub after : State → Call → State
+-- the state after a call: each counts as an event, unless the book is full
+abbrev pub after : BookState → Call → BookState
 after book call = if is_full book then book else record {
   count = book.count + 1;
   next = next_after book.next (served book call).reply;

@@ -1,17 +1,17 @@
--- Histories, and the state that replaying one gives.
+-- Histories, and the state to which replaying one leads.
 use Rattle.std.specs.Prelude.{◌≡◌, List, [], ◌∷◌, map, length}
 use Rattle.trlab_sequential_book.specs.declared.event.Call.{Call}
 use Rattle.trlab_sequential_book.specs.declared.event.Reply.{Reply}
 use Rattle.trlab_sequential_book.specs.declared.event.Event.{Event}
-use Rattle.trlab_sequential_book.specs.Machine.{State, start, reply_of, after}
+use Rattle.trlab_sequential_book.specs.Machine.{BookState, start, reply_of, after}
 
 -- the machine's replies to calls, one after another
-abbrev pub replies_from : State → List Call → List Reply
+abbrev pub replies_from : BookState → List Call → List Reply
 replies_from book [] = []
 replies_from book (call ∷ calls) = reply_of book call ∷ replies_from (after book call) calls
 
 -- the state to which calls lead, one after another
-abbrev pub state_from : State → List Call → State
+abbrev pub state_from : BookState → List Call → BookState
 state_from book [] = book
 state_from book (call ∷ calls) = state_from (after book call) calls
 
@@ -23,13 +23,13 @@ call_of event = event.call
 abbrev pub told_by : Event → Reply
 told_by event = event.reply
 
--- an event by its call and its reply
+-- an event from its call and its reply
 abbrev pub event : Call → Reply → Event
 event call reply = record { call = call; reply = reply }
 
--- replaying a history is defined, since each reply in it is the machine's, and gives this state, whose
--- count is the history's length
-pub record Replays (history : List Event) (book : State) : Type 0 where
+-- each reply in the history is that of the machine, and the calls lead to this state, whose count is the
+-- length of the history
+pub record Replays (history : List Event) (book : BookState) : Type 0 where
   pub replies : map told_by history ≡ replies_from start (map call_of history)
   pub state_is : book ≡ state_from start (map call_of history)
   pub count_is : book.count ≡ length history

@@ -1,41 +1,41 @@
--- Sheets of the book: the entry in force, and a rule that is entered.
+-- Sheets of the book: which entry is in force, and how a rule enters.
 use Rattle.std.specs.Prelude.{◌≡◌, ℕ, ◌+◌, ◌≤◌, ◌<◌, nat_le, ltb, List, [], ◌∷◌, ◌++◌, filter, length, slice_get, Option, Some, None, unwrap_or, if◌then◌else◌}
 use Rattle.trlab_rules.specs.Rules.{Programs}
 use Rattle.trlab_step.specs.Run.{Sheet, IsSheet, in_force}
-use Rattle.trlab_sequential_book.specs.declared.ran.Ran.{Ran}
+use Rattle.trlab_sequential_book.specs.declared.lease.ExecutedStep.{ExecutedStep}
 use Rattle.trlab_sequential_book.specs.declared.fault.BookFault.{BookFault}
 use Rattle.trlab_sequential_book.specs.declared.fault.BookFault.TheVariants.{Memory, SheetFull}
 
--- the entry in force at a step: the last that begins there or before
+-- the entry in force at a step: the last one that begins there or before
 abbrev pub entry_in_force : Sheet → ℕ → Option (ℕ × Programs)
 entry_in_force [] step = None
 entry_in_force (entry ∷ sheet) step =
     if nat_le entry.0 step then Some (unwrap_or (entry_in_force sheet step) entry) else None
 
--- the step from which on the rule in force at a step is in force
+-- the step from which the rule of `step` is in force
 abbrev pub begin_in_force : Sheet → ℕ → ℕ
 begin_in_force sheet step = elim (entry_in_force sheet step) [ None ↦ 0 | Some entry ↦ entry.0 ]
 
--- the sheet with a rule entered from a step on, in place of what began there or later
+-- the sheet with a rule that is in force from a step, instead of the entries that began there or later
 abbrev pub entered : Sheet → ℕ → Programs → Sheet
 entered sheet from rule = filter (λ (entry : ℕ × Programs). ltb entry.0 from) sheet ++ (from, rule) ∷ []
 
--- each entry begins at a step or before
+-- each entry begins at this step or before
 abbrev pub BeginBy : ℕ → Sheet → Type 0
 BeginBy step [] = Unit {0}
 BeginBy step (entry ∷ sheet) = (entry.0 ≤ step) × BeginBy step sheet
 
--- a sheet that the book keeps: at most 1024 entries
+-- a sheet of the book has at most 1024 entries
 pub record IsBookSheet (sheet : Sheet) : Type 0 where
   pub is_sheet : IsSheet sheet
-  pub few : length sheet ≤ 1024
+  pub at_most_max : length sheet ≤ 1024
 
--- the rules that were applied, the first at a step, are those in force
-abbrev pub AreInForce : Sheet → ℕ → List Ran → Type 0
+-- the steps, numbered from `step`, were run under the rules in force
+abbrev pub AreInForce : Sheet → ℕ → List ExecutedStep → Type 0
 AreInForce sheet step applied =
-    (k : ℕ) (ran : Ran) → slice_get applied k ≡ Some ran → in_force sheet (step + k) ≡ Some ran.rule
+    (k : ℕ) (ran : ExecutedStep) → slice_get applied k ≡ Some ran → in_force sheet (step + k) ≡ Some ran.rule
 
--- a rule is refused for memory, or for a full sheet, where the sheet would become too long
+-- a rule is refused because an allocation failed, or because the sheet would have more than 1024 entries
 abbrev pub MayRefuse : BookFault → Sheet → Type 0
 MayRefuse Memory sheet = Unit {0}
 MayRefuse SheetFull sheet = 1024 < length sheet

@@ -1,4 +1,4 @@
--- Which event of a history a job of the book comes from.
+-- Which event of a history submitted a job of the book.
 use Rattle.std.specs.Prelude.{◌≡◌, ℕ, List, Some, slice_get}
 use Rattle.trlab_road.specs.Cells.{Cells}
 use Rattle.trlab_rules.specs.Rules.{Programs}
@@ -8,17 +8,17 @@ use Rattle.trlab_sequential_book.specs.declared.seed.Seed.{Seed}
 use Rattle.trlab_sequential_book.specs.declared.event.Event.{Event}
 use Rattle.trlab_sequential_book.specs.declared.event.Call.TheVariants as call
 use Rattle.trlab_sequential_book.specs.declared.event.Reply.TheVariants as reply
-use Rattle.trlab_sequential_book.specs.Machine.{JobState, State}
+use Rattle.trlab_sequential_book.specs.Machine.{JobState, BookState}
 use Rattle.trlab_sequential_book.specs.Comparison.{IsSeen, IsSnapshotOf}
 use Rattle.trlab_sequential_book.specs.Replay.{Replays, event}
 
--- the k-th event of a history is a submit of this seed, rule and steps, which was replied a number
+-- the k-th event of a history is a submit with these arguments, answered with this number
 abbrev pub IsSubmit : List Event → ℕ → Seed → Programs → ℕ → ℕ → Type 0
 IsSubmit history k seed rule steps number =
     slice_get history k ≡ Some (event (call.Submit seed rule steps) (reply.Number number))
 
--- the job of a number was submitted by some event, which was replied this number: its seed and its steps are
--- those of that call
+-- an event submitted the job of this number: it was answered with the number, and had the seed and the steps
+-- of the job
 pub record IsSubmitted (history : List Event) (number : ℕ) (job : JobState) : Type 0 where
   pub k : ℕ
   pub rule : Programs
@@ -27,25 +27,25 @@ pub record IsSubmitted (history : List Event) (number : ℕ) (job : JobState) : 
 -- each job of a book was submitted
 abbrev pub JobsAreSubmitted : Type 0
 JobsAreSubmitted =
-    (history : List Event) (book : State) (number : ℕ) (job : JobState) → Replays history book
+    (history : List Event) (book : BookState) (number : ℕ) (job : JobState) → Replays history book
     → slice_get book.jobs number ≡ Some job → IsSubmitted history number job
 
--- no two submits of a history were replied the same number
+-- no two submits of a history were answered with the same number
 abbrev pub SubmitsHaveTheirNumbers : Type 0
 SubmitsHaveTheirNumbers =
-    (history : List Event) (book : State) (j k number : ℕ) (seed other : Seed) (rule another : Programs)
+    (history : List Event) (book : BookState) (j k number : ℕ) (seed other : Seed) (rule another : Programs)
     (steps more : ℕ) → Replays history book → IsSubmit history j seed rule steps number
     → IsSubmit history k other another more number → j ≡ k
 
--- a snapshot of a job starts where the submit of the job's number says
+-- a snapshot of a job has the seed of the submit that was answered with the job's number
 abbrev pub SnapshotsAreOfSubmits : Type 0
 SnapshotsAreOfSubmits =
-    (history : List Event) (book : State) (number : ℕ) (seen : Progress) → Replays history book
+    (history : List Event) (book : BookState) (number : ℕ) (seen : Progress) → Replays history book
     → IsSeen book.jobs number seen
     → (job : JobState) × IsSubmitted history number job × IsSnapshotOf job seen
 
--- what is read of a job: the road to which one worker drives, in the steps done, from where the job's submit
--- starts and under the job's sheet
+-- the result of a read: the road of one worker who runs the steps done from the seed of the job's submit, under
+-- the job's sheet
 pub record IsReadOf (history : List Event) (number : ℕ) (seen : Progress) : Type 0 where
   pub job : JobState
   pub submitted : IsSubmitted history number job
@@ -54,8 +54,8 @@ pub record IsReadOf (history : List Event) (number : ℕ) (seen : Progress) : Ty
   pub driven : IsDriven seen.seed seen.sheet seen.step roads
   pub road : roads seen.step ≡ seen.road
 
--- each snapshot of a job is so
+-- this is so for each snapshot of a job
 abbrev pub ReadsAreDriven : Type 0
 ReadsAreDriven =
-    (history : List Event) (book : State) (number : ℕ) (seen : Progress) → Replays history book
+    (history : List Event) (book : BookState) (number : ℕ) (seen : Progress) → Replays history book
     → IsSeen book.jobs number seen → IsUnderway seen → IsReadOf history number seen

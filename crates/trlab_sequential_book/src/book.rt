@@ -1,43 +1,52 @@
-//! The book of jobs.
+//! The book of jobs of one thread.
 
-ghost use Rattle.std.specs.Prelude.{◌≡◌, ◌↔◌, ◌+◌, ◌<◌, ◌≤◌, Bool, true, IsTrue, IfOk, IfErr, MatchBool};
+ghost use Rattle.std.specs.Prelude.{◌≡◌, ◌↔◌, ◌+◌, ◌<◌, ◌≤◌, ℕ, Bool, true, IsTrue, IfOk, IfErr, IfSome, MatchBool, length, ltb, not, vec_len, vec_capacity};
+ghost use Rattle.std.specs.List.{position};
+ghost use Rattle.trlab_road.specs.Legal.{IsLegal};
+ghost use Rattle.trlab_step.specs.Laws.{IsRuleFor};
 ghost use Rattle.trlab_sequential_book.specs.Answers.{LeadsAs, RepliesAs, back_reply, done_reply, is_memory, lease_reply, number_reply, order_reply, seen_reply};
 ghost use Rattle.trlab_sequential_book.specs.Comparison.{IsLent, IsRuleAt, IsSame, IsSeen, LeaseCall, OrderCall, offered};
-ghost use Rattle.trlab_sequential_book.specs.Machine.{after, is_full, reply_of, start};
+ghost use Rattle.trlab_sequential_book.specs.Leases.{suits};
+ghost use Rattle.trlab_sequential_book.specs.Machine.{after, cancelling, giving_back, is_free, is_full, on_job, ordering, reading, replacing, reply_of, revoking, start, submitting};
 ghost use Rattle.trlab_sequential_book.specs.declared.event.Call.TheVariants.{Cancel, GiveBack, Read, Replace, Revoke, Submit};
+ghost use Rattle.trlab_sequential_book.specs.declared.event.Reply.TheVariants.{Refused};
 ghost use Rattle.trlab_sequential_book.specs.declared.fault.BookFault.TheVariants.{HistoryFull};
 
-use crate::boxed::BoxedSeed;
 use crate::fault::BookFault;
-use crate::job::Job;
+use crate::job::JobRecord;
 use crate::lease::Lease;
-use crate::limits::MOST_EVENTS;
-use crate::on_jobs::{
-    cancel_in, free_in, give_back_in, is_same_in, order_in, read_in, replace_in, revoke_in,
-    submit_in,
-};
 use crate::order::Order;
-use crate::seed::Seed;
+use crate::rule::suits;
+use crate::seed::{BoxedSeed, Seed};
 use crate::snapshot::Snapshot;
 use std::alloc::Global;
 use std::marker::Model;
 use trlab_rules::Rule;
 
-/// A book of up to 256 jobs, which are numbered from 0.
+/// The maximum number of jobs of a book.
+pub const MAX_JOBS: usize = 256;
+
+/// The maximum number of events of a book. After them it refuses each call.
+pub const MAX_EVENTS: u32 = 1000000;
+
+/// A book of up to 256 jobs, which are numbered from 0 and never removed.
 ///
-/// Each call is an event, also one that is refused, unless it is refused as `HistoryFull` or `Memory`.
+/// Each call is an event, also a refused one, unless it is refused as `HistoryFull` or `Memory`: then nothing
+/// changes.
 #[derive(Drop)]
 pub struct Book {
+    /// How many events there were.
     count: u32,
+    /// The number of the next lease.
     next: u32,
-    jobs: Vec<Job>,
+    jobs: Vec<JobRecord>,
 }
 
 impl Model for Book {
     ghost use Rattle.std.specs.Prelude.{◌≤◌, vec_len};
-    ghost use Rattle.trlab_sequential_book.specs.Machine.{State};
+    ghost use Rattle.trlab_sequential_book.specs.Machine.{BookState};
 
-    ghost Value = { State };
+    ghost Value = { BookState };
 
     ghost view = { λ book. record { count = book.count; next = book.next; jobs = book.jobs.items } };
 
@@ -46,7 +55,7 @@ impl Model for Book {
 }
 
 impl Book {
-    /// A book with no job.
+    /// A book without jobs and events. It takes no memory.
     pub fn new(alloc: Global) -> Book
         ensures { result ≡ start }
     {
@@ -57,18 +66,19 @@ impl Book {
         }
     }
 
-    /// Whether the book has had 1000000 events, and refuses each call.
+    /// Whether there were 1,000,000 events, after which each call is refused as `HistoryFull`.
     pub fn is_full(&self) -> bool
         ensures { result ≡ is_full self.now }
     {
-        self.count >= MOST_EVENTS
+        self.count >= MAX_EVENTS
     }
 
-    /// Submits a job of so many steps under a rule, and answers its number.
+    /// Adds a job, which runs `steps` steps from the seed, under the rule until it is replaced. Returns the job's
+    /// number.
     ///
     /// # Errors
     ///
-    /// `HistoryFull`, `LanesMismatch`, `Full` or `Memory`; seed and rule are dropped then.
+    /// `HistoryFull`, `LanesMismatch`, `Full` or `Memory`; seed and rule are dropped.
     pub fn submit(
         &mut self,
         alloc: Global,
@@ -87,7 +97,7 @@ impl Book {
         self.submit_boxed(alloc, boxed, rule, steps)
     }
 
-    /// The same, where the seed is in memory of its own, which others may share.
+    /// `submit`, for a seed that has other owners, such as a history.
     ///
     /// # Errors
     ///
@@ -111,12 +121,11 @@ impl Book {
         answer
     }
 
-    /// Enters a rule, and answers the step from which on it is in force: the first that was never ordered.
+    /// Replaces a job's rule from the first step on that was never ordered. Returns this step.
     ///
     /// # Errors
     ///
-    /// `HistoryFull`, `NoSuchJob`, `Ended`, `LanesMismatch`, `SheetFull` or `Memory`; the rule is dropped
-    /// then.
+    /// `HistoryFull`, `NoSuchJob`, `Ended`, `LanesMismatch`, `SheetFull` or `Memory`; the rule is dropped.
     pub fn replace(&mut self, job: u32, rule: Rule) -> Result<u32, BookFault>
         ensures reply { RepliesAs (is_memory result) (number_reply result) self.old (Replace job rule) }
         ensures state { LeadsAs (is_memory result) self.old (Replace job rule) self.new }
@@ -130,7 +139,8 @@ impl Book {
         answer
     }
 
-    /// Leases the least job that is free, or answers that none is.
+    /// Lends the job with the smallest number that is not out, not cancelled and has steps to do. Returns `None`
+    /// if there is no such job.
     ///
     /// # Errors
     ///
@@ -155,16 +165,16 @@ impl Book {
         Ok(Some(lease))
     }
 
-    /// Whether there is the job of a lease, and the lease runs its road: its key, its number, the road at
-    /// the steps done, and the rules in force.
+    /// Whether a lease runs the road of its job: with the key and the number of the job, from the job's road,
+    /// under the rules in force.
     pub fn is_same(&self, lease: &Lease) -> bool
         ensures { IsTrue result ↔ IsSame self.now.jobs lease.now }
     {
         is_same_in(&self.jobs, lease)
     }
 
-    /// Orders the step at which a lease stands: the answer has the rule in force there, which it shares with
-    /// the job's sheet, so the allocator is not used.
+    /// Orders a lease's next step, and returns the rule in force there. The order shares it with the job's
+    /// sheet, so the allocator is not used.
     ///
     /// # Errors
     ///
@@ -181,7 +191,7 @@ impl Book {
         self.order_as(lease, same)
     }
 
-    /// The same, where it is known whether the lease runs its job's road.
+    /// `order`, if `is_same(lease)` is known already.
     ///
     /// # Errors
     ///
@@ -202,7 +212,7 @@ impl Book {
         answer
     }
 
-    /// Gives a lease back: the steps done and the road become the lease's.
+    /// Takes a lease back: the job's road and its steps done become those of the lease.
     ///
     /// # Errors
     ///
@@ -218,7 +228,7 @@ impl Book {
         self.give_back_as(lease, same)
     }
 
-    /// The same, where it is known whether the lease runs its job's road.
+    /// `give_back`, if `is_same(lease)` is known already.
     ///
     /// # Errors
     ///
@@ -236,11 +246,11 @@ impl Book {
         give_back_in(&mut self.jobs, lease, same)
     }
 
-    /// Ends the lease of a job; its sheet and its steps stay.
+    /// Ends the lease that is out for a job. The job keeps its rules and its steps done.
     ///
     /// # Errors
     ///
-    /// `HistoryFull`, `NoSuchJob`, or `StrangerLease` where no lease is out.
+    /// `HistoryFull`, `NoSuchJob`, or `StrangerLease` if no lease is out.
     pub fn revoke(&mut self, job: u32) -> Result<(), BookFault>
         ensures reply { done_reply result ≡ reply_of self.old (Revoke job) }
         ensures state { self.new ≡ after self.old (Revoke job) }
@@ -252,11 +262,11 @@ impl Book {
         revoke_in(&mut self.jobs, job)
     }
 
-    /// Ends a job, and its lease.
+    /// Ends a job and its lease.
     ///
     /// # Errors
     ///
-    /// `HistoryFull`, `NoSuchJob`, or `Ended`.
+    /// `HistoryFull`, `NoSuchJob` or `Ended`.
     pub fn cancel(&mut self, job: u32) -> Result<(), BookFault>
         ensures reply { done_reply result ≡ reply_of self.old (Cancel job) }
         ensures state { self.new ≡ after self.old (Cancel job) }
@@ -268,7 +278,7 @@ impl Book {
         cancel_in(&mut self.jobs, job)
     }
 
-    /// A snapshot of a job.
+    /// The state of a job at its steps done. A cancelled job can be read as well.
     ///
     /// # Errors
     ///
@@ -288,7 +298,7 @@ impl Book {
     }
 }
 
-/// How many events a book has had once it gave this answer: one more, unless memory ran out.
+/// How many events there are after a call with this answer, `count` before it.
 fn count_after<T>(count: u32, answer: &Result<T, BookFault>) -> u32
     requires { count < 1000000 }
     ensures value { MatchBool (is_memory answer.now) (result ≡ count) (result ≡ count + 1) }
@@ -298,4 +308,162 @@ fn count_after<T>(count: u32, answer: &Result<T, BookFault>) -> u32
         Err(BookFault::Memory) => count,
         _ => count + 1,
     }
+}
+
+/// Adds a job.
+fn submit_in(
+    jobs: &mut Vec<JobRecord>,
+    alloc: Global,
+    seed: BoxedSeed,
+    rule: Rule,
+    steps: u32,
+) -> Result<u32, BookFault>
+    requires { length jobs.old.items ≤ 256 }
+    ensures reply { MatchBool (is_memory result) (Unit {0})
+        (number_reply result ≡ (submitting jobs.old.items seed rule steps).reply) }
+    ensures jobs { MatchBool (is_memory result) (jobs.new.items ≡ jobs.old.items)
+        (jobs.new.items ≡ (submitting jobs.old.items seed rule steps).jobs) }
+    ensures at_most_max { length jobs.new.items ≤ 256 }
+{
+    make_room(jobs, seed.get(), &rule)?;
+    let job = JobRecord::new(alloc, seed, rule, steps)?;
+    let number = jobs.len() as u32;
+    jobs.push_reserved(job);
+    Ok(number)
+}
+
+/// Makes room for one more job, if there are fewer than 256 and its rule suits its road.
+fn make_room(jobs: &mut Vec<JobRecord>, seed: &Seed, rule: &Rule) -> Result<(), BookFault>
+    ensures jobs { jobs.new.items ≡ jobs.old.items }
+    ensures room { IfOk result (λ _. vec_len jobs.new < vec_capacity jobs.new) }
+    ensures taken { IfOk result (λ _. (suits rule.now seed.now.road ≡ true) × (length jobs.old.items < 256)) }
+    ensures rule { IfOk result (λ _. IsRuleFor (length seed.now.road.lanes) rule.now) }
+    ensures refused { IfErr result (λ fault. MatchBool (is_memory result) (Unit {0})
+        ((steps : ℕ) → submitting jobs.old.items seed.now rule.now steps
+        ≡ record { reply = Refused fault; jobs = jobs.old.items })) }
+    ensures legal { IsLegal seed.now.road }
+{
+    if !suits(rule, &seed.road) {
+        return Err(BookFault::LanesMismatch);
+    }
+    if has_all_jobs(jobs.len()) {
+        return Err(BookFault::Full);
+    }
+    Ok(jobs.reserve(1)?)
+}
+
+/// Whether a book of this many jobs takes no more.
+fn has_all_jobs(jobs: usize) -> bool
+    ensures { result ≡ not (ltb jobs 256) }
+{
+    jobs >= MAX_JOBS
+}
+
+/// Replaces the rule of a job.
+fn replace_in(jobs: &mut Vec<JobRecord>, index: u32, rule: Rule) -> Result<u32, BookFault>
+    ensures reply { MatchBool (is_memory result) (Unit {0})
+        (number_reply result ≡ (on_job jobs.old.items index (replacing rule)).reply) }
+    ensures jobs { MatchBool (is_memory result) (jobs.new.items ≡ jobs.old.items)
+        (jobs.new.items ≡ (on_job jobs.old.items index (replacing rule)).jobs) }
+    ensures len { length jobs.new.items ≡ length jobs.old.items }
+{
+    if index as usize >= jobs.len() {
+        return Err(BookFault::NoSuchJob);
+    }
+    let found = &mut jobs[index as usize];
+    found.replace(rule)
+}
+
+/// Ends the lease of a job.
+fn revoke_in(jobs: &mut Vec<JobRecord>, index: u32) -> Result<(), BookFault>
+    ensures reply { done_reply result ≡ (on_job jobs.old.items index revoking).reply }
+    ensures jobs { jobs.new.items ≡ (on_job jobs.old.items index revoking).jobs }
+    ensures len { length jobs.new.items ≡ length jobs.old.items }
+{
+    let Some(found) = jobs.get_mut(index as usize) else {
+        return Err(BookFault::NoSuchJob);
+    };
+    found.revoke()
+}
+
+/// Ends a job and its lease.
+fn cancel_in(jobs: &mut Vec<JobRecord>, index: u32) -> Result<(), BookFault>
+    ensures reply { done_reply result ≡ (on_job jobs.old.items index cancelling).reply }
+    ensures jobs { jobs.new.items ≡ (on_job jobs.old.items index cancelling).jobs }
+    ensures len { length jobs.new.items ≡ length jobs.old.items }
+{
+    let Some(found) = jobs.get_mut(index as usize) else {
+        return Err(BookFault::NoSuchJob);
+    };
+    found.cancel()
+}
+
+/// The smallest number of a job that can go out.
+fn free_in(jobs: &[JobRecord]) -> Option<usize>
+    ensures place { result ≡ position is_free jobs.now }
+    ensures within { IfSome result (λ index. index < length jobs.now) }
+{
+    jobs.iter().position(|job| job.is_free())
+}
+
+/// Whether a lease runs the road of its job.
+fn is_same_in(jobs: &[JobRecord], lease: &Lease) -> bool
+    ensures { IsTrue result ↔ IsSame jobs.now lease.now }
+{
+    let Some(found) = jobs.get(lease.job() as usize) else {
+        return false;
+    };
+    found.runs(lease)
+}
+
+/// Orders the next step of a lease.
+fn order_in(jobs: &mut Vec<JobRecord>, lease: &Lease, same: bool) -> Result<Order, BookFault>
+    ensures reply { MatchBool (is_memory result) (Unit {0})
+        (order_reply result
+        ≡ (on_job jobs.old.items lease.now.job (ordering (offered lease.now same))).reply) }
+    ensures jobs { MatchBool (is_memory result) (jobs.new.items ≡ jobs.old.items)
+        (jobs.new.items ≡ (on_job jobs.old.items lease.now.job (ordering (offered lease.now same))).jobs) }
+    ensures len { length jobs.new.items ≡ length jobs.old.items }
+    ensures rule { IfOk result (λ order. IsRuleAt jobs.old.items order) }
+{
+    let index = lease.job() as usize;
+    if index >= jobs.len() {
+        return Err(BookFault::NoSuchJob);
+    }
+    let found = &mut jobs[index];
+    found.order(lease, same)
+}
+
+/// Gives a job the road and the step of its lease.
+fn give_back_in(
+    jobs: &mut Vec<JobRecord>,
+    lease: Lease,
+    same: bool,
+) -> Result<(), (Lease, BookFault)>
+    requires { IsTrue same → IsSame jobs.old.items lease }
+    ensures reply { back_reply result
+        ≡ (on_job jobs.old.items lease.job (giving_back (offered lease same))).reply }
+    ensures jobs { jobs.new.items ≡ (on_job jobs.old.items lease.job (giving_back (offered lease same))).jobs }
+    ensures len { length jobs.new.items ≡ length jobs.old.items }
+    ensures handed { IfErr result (λ handed. handed.0 ≡ lease) }
+{
+    let index = lease.job() as usize;
+    if index >= jobs.len() {
+        return Err((lease, BookFault::NoSuchJob));
+    }
+    let found = &mut jobs[index];
+    found.give_back(lease, same)
+}
+
+/// The state of a job at its steps done.
+fn read_in(jobs: &[JobRecord], alloc: Global, index: u32) -> Result<Snapshot, BookFault>
+    ensures reply { MatchBool (is_memory result) (Unit {0})
+        (seen_reply result ≡ (on_job jobs.now index reading).reply) }
+    ensures seen { IfOk result (λ seen. IsSeen jobs.now index seen) }
+    ensures jobs { (on_job jobs.now index reading).jobs ≡ jobs.now }
+{
+    if index as usize >= jobs.len() {
+        return Err(BookFault::NoSuchJob);
+    }
+    Ok(jobs[index as usize].read(alloc)?)
 }

@@ -1,10 +1,11 @@
-//! Events: calls of the book, and what they reply.
+//! Events: calls of the book with their replies.
 
-use crate::boxed::{BoxedRule, BoxedSeed};
 use crate::fault::BookFault;
+use crate::rule::BoxedRule;
+use crate::seed::BoxedSeed;
 
-/// What an event says of a lease: its job, its number, the step where it began, the step where it
-/// stands, and whether it runs the road of its job.
+/// The parts of a lease that events keep: its job, its number, the step where it began, its next step, and
+/// whether it runs the road of its job.
 #[derive(Clone, Copy, PartialEq, Eq)]
 pub struct Offered {
     pub job: u32,
@@ -14,7 +15,7 @@ pub struct Offered {
     pub same: bool,
 }
 
-/// A call of the book, by the job's number where it has one.
+/// A call of the book with its arguments. The `u32` is the number of the job, but in `Submit` the number of steps.
 #[derive(Drop)]
 pub enum Call {
     Submit(BoxedSeed, BoxedRule, u32),
@@ -27,13 +28,13 @@ pub enum Call {
     Read(u32),
 }
 
-/// What the book replies.
+/// The reply to a call.
 #[derive(Clone, Copy, PartialEq, Eq)]
 pub enum Reply {
     Refused(BookFault),
-    /// The number of the submitted job, or the step from which on a rule is in force.
+    /// Of `submit` the number of the job, of `replace` the step from which the rule is in force.
     Number(u32),
-    /// The job that went out, the number of its lease, the step where it stands, and its steps.
+    /// A lease went out: its job, its number, its next step, and the steps of the job.
     Leased {
         job: u32,
         number: u32,
@@ -42,22 +43,23 @@ pub enum Reply {
     },
     /// No job is free.
     NoLease,
-    /// The job, the number of its lease, the step, and the one from which on its rule is in force.
+    /// A step was ordered: the job, the number of the lease, the step, and the one from which its rule is in force.
     Ordered {
         job: u32,
         number: u32,
         step: u32,
         from: u32,
     },
+    /// Of `give_back`, `revoke` and `cancel`.
     Done,
-    /// The step of a snapshot, and how many entries its sheet has.
+    /// The steps done in a snapshot, and the number of entries of its sheet.
     Seen {
         step: u32,
         entries: u32,
     },
 }
 
-/// A call, and what was replied.
+/// A call and its reply.
 #[derive(Drop)]
 pub struct Event {
     pub call: Call,

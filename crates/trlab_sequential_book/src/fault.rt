@@ -6,9 +6,8 @@ ghost use Rattle.trlab_sequential_book.specs.declared.fault.BookFault.TheVariant
 use std::alloc::AllocError;
 use thiserror::Error;
 
-/// Why the book refuses a call. Where several hold, the first is told in the order `HistoryFull`,
-/// `NoSuchJob`, `Ended`, `LanesMismatch`, `Full`, `SheetFull`, `StrangerLease`; `Memory` may stand in the
-/// place of any but `HistoryFull`.
+/// Why the book refuses a call. If several apply, the first in the order `HistoryFull`, `NoSuchJob`, `Ended`,
+/// `LanesMismatch`, `Full`, `SheetFull`, `StrangerLease` is returned. `Memory` may replace any but `HistoryFull`.
 #[derive(Clone, Copy, Debug, PartialEq, Eq, Error)]
 pub enum BookFault {
     /// The book has 256 jobs.
@@ -26,13 +25,13 @@ pub enum BookFault {
     /// The job's sheet has 1024 entries.
     #[error("the sheet is full")]
     SheetFull,
-    /// The lease is not the one that is out, or not one of this job's road and rules.
-    #[error("the lease is a stranger's")]
+    /// The lease is not the one that is out, or does not run this job's road under its rules.
+    #[error("the lease is not for this job")]
     StrangerLease,
-    /// The book has had 1000000 events.
+    /// The book has had 1,000,000 events.
     #[error("the history is full")]
     HistoryFull,
-    /// Memory ran out.
+    /// An allocation failed.
     #[error("memory ran out")]
     Memory,
 }

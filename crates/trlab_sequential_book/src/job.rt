@@ -1,4 +1,4 @@
-//! One job of the book.
+//! The record of one job.
 
 ghost use Rattle.std.specs.Prelude.{◌≡◌, ◌==◌, ◌||◌, true, false, IsTrue, IfOk, IfErr, OnErr, Some, length, ◌↔◌, MatchBool};
 ghost use Rattle.trlab_road.specs.Legal.{IsLegal};
@@ -11,13 +11,13 @@ ghost use Rattle.trlab_sequential_book.specs.Jobs.{run_of};
 ghost use Rattle.trlab_sequential_book.specs.Leases.{suits};
 ghost use Rattle.trlab_sequential_book.specs.Machine.{cancelling, giving_back, is_free, is_own, leasing, new_job, ordering, refused, replacing, revoking};
 
-use crate::boxed::{BoxedRoad, BoxedSeed};
 use crate::fault::BookFault;
 use crate::lease::Lease;
 use crate::order::Order;
+use crate::rule::suits;
+use crate::seed::{BoxedRoad, BoxedSeed};
 use crate::sheet::Sheet;
 use crate::snapshot::Snapshot;
-use crate::suits::suits;
 use std::alloc::{AllocError, Global};
 use std::marker::Model;
 use std::sync::Arc;
@@ -25,9 +25,9 @@ use trlab_rules::Rule;
 use trlab_step::{StepRoom, StepTally, no_tally, tally_sum};
 use trlab_words::Key;
 
-/// A job. Contracts see all of it but its road and its tally, which are those of its seed and its sheet.
+/// A job. Contracts do not see its road and its tally, which follow from the seed, the sheet and the steps done.
 #[derive(Drop)]
-pub(crate) struct Job {
+pub(crate) struct JobRecord {
     seed: BoxedSeed,
     sheet: Sheet,
     steps: u32,
@@ -43,7 +43,7 @@ pub(crate) struct Job {
     tally: StepTally,
 }
 
-impl Model for Job {
+impl Model for JobRecord {
     ghost use Rattle.trlab_sequential_book.specs.Jobs.{IsJob};
     ghost use Rattle.trlab_sequential_book.specs.Machine.{JobState, job_state};
 
@@ -56,16 +56,21 @@ impl Model for Job {
         job.road job.tally };
 }
 
-impl Job {
-    /// A job as it is submitted: no step is done.
-    pub fn new(alloc: Global, seed: BoxedSeed, rule: Rule, steps: u32) -> Result<Job, AllocError>
+impl JobRecord {
+    /// A new job, of which no step is done.
+    pub fn new(
+        alloc: Global,
+        seed: BoxedSeed,
+        rule: Rule,
+        steps: u32,
+    ) -> Result<JobRecord, AllocError>
         requires legal { IsLegal seed.road }
         requires rule { IsRuleFor (length seed.road.lanes) rule }
         ensures { IfOk result (λ job. job ≡ new_job seed rule steps) }
     {
         let sheet = Sheet::new(alloc, rule)?;
         let road = BoxedRoad::of_seed(seed.share()?);
-        Ok(Job {
+        Ok(JobRecord {
             seed,
             sheet,
             steps,
@@ -78,7 +83,7 @@ impl Job {
         })
     }
 
-    /// Enters a rule, and answers the step from which on it is in force.
+    /// Replaces the rule from the first step on that was never ordered. Returns this step.
     pub fn replace(&mut self, rule: Rule) -> Result<u32, BookFault>
         ensures reply { MatchBool (is_memory result) (Unit {0})
             (number_reply result ≡ (replacing rule self.old).reply) }
@@ -90,7 +95,7 @@ impl Job {
         Ok(self.high)
     }
 
-    /// Whether the job has not ended, and a rule suits its road.
+    /// Tests that the job has steps that were never ordered, and that a rule suits its road.
     fn admits(&self, rule: &Rule) -> Result<(), BookFault>
         ensures ok { IfOk result (λ _. (self.now.cancelled || (self.now.high == self.now.steps) ≡ false)
             × (suits rule.now self.now.seed.road ≡ true)) }
@@ -118,7 +123,7 @@ impl Job {
         Ok(())
     }
 
-    /// Ends the job, and its lease.
+    /// Ends the job and its lease.
     pub fn cancel(&mut self) -> Result<(), BookFault>
         ensures reply { done_reply result ≡ (cancelling self.old).reply }
         ensures job { self.new ≡ (cancelling self.old).job }
@@ -131,18 +136,18 @@ impl Job {
         Ok(())
     }
 
-    /// Whether the job can go out.
+    /// Whether the job can be leased.
     pub fn is_free(&self) -> bool
         ensures { result ≡ is_free self.now }
     {
         self.out.is_none() && !self.cancelled && self.done < self.steps
     }
 
-    /// The job, which has this index, goes out under a number.
+    /// Leases the job, whose number is `index`. `number` is that of the lease.
     pub fn lend(&mut self, alloc: Global, index: u32, number: u32) -> Result<Lease, AllocError>
         ensures lease { IfOk result (λ lease. (lease.job ≡ index) × IsFresh self.old number lease) }
         ensures job { IfOk result (λ _. self.new ≡ (leasing index number self.old).job) }
-        ensures same { OnErr result (self.new ≡ self.old) }
+        ensures unchanged { OnErr result (self.new ≡ self.old) }
     {
         let copy = self.road.get().copy(alloc)?;
         let road = Arc::new(alloc, copy)?;
@@ -182,7 +187,8 @@ impl Job {
             .are_in_force(lease.base_step(), lease.applied(), lease.is_steady())
     }
 
-    /// Whether a lease is the one that is out, and may be ordered or given back.
+    /// Whether a lease is the one that is out, so that it may be ordered or given back. `same`: it runs the job's
+    /// road.
     fn owns(&self, lease: &Lease, same: bool) -> bool
         ensures { result ≡ is_own (offered lease.now same) self.now }
     {
@@ -197,7 +203,7 @@ impl Job {
         }
     }
 
-    /// The order for the step at which a lease stands, which shares its rule with the sheet.
+    /// Orders the next step of a lease.
     pub fn order(&mut self, lease: &Lease, same: bool) -> Result<Order, BookFault>
         ensures reply { MatchBool (is_memory result) (Unit {0})
             (order_reply result ≡ (ordering (offered lease.now same) self.old).reply) }
@@ -226,7 +232,7 @@ impl Job {
         })
     }
 
-    /// The tally at the step to which a lease of this job's road has come.
+    /// The job's tally with that of the steps of a lease.
     fn tally_with(&self, lease: &Lease) -> StepTally
         requires base { lease.now.base.step ≡ self.now.done }
         requires own { IsOwnRun self.now lease.now }
@@ -246,7 +252,7 @@ impl Job {
         sum
     }
 
-    /// The job comes to stand where a lease stands.
+    /// Gives the job the road and the step of its lease.
     pub fn give_back(&mut self, lease: Lease, same: bool) -> Result<(), (Lease, BookFault)>
         requires { IsTrue same → IsOwnRun self.old lease }
         ensures reply { back_reply result ≡ (giving_back (offered lease same) self.old).reply }
@@ -263,7 +269,7 @@ impl Job {
         Ok(())
     }
 
-    /// A snapshot of the job.
+    /// The state of the job at its steps done.
     pub fn read(&self, alloc: Global) -> Result<Snapshot, AllocError>
         ensures { IfOk result (λ seen. IsSnapshotOf self.now seen) }
     {
@@ -280,7 +286,6 @@ impl Job {
     }
 }
 
-/// Whether two keys are one.
 fn same_key(key: &Key, other: &Key) -> bool
     ensures { IsTrue result ↔ (key.now ≡ other.now) }
 {

@@ -1,31 +1,31 @@
-//! What the numbers of the book are, in figures, and which call each of its jobs comes from.
+//! The limits of the book as figures, and which call each of its jobs comes from.
 //!
-//! Each law is the contract of a function with nothing to do.
+//! Each law is the contract of a function with an empty body.
 
 ghost use Rattle.std.specs.Prelude.{◌≡◌};
 ghost use Rattle.trlab_sequential_book.specs.Submits.{JobsAreSubmitted, ReadsAreDriven, SnapshotsAreOfSubmits};
 ghost use Rattle.trlab_sequential_book.specs.Submits.{SubmitsHaveTheirNumbers};
 
-use crate::limits::{MOST_ENTRIES, MOST_EVENTS, MOST_JOBS};
+use crate::book::{MAX_EVENTS, MAX_JOBS};
+use crate::sheet::MAX_ENTRIES;
 
-/// How much a book holds.
+/// The limits of a book.
 pub fn limits()
-    ensures jobs { MOST_JOBS ≡ 256 }
-    ensures entries { MOST_ENTRIES ≡ 1024 }
-    ensures events { MOST_EVENTS ≡ 1000000 }
+    ensures jobs { MAX_JOBS ≡ 256 }
+    ensures entries { MAX_ENTRIES ≡ 1024 }
+    ensures events { MAX_EVENTS ≡ 1000000 }
 {}
 
-/// Each job of a book was submitted by one event of its history, the submit that was replied the job's
-/// number; a snapshot of the job starts where that submit says.
+/// Exactly one event of a book's history submitted the job with a given number: the submit that was answered
+/// with this number. A snapshot of the job has the seed of that submit.
 pub fn jobs_are_of_submits()
     ensures submitted { JobsAreSubmitted }
     ensures one { SubmitsHaveTheirNumbers }
     ensures seen { SnapshotsAreOfSubmits }
 {}
 
-/// What is read of a job, whichever calls were made before and in whatever order, is the road to which one
-/// worker drives from where the job's submit starts, under the job's sheet: each step is clean, its programs
-/// ending within their budgets, and no car is lost.
+/// A read shows the road of one worker who runs the seed of the job's submit under the job's sheet, regardless
+/// of the calls before it. Each step is clean, its programs end within their budgets, and no car is lost.
 pub fn reads_are_driven()
     ensures { ReadsAreDriven }
 {}

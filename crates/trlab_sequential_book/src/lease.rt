@@ -1,20 +1,55 @@
-//! Leases: jobs that are out, whose steps are run outside the book.
+//! Leases: jobs that are out. Their steps are run outside the book.
 
-ghost use Rattle.std.specs.Prelude.{◌≡◌, IsTrue};
+ghost use Rattle.std.specs.Prelude.{◌≡◌, ◌↔◌, ◌+◌, ◌<◌, ◌^◌, ◌++◌, ◌∷◌, [], IfOk, IsTrue, OnOk, OnErr, length};
 ghost use Rattle.std.specs.Arc.{arc_value};
-ghost use Rattle.trlab_sequential_book.specs.Leases.{IsLease, IsSteady};
+ghost use Rattle.trlab_step.specs.Answers.{dice_of};
+ghost use Rattle.trlab_step.specs.Laws.{IsRuleFor};
+ghost use Rattle.trlab_step.specs.Next.{IsNext};
+ghost use Rattle.trlab_step.specs.declared.tally.StepTally.{StepTally};
+ghost use Rattle.trlab_sequential_book.specs.Leases.{FitsOrder, HasRun, IsLease, IsSteady, one_more};
+ghost use Rattle.trlab_sequential_book.specs.declared.lease.LeaseFault.TheVariants.{Memory, WrongOrder};
 
-use crate::boxed::BoxedRoad;
-use crate::ran::Ran;
-use std::alloc::Global;
+use crate::order::Order;
+use crate::rule::{BoxedRule, suits};
+use crate::seed::BoxedRoad;
+use std::alloc::{AllocError, Global};
 use std::marker::Model;
 use std::sync::Arc;
+use thiserror::Error;
+use trlab_machine::Dice;
 use trlab_road::Road;
-use trlab_step::StepRoom;
+use trlab_rules::Rule;
+use trlab_step::{Asking, Executor, NoObserver, StepRoom, StepTally, take_step};
 use trlab_words::Key;
 
-/// A job that is out: the road from which the lease began, the rules that it has applied since, and the
-/// road to which these have led.
+/// Why a lease ran no step.
+#[derive(Clone, Copy, Debug, PartialEq, Eq, Error)]
+pub enum LeaseFault {
+    /// The order is for another job, lease or step, or it has a change program and the road one lane.
+    #[error("the order is not for this lease")]
+    WrongOrder,
+    /// An allocation failed.
+    #[error("memory ran out")]
+    Memory,
+}
+
+impl From<AllocError> for LeaseFault {
+    ghost from_gives = { λ _ fault. fault ≡ Memory };
+
+    fn from(_: AllocError) -> LeaseFault {
+        LeaseFault::Memory
+    }
+}
+
+/// A step that a lease has run: its rule, and the counts of this step.
+#[derive(Drop)]
+pub struct ExecutedStep {
+    pub rule: BoxedRule,
+    pub tally: StepTally,
+}
+
+/// The right to run a job's steps outside the book: the job's road when it went out, the steps that were run
+/// since, and the road there.
 #[derive(Drop)]
 pub struct Lease {
     pub(crate) job: u32,
@@ -25,12 +60,12 @@ pub struct Lease {
     pub(crate) base_step: u32,
     pub(crate) base_road: BoxedRoad,
     pub(crate) step: u32,
-    /// Nothing else has it, until the job takes it over.
+    /// Shared with nothing until the job takes it over.
     pub(crate) road: Arc<Road, Global>,
-    pub(crate) applied: Vec<Ran>,
-    /// Whether it is known that one rule was applied in all of these steps.
+    pub(crate) applied: Vec<ExecutedStep>,
+    /// If true, all steps that were run had the same rule.
     pub(crate) is_steady: bool,
-    /// The memory of the steps.
+    /// Memory that each step uses again.
     pub(crate) room: StepRoom,
 }
 
@@ -60,49 +95,49 @@ impl Lease {
         self.job
     }
 
-    /// The number of the lease.
+    /// The number of the lease, which counts all leases of the book from 0.
     pub fn number(&self) -> u32
         ensures { result ≡ self.now.number }
     {
         self.number
     }
 
-    /// The steps of the job.
+    /// How many steps the job has.
     pub fn steps(&self) -> u32
         ensures { result ≡ self.now.steps }
     {
         self.steps
     }
 
-    /// The key by which the random words go.
+    /// The key of the road's random numbers.
     pub(crate) fn key(&self) -> &Key
         ensures { result.now ≡ self.now.key }
     {
         &self.key
     }
 
-    /// The number of the road.
+    /// The number of the road, on which its random numbers depend as well.
     pub(crate) fn road_number(&self) -> u32
         ensures { result ≡ self.now.road_number }
     {
         self.road_number
     }
 
-    /// The step at which the lease began.
+    /// The step at which the lease went out.
     pub fn base_step(&self) -> u32
         ensures { result ≡ self.now.base.step }
     {
         self.base_step
     }
 
-    /// The road from which it began.
+    /// The job's road when the lease went out.
     pub fn base_road(&self) -> &Road
         ensures { result.now ≡ self.now.base.road }
     {
         self.base_road.get()
     }
 
-    /// The step to which it has come.
+    /// The next step to run: `base_step` and the number of steps that were run.
     pub fn step(&self) -> u32
         ensures value { result ≡ self.now.step }
         ensures lease { IsLease self.now }
@@ -110,7 +145,7 @@ impl Lease {
         self.step
     }
 
-    /// The road to which it has come.
+    /// The road before the next step.
     pub fn road(&self) -> &Road
         ensures value { result.now ≡ self.now.road }
         ensures lease { IsLease self.now }
@@ -118,25 +153,127 @@ impl Lease {
         &self.road
     }
 
-    /// The steps that it has run.
-    pub(crate) fn applied(&self) -> &[Ran]
+    /// The steps that were run, in order.
+    pub(crate) fn applied(&self) -> &[ExecutedStep]
         ensures value { result.now ≡ self.now.applied }
         ensures lease { IsLease self.now }
     {
         &self.applied
     }
 
-    /// Whether it is known that one rule was applied in all steps.
+    /// If true, all steps that were run had the same rule. False says nothing.
     pub(crate) fn is_steady(&self) -> bool
         ensures { IsTrue result → IsSteady self.now.applied }
     {
         self.is_steady
     }
 
-    /// The road to which it has come, of a lease that ends.
+    /// Ends the lease, and returns the road to which it has come.
     pub(crate) fn into_road(self) -> Arc<Road, Global>
         ensures { arc_value result ≡ self.road }
     {
         self.road
+    }
+
+    /// Runs the ordered step. The executor computes the answers of the cars; the result does not depend on it.
+    ///
+    /// # Errors
+    ///
+    /// `WrongOrder` if the order is for another job, lease or step, or has a change program and the road one
+    /// lane; `Memory` if an allocation fails. Then nothing changes.
+    pub fn advance<A: Executor>(
+        &mut self,
+        executor: &A,
+        alloc: Global,
+        order: &Order,
+    ) -> Result<(), LeaseFault>
+        requires ready { A.is_ready executor.now }
+        ensures ok { OnOk result (HasRun self.old order.now self.new) }
+        ensures err { OnErr result (self.new ≡ self.old) }
+        ensures wrong { (result ≡ Err WrongOrder) ↔ (FitsOrder self.old order.now → ⊥) }
+    {
+        if !self.fits(order) {
+            return Err(LeaseFault::WrongOrder);
+        }
+        Ok(self.run(executor, alloc, &order.rule)?)
+    }
+
+    /// Whether an order is for this lease at its step, and its rule suits the road.
+    fn fits(&self, order: &Order) -> bool
+        ensures value { IsTrue result ↔ FitsOrder self.now order.now }
+        ensures rule { IsTrue result → IsRuleFor (length self.now.road.lanes) order.now.rule }
+    {
+        order.job == self.job
+            && order.lease == self.number
+            && order.step == self.step
+            && suits(order.rule.get(), &self.road)
+    }
+
+    /// Runs a step under a rule. If an allocation fails, nothing changes.
+    fn run<A: Executor>(
+        &mut self,
+        executor: &A,
+        alloc: Global,
+        rule: &BoxedRule,
+    ) -> Result<(), AllocError>
+        requires ready { A.is_ready executor.now }
+        requires rule { IsRuleFor (length self.old.road.lanes) rule.now }
+        requires step { self.old.step + 1 < 2 ^ 32 }
+        ensures ok { OnOk result ((tally : StepTally)
+            × IsNext rule.now (dice_of self.old.key.0 self.old.road_number self.old.step)
+            self.old.road self.new.road tally
+            × (self.new ≡ one_more self.old rule.now tally self.new.road)) }
+        ensures err { OnErr result (self.new ≡ self.old) }
+    {
+        self.applied.reserve(1)?;
+        let dice = Dice::new(&self.key, self.road_number, self.step);
+        let shared = rule.share()?;
+        let is_steady = stays_steady(&self.applied, self.is_steady, rule);
+        let rule = rule.get();
+        let asking = Asking {
+            executor,
+            alloc,
+            dice: &dice,
+        };
+        let tally = step_alone(&asking, &mut self.road, &mut self.room, rule)?;
+        self.applied.push_reserved(ExecutedStep {
+            rule: shared,
+            tally,
+        });
+        self.is_steady = is_steady;
+        self.step += 1;
+        Ok(())
+    }
+}
+
+/// Takes a step of a lease's road, which is not shared; a shared road would be reported as a failed
+/// allocation.
+fn step_alone<A: Executor>(
+    asking: &Asking<A>,
+    road: &mut Arc<Road, Global>,
+    room: &mut StepRoom,
+    rule: &Rule,
+) -> Result<StepTally, AllocError>
+    requires ready { A.is_ready asking.now.executor.now }
+    requires rule { IsRuleFor (length (arc_value road.old).lanes) rule.now }
+    ensures next { IfOk result (λ tally.
+        IsNext rule.now asking.now.dice.now (arc_value road.old) (arc_value road.new) tally) }
+    ensures unchanged { OnErr result (arc_value road.new ≡ arc_value road.old) }
+{
+    match Arc::get_mut(road) {
+        Some(road) => take_step(asking, road, room, rule, &mut NoObserver),
+        None => Err(AllocError),
+    }
+}
+
+/// Whether it is still known that all steps have the same rule, if this rule is the next.
+fn stays_steady(applied: &[ExecutedStep], is_steady: bool, rule: &BoxedRule) -> bool
+    requires { IsTrue is_steady → IsSteady applied.now }
+    ensures { IsTrue result → (tally : StepTally)
+        → IsSteady (applied.now ++ record { rule = rule.now; tally = tally } ∷ []) }
+{
+    match applied.first() {
+        Some(ran) => is_steady && ran.rule.equals(rule),
+        None => true,
     }
 }

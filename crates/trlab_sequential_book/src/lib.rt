@@ -1,33 +1,43 @@
-//! The job book: jobs whose rules can be replaced while they run, leases under which their steps are run
-//! outside the book, and snapshots, whose roads are those of one worker under their own sheets of rules.
+//! The book of jobs for one thread: jobs whose rules can be replaced while they run, and whose steps are run
+//! outside the book.
+//!
+//! A job is submitted, leased, and run step by step as the book orders. Then the lease is given back:
+//!
+//! ```
+//! let mut book = Book::new(alloc);
+//! let job = book.submit(alloc, seed, rule, 200).ok()?;
+//! if let Some(mut lease) = book.lease(alloc).ok()? {
+//!     while lease.step() < lease.steps() {
+//!         let order = book.order(alloc, &lease).ok()?;
+//!         lease.advance(&Caller, alloc, &order).ok()?;
+//!     }
+//!     book.give_back(lease).ok()?;
+//! }
+//! let snapshot = book.read(alloc, job).ok()?;
+//! ```
+//!
+//! A [`Snapshot`] shows the road of one worker who runs the job's seed under its sheet of rules, regardless of
+//! how the steps were run. `trlab_book` shares a book between threads.
 #![tactic(auto)]
 
-mod advance;
 mod book;
-mod boxed;
 mod event;
 mod fault;
 mod job;
 pub mod laws;
 mod lease;
-mod limits;
-mod on_jobs;
 mod order;
-mod ran;
+mod rule;
 mod seed;
 mod sheet;
 mod snapshot;
-mod spelt;
-mod suits;
 
-pub use advance::LeaseFault;
-pub use book::Book;
-pub use boxed::{BoxedRule, BoxedSeed};
+pub use book::{Book, MAX_EVENTS, MAX_JOBS};
 pub use event::{Call, Event, Offered, Reply};
 pub use fault::BookFault;
-pub use lease::Lease;
-pub use limits::{MOST_ENTRIES, MOST_EVENTS, MOST_JOBS};
+pub use lease::{Lease, LeaseFault};
 pub use order::Order;
-pub use seed::Seed;
-pub use sheet::Sheet;
+pub use rule::BoxedRule;
+pub use seed::{BoxedSeed, Seed};
+pub use sheet::{MAX_ENTRIES, Sheet};
 pub use snapshot::Snapshot;

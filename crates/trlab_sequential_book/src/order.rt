@@ -1,11 +1,11 @@
-//! Orders: the rule for the next step of a lease.
+//! Orders: which rule a lease has to run next.
 
 ghost use Rattle.std.specs.Prelude.{◌≡◌, ◌+◌, ◌<◌, ◌^◌};
 
-use crate::boxed::BoxedRule;
+use crate::rule::BoxedRule;
 use trlab_rules::Rule;
 
-/// The rule in force at the step where a lease stands, which the lease is to run.
+/// The rule for one step of a lease.
 #[derive(Drop)]
 pub struct Order {
     pub(crate) job: u32,
@@ -31,21 +31,21 @@ impl Order {
         self.lease
     }
 
-    /// The step, from 0 on.
+    /// The step that is ordered, counted from 0.
     pub fn step(&self) -> u32
         ensures { result ≡ self.now.step }
     {
         self.step
     }
 
-    /// The step from which on the rule is in force.
+    /// The step from which the rule is in force.
     pub fn from(&self) -> u32
         ensures { result ≡ self.now.from }
     {
         self.from
     }
 
-    /// The rule.
+    /// The rule in force at the step.
     pub fn rule(&self) -> &Rule
         ensures { result.now ≡ self.now.rule }
     {

@@ -1,13 +1,18 @@
-//! Where the run of a job starts.
+//! Seeds of jobs, and the roads of their runs, in memory that several owners share. A job shares its seed with
+//! the history and with snapshots, and its road with snapshots and with the lease that is out, so a read copies
+//! no road.
 
 ghost use Rattle.std.specs.Prelude.{◌≡◌, IfOk};
+ghost use Rattle.std.specs.Arc.{arc_value};
 
 use std::alloc::{AllocError, Global};
+use std::marker::Model;
+use std::sync::Arc;
 use trlab_road::Road;
 use trlab_words::Key;
 
-/// The road from which a job starts, the key and the number by which its random words go, and the step
-/// from which on its tally counts.
+/// The initial state of a job: its road, the key and the number that determine its random numbers, and the
+/// step from which its tally counts.
 #[derive(Drop)]
 pub struct Seed {
     pub road: Road,
@@ -17,11 +22,11 @@ pub struct Seed {
 }
 
 impl Seed {
-    /// A copy of the seed.
+    /// A copy, with a road of its own.
     ///
     /// # Errors
     ///
-    /// Where memory runs out.
+    /// If an allocation fails.
     pub fn copy(&self, alloc: Global) -> Result<Seed, AllocError>
         ensures { IfOk result (λ copy. copy ≡ self.now) }
     {
@@ -32,5 +37,110 @@ impl Seed {
             number: self.number,
             warm: self.warm,
         })
+    }
+}
+
+/// A seed that several owners share and nobody changes.
+#[derive(Drop)]
+pub struct BoxedSeed {
+    held: Arc<Seed, Global>,
+}
+
+impl Model for BoxedSeed {
+    ghost use Rattle.std.specs.Arc.{arc_value};
+    ghost use Rattle.trlab_sequential_book.specs.declared.seed.Seed.{Seed};
+
+    ghost Value = { Seed };
+
+    ghost view = { λ boxed. arc_value boxed.held };
+}
+
+impl BoxedSeed {
+    /// Moves a seed into memory that can be shared.
+    ///
+    /// # Errors
+    ///
+    /// If an allocation fails; the seed is dropped.
+    pub fn new(alloc: Global, seed: Seed) -> Result<BoxedSeed, AllocError>
+        ensures { IfOk result (λ boxed. boxed ≡ seed) }
+    {
+        let held = Arc::new(alloc, seed)?;
+        Ok(BoxedSeed { held })
+    }
+
+    /// Another owner of the same seed. No road is copied.
+    ///
+    /// # Errors
+    ///
+    /// If the number of owners would exceed its range.
+    pub fn share(&self) -> Result<BoxedSeed, AllocError>
+        ensures { IfOk result (λ shared. shared ≡ self.now) }
+    {
+        let held = Arc::try_clone(&self.held)?;
+        Ok(BoxedSeed { held })
+    }
+
+    pub fn get(&self) -> &Seed
+        ensures { result.now ≡ self.now }
+    {
+        &self.held
+    }
+}
+
+/// A road of the run of a seed, which several owners share and nobody changes.
+#[derive(Drop)]
+pub(crate) struct BoxedRoad {
+    seed: BoxedSeed,
+    /// None for the road of the seed itself.
+    held: Option<Arc<Road, Global>>,
+}
+
+impl Model for BoxedRoad {
+    ghost use Rattle.trlab_road.specs.Cells.{Cells};
+    ghost use Rattle.trlab_sequential_book.specs.Held.{held_road};
+
+    ghost Value = { Cells };
+
+    ghost view = { λ road. held_road road.held road.seed };
+}
+
+impl BoxedRoad {
+    /// The road at step 0, which is that of the seed.
+    pub(crate) fn of_seed(seed: BoxedSeed) -> BoxedRoad
+        ensures { result ≡ seed.road }
+    {
+        BoxedRoad { seed, held: None }
+    }
+
+    /// Another owner of the same road.
+    ///
+    /// # Errors
+    ///
+    /// If the number of owners would exceed its range.
+    pub(crate) fn share(&self) -> Result<BoxedRoad, AllocError>
+        ensures { IfOk result (λ shared. shared ≡ self.now) }
+    {
+        let seed = self.seed.share()?;
+        let held = match &self.held {
+            Some(road) => Some(Arc::try_clone(road)?),
+            None => None,
+        };
+        Ok(BoxedRoad { seed, held })
+    }
+
+    pub(crate) fn get(&self) -> &Road
+        ensures { result.now ≡ self.now }
+    {
+        match &self.held {
+            Some(road) => road,
+            None => &self.seed.get().road,
+        }
+    }
+
+    /// Replaces the road by that of a later step.
+    pub(crate) fn come_to(&mut self, road: Arc<Road, Global>)
+        ensures { self.new ≡ arc_value road }
+    {
+        self.held = Some(road);
     }
 }

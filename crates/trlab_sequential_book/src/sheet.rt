@@ -1,4 +1,4 @@
-//! Sheets of the book: up to 1024 rules, each in force from its step on, up to that of the next.
+//! Sheets of the book: the rules of a job.
 
 ghost use Rattle.std.specs.Prelude.{◌≡◌, ◌≤◌, ◌<◌, ◌↔◌, ◌+◌, ◌^◌, ◌∷◌, ◌++◌, [], IsTrue, IfOk, IfErr, OnOk, OnErr, length, Some, slice_get, vec_len, vec_capacity};
 ghost use Rattle.trlab_step.specs.Run.{IsSheet, in_force};
@@ -6,15 +6,17 @@ ghost use Rattle.trlab_sequential_book.specs.Leases.{IsSteady};
 ghost use Rattle.trlab_sequential_book.specs.Sheets.{AreInForce, BeginBy, IsBookSheet, MayRefuse, entered, entry_in_force};
 ghost use Rattle.trlab_rules.specs.Rules.{Programs};
 
-use crate::boxed::BoxedRule;
 use crate::fault::BookFault;
-use crate::limits::MOST_ENTRIES;
-use crate::ran::Ran;
+use crate::lease::ExecutedStep;
+use crate::rule::BoxedRule;
 use std::alloc::{AllocError, Global};
 use std::marker::Model;
 use trlab_rules::Rule;
 
-/// The rules of a job, each with the step from which on it is in force; the first begins at step 0.
+/// The maximum number of entries of a sheet.
+pub const MAX_ENTRIES: usize = 1024;
+
+/// The rules of a job. Each entry is in force from its step to that of the next; the first begins at step 0.
 #[derive(Drop)]
 pub struct Sheet {
     entries: Vec<(u32, BoxedRule)>,
@@ -32,7 +34,7 @@ impl Model for Sheet {
 }
 
 impl Sheet {
-    /// The sheet of one rule.
+    /// The sheet with one rule, in force from step 0.
     pub(crate) fn new(alloc: Global, rule: Rule) -> Result<Sheet, AllocError>
         ensures { IfOk result (λ sheet. sheet ≡ (0, rule) ∷ []) }
     {
@@ -42,17 +44,16 @@ impl Sheet {
         Ok(Sheet { entries })
     }
 
-    /// How many entries there are, from 1 to 1024: the first is in force from step 0 on, and their steps
-    /// rise.
+    /// The number of entries, 1 to 1024. Their steps rise from 0.
     pub fn len(&self) -> usize
         ensures value { result ≡ length self.now }
-        ensures few { result ≤ 1024 }
+        ensures at_most_max { result ≤ 1024 }
         ensures rules { IsSheet self.now }
     {
         self.entries.len()
     }
 
-    /// An entry: the step from which on it is in force, and its rule.
+    /// An entry: the step from which its rule is in force, and the rule.
     pub fn entry(&self, index: usize) -> (u32, &Rule)
         requires { index < length self.now }
         ensures { slice_get self.now index ≡ Some (result.0, result.1.now) }
@@ -61,7 +62,7 @@ impl Sheet {
         (from, rule.get())
     }
 
-    /// The same, with the rule as the sheet keeps it.
+    /// An entry, with the rule that can be shared.
     fn kept_entry(&self, index: usize) -> (u32, &BoxedRule)
         requires { index < length self.now }
         ensures { slice_get self.now index ≡ Some (result.0, result.1.now) }
@@ -70,7 +71,7 @@ impl Sheet {
         (entry.0, &entry.1)
     }
 
-    /// The entry in force at a step.
+    /// The entry in force at a step: the last one that begins there or before.
     pub(crate) fn entry_in_force(&self, step: u32) -> &(u32, BoxedRule)
         ensures entry { entry_in_force self.now step ≡ Some result.now }
         ensures rule { in_force self.now step ≡ Some result.now.1 }
@@ -79,11 +80,11 @@ impl Sheet {
         &self.entries[begun - 1]
     }
 
-    /// A copy of the sheet, which shares its rules.
+    /// A copy that shares the rules.
     ///
     /// # Errors
     ///
-    /// Where memory runs out.
+    /// If an allocation fails.
     pub(crate) fn copy(&self, alloc: Global) -> Result<Sheet, AllocError>
         ensures { IfOk result (λ copy. copy ≡ self.now) }
     {
@@ -91,9 +92,9 @@ impl Sheet {
         Ok(Sheet { entries })
     }
 
-    /// Whether the rules that were applied, the first at a step, are those in force. Where it is known that
-    /// they are one rule, and the last entry begins by that step, they are compared by one comparison.
-    pub(crate) fn are_in_force(&self, first: u32, applied: &[Ran], is_steady: bool) -> bool
+    /// Whether the rules of these steps, the first of which is step `first`, are those in force. If they are all
+    /// the same (`is_steady`) and the last entry begins by then, one comparison decides.
+    pub(crate) fn are_in_force(&self, first: u32, applied: &[ExecutedStep], is_steady: bool) -> bool
         requires steps { first + length applied.now < 2 ^ 32 }
         requires steady { IsTrue is_steady → IsSteady applied.now }
         ensures { IsTrue result ↔ AreInForce self.now first applied.now }
@@ -109,8 +110,8 @@ impl Sheet {
         }
     }
 
-    /// The same, where each rule is compared.
-    fn are_each_in_force(&self, first: u32, applied: &[Ran]) -> bool
+    /// `are_in_force`, which compares the rule of each step.
+    fn are_each_in_force(&self, first: u32, applied: &[ExecutedStep]) -> bool
         requires { first + length applied.now < 2 ^ 32 }
         ensures { IsTrue result ↔ AreInForce self.now first applied.now }
     {
@@ -125,18 +126,18 @@ impl Sheet {
         true
     }
 
-    /// Enters a rule that is in force from a step on.
+    /// Adds a rule that is in force from the step `from`, instead of an entry that begins there.
     ///
     /// # Errors
     ///
-    /// `SheetFull` where the sheet would have more than 1024 entries, `Memory` where an allocation was
-    /// refused. Then nothing changes.
+    /// `SheetFull` if the sheet would have more than 1024 entries, `Memory` if an allocation fails. Then
+    /// nothing changes.
     pub(crate) fn enter(&mut self, from: u32, rule: Rule) -> Result<(), BookFault>
         requires { BeginBy from self.old }
         ensures ok { OnOk result
             ((self.new ≡ entered self.old from rule) × (length self.new ≤ 1024) × IsSheet self.new) }
         ensures err { IfErr result (λ fault. MayRefuse fault (entered self.old from rule)) }
-        ensures same { OnErr result (self.new ≡ self.old) }
+        ensures unchanged { OnErr result (self.new ≡ self.old) }
     {
         let alloc = *self.entries.allocator();
         let rule = BoxedRule::new(alloc, rule)?;
@@ -146,7 +147,7 @@ impl Sheet {
     }
 }
 
-/// Makes room for an entry from a step on. The last entry is dropped where it begins at this very step.
+/// Makes room for an entry that begins at the step `from`. Drops the last entry if it begins there as well.
 fn make_way(entries: &mut Vec<(u32, BoxedRule)>, from: u32) -> Result<(), BookFault>
     requires sheet { IsBookSheet entries.old.items }
     requires begin { BeginBy from entries.old.items }
@@ -155,7 +156,7 @@ fn make_way(entries: &mut Vec<(u32, BoxedRule)>, from: u32) -> Result<(), BookFa
     ensures sheet { (rule : Programs) → OnOk result (IsBookSheet (entries.new.items ++ (from, rule) ∷ [])) }
     ensures room { OnOk result (vec_len entries.new < vec_capacity entries.new) }
     ensures err { (rule : Programs) → IfErr result (λ fault. MayRefuse fault (entered entries.old.items from rule)) }
-    ensures same { OnErr result (entries.new.items ≡ entries.old.items) }
+    ensures unchanged { OnErr result (entries.new.items ≡ entries.old.items) }
 {
     let Some(last) = entries.pop() else {
         unreachable!()
@@ -164,13 +165,13 @@ fn make_way(entries: &mut Vec<(u32, BoxedRule)>, from: u32) -> Result<(), BookFa
         return Ok(());
     }
     entries.push_reserved(last);
-    if entries.len() >= MOST_ENTRIES {
+    if entries.len() >= MAX_ENTRIES {
         return Err(BookFault::SheetFull);
     }
     Ok(entries.reserve(1)?)
 }
 
-/// A copy of a list of entries, which shares their rules.
+/// A copy of a list of entries that shares their rules.
 fn copy_entries(
     alloc: Global,
     entries: &[(u32, BoxedRule)],

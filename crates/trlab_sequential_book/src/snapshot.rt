@@ -1,4 +1,4 @@
-//! Snapshots: what a read tells of a job.
+//! Snapshots: the results of reads.
 
 ghost use Rattle.std.specs.Prelude.{◌≡◌, length};
 ghost use Rattle.trlab_road.specs.Legal.{IsLegal};
@@ -6,14 +6,14 @@ ghost use Rattle.trlab_step.specs.Laws.{IsLegalLike, IsSheetFor};
 ghost use Rattle.trlab_step.specs.Run.{IsRoadAt, IsTallyAt};
 ghost use Rattle.trlab_sequential_book.specs.Jobs.{start_of};
 
-use crate::boxed::{BoxedRoad, BoxedSeed};
-use crate::seed::Seed;
+use crate::seed::{BoxedRoad, BoxedSeed, Seed};
 use crate::sheet::Sheet;
 use std::marker::Model;
 use trlab_road::Road;
 use trlab_step::StepTally;
 
-/// A job at a step: its road and its tally are those to which its seed comes under its sheet.
+/// The state of a job at its steps done. Its type guarantees that the road and the tally are those of one worker
+/// who runs the seed under the sheet.
 #[derive(Drop)]
 pub struct Snapshot {
     pub(crate) seed: BoxedSeed,
@@ -35,7 +35,7 @@ impl Model for Snapshot {
 }
 
 impl Snapshot {
-    /// Where the job started: its road is legal.
+    /// The initial state of the job.
     pub fn seed(&self) -> &Seed
         ensures value { start_of result.now ≡ self.now.seed }
         ensures legal { IsLegal result.now.road }
@@ -43,7 +43,7 @@ impl Snapshot {
         self.seed.get()
     }
 
-    /// The rules of the job, those of later steps included: each is one for the lanes of its road.
+    /// The rules of the job, including those of later steps.
     pub fn sheet(&self) -> &Sheet
         ensures value { result.now ≡ self.now.sheet }
         ensures rules { IsSheetFor (length self.now.seed.road.lanes) result.now }
@@ -51,14 +51,14 @@ impl Snapshot {
         &self.sheet
     }
 
-    /// How many steps are done.
+    /// The number of steps done.
     pub fn step(&self) -> u32
         ensures { result ≡ self.now.step }
     {
         self.step
     }
 
-    /// The road at this step: a legal one, with as many lanes and cars as at the start, and the same limit.
+    /// The road after these steps, with as many lanes and cars as at the start, and the same limit.
     pub fn road(&self) -> &Road
         ensures value { result.now ≡ self.now.road }
         ensures like { IsLegalLike self.now.seed.road result.now }
@@ -67,7 +67,7 @@ impl Snapshot {
         self.road.get()
     }
 
-    /// The sum of the tallies of the steps done, without those before `warm`.
+    /// The sums over the steps done, from the seed's `warm` on.
     pub fn tally(&self) -> StepTally
         ensures value { result ≡ self.now.sum }
         ensures run { IsTallyAt self.now.seed self.now.sheet self.now.step result }

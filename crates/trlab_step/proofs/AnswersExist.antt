@@ -1,6 +1,6 @@
 -- Accepted programs answer to each car of a legal road.
 use Rattle.std.proofs.Common.{◌≡◌, ℕ, zero, suc, ◌-◌, ◌<◌, ◌≤◌, Bool, Option, true, false, cond, Some, None, length, refl, subst, arith}
-use Rattle.trlab_bounds.specs.declared.roads.TheConstants.{GREATEST_LENGTH}
+use Rattle.trlab_bounds.specs.declared.roads.TheConstants.{MAX_LENGTH}
 use Rattle.std.specs.Prelude.{is_none}
 use Rattle.trlab_words.proofs.RandomWords.{length-random_words}
 use Rattle.trlab_code.specs.declared.kind.Kind.TheVariants.{Motion, Change}
@@ -37,7 +37,7 @@ or_none : (b : Bool) (n most : ℕ) → n ≤ most → cond b n 0 ≤ most
 or_none true n most h = h
 or_none false n most h = omega arith
 
-short_run : (run n cells : ℕ) → run ≤ n - 1 → n ≡ cells → cells ≤ GREATEST_LENGTH → run ≤ 99999
+short_run : (run n cells : ℕ) → run ≤ n - 1 → n ≡ cells → cells ≤ MAX_LENGTH → run ≤ 99999
 short_run run n cells most size high = omega (arith, most, size, high)
 
 not_below : (n : ℕ) → 0 ≤ n

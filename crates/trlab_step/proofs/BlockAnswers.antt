@@ -1,7 +1,7 @@
 -- What the cars of a block answer, which is put behind the answers before it.
 use Rattle.std.proofs.Common.{◌≡◌, ◌∙◌, ℕ, ◌+◌, ◌%◌, ◌<◌, ◌≤◌, List, ◌++◌, Bool, false, length, take, get_or, get_or-take, length-take, sym, subst, arith}
 use Rattle.std.specs.Prelude.{slice_index, slice_index_or}
-use Rattle.trlab_bounds.specs.declared.roads.TheConstants.{GREATEST_LIMIT}
+use Rattle.trlab_bounds.specs.declared.roads.TheConstants.{MAX_LIMIT}
 use Rattle.trlab_code.specs.declared.kind.Kind.TheVariants.{Motion, Change}
 use Rattle.trlab_machine.specs.declared.dice.Dice.{Dice}
 use Rattle.trlab_machine.specs.declared.views.Views.{Views}
@@ -24,10 +24,10 @@ module _ {n : ℕ} (size : ℕ) (few : size ≤ n) where
 
   module _ (program : CheckedProgram) (dice : Dice) (road : Cells) (begin : ℕ) (views : Views n) (many : views.cars ≡ size) where
     -- a speed within the limit that a view shows is its own lowest byte
-    byte_same : (speed limit : ℕ) → speed ≤ limit → limit ≤ GREATEST_LIMIT → speed % 256 ≡ speed
+    byte_same : (speed limit : ℕ) → speed ≤ limit → limit ≤ MAX_LIMIT → speed % 256 ≡ speed
     byte_same speed limit within low = omega (arith, within, low)
 
-    -- the speeds of a block, each in a byte, are those that its cars go by
+    -- the speeds of a block, each in a byte, are those that its cars take
     pub block_goes : (column bytes : List ℕ) → ((j : ℕ) → j < size → IsAsked Motion road (begin + j) (view_of views j) (slice_index views.number j))
         → ((j : ℕ) → j < n → j < views.cars → MovesWith program.program.instrs (view_of views j) (car_words dice views j) program.budget (slice_index column j))
         → ((j : ℕ) → j < n → slice_index bytes j ≡ slice_index column j % 256)

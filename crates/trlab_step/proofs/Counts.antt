@@ -2,7 +2,7 @@
 use Rattle.std.proofs.Common.{◌≡◌, ℕ, suc, ◌*◌, ◌<◌, ◌≤◌, List, [], ◌∷◌, length, get_or, arith, Bool, true, false, cond}
 use Rattle.std.proofs.lemmas.List.Sums.{sum_by-cons}
 use Rattle.std.specs.Prelude.{Option, Some, None, sum_by, count_by, is_some, nat_eq}
-use Rattle.trlab_bounds.specs.declared.roads.TheConstants.{GREATEST_LIMIT}
+use Rattle.trlab_bounds.specs.declared.roads.TheConstants.{MAX_LIMIT}
 use Rattle.trlab_road.specs.declared.car.Car.{Car}
 use Rattle.trlab_road.specs.Cells.{Cells, Lane, cars, lane_cars}
 use Rattle.trlab_road.specs.Legal.{IsLegal}
@@ -28,7 +28,7 @@ few_counted {X} p (x ∷ xs) =
     at_most_one false = omega arith
 
 -- a sum of numbers up to the greatest limit
-small_sum : {X : Type 0} (f : X → ℕ) (xs : List X) → ((k : ℕ) (d : X) → k < length xs → f (get_or xs k d) ≤ GREATEST_LIMIT) → sum_by f xs ≤ GREATEST_LIMIT * length xs
+small_sum : {X : Type 0} (f : X → ℕ) (xs : List X) → ((k : ℕ) (d : X) → k < length xs → f (get_or xs k d) ≤ MAX_LIMIT) → sum_by f xs ≤ MAX_LIMIT * length xs
 small_sum f [] small = omega arith
 small_sum f (x ∷ xs) small =
     let one = sum_by-cons f x xs in
@@ -64,7 +64,7 @@ all_in_order road = length-standing_lanes 0 road.lanes
 
 -- a tally that is that of one step at most
 pub record IsSmall (tally : StepTally) : Type 0 where
-  pub distance : tally.distance ≤ GREATEST_LIMIT * 200000
+  pub distance : tally.distance ≤ MAX_LIMIT * 200000
   pub stopped : tally.stopped ≤ 200000
   pub changes : tally.changes ≤ 200000
 
@@ -87,7 +87,7 @@ small_tally rule dice road next tally legal after is =
     let slow = small_sum (λ (car : Car). car.speed) (standing next) (λ k d below.
     let car = get_or (standing next) k d in
     let low : car.speed ≤ next.limit = after.within_limit car (standing_cell next k d (omega arith)) in
-    let limit : next.limit ≤ GREATEST_LIMIT = after.shape.limit.low_limit in
+    let limit : next.limit ≤ MAX_LIMIT = after.shape.limit.low_limit in
     omega arith) in
     let few = few_counted (λ (car : Car). nat_eq car.speed 0) (standing next) in
     record {

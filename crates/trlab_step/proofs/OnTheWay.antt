@@ -1,7 +1,7 @@
 -- A run on its way: its road is legal, and what it has counted is little enough.
 use Rattle.std.proofs.Common.{◌≡◌, ℕ, zero, suc, ◌+◌, ◌*◌, ◌^◌, ◌<◌, ◌≤◌, length, refl, sym, subst, arith, Bool, true, false}
 use Rattle.std.specs.Prelude.{Some, nat_le, if◌then◌else◌}
-use Rattle.trlab_bounds.specs.declared.roads.TheConstants.{GREATEST_LIMIT}
+use Rattle.trlab_bounds.specs.declared.roads.TheConstants.{MAX_LIMIT}
 use Rattle.trlab_road.specs.Cells.{Cells}
 use Rattle.trlab_road.specs.Legal.{IsLegal}
 use Rattle.trlab_rules.specs.Rules.{Programs}
@@ -29,7 +29,7 @@ rule_here run rule on under =
 
 -- a sum of so many small tallies
 pub record IsSmallSum (steps : ℕ) (sum : StepTally) : Type 0 where
-  pub distance : sum.distance ≤ GREATEST_LIMIT * 200000 * steps
+  pub distance : sum.distance ≤ MAX_LIMIT * 200000 * steps
   pub stopped : sum.stopped ≤ 200000 * steps
   pub changes : sum.changes ≤ 200000 * steps
 

@@ -1,5 +1,5 @@
--- The calls of programs in a step: each is safe, which is to say that it sees what a car on a road can see,
--- and ends with an answer within its budget.
+-- The calls of programs in a step: each is safe. Its view is one that a car on a road can have, and it ends with an
+-- answer within its budget.
 use Rattle.std.specs.Prelude.{IfSome}
 use Rattle.trlab_code.specs.declared.kind.Kind.{Kind}
 use Rattle.trlab_code.specs.declared.kind.Kind.TheVariants.{Motion, Change}
@@ -13,21 +13,21 @@ use Rattle.trlab_road.specs.Cells.{Cells, IsAt}
 use Rattle.trlab_rules.specs.Rules.{Programs}
 use Rattle.trlab_step.specs.Block.{view_by}
 
--- a program is called for a car of a road: what it sees is in range, and on the car's words it ends with some
--- answer, in no more steps than its budget
+-- a call of a program for a car of a road is safe: the view is in range, and on the car's words the program ends
+-- with an answer within its budget
 pub record IsSafeCall (kind : Kind) (checked : CheckedProgram) (dice : Dice) (road : Cells)
     (car : Car) : Type 0 where
   pub in_range : IsView (view_by kind road car)
   pub ends : EndsWithin kind checked.program.instrs (view_by kind road car)
       (words_of dice car.number) checked.budget
 
--- a program is called for each car of a road, and each call is safe
+-- the calls of a program for all cars of a road are safe
 abbrev pub AreSafeCalls : Kind → CheckedProgram → Dice → Cells → Type 0
 AreSafeCalls kind checked dice road =
     (car : Car) → IsAt road car → IsSafeCall kind checked dice road car
 
--- the calls of both phases: of the change program, where there is one, on the road as it stands, and of the
--- motion program on the middle road
+-- the calls of both phases are safe: of the change program, if there is one, on the road before the step, and of
+-- the motion program on the middle road
 pub record StepCallsAreSafe (rule : Programs) (dice : Dice) (road middle : Cells) : Type 0 where
   pub lane_change : IfSome rule.change (λ change. AreSafeCalls Change change dice road)
   pub motion : AreSafeCalls Motion rule.motion dice middle

@@ -1,4 +1,4 @@
--- One worker drives a road: all that is promised of a run, step by step.
+-- Driven runs: everything that is promised of a run, step by step.
 use Rattle.std.specs.Prelude.{◌≡◌, ◌<◌, ◌≤◌, ℕ, suc, Some, length}
 use Rattle.trlab_road.specs.Cells.{Cells}
 use Rattle.trlab_road.specs.Legal.{IsLegal}
@@ -8,9 +8,9 @@ use Rattle.trlab_step.specs.Next.{IsCleanNext}
 use Rattle.trlab_step.specs.Laws.{IsLegalLike, IsRuleFor, IsSheetFor}
 use Rattle.trlab_step.specs.Run.{Seed, Sheet, dice_at, in_force, IsRoadAt}
 
--- a step is driven: the rule in force is one for the lanes, of programs that are safe within their budgets,
--- and under it one road comes next to the other; no car goes onto or through another, none is lost or made,
--- and each program that is called ends within its budget
+-- a step is driven: the rule in force suits the lanes, its programs are safe within their budgets, and it leads from
+-- one road to the next; no car moves onto or through another, no car is lost or added, and each called program ends
+-- within its budget
 pub record IsDrivenStep (seed : Seed) (sheet : Sheet) (step : ℕ) (road next : Cells) : Type 0 where
   pub rule : Programs
   pub tally : StepTally
@@ -18,14 +18,14 @@ pub record IsDrivenStep (seed : Seed) (sheet : Sheet) (step : ℕ) (road next : 
   pub suits : IsRuleFor (length road.lanes) rule
   pub clean : IsCleanNext rule (dice_at seed step) road next tally
 
--- one worker drives a road for so many steps: from where it starts each step is driven, and each road is
--- legal, with the lanes, the limit and the count of cars of the start
+-- a run is driven for `steps` steps: it begins at the start, each step is driven, and each road is legal, with the
+-- lanes, the limit and the number of cars of the start
 pub record IsDriven (seed : Seed) (sheet : Sheet) (steps : ℕ) (roads : ℕ → Cells) : Type 0 where
   pub start : roads 0 ≡ seed.road
   pub legal : (step : ℕ) → step ≤ steps → IsLegalLike seed.road (roads step)
   pub each : (step : ℕ) → step < steps → IsDrivenStep seed sheet step (roads step) (roads (suc step))
 
--- the roads of a run, from a legal one and under a sheet for its lanes, are driven so
+-- each run from a legal road, under a sheet for its lanes, is driven
 abbrev pub RunsAreDriven : Type 0
 RunsAreDriven =
     (seed : Seed) (sheet : Sheet) (steps : ℕ) (roads : ℕ → Cells)

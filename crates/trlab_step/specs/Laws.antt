@@ -1,4 +1,4 @@
--- Laws of answers, steps and runs, whichever code asks the cars and moves them.
+-- Laws of answers, steps and runs, whatever code computes the answers and moves the cars.
 use Rattle.std.specs.Prelude.{◌≡◌, ◌≤◌, ◌++◌, ℕ, suc, Bool, Option, Some, None, List, [], All, IfSome, IsSome, length, sum, count_by, nat_eq, nat_le, if◌then◌else◌}
 use Rattle.trlab_code.specs.declared.kind.Kind.{Kind}
 use Rattle.trlab_code.specs.declared.kind.Kind.TheVariants.{Motion, Change}
@@ -18,33 +18,32 @@ use Rattle.trlab_step.specs.Calls.{StepCallsAreSafe}
 use Rattle.trlab_step.specs.Next.{IsNext, IsCleanNext, IsStep}
 use Rattle.trlab_step.specs.Run.{Seed, Sheet, IsSheet, in_force, tally_sum, dice_at, ComesTo}
 
--- a rule for roads of so many lanes: programs that are safe within their budgets; a change program needs two
--- lanes
+-- a rule for roads of `lanes` lanes: programs that are safe within their budgets; a change program needs two lanes
 pub record IsRuleFor (lanes : ℕ) (rule : Programs) : Type 0 where
   pub motion : IsChecked Motion rule.motion
   pub change : IfSome rule.change (λ change. IsChecked Change change)
   pub two_lanes : IsSome rule.change → lanes ≡ 2
 
--- a sheet for roads of so many lanes: each of its rules is one for them
+-- a sheet for roads of `lanes` lanes: each of its rules is one for them
 pub record IsSheetFor (lanes : ℕ) (sheet : Sheet) : Type 0 where
   pub is_sheet : IsSheet sheet
   pub rules : All (λ (entry : ℕ × Programs). IsRuleFor lanes entry.1) sheet
 
--- a legal road with as many lanes and cars as another, and its limit
+-- a legal road with the same limit and the same numbers of lanes and cars as another
 pub record IsLegalLike (old new : Cells) : Type 0 where
   pub legal : IsLegal new
   pub same_lanes : length new.lanes ≡ length old.lanes
   pub same_limit : new.limit ≡ old.limit
   pub same_count : cars new ≡ cars old
 
--- the cars of a part of the standing order have one list of speeds only
+-- each part of the standing order has only one list of speeds
 abbrev pub SpeedsAreOne : Type 0
 SpeedsAreOne =
     (motion : CheckedProgram) (dice : Dice) (road : Cells) (from to : ℕ) (speeds others : List ℕ)
     → to ≤ cars road → AnswersSpeedsPart motion dice road from to speeds
     → AnswersSpeedsPart motion dice road from to others → speeds ≡ others
 
--- the speeds of a part and then those of the part behind it are the speeds of both
+-- the speeds of a part and of the next part join to the speeds of both
 abbrev pub SpeedsJoin : Type 0
 SpeedsJoin =
     (motion : CheckedProgram) (dice : Dice) (road : Cells) (from middle to : ℕ) (first second : List ℕ)
@@ -52,14 +51,14 @@ SpeedsJoin =
     → AnswersSpeedsPart motion dice road middle to second
     → AnswersSpeedsPart motion dice road from to (first ++ second)
 
--- the cars of a part of the standing order have one list of answers whether they cross
+-- each part of the standing order has only one list of flags: does a car cross?
 abbrev pub CrossingsAreOne : Type 0
 CrossingsAreOne =
     (change : CheckedProgram) (dice : Dice) (road : Cells) (from to : ℕ) (crosses others : List Bool)
     → to ≤ cars road → AnswersCrossingsPart change dice road from to crosses
     → AnswersCrossingsPart change dice road from to others → crosses ≡ others
 
--- who crosses in a part and then in the part behind it are those who cross in both
+-- the flags of a part and of the next part join to the flags of both
 abbrev pub CrossingsJoin : Type 0
 CrossingsJoin =
     (change : CheckedProgram) (dice : Dice) (road : Cells) (from middle to : ℕ) (first second : List Bool)
@@ -67,21 +66,21 @@ CrossingsJoin =
     → AnswersCrossingsPart change dice road middle to second
     → AnswersCrossingsPart change dice road from to (first ++ second)
 
--- where there is a change program, all cars of a road answer in standing order whether they cross, and
--- those that do go over at once; where there is none, no car is asked
+-- the lane change by answers in standing order: if there is a change program, all cars that cross do so at once; if
+-- there is none, there are no answers
 abbrev pub CrossByAnswers : Option CheckedProgram → Dice → Cells → Cells → List Bool → Type 0
 CrossByAnswers None dice road middle crosses = (middle ≡ road) × (crosses ≡ [])
 CrossByAnswers (Some change) dice road middle crosses =
     (length road.lanes ≡ 2) × AnswersCrossingsPart change dice road 0 (cars road) crosses
     × ((answer : ℕ → ℕ → Bool) → crosses ≡ in_order answer road → Crosses answer road middle)
 
--- all cars of a road answer their speeds in standing order, and go ahead at once
+-- the motion by answers in standing order: all cars move at once
 pub record GoByAnswers (motion : CheckedProgram) (dice : Dice) (road next : Cells) (speeds : List ℕ)
     : Type 0 where
   pub answers : IsSpeedsPart motion dice road 0 (cars road) speeds
   pub moves : (answer : ℕ → ℕ → ℕ) → speeds ≡ in_order answer road → Moves answer road next
 
--- what is counted of answers: the cells that the cars go, how many cars stop, and how many cross
+-- the tally of answers: the sum of the speeds, the number of stopped cars, and the number of cars that cross
 abbrev pub tally_of_answers : List Bool → List ℕ → StepTally
 tally_of_answers crosses speeds = record {
   distance = sum speeds;
@@ -97,21 +96,20 @@ AnswersLeadOn =
     → GoByAnswers rule.motion dice middle next speeds
     → IsNext rule dice road next (tally_of_answers crosses speeds)
 
--- what a program of either kind sees of a car of a legal road is in range; a change program needs two lanes
+-- on a legal road the views of both kinds of programs are in range; a change program needs two lanes
 abbrev pub ViewsAreInRange : Type 0
 ViewsAreInRange =
     (kind : Kind) (road : Cells) (car : Car) → IsLegal road → (kind ≡ Change → length road.lanes ≡ 2)
     → IsAt road car → IsView (view_by kind road car)
 
--- an accepted motion program answers a car of a legal road within its budget: the count of steps that stands
--- in the answer is no greater
+-- on a legal road an accepted motion program answers within its budget
 abbrev pub SpeedsComeInTime : Type 0
 SpeedsComeInTime =
     (motion : CheckedProgram) (dice : Dice) (road : Cells) (car : Car) (speed : ℕ)
     → IsChecked Motion motion → IsLegal road → IsAt road car
     → (answer : AnswersSpeed motion dice road car speed) → answer.0 ≤ motion.budget
 
--- the same of an accepted change program, on two lanes
+-- the same for an accepted change program, on two lanes
 abbrev pub CrossingsComeInTime : Type 0
 CrossingsComeInTime =
     (change : CheckedProgram) (dice : Dice) (road : Cells) (car : Car) (crosses : Bool)
@@ -125,14 +123,13 @@ StepsCallSafely =
     → IsRuleFor (length road.lanes) rule → IsLegal road → IsStep rule dice road middle next tally
     → StepCallsAreSafe rule dice road middle
 
--- each legal road has a next road under a rule for its lanes, which is legal too;
--- no car goes onto or through another on the way
+-- each legal road has a next road under a rule for its lanes, and it is legal; no car moves onto or through another
 abbrev pub NextRoadExists : Type 0
 NextRoadExists =
     (rule : Programs) (dice : Dice) (road : Cells) → IsRuleFor (length road.lanes) rule → IsLegal road
     → (next : Cells) × (tally : StepTally) × IsCleanNext rule dice road next tally × IsLegalLike road next
 
--- a road has one next road only, and one tally
+-- a road has only one next road, and only one tally
 abbrev pub NextRoadIsOne : Type 0
 NextRoadIsOne =
     (rule : Programs) (dice : Dice) (road next other : Cells) (tally count : StepTally)
@@ -146,15 +143,15 @@ RoadExists =
     → (road : Cells) × (sum : StepTally) × ComesTo seed sheet step road sum
     × IsLegalLike seed.road road
 
--- a run has one road only at each step, and one sum of tallies
+-- a run has only one road at each step, and only one sum of tallies
 abbrev pub RoadIsOne : Type 0
 RoadIsOne =
     (seed : Seed) (sheet : Sheet) (step : ℕ) (road other : Cells) (sum count : StepTally)
     → ComesTo seed sheet step road sum → ComesTo seed sheet step other count
     → (road ≡ other) × (sum ≡ count)
 
--- a run goes on from its road at a step to the next road under the rule in force;
--- the step's tally is added from the step on where the count begins
+-- a run goes on from its road at a step to the next road under the rule in force; from step `warm` on the tally of
+-- the step is added
 abbrev pub RunGoesOn : Type 0
 RunGoesOn =
     (seed : Seed) (sheet : Sheet) (step : ℕ) (road next : Cells) (sum tally : StepTally) (rule : Programs)

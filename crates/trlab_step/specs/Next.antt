@@ -8,8 +8,8 @@ use Rattle.trlab_road.specs.LaneChange.{Crosses, CleanLaneChange}
 use Rattle.trlab_road.specs.Motion.{Moves, CleanMotion}
 use Rattle.trlab_verify.specs.CheckedProgram.{CheckedProgram}
 use Rattle.trlab_rules.specs.Rules.{Programs}
-use Rattle.trlab_step.specs.declared.fault.StepFault.{StepFault}
-use Rattle.trlab_step.specs.declared.fault.StepFault.TheVariants.{LanesMismatch}
+use Rattle.trlab_step.specs.declared.step.StepFault.{StepFault}
+use Rattle.trlab_step.specs.declared.step.StepFault.TheVariants.{LanesMismatch}
 use Rattle.trlab_step.specs.declared.tally.StepTally.{StepTally}
 use Rattle.trlab_machine.specs.declared.dice.Dice.{Dice}
 use Rattle.trlab_step.specs.Answers.{AnswersSpeeds, AnswersCrossings}
@@ -19,29 +19,29 @@ use Rattle.trlab_step.specs.Calls.{StepCallsAreSafe}
 abbrev pub total_speed : Cells → ℕ
 total_speed road = sum_by (λ (car : Car). car.speed) (standing road)
 
--- how many cars of a road are stopped: their speed is 0
+-- the number of cars of a road with speed 0
 abbrev pub stopped_cars : Cells → ℕ
 stopped_cars road = count_by (λ (car : Car). nat_eq car.speed 0) (standing road)
 
--- how many cars of a road cross
+-- the number of cars of a road that cross
 abbrev pub crossing_cars : (ℕ → ℕ → Bool) → Cells → ℕ
 crossing_cars crosses road = count_by (λ (car : Car). crosses car.lane car.place) (standing road)
 
--- the lane change: with a change program, for which there have to be two lanes, the cars that it lets
--- cross do so; without one no car does
+-- the lane change: with a change program, which needs two lanes, the cars cross for which it answers so; without one
+-- no car crosses
 abbrev pub IsLaneChangePhase : Option CheckedProgram → Dice → Cells → Cells → ℕ → Type 0
 IsLaneChangePhase None dice road middle changes = (middle ≡ road) × (changes ≡ 0)
 IsLaneChangePhase (Some change) dice road middle changes =
     (length road.lanes ≡ 2) × (crosses : ℕ → ℕ → Bool) × AnswersCrossings change dice road crosses
     × Crosses crosses road middle × (changes ≡ crossing_cars crosses road)
 
--- the motion: each car goes ahead by the speed that its motion program answers on this very road
+-- the motion: each car moves by the speed that the motion program answers on this very road
 abbrev pub IsMotionPhase : CheckedProgram → Dice → Cells → Cells → Type 0
 IsMotionPhase motion dice road next =
     (speeds : ℕ → ℕ → ℕ) × AnswersSpeeds motion dice road speeds × Moves speeds road next
 
--- the motion with what is counted of it, where no car crossed before; no car went onto or through another,
--- none was lost or made, and the next road is legal
+-- the motion and its tally; no car moves onto or through another, no car is lost or added, and the next road is
+-- legal
 pub record IsCountedMotion (motion : CheckedProgram) (dice : Dice) (road next : Cells)
     (tally : StepTally) : Type 0 where
   pub phase : IsMotionPhase motion dice road next
@@ -60,12 +60,12 @@ pub record IsStep (rule : Programs) (dice : Dice) (road middle next : Cells)
   pub distance : tally.distance ≡ total_speed next
   pub stopped : tally.stopped ≡ stopped_cars next
 
--- the next road under a rule, and what is counted on the way
+-- the next road under a rule, and the tally of the step
 abbrev pub IsNext : Programs → Dice → Cells → Cells → StepTally → Type 0
 IsNext rule dice road next tally = (middle : Cells) × IsStep rule dice road middle next tally
 
--- a step whose two phases are clean: no car went onto or through another, none was lost or made, and each
--- program that was called ended within its budget
+-- a step whose two phases are clean: no car moves onto or through another, no car is lost or added, and each called
+-- program ends within its budget
 pub record IsCleanStep (rule : Programs) (dice : Dice) (road middle next : Cells)
     (tally : StepTally) : Type 0 where
   pub step : IsStep rule dice road middle next tally
@@ -73,12 +73,12 @@ pub record IsCleanStep (rule : Programs) (dice : Dice) (road middle next : Cells
   pub clean_motion : CleanMotion middle next
   pub calls : StepCallsAreSafe rule dice road middle
 
--- the next road under a rule, and what is counted on the way, both phases clean over one middle road
+-- the next road under a rule, and the tally of the step, by a clean step
 abbrev pub IsCleanNext : Programs → Dice → Cells → Cells → StepTally → Type 0
 IsCleanNext rule dice road next tally = (middle : Cells) × IsCleanStep rule dice road middle next tally
 
--- what is told of a step: the next road, which is legal, with its tally, or a fault; that the lanes do not
--- suit the rule is told just where there is a change program, and one lane
+-- the result of a step: the next road, which is legal, and its tally, or a fault. The fault is `LanesMismatch` exactly
+-- if there is a change program and one lane
 pub record TellsNext (rule : Programs) (dice : Dice) (road : Cells)
     (told : Result (Cells × StepTally) StepFault) : Type 0 where
   pub mismatch : (told ≡ Err LanesMismatch) ↔ (IsSome rule.change × (length road.lanes ≡ 1))

@@ -1,4 +1,4 @@
--- Runs on their way: which run it is, and what it has come to.
+-- The progress of a run.
 use Rattle.std.specs.Prelude.{◌≡◌, ℕ, ◌+◌, length}
 use Rattle.trlab_road.specs.Cells.{Cells}
 use Rattle.trlab_road.specs.Legal.{IsLegal}
@@ -6,7 +6,7 @@ use Rattle.trlab_step.specs.Laws.{IsSheetFor}
 use Rattle.trlab_step.specs.Run.{Seed, Sheet, ComesTo, no_tally}
 use Rattle.trlab_step.specs.declared.tally.StepTally.{StepTally}
 
--- where a run started and its rules, and the step, the road and the sum of tallies to which it has come
+-- the start and the rules of a run, the current step, and the road and the sum of tallies there
 pub record Progress : Type 0 where
   pub seed : Seed
   pub sheet : Sheet
@@ -14,11 +14,11 @@ pub record Progress : Type 0 where
   pub road : Cells
   pub sum : StepTally
 
--- a run that has not gone on yet
+-- a run at step 0
 abbrev pub at_start : Seed → Sheet → Progress
 at_start seed sheet = record { seed = seed; sheet = sheet; step = 0; road = seed.road; sum = no_tally }
 
--- from a legal road, and under a sheet for its lanes, the run comes to this road and this sum
+-- from a legal road, under a sheet for its lanes, the run comes to this road and this sum
 pub record IsUnderway (run : Progress) : Type 0 where
   pub legal : IsLegal run.seed.road
   pub suits : IsSheetFor (length run.seed.road.lanes) run.sheet

@@ -1,4 +1,4 @@
--- The published rules on the cells of a road: where each car is after a step.
+-- The published rules on the cells of a road: the place of each car after a step.
 use Rattle.std.specs.Prelude.{ℕ, ◌+◌, ◌&&◌, Bool, length, nat_lt, if◌then◌else◌}
 use Rattle.trlab_words.specs.Words.{random_word}
 use Rattle.trlab_words.specs.Chances.{happens_on}
@@ -14,7 +14,7 @@ use Rattle.trlab_step.specs.declared.tally.StepTally.{StepTally}
 use Rattle.trlab_machine.specs.declared.dice.Dice.{Dice}
 use Rattle.trlab_step.specs.Next.{IsNext}
 
--- whether a chance, in parts of 2 ^ 31, happens for a car on word k of the step
+-- does an event of probability chance / 2 ^ 31 happen on word k of a car?
 abbrev pub happens_to : Dice → Car → ℕ → ℕ → Bool
 happens_to dice car k chance =
     happens_on chance (random_word dice.key dice.road car.number dice.step k)
@@ -25,13 +25,12 @@ abbrev pub nasch_goes : ℕ → Dice → Cells → Car → ℕ
 nasch_goes p dice road car =
     brake (happens_to dice car 0 p) (safe_speed car.speed road.limit (gap (lane_of road car.lane) car.place))
 
--- the same with slow starts: a car that was stopped brakes with the chance p0 (Barlovic and others 1998)
+-- the same with slow starts: a stopped car brakes with probability p0 (Barlovic and others 1998)
 abbrev pub vdr_goes : ℕ → ℕ → Dice → Cells → Car → ℕ
 vdr_goes p p0 dice road car = nasch_goes (vdr_chance p p0 car.speed) dice road car
 
--- whether a car crosses: the cell beside it is empty, its gap does not allow to go one faster, the gap ahead
--- on the other lane is above that, the gap behind there is above the limit, and the chance c happens
--- (Rickert and others 1996)
+-- does a car cross? Its side cell is empty, its gap is below its speed plus one, the gap ahead on the other lane is
+-- above that, the gap behind there is above the limit, and an event of probability c happens (Rickert and others 1996)
 abbrev pub rickert_car_crosses : ℕ → Dice → Cells → Car → Bool
 rickert_car_crosses c dice road car =
     let other = lane_of road (other_lane car.lane) in
@@ -39,7 +38,7 @@ rickert_car_crosses c dice road car =
     && nat_lt (car.speed + 1) (sidegap other car.place) && nat_lt road.limit (sideback other car.place)
     && happens_to dice car 1 c
 
--- a car so many cells ahead of where it was, which is its new speed
+-- a car after it has moved by its new speed
 abbrev pub car_ahead : Cells → Car → ℕ → Car
 car_ahead road car speed = record {
   number = car.number;
@@ -48,29 +47,28 @@ car_ahead road car speed = record {
   speed = speed;
 }
 
--- each car is as many cells ahead as its new speed
+-- each car has moved by its new speed
 abbrev pub AllGo : (Car → ℕ) → Cells → Cells → Type 0
 AllGo goes old new = (car : Car) → IsAt old car → IsAt new (car_ahead old car (goes car))
 
--- each car that crosses is beside where it was, each other one where it was
+-- each car that crosses is at its side cell, each other car is where it was
 abbrev pub AllCross : (Car → Bool) → Cells → Cells → Type 0
 AllCross crosses old new =
     (car : Car) → IsAt old car → IsAt new (if crosses car then car_beside car else car)
 
--- a step under the rule of 1992 with the chance p
+-- a step under the rule of 1992 with probability p
 abbrev pub NaschOnCells : Type 0
 NaschOnCells = (p : ℕ) (rule : Programs) (dice : Dice) (old new : Cells) (tally : StepTally)
     → IsNasch p rule → IsLegal old → IsNext rule dice old new tally
     → AllGo (nasch_goes p dice old) old new
 
--- a step under the rule of 1998 with the chances p, and p0 for a car that was stopped
+-- a step under the rule of 1998 with probability p, and p0 for stopped cars
 abbrev pub VdrOnCells : Type 0
 VdrOnCells = (p p0 : ℕ) (rule : Programs) (dice : Dice) (old new : Cells) (tally : StepTally)
     → IsVdr p p0 rule → IsLegal old → IsNext rule dice old new tally
     → AllGo (vdr_goes p p0 dice old) old new
 
--- a step under the rule of 1996 with the chances p and c: over a legal road all cars change lanes, and on it
--- all go ahead
+-- a step under the rule of 1996 with probabilities p and c: a lane change to a legal middle road, and the motion there
 abbrev pub RickertOnCells : Type 0
 RickertOnCells = (p c : ℕ) (rule : Programs) (dice : Dice) (old new : Cells) (tally : StepTally)
     → IsRickert p c rule → IsLegal old → IsNext rule dice old new tally

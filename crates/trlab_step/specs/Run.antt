@@ -7,14 +7,14 @@ use Rattle.trlab_step.specs.Answers.{dice_of}
 use Rattle.trlab_step.specs.declared.tally.StepTally.{StepTally}
 use Rattle.trlab_step.specs.Next.{IsNext}
 
--- where a run starts: its road with the road's number, the key, and the step from which the tally counts
+-- the start of a run: its road, the key, the number of the road, and the step from which on tallies are counted
 pub record Seed : Type 0 where
   pub road : Cells
   pub key : List ℕ
   pub number : ℕ
   pub warm : ℕ
 
--- rules, each with the step from which on it is in force
+-- a sheet: rules, each with the step from which on it is in force
 abbrev pub Sheet : Type 0
 Sheet = List (ℕ × Programs)
 
@@ -28,23 +28,23 @@ abbrev pub IsSheet : Sheet → Type 0
 IsSheet [] = ⊥
 IsSheet (first ∷ later) = (first.0 ≡ 0) × Rises 1 later
 
--- the sheet of a rule from step 0 on and of rules of later steps, whose steps rise; where the first of
--- these begins at step 0 itself, it takes the place of the other
+-- the sheet of a first rule, from step 0 on, and of later ones in order of their steps; a later one for step 0
+-- replaces the first
 abbrev pub sheet_with : Programs → Sheet → Sheet
 sheet_with first [] = (0, first) ∷ []
 sheet_with first (entry ∷ later) = if entry.0 == 0 then entry ∷ later else (0, first) ∷ entry ∷ later
 
--- the rule in force at a step: that of the last entry that begins there or before
+-- the rule in force at a step: that of the last entry that begins at this step or before
 abbrev pub in_force : Sheet → ℕ → Option Programs
 in_force [] step = None
 in_force (entry ∷ sheet) step =
     if nat_le entry.0 step then Some (unwrap_or (in_force sheet step) entry.1) else None
 
--- nothing counted
+-- the tally of no step
 abbrev pub no_tally : StepTally
 no_tally = record { distance = 0; stopped = 0; changes = 0 }
 
--- two tallies together
+-- the sum of two tallies
 abbrev pub tally_sum : StepTally → StepTally → StepTally
 tally_sum a b = record {
   distance = a.distance + b.distance;

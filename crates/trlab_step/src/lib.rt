@@ -1,33 +1,32 @@
-//! One step of a road under a rule: the cars are asked on the road as it stands, and then all move at once.
-//! Parts of the cars can be asked by themselves, and the two phases be taken by themselves. A run is a road
-//! that goes on step by step under a sheet of rules.
+//! One step of a road under a rule, and runs of many steps.
+//!
+//! A step computes the answers of all cars on the same road; then all cars move at once. The parts of a step can be
+//! called one by one. A run is a road that advances under a schedule of rules:
+//!
+//! ```text
+//! let rule = nasch(alloc, Chance::new(0)?).ok()?;
+//! let road = Road::parse(alloc, 5, &[b"0.0......."]).ok()?;
+//! let schedule = Schedule::new(rule, Vec::new(alloc));
+//! let mut run = Run::new(alloc, Key([0; 32]), 0, 0, road, schedule);
+//! run.advance(&Caller, alloc).ok()?;
+//! let picture = run.road().picture(alloc, 0).ok()?; // ".1.1......"
+//! ```
 #![tactic(auto)]
 
-mod asker;
 mod block;
-mod crossings;
-mod fault;
+mod executor;
+mod lane_change;
 pub mod laws;
-mod line;
-mod onlooker;
-mod phases;
-mod room;
+mod motion;
 mod run;
-mod sheet;
-mod speeds;
+mod schedule;
 mod step;
 mod tally;
-mod totals;
 
-pub use asker::{Asker, Caller};
-pub use crossings::{ask_crossings, choose_part};
-pub use fault::StepFault;
-pub use onlooker::{Nobody, Onlooker};
-pub use phases::{commit_change, commit_motion};
-pub use room::StepRoom;
+pub use executor::{Caller, Executor, NoObserver, StepObserver};
+pub use lane_change::{choose_part, commit_change, compute_crossings};
+pub use motion::{commit_motion, compute_speeds, move_part};
 pub use run::Run;
-pub use sheet::Sheet;
-pub use speeds::{ask_speeds, move_part};
-pub use step::{Asking, step_road, step_road_by, take_step};
-pub use tally::StepTally;
-pub use totals::{no_tally, tally_sum};
+pub use schedule::Schedule;
+pub use step::{Asking, StepFault, StepRoom, step_road, step_road_by, take_step};
+pub use tally::{StepTally, no_tally, tally_sum};

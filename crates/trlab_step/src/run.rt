@@ -1,13 +1,13 @@
-//! Runs: a road goes from step to step under the rules of a sheet, and its tallies are summed.
+//! Runs: a road advances step by step under a schedule of rules, and the tallies of its steps are added up.
 
 ghost use Rattle.std.specs.Prelude.{◌≡◌, ◌+◌, ◌<◌, ◌^◌, OnOk, OnErr, length};
 ghost use Rattle.trlab_step.specs.Laws.{IsSheetFor};
 ghost use Rattle.trlab_step.specs.Run.{IsRoadAt, IsTallyAt};
 ghost use Rattle.trlab_step.specs.Progress.{IsUnderway, IsOneStepOn, at_start};
 
-use crate::sheet::Sheet;
-use crate::totals::{no_tally, tally_sum};
-use crate::{Asker, Asking, Nobody, Onlooker, StepRoom, StepTally, take_step};
+use crate::schedule::Schedule;
+use crate::tally::{no_tally, tally_sum};
+use crate::{Asking, Executor, NoObserver, StepObserver, StepRoom, StepTally, take_step};
 use std::alloc::{AllocError, Global};
 use std::marker::Model;
 use std::snapshot::Snapshot;
@@ -15,19 +15,19 @@ use trlab_machine::Dice;
 use trlab_road::Road;
 use trlab_words::Key;
 
-/// A run of a road under a sheet of rules: the step to which it has come, the road at this step,
-/// and the sum of the tallies so far.
+/// A run of a road under a schedule of rules: the current step, the road at this step, and the sum of the tallies
+/// so far.
 #[derive(Drop)]
 pub struct Run {
     start: Snapshot<Road>,
     key: Key,
     number: u32,
     warm: u32,
-    sheet: Sheet,
+    sheet: Schedule,
     step: u32,
     road: Road,
     sum: StepTally,
-    /// The memory of the steps.
+    /// Memory that each step uses again.
     room: StepRoom,
 }
 
@@ -54,9 +54,9 @@ impl Model for Run {
 }
 
 impl Run {
-    /// The run of a road from step 0 on: its words go by the key and the number of the road, and the
-    /// tallies of steps before `warm` are not counted.
-    pub fn new(alloc: Global, key: Key, number: u32, warm: u32, road: Road, sheet: Sheet) -> Run
+    /// A run of a road from step 0 on. The key and the number of the road determine its random words. The tallies of
+    /// steps before `warm` are not counted.
+    pub fn new(alloc: Global, key: Key, number: u32, warm: u32, road: Road, sheet: Schedule) -> Run
         requires suits { IsSheetFor (length road.lanes) sheet }
         ensures { result ≡ at_start (record { road = road; key = key.0; number = number; warm = warm }) sheet }
     {
@@ -73,7 +73,7 @@ impl Run {
         }
     }
 
-    /// The step to which the run has come, from 0 on.
+    /// The current step, counted from 0.
     pub fn step(&self) -> u32
         ensures value { result ≡ self.now.step }
         ensures underway { IsUnderway self.now }
@@ -81,7 +81,7 @@ impl Run {
         self.step
     }
 
-    /// The road at this step.
+    /// The road at the current step.
     pub fn road(&self) -> &Road
         ensures value { result.now ≡ self.now.road }
         ensures run { IsRoadAt self.now.seed self.now.sheet self.now.step result.now }
@@ -89,7 +89,7 @@ impl Run {
         &self.road
     }
 
-    /// The sum of the tallies of the steps so far, without those before `warm`.
+    /// The sum of the tallies of the steps taken so far, except those before `warm`.
     pub fn tally(&self) -> StepTally
         ensures value { result ≡ self.now.sum }
         ensures run { IsTallyAt self.now.seed self.now.sheet self.now.step result }
@@ -97,46 +97,46 @@ impl Run {
         self.sum
     }
 
-    /// Takes one step, in which the asker asks the cars.
+    /// Takes one step; the executor computes the answers of the cars.
     ///
     /// # Errors
     ///
-    /// Where an allocation was refused; then nothing changes.
-    pub fn advance<A: Asker>(&mut self, asker: &A, alloc: Global) -> Result<(), AllocError>
-        requires ready { A.is_ready asker.now }
+    /// If an allocation fails; then nothing changes.
+    pub fn advance<A: Executor>(&mut self, executor: &A, alloc: Global) -> Result<(), AllocError>
+        requires ready { A.is_ready executor.now }
         requires steps { self.old.step + 1 < 2 ^ 32 }
         ensures on { OnOk result (IsOneStepOn self.old self.new) }
         ensures same { OnErr result (self.new ≡ self.old) }
     {
-        self.advance_showing(asker, alloc, &mut Nobody)
+        self.advance_showing(executor, alloc, &mut NoObserver)
     }
 
-    /// Takes one step, and shows an onlooker the road of the run before it, while the cars are asked.
+    /// Takes one step, and shows an observer the road before it, while the answers of the cars are computed.
     ///
     /// # Errors
     ///
-    /// Where an allocation was refused; then nothing changes, and the onlooker has seen the road.
-    pub fn advance_showing<A: Asker, O: Onlooker>(
+    /// If an allocation fails; then nothing changes, and the observer has seen the road.
+    pub fn advance_showing<A: Executor, O: StepObserver>(
         &mut self,
-        asker: &A,
+        executor: &A,
         alloc: Global,
-        onlooker: &mut O,
+        observer: &mut O,
     ) -> Result<(), AllocError>
-        requires ready { A.is_ready asker.now }
+        requires ready { A.is_ready executor.now }
         requires steps { self.old.step + 1 < 2 ^ 32 }
         ensures on { OnOk result (IsOneStepOn self.old self.new) }
-        ensures seen { O.sees onlooker.old self.old.road onlooker.new }
+        ensures seen { O.observes observer.old self.old.road observer.new }
         ensures run { IsRoadAt self.old.seed self.old.sheet self.old.step self.old.road }
         ensures same { OnErr result (self.new ≡ self.old) }
     {
         let dice = Dice::new(&self.key, self.number, self.step);
         let asking = Asking {
-            asker,
+            executor,
             alloc,
             dice: &dice,
         };
         let rule = self.sheet.in_force(self.step);
-        let tally = take_step(&asking, &mut self.road, &mut self.room, rule, onlooker)?;
+        let tally = take_step(&asking, &mut self.road, &mut self.room, rule, observer)?;
         self.sum = if self.warm <= self.step {
             tally_sum(self.sum, tally)
         } else {

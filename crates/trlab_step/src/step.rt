@@ -1,33 +1,73 @@
-//! One step of a road under a rule: the lane change, where the rule has one, and then the motion.
+//! One step of a road under a rule: the lane change, if the rule has one, and then the motion.
 
 ghost use Rattle.std.specs.Prelude.{◌≡◌, ◌↔◌, Some, IfOk, OnOk, OnErr, IsSome, IsTrue, length};
 ghost use Rattle.trlab_road.specs.LaneChange.{CleanLaneChange};
 ghost use Rattle.trlab_road.specs.Legal.{IsLegal};
 ghost use Rattle.trlab_step.specs.Answers.{dice_of};
 ghost use Rattle.trlab_step.specs.Next.{IsCleanNext, IsCountedMotion, IsLaneChangePhase, IsNext, TellsNext};
+ghost use Rattle.trlab_step.specs.declared.step.StepFault.TheVariants.{Memory};
 
-use crate::asker::{Asker, Caller};
-use crate::fault::StepFault;
-use crate::onlooker::{Nobody, Onlooker};
-use crate::room::StepRoom;
+use crate::executor::{Caller, Executor, NoObserver, StepObserver};
 use crate::tally::{StepTally, count_crossing, tally_of};
 use std::alloc::{AllocError, Global};
 use std::mem;
+use thiserror::Error;
 use trlab_machine::Dice;
-use trlab_road::Road;
+use trlab_road::{Road, Room};
 use trlab_rules::Rule;
 use trlab_verify::{Change, Motion};
 use trlab_words::Key;
 
-/// How the cars of a step are asked: by whom, and with which dice.
+/// Why a step was not taken.
+#[derive(Clone, Copy, Debug, PartialEq, Eq, Error)]
+pub enum StepFault {
+    /// The rule has a change program, but the road has one lane.
+    #[error("a change program needs two lanes")]
+    LanesMismatch,
+    /// An allocation failed.
+    #[error("memory ran out")]
+    Memory,
+}
+
+impl From<AllocError> for StepFault {
+    ghost from_gives = { λ _ fault. fault ≡ Memory };
+
+    fn from(_: AllocError) -> StepFault {
+        StepFault::Memory
+    }
+}
+
+/// Memory that is kept from step to step, so that most steps of one thread allocate nothing. No result depends on its
+/// contents.
+#[derive(Drop)]
+pub struct StepRoom {
+    /// For the lanes.
+    pub(crate) lanes: Room,
+    /// For the answers of the cars.
+    pub(crate) speeds: Vec<u8>,
+    pub(crate) crosses: Vec<bool>,
+}
+
+impl StepRoom {
+    /// A room that has allocated nothing yet.
+    pub fn new(alloc: Global) -> StepRoom {
+        StepRoom {
+            lanes: Room::new(alloc),
+            speeds: Vec::new(alloc),
+            crosses: Vec::new(alloc),
+        }
+    }
+}
+
+/// How the answers of the cars of a step are computed: by which executor, and with which dice.
 #[derive(Drop)]
 pub struct Asking<'a, A> {
-    pub asker: &'a A,
+    pub executor: &'a A,
     pub alloc: Global,
     pub dice: &'a Dice,
 }
 
-/// Whether a road has one lane, and the rule a change program.
+/// Does the rule have a change program, although the road has one lane?
 fn lanes_mismatch(road: &Road, rule: &Rule) -> bool
     ensures value { IsTrue result ↔ (IsSome rule.now.change × (length road.now.lanes ≡ 1)) }
     ensures legal { IsLegal road.now }
@@ -35,24 +75,23 @@ fn lanes_mismatch(road: &Road, rule: &Rule) -> bool
     road.lanes() == 1 && rule.change().is_some()
 }
 
-/// The next road under a rule, and what was counted in the step.
+/// The next road under a rule, and the tally of the step; the executor computes the answers of the cars.
 ///
-/// With a change program all cars are asked whether they cross, and cross at once. Then all cars
-/// are asked for their speeds, on the road after that, and go ahead at once. The random words of the
-/// step go by the key, the number of the road and that of the step, and are the same in both phases.
+/// If the rule has a change program, it decides on this road which cars cross, and they do so at once. On the road
+/// after that the motion program decides the new speeds, and all cars move at once. A car has the same random words
+/// in both phases.
 ///
 /// # Errors
 ///
-/// `LanesMismatch` where the rule has a change program and the road has one lane, and `Memory` where an
-/// allocation was refused.
-pub fn step_road_by<A: Asker>(
-    asker: &A,
+/// `LanesMismatch` if the rule has a change program and the road one lane, and `Memory` if an allocation fails.
+pub fn step_road_by<A: Executor>(
+    executor: &A,
     alloc: Global,
     road: &Road,
     rule: &Rule,
     dice: &Dice,
 ) -> Result<(Road, StepTally), StepFault>
-    requires { A.is_ready asker.now }
+    requires { A.is_ready executor.now }
     ensures { TellsNext rule.now dice.now road.now result }
 {
     if lanes_mismatch(road, rule) {
@@ -60,16 +99,22 @@ pub fn step_road_by<A: Asker>(
     }
     let mut next = road.copy(alloc)?;
     let mut room = StepRoom::new(alloc);
-    let asking = Asking { asker, alloc, dice };
-    let tally = take_step(&asking, &mut next, &mut room, rule, &mut Nobody)?;
+    let asking = Asking {
+        executor,
+        alloc,
+        dice,
+    };
+    let tally = take_step(&asking, &mut next, &mut room, rule, &mut NoObserver)?;
     Ok((next, tally))
 }
 
-/// The next road as `step_road_by` tells it, where the calling thread asks the cars.
+/// The next road under a rule, and the tally of the step, computed on the calling thread.
+///
+/// The key, the number of the road and the number of the step determine the random words.
 ///
 /// # Errors
 ///
-/// Those of `step_road_by`.
+/// `LanesMismatch` if the rule has a change program and the road one lane, and `Memory` if an allocation fails.
 pub fn step_road(
     alloc: Global,
     road: &Road,
@@ -83,113 +128,110 @@ pub fn step_road(
     step_road_by(&Caller, alloc, road, rule, &Dice::new(key, number, step))
 }
 
-/// Takes the step that `step_road_by` tells: the road becomes the next road, and the memory of the step
-/// is that of the room. An onlooker is shown the road as it was, whether or not the step is taken.
-///
-/// The caller sees to it that the rule is one for the lanes of the road.
+/// Takes a step: the road becomes the next road under the rule. The step uses the memory of the room. An observer sees
+/// the road before the step, even if an allocation fails.
 ///
 /// # Errors
 ///
-/// Where an allocation was refused; then the road stays as it was. The room may have lost lists, and serves for
-/// any step.
-pub fn take_step<A: Asker, O: Onlooker>(
+/// If an allocation fails; then the road is unchanged. The room may have lost its lists, but can be used again.
+pub fn take_step<A: Executor, O: StepObserver>(
     asking: &Asking<A>,
     road: &mut Road,
     room: &mut StepRoom,
     rule: &Rule,
-    onlooker: &mut O,
+    observer: &mut O,
 ) -> Result<StepTally, AllocError>
-    requires ready { A.is_ready asking.now.asker.now }
+    requires ready { A.is_ready asking.now.executor.now }
     requires lanes { IsSome rule.now.change → length road.old.lanes ≡ 2 }
     ensures next { IfOk result (λ tally. IsNext rule.now asking.now.dice.now road.old road.new tally) }
     ensures clean { IfOk result (λ tally. IsCleanNext rule.now asking.now.dice.now road.old road.new tally) }
     ensures legal { OnOk result (IsLegal road.new) }
-    ensures seen { O.sees onlooker.old road.old onlooker.new }
+    ensures seen { O.observes observer.old road.old observer.new }
     ensures same { OnErr result (road.new ≡ road.old) }
 {
     // only the proof reads it: the road is legal, so each call of a program is safe
     let _start = road.snapshot();
     let motion = rule.motion();
     match rule.change() {
-        None => move_cars(asking, road, &mut room.speeds, motion, onlooker),
+        None => move_cars(asking, road, &mut room.speeds, motion, observer),
         Some(change) => {
-            let (middle, changes) = change_lanes(asking, road, room, change, onlooker)?;
+            let (middle, changes) = change_lanes(asking, road, room, change, observer)?;
             let tally = move_on(asking, road, middle, room, motion)?;
             Ok(StepTally { changes, ..tally })
         }
     }
 }
 
-/// Takes the motion on the road after the lane change, which becomes the road, and tells the tally of a step
-/// in which no car crossed before.
-fn move_on<A: Asker>(
+/// Takes the motion on `middle`, the road after the lane change, and puts the result in the place of the road. Returns
+/// the tally of the motion.
+fn move_on<A: Executor>(
     asking: &Asking<A>,
     road: &mut Road,
     middle: Road,
     room: &mut StepRoom,
     motion: &Motion,
 ) -> Result<StepTally, AllocError>
-    requires { A.is_ready asking.now.asker.now }
+    requires { A.is_ready asking.now.executor.now }
     ensures moved { IfOk result (λ tally.
         IsCountedMotion motion.now asking.now.dice.now middle road.new tally) }
     ensures same { OnErr result (road.new ≡ road.old) }
 {
     let mut middle = middle;
     let speeds = &mut room.speeds;
-    let tally = move_cars(asking, &mut middle, speeds, motion, &mut Nobody)?;
+    let tally = move_cars(asking, &mut middle, speeds, motion, &mut NoObserver)?;
     mem::replace(road, middle).leave_to(&mut room.lanes);
     Ok(tally)
 }
 
-/// The road after the lane change under a change program, and how many cars crossed.
-fn change_lanes<A: Asker, O: Onlooker>(
+/// The road after the lane change under a change program, and the number of cars that crossed.
+fn change_lanes<A: Executor, O: StepObserver>(
     asking: &Asking<A>,
     road: &mut Road,
     room: &mut StepRoom,
     change: &Change,
-    onlooker: &mut O,
+    observer: &mut O,
 ) -> Result<(Road, u64), AllocError>
-    requires ready { A.is_ready asking.now.asker.now }
+    requires ready { A.is_ready asking.now.executor.now }
     requires two_lanes { length road.old.lanes ≡ 2 }
     ensures phase { IfOk result (λ after.
         IsLaneChangePhase (Some change.now) asking.now.dice.now road.old after.0 after.1) }
     ensures clean { IfOk result (λ after. CleanLaneChange road.old after.0) }
     ensures legal { IfOk result (λ after. IsLegal after.0) }
-    ensures seen { O.sees onlooker.old road.old onlooker.new }
+    ensures seen { O.observes observer.old road.old observer.new }
     ensures same { road.new ≡ road.old }
 {
     let alloc = asking.alloc;
-    asking.asker.crossings(
+    asking.executor.crossings(
         alloc,
         &mut room.crosses,
         road,
         change,
         asking.dice,
-        onlooker,
+        observer,
     )?;
-    let middle = road.after_lane_change_in(alloc, &mut room.lanes, &room.crosses)?;
+    let middle = road.after_lane_change(alloc, &mut room.lanes, &room.crosses)?;
     Ok((middle, count_crossing(&room.crosses)))
 }
 
-/// Takes the motion, and tells the tally of a step in which no car crossed before.
-fn move_cars<A: Asker, O: Onlooker>(
+/// Moves all cars of the road, and returns the tally of the motion.
+fn move_cars<A: Executor, O: StepObserver>(
     asking: &Asking<A>,
     road: &mut Road,
     speeds: &mut Vec<u8>,
     motion: &Motion,
-    onlooker: &mut O,
+    observer: &mut O,
 ) -> Result<StepTally, AllocError>
-    requires { A.is_ready asking.now.asker.now }
+    requires { A.is_ready asking.now.executor.now }
     ensures moved { IfOk result (λ tally.
         IsCountedMotion motion.now asking.now.dice.now road.old road.new tally) }
-    ensures seen { O.sees onlooker.old road.old onlooker.new }
+    ensures seen { O.observes observer.old road.old observer.new }
     ensures same { OnErr result (road.new ≡ road.old) }
 {
     // only the proof reads it: the road is legal, so its cars are few enough to be counted
     let _start = road.snapshot();
     asking
-        .asker
-        .speeds(asking.alloc, speeds, road, motion, asking.dice, onlooker)?;
+        .executor
+        .speeds(asking.alloc, speeds, road, motion, asking.dice, observer)?;
     road.move_cars(speeds);
     Ok(tally_of(speeds))
 }

@@ -1,24 +1,26 @@
-//! Tallies: the distance, the stopped cars and the lane changes of a step, counted over the answers of the
-//! cars. A road has so few cars that the sums of a step fit in 32 bits, which is faster.
+//! Tallies: the distance, the stopped cars and the lane changes of a step, or their sums over several steps.
+//!
+//! The sums of one step fit into 32 bits, and adding these is faster; the sums over all steps of a run fit into 64.
 
-ghost use Rattle.std.specs.Prelude.{◌≡◌, ◌*◌, ◌≤◌, count_by, length, nat_eq, sum};
-ghost use Rattle.trlab_bounds.specs.declared.roads.TheConstants.{GREATEST_LENGTH, MOST_LANES};
+ghost use Rattle.std.specs.Prelude.{◌≡◌, ◌*◌, ◌≤◌, count_by, length, nat_eq, sum, ◌+◌, ◌<◌, ◌^◌};
+ghost use Rattle.trlab_bounds.specs.declared.roads.TheConstants.{MAX_LENGTH, MAX_LANES};
+ghost use Rattle.trlab_step.specs.Run.{no_tally, tally_sum};
 
-/// What is counted in a step, or summed over several: the distance makes the flow (Nagel and Schreckenberg
+/// The counts of a step, or their sums over several steps. The distance determines the flow (Nagel and Schreckenberg
 /// 1992).
 #[derive(Clone, Copy, Debug, PartialEq, Eq)]
 pub struct StepTally {
-    /// The cells that all cars went: the sum of their new speeds.
+    /// The sum of the new speeds of all cars, in cells.
     pub distance: u64,
-    /// The cars whose new speed is 0.
+    /// The number of cars whose new speed is 0.
     pub stopped: u64,
-    /// The cars that crossed to the other lane.
+    /// The number of cars that crossed to the other lane.
     pub changes: u64,
 }
 
-/// How many cars cross by their answers.
+/// The number of cars that cross.
 pub fn count_crossing(crosses: &[bool]) -> u64
-    requires few { length crosses.now ≤ MOST_LANES * GREATEST_LENGTH }
+    requires few { length crosses.now ≤ MAX_LANES * MAX_LENGTH }
     ensures { result ≡ count_by (λ crosses. crosses) crosses.now }
 {
     let mut count = 0u32;
@@ -28,9 +30,9 @@ pub fn count_crossing(crosses: &[bool]) -> u64
     u64::from(count)
 }
 
-/// The tally of the cars' new speeds, where no car crossed.
+/// The tally of new speeds, without lane changes.
 pub fn tally_of(speeds: &[u8]) -> StepTally
-    requires few { length speeds.now ≤ MOST_LANES * GREATEST_LENGTH }
+    requires few { length speeds.now ≤ MAX_LANES * MAX_LENGTH }
     ensures distance { result.distance ≡ sum speeds.now }
     ensures stopped { result.stopped ≡ count_by (λ speed. nat_eq speed 0) speeds.now }
     ensures changes { result.changes ≡ 0 }
@@ -45,5 +47,30 @@ pub fn tally_of(speeds: &[u8]) -> StepTally
         distance: u64::from(distance),
         stopped: u64::from(stopped),
         changes: 0,
+    }
+}
+
+/// The tally of no step.
+pub fn no_tally() -> StepTally
+    ensures { result ≡ no_tally }
+{
+    StepTally {
+        distance: 0,
+        stopped: 0,
+        changes: 0,
+    }
+}
+
+/// The sum of two tallies.
+pub fn tally_sum(a: StepTally, b: StepTally) -> StepTally
+    requires distance { a.distance + b.distance < 2 ^ 64 }
+    requires stopped { a.stopped + b.stopped < 2 ^ 64 }
+    requires changes { a.changes + b.changes < 2 ^ 64 }
+    ensures { result ≡ tally_sum a b }
+{
+    StepTally {
+        distance: a.distance + b.distance,
+        stopped: a.stopped + b.stopped,
+        changes: a.changes + b.changes,
     }
 }

@@ -1,29 +1,25 @@
 -- Each step keeps the rule of the strands.
-use Rattle.std.proofs.Common.{◌≡◌, ℕ, zero, suc, ◌+◌, ◌<◌, ◌≤◌, ◌≢◌, max, eqb, Bool, true, false, cond, List, [], ◌∷◌, ◌++◌, length, get_or, set, slice_index, refl, sym, ap, ◌∙◌, subst, ⊎_elim, zero-le, true≢false, arith, length-append, append_assoc}
+use Rattle.std.proofs.Common.{◌≡◌, ℕ, ◌+◌, ◌<◌, ◌≤◌, ◌≢◌, max, eqb, Bool, true, false, cond, List, [], ◌∷◌, ◌++◌, length, set, slice_index, refl, sym, ap, ◌∙◌, subst, ⊎_elim, zero-le, true≢false, arith, length-append, append_assoc}
 use Rattle.std.specs.Prelude.{sum_by}
 use Rattle.std.proofs.lemmas.List.{append-nil}
-use Rattle.std.proofs.lemmas.List.Sums.{sum_by-set, sum_by-cons, sum_by_push, sum_by-append}
+use Rattle.std.proofs.lemmas.List.Sums.{sum_by_push}
 use Rattle.std.proofs.lemmas.List.Elements.{All-nil, All-push, All-append, All-weaker}
 use Rattle.std.proofs.lemmas.Bool.Decides.{nat_tests}
-use mathlib.Core.Option.{some, none, some-injective, some-ne-none}
+use mathlib.Core.Option.{some, none, some-injective}
 use lib.ListN.{get_elem?}
 use prog.Atomic.{either}
 use Rattle.atomic_table.specs.Table.{State, Me, step, keeps, Allows, Splits, Joins}
-use Rattle.atomic_table.proofs.Lists.{at_set, at_snoc, set_again, set_else}
+use Rattle.atomic_table.proofs.Lists.{at_set, set_again, set_else}
+use Rattle.trlab_strands.proofs.Seats.{total_set, each_set, each_snoc, alone, times_push, times_append}
 use Rattle.trlab_strands.specs.declared.knowledge.Noted.{Noted}
-use Rattle.trlab_strands.specs.declared.knowledge.Knowledge.{Knowledge}
-use Rattle.trlab_strands.specs.Knowledge.{noted, number_of, times, once_below, StandsIn, StandIn, knowledge, nothing, without_list, list_alone, less_a_part, one_part, union, up_to_date, with_event}
-use Rattle.trlab_strands.specs.Rule.{IsSound, AreSound, KeepsStrands, NotesEvent, Learns, Looks, Sees}
+use Rattle.trlab_strands.specs.declared.knowledge.StrandKnowledge.{StrandKnowledge}
+use Rattle.trlab_strands.specs.Knowledge.{noted, number_of, times, once_below, StandsIn, StandIn, strand_knowledge, nothing, without_list, list_alone, less_a_part, one_part, both_seats, up_to_date, with_event}
+use Rattle.trlab_strands.specs.Rule.{IsSoundStrand, AreSoundStrands, KeepsStrands, NotesEvent, LearnsList, Looks, Sees}
 
 off : false ≡ true → ⊥
 off e = true≢false (sym e)
 
-at_get : {A : Type 0} (l : List A) (i : ℕ) (a d : A) → get_elem? l i ≡ some a → (i < length l) × (get_or l i d ≡ a)
-at_get [] i a d e = absurd (some-ne-none a (sym e))
-at_get (x ∷ xs) zero a d e = (omega arith, some-injective x a e)
-at_get (x ∷ xs) (suc i) a d e = let r = at_get xs i a d e in let p = r.0 in (omega arith, r.1)
-
--- what stands in a list stands in it where it is longer
+-- an event that is in a list is in the longer list too
 stands_on : {E : Type 0} (events more : List E) (n : Noted E) → StandsIn events n → StandsIn (events ++ more) n
 stands_on events more n stands = (stands.0 ++ more, ap (λ l. l ++ more) stands.1 ∙ append_assoc n.before (n.event ∷ stands.0) more)
 
@@ -38,24 +34,15 @@ kept : (b : Bool) → b ≡ true → ◌≡◌ {A = ℕ} (cond b 1 0) 1
 kept b e = ap (λ (x : Bool). cond {A = ℕ} x 1 0) e
 
 module _ {E : Type 0} where
-  times_push : (k : ℕ) (xs : List (Noted E)) (x : Noted E) → times k (xs ++ x ∷ []) ≡ times k xs + cond (eqb (number_of x) k) 1 0
-  times_push k xs x = sum_by_push (λ (y : Noted E). cond (eqb (number_of y) k) 1 0) xs x
-
-  times_append : (k : ℕ) (xs ys : List (Noted E)) → times k (xs ++ ys) ≡ times k xs + times k ys
-  times_append k xs ys = sum_by-append (λ (y : Noted E). cond (eqb (number_of y) k) 1 0) xs ys
-
-  total_set : (f : Knowledge E → ℕ) (views : List (Knowledge E)) (i : ℕ) (v w : Knowledge E) → get_elem? views i ≡ some v → sum_by f (set views i w) + f v ≡ sum_by f views + f w
-  total_set f views i v w at = let g = at_get views i v v at in subst (λ (u : Knowledge E). sum_by f (set views i w) + f u ≡ sum_by f views + f w) g.1 (sum_by-set f views i w v g.0)
-
-  -- two seats have no more than all
-  two_le : (f : Knowledge E → ℕ) → f nothing ≡ 0 → (views : List (Knowledge E)) (i j : ℕ) (v u : Knowledge E) → j ≢ i → get_elem? views i ≡ some v → get_elem? views j ≡ some u → f v + f u ≤ sum_by f views
+  -- two seats have at most the whole sum
+  two_le : (f : StrandKnowledge E → ℕ) → f nothing ≡ 0 → (views : List (StrandKnowledge E)) (i j : ℕ) (v u : StrandKnowledge E) → j ≢ i → get_elem? views i ≡ some v → get_elem? views j ≡ some u → f v + f u ≤ sum_by f views
   two_le f none_left views i j v u apart at there =
       let a = total_set f views i v nothing at in
       let b = total_set f (set views i nothing) j u nothing (set_else views i j nothing apart ∙ there) in
       omega arith
 
   -- of two seats at most one keeps the list
-  one_keeper : (events : List E) (views : List (Knowledge E)) (i j : ℕ) (v u : Knowledge E) → AreSound events views → j ≢ i → get_elem? views i ≡ some v → get_elem? views j ≡ some u → v.keeps ≡ true → u.keeps ≡ true → ⊥
+  one_keeper : (events : List E) (views : List (StrandKnowledge E)) (i j : ℕ) (v u : StrandKnowledge E) → AreSoundStrands events views → j ≢ i → get_elem? views i ≡ some v → get_elem? views j ≡ some u → v.keeps ≡ true → u.keeps ≡ true → ⊥
   one_keeper events views i j v u r apart at there first second =
       let both = two_le (λ s. cond s.keeps 1 0) refl views i j v u apart at there in
       let total = r.keepers in
@@ -64,7 +51,7 @@ module _ {E : Type 0} where
       omega arith
 
   -- the list is longer, and another keeps it
-  later : (events : List E) (e : E) (u : Knowledge E) → (u.keeps ≡ true → ⊥) → IsSound events u → IsSound (events ++ e ∷ []) u
+  later : (events : List E) (e : E) (u : StrandKnowledge E) → (u.keeps ≡ true → ⊥) → IsSoundStrand events u → IsSoundStrand (events ++ e ∷ []) u
   later events e u another r = record {
     idle = r.idle;
     rises = let l = length-append events (e ∷ []) in let p = r.rises in omega arith;
@@ -72,24 +59,9 @@ module _ {E : Type 0} where
     list = λ has. absurd (another has);
   }
 
-  each_set : (events : List E) (views : List (Knowledge E)) (id : ℕ) (w : Knowledge E) → IsSound events w
-      → ((j : ℕ) (u : Knowledge E) → j ≢ id → get_elem? views j ≡ some u → IsSound events u) → (j : ℕ) (u : Knowledge E) → get_elem? (set views id w) j ≡ some u → IsSound events u
-  each_set events views id w mine others j u e = ⊎_elim
-      (λ (t : (j ≡ id) × (w ≡ u)). subst (IsSound events) t.1 mine)
-      (λ (t : (j ≢ id) × (get_elem? views j ≡ some u)). others j u t.0 t.1)
-      (at_set views id j w u e)
-
-  -- a new seat
-  each_snoc : (events : List E) (views : List (Knowledge E)) (w : Knowledge E) → IsSound events w
-      → ((j : ℕ) (u : Knowledge E) → get_elem? views j ≡ some u → IsSound events u) → (j : ℕ) (u : Knowledge E) → get_elem? (views ++ w ∷ []) j ≡ some u → IsSound events u
-  each_snoc events views w mine others j u e = ⊎_elim
-      (λ was. others j u was)
-      (λ (same : w ≡ u). subst (IsSound events) same mine)
-      (at_snoc views w u j e)
-
   -- the event after the list is of the strand that keeps it
-  notes : (events : List E) (views : List (Knowledge E)) (id : ℕ) (v : Knowledge E) (e : E) → get_elem? views id ≡ some v → v.keeps ≡ true → 0 < v.parts
-      → AreSound events views → AreSound (events ++ e ∷ []) (set views id (with_event v e))
+  notes : (events : List E) (views : List (StrandKnowledge E)) (id : ℕ) (v : StrandKnowledge E) (e : E) → get_elem? views id ≡ some v → v.keeps ≡ true → 0 < v.parts
+      → AreSoundStrands events views → AreSoundStrands (events ++ e ∷ []) (set views id (with_event v e))
   notes events views id v e at keeping some_part r =
       let w = with_event v e in
       let mine = r.each id v at in
@@ -103,11 +75,11 @@ module _ {E : Type 0} where
         once = λ k.
             let t = total_set (λ u. times k u.own) views id v w at in
             let p = r.once k in
-            let q = times_push k v.own (noted v.all e) in
+            let q = times_push number_of k v.own (noted v.all e) in
             let n : once_below k (length (events ++ e ∷ [])) ≡ once_below k (length v.all) + cond (eqb (length v.all) k) 1 0 = ap (once_below k) (longer ∙ ap (λ (x : ℕ). x + 1) (sym long)) ∙ once_next k (length v.all) in
             let m : once_below k (length v.all) ≡ once_below k (length events) = ap (once_below k) long in
             omega arith;
-        each = each_set (events ++ e ∷ []) views id w
+        each = each_set (IsSoundStrand (events ++ e ∷ [])) views id w
             (record {
               idle = λ z. absurd (omega arith);
               rises = omega arith;
@@ -120,8 +92,8 @@ module _ {E : Type 0} where
       }
 
   -- a strand that keeps the list sees all of it
-  sees_all : (events : List E) (views : List (Knowledge E)) (id : ℕ) (v : Knowledge E) → get_elem? views id ≡ some v → v.keeps ≡ true
-      → AreSound events views → AreSound events (set views id (up_to_date v))
+  sees_all : (events : List E) (views : List (StrandKnowledge E)) (id : ℕ) (v : StrandKnowledge E) → get_elem? views id ≡ some v → v.keeps ≡ true
+      → AreSoundStrands events views → AreSoundStrands events (set views id (up_to_date v))
   sees_all events views id v at keeping r =
       let w = up_to_date v in
       let mine = r.each id v at in
@@ -131,11 +103,11 @@ module _ {E : Type 0} where
         keepers = let t = total_set (λ u. cond u.keeps 1 0) views id v w at in let p = r.keepers in omega arith;
         count = let t = total_set (λ u. length u.own) views id v w at in let p = r.count in omega arith;
         once = λ k. let t = total_set (λ u. times k u.own) views id v w at in let p = r.once k in omega arith;
-        each = each_set events views id w (record { idle = mine.idle; rises = omega arith; stand = mine.stand; list = mine.list }) (λ j u _ there. r.each j u there);
+        each = each_set (IsSoundStrand events) views id w (record { idle = mine.idle; rises = omega arith; stand = mine.stand; list = mine.list }) (λ j u _ there. r.each j u there);
       }
 
   -- the list leaves a strand
-  pub apart : (id : ℕ) (v : Knowledge E) → Splits KeepsStrands id v (without_list v) (list_alone v)
+  pub apart : (id : ℕ) (v : StrandKnowledge E) → Splits KeepsStrands id v (without_list v) (list_alone v)
   apart id v s r at =
       let l = without_list v in
       let o = list_alone v in
@@ -145,18 +117,18 @@ module _ {E : Type 0} where
       let views = set s.views id l in (
         events,
         record {
-          parts = let t = total_set (λ u. u.parts) s.views id v l at in let n = sum_by_push (λ (u : Knowledge E). u.parts) views o in let p = k.parts in omega arith;
-          keepers = let t = total_set (λ u. cond u.keeps 1 0) s.views id v l at in let n = sum_by_push (λ (u : Knowledge E). cond u.keeps 1 0) views o in let p = k.keepers in omega arith;
-          count = let t = total_set (λ u. length u.own) s.views id v l at in let n = sum_by_push (λ (u : Knowledge E). length u.own) views o in let p = k.count in omega arith;
-          once = λ x. let t = total_set (λ u. times x u.own) s.views id v l at in let n = sum_by_push (λ (u : Knowledge E). times x u.own) views o in let p = k.once x in omega arith;
-          each = each_snoc events views o
+          parts = let t = total_set (λ u. u.parts) s.views id v l at in let n = sum_by_push (λ (u : StrandKnowledge E). u.parts) views o in let p = k.parts in omega arith;
+          keepers = let t = total_set (λ u. cond u.keeps 1 0) s.views id v l at in let n = sum_by_push (λ (u : StrandKnowledge E). cond u.keeps 1 0) views o in let p = k.keepers in omega arith;
+          count = let t = total_set (λ u. length u.own) s.views id v l at in let n = sum_by_push (λ (u : StrandKnowledge E). length u.own) views o in let p = k.count in omega arith;
+          once = λ x. let t = total_set (λ u. times x u.own) s.views id v l at in let n = sum_by_push (λ (u : StrandKnowledge E). times x u.own) views o in let p = k.once x in omega arith;
+          each = each_snoc (IsSoundStrand events) views o
               (record { idle = λ _. refl; rises = zero-le; stand = All-nil _; list = mine.list })
-              (each_set events s.views id l (record { idle = mine.idle; rises = mine.rises; stand = mine.stand; list = λ e. absurd (off e) }) (λ j u _ there. k.each j u there));
+              (each_set (IsSoundStrand events) s.views id l (record { idle = mine.idle; rises = mine.rises; stand = mine.stand; list = λ e. absurd (off e) }) (λ j u _ there. k.each j u there));
         },
       )
 
   -- one part goes to a new strand
-  pub splits : (id : ℕ) (v : Knowledge E) → 1 < v.parts → Splits KeepsStrands id v (less_a_part v) (one_part v)
+  pub splits : (id : ℕ) (v : StrandKnowledge E) → 1 < v.parts → Splits KeepsStrands id v (less_a_part v) (one_part v)
   splits id v two s r at =
       let l = less_a_part v in
       let o = one_part v in
@@ -166,25 +138,25 @@ module _ {E : Type 0} where
       let views = set s.views id l in (
         events,
         record {
-          parts = let t = total_set (λ u. u.parts) s.views id v l at in let n = sum_by_push (λ (u : Knowledge E). u.parts) views o in let p = k.parts in omega arith;
-          keepers = let t = total_set (λ u. cond u.keeps 1 0) s.views id v l at in let n = sum_by_push (λ (u : Knowledge E). cond u.keeps 1 0) views o in let p = k.keepers in omega arith;
-          count = let t = total_set (λ u. length u.own) s.views id v l at in let n = sum_by_push (λ (u : Knowledge E). length u.own) views o in let p = k.count in omega arith;
-          once = λ x. let t = total_set (λ u. times x u.own) s.views id v l at in let n = sum_by_push (λ (u : Knowledge E). times x u.own) views o in let p = k.once x in omega arith;
-          each = each_snoc events views o
+          parts = let t = total_set (λ u. u.parts) s.views id v l at in let n = sum_by_push (λ (u : StrandKnowledge E). u.parts) views o in let p = k.parts in omega arith;
+          keepers = let t = total_set (λ u. cond u.keeps 1 0) s.views id v l at in let n = sum_by_push (λ (u : StrandKnowledge E). cond u.keeps 1 0) views o in let p = k.keepers in omega arith;
+          count = let t = total_set (λ u. length u.own) s.views id v l at in let n = sum_by_push (λ (u : StrandKnowledge E). length u.own) views o in let p = k.count in omega arith;
+          once = λ x. let t = total_set (λ u. times x u.own) s.views id v l at in let n = sum_by_push (λ (u : StrandKnowledge E). times x u.own) views o in let p = k.once x in omega arith;
+          each = each_snoc (IsSoundStrand events) views o
               (record { idle = λ _. refl; rises = mine.rises; stand = All-nil _; list = λ e. absurd (off e) })
-              (each_set events s.views id l (record { idle = λ z. absurd (omega arith); rises = mine.rises; stand = mine.stand; list = mine.list }) (λ j u _ there. k.each j u there));
+              (each_set (IsSoundStrand events) s.views id l (record { idle = λ z. absurd (omega arith); rises = mine.rises; stand = mine.stand; list = mine.list }) (λ j u _ there. k.each j u there));
         },
       )
 
-  -- a strand without the list takes in what is known at another seat
-  pub joins : (id : ℕ) (v : Knowledge E) (other : ℕ) (w : Knowledge E) → 0 < v.parts → v.keeps ≡ false → Joins KeepsStrands id v other w (union v w) nothing
+  -- a strand without the list takes in the knowledge of another seat
+  pub joins : (id : ℕ) (v : StrandKnowledge E) (other : ℕ) (w : StrandKnowledge E) → 0 < v.parts → v.keeps ≡ false → Joins KeepsStrands id v other w (both_seats v w) nothing
   joins id v other w some_part unkept s r at apart_ there =
-      let b = union v w in
+      let b = both_seats v w in
       let events = r.0 in
       let k = r.1 in
       let views = set s.views id b in
       let mine = k.each id v at in
-      let theirs : IsSound events w = ⊎_elim
+      let theirs : IsSoundStrand events w = ⊎_elim
       (λ (t : (other ≡ id) × (b ≡ w)). absurd (apart_ t.0))
       (λ (t : (other ≢ id) × (get_elem? s.views other ≡ some w)). k.each other w t.1)
       (at_set s.views id other b w there) in
@@ -194,34 +166,15 @@ module _ {E : Type 0} where
           parts = let t = total_set (λ u. u.parts) s.views id v b at in let n = total_set (λ u. u.parts) views other w nothing there in let p = k.parts in omega arith;
           keepers = let t = total_set (λ u. cond u.keeps 1 0) s.views id v b at in let n = total_set (λ u. cond u.keeps 1 0) views other w nothing there in let p = k.keepers in omega arith;
           count = let t = total_set (λ u. length u.own) s.views id v b at in let n = total_set (λ u. length u.own) views other w nothing there in let p = k.count in let q = length-append v.own w.own in omega arith;
-          once = λ x. let t = total_set (λ u. times x u.own) s.views id v b at in let n = total_set (λ u. times x u.own) views other w nothing there in let p = k.once x in let q = times_append x v.own w.own in omega arith;
-          each = each_set events views other nothing (record { idle = λ _. refl; rises = zero-le; stand = All-nil _; list = λ e. absurd (off e) })
-              (λ j u _ here. each_set events s.views id b
+          once = λ x. let t = total_set (λ u. times x u.own) s.views id v b at in let n = total_set (λ u. times x u.own) views other w nothing there in let p = k.once x in let q = times_append number_of x v.own w.own in omega arith;
+          each = each_set (IsSoundStrand events) views other nothing (record { idle = λ _. refl; rises = zero-le; stand = All-nil _; list = λ e. absurd (off e) })
+              (λ j u _ here. each_set (IsSoundStrand events) s.views id b
               (record { idle = λ z. absurd (omega arith); rises = let p = mine.rises in let q = theirs.rises in omega arith; stand = All-append (StandsIn events) v.own w.own mine.stand theirs.stand; list = theirs.list })
               (λ i y _ was. k.each i y was) j u here);
         },
       )
 
-  -- where all that the seats have of a kind is one's, and whoever has none of it has no event, the others have no event
-  all_spent : (f g : Knowledge E → ℕ) → (views : List (Knowledge E)) → ((j : ℕ) (u : Knowledge E) → get_elem? views j ≡ some u → f u ≡ 0 → g u ≡ 0) → sum_by f views ≡ 0 → sum_by g views ≡ 0
-  all_spent f g [] idle none_left = omega arith
-  all_spent f g (v ∷ vs) idle none_left =
-      let a = sum_by-cons f v vs in
-      let h : g v ≡ 0 = idle 0 v refl (omega arith) in
-      let t = all_spent f g vs (λ j u e. idle (suc j) u e) (omega arith) in
-      omega (arith, sum_by-cons g v vs)
-
-  alone : (f g : Knowledge E → ℕ) → f nothing ≡ 0 → g nothing ≡ 0 → (views : List (Knowledge E)) (id : ℕ) (v : Knowledge E) → get_elem? views id ≡ some v
-      → ((j : ℕ) (u : Knowledge E) → get_elem? views j ≡ some u → f u ≡ 0 → g u ≡ 0) → sum_by f views ≡ f v → sum_by g views ≡ g v
-  alone f g no_f no_g views id v at idle every =
-      let t = total_set f views id v nothing at in
-      let others = all_spent f g (set views id nothing)
-      (λ j u e z. ⊎_elim (λ (x : (j ≡ id) × (nothing ≡ u)). ap g (sym x.1) ∙ no_g) (λ (x : (j ≢ id) × (get_elem? views j ≡ some u)). idle j u x.1 z) (at_set views id j nothing u e))
-      (omega arith) in
-      let q = total_set g views id v nothing at in
-      omega arith
-
-  learns : (id : ℕ) (v : Knowledge E) (s : State E (Knowledge E)) → KeepsStrands s → get_elem? s.views id ≡ some v → Learns v
+  learns : (id : ℕ) (v : StrandKnowledge E) (s : State E (StrandKnowledge E)) → KeepsStrands s → get_elem? s.views id ≡ some v → LearnsList v
   learns id v s r at =
       let events = r.0 in
       let k = r.1 in
@@ -235,25 +188,25 @@ module _ {E : Type 0} where
             let long = ap length (mine.list has) in
             omega arith;
         whole = λ has every.
-            let a = alone (λ u. u.parts) (λ u. length u.own) refl refl s.views id v at (λ j u e z. ap length ((k.each j u e).idle z)) (k.parts ∙ sym every) in
+            let a = alone (λ u. u.parts) (λ u. length u.own) nothing refl refl s.views id v at (λ j u e z. ap length ((k.each j u e).idle z)) (k.parts ∙ sym every) in
             let p = k.count in
             let long = ap length (mine.list has) in
             omega arith;
         once = λ has every x.
             let long = ap length (mine.list has) in
-            let a = alone (λ u. length u.own) (λ u. times x u.own) refl refl s.views id v at (λ j u e z. ap (times x) (empty u.own z)) (k.count ∙ sym long ∙ sym every) in
+            let a = alone (λ u. length u.own) (λ u. times x u.own) nothing refl refl s.views id v at (λ j u e z. ap (times x) (empty u.own z)) (k.count ∙ sym long ∙ sym every) in
             sym a ∙ k.once x ∙ ap (once_below x) (sym long);
       }
 
   -- nothing is changed
-  still : (s : State E (Knowledge E)) (id : ℕ) (v : Knowledge E) → get_elem? s.views id ≡ some v → KeepsStrands s → (words : List ℕ) → (homes : List (mathlib.Core.Option.Option E))
+  still : (s : State E (StrandKnowledge E)) (id : ℕ) (v : StrandKnowledge E) → get_elem? s.views id ≡ some v → KeepsStrands s → (words : List ℕ) → (homes : List (mathlib.Core.Option.Option E))
       → KeepsStrands (record { words = words; homes = homes; views = set s.views id v })
-  still s id v at r words homes = (r.0, subst (AreSound r.0) (sym (set_again s.views id v at)) r.1)
+  still s id v at r words homes = (r.0, subst (AreSoundStrands r.0) (sym (set_again s.views id v at)) r.1)
 
-  pub looks : (slots id : ℕ) (me : Me E (Knowledge E)) → Allows KeepsStrands slots id me 0 (λ n. n) (Looks (step slots 0 0 0 none) me)
+  pub looks : (slots id : ℕ) (me : Me E (StrandKnowledge E)) → Allows KeepsStrands slots id me 0 (λ n. n) (Looks (step slots 0 0 0 none) me)
   looks slots id me s r _ at _ = (me.0, keeps, tt, still s id me.0 at r (set s.words 0 (slice_index s.words 0)) s.homes, (refl, learns id me.0 s r at))
 
-  pub writes : (slots id : ℕ) (me : Me E (Knowledge E)) (e : E) → me.0.keeps ≡ true → 0 < me.0.parts
+  pub writes : (slots id : ℕ) (me : Me E (StrandKnowledge E)) (e : E) → me.0.keeps ≡ true → 0 < me.0.parts
       → Allows KeepsStrands slots id me 0 (λ n. either (eqb n 0) 0 n) (NotesEvent (step slots 0 0 0 (some e)) me)
   writes slots id me e keeping some_part s r _ at _ =
       let mine = r.1.each id me.0 at in
@@ -266,7 +219,7 @@ module _ {E : Type 0} where
         λ f same. (ap (λ (x : E). (with_event me.0 x, me.1)) (some-injective e f same), low),
       )
 
-  pub sees : (slots id : ℕ) (me : Me E (Knowledge E)) → me.0.keeps ≡ true → Allows KeepsStrands slots id me 0 (λ n. n) (Sees (step slots 0 0 0 none) me)
+  pub sees : (slots id : ℕ) (me : Me E (StrandKnowledge E)) → me.0.keeps ≡ true → Allows KeepsStrands slots id me 0 (λ n. n) (Sees (step slots 0 0 0 none) me)
   sees slots id me keeping s r _ at _ =
       let mine = r.1.each id me.0 at in
       let long : length me.0.all ≡ length r.0 = ap length (mine.list keeping) in
@@ -274,15 +227,15 @@ module _ {E : Type 0} where
       (up_to_date me.0, keeps, tt, (r.0, sees_all r.0 s.views id me.0 at keeping r.1), (refl, low))
 
   -- a strand that meets the list
-  pub meets : (v k : Knowledge E) → k.keeps ≡ true → union v (list_alone k) ≡ knowledge v.parts v.own v.least true k.all
+  pub meets : (v k : StrandKnowledge E) → k.keeps ≡ true → both_seats v (list_alone k) ≡ strand_knowledge v.parts v.own v.least true k.all
   meets v k keeping =
       let a : v.parts + 0 ≡ v.parts = omega arith in
       let b : v.own ++ [] ≡ v.own = append-nil v.own in
       let c : max v.least 0 ≡ v.least = omega arith in
-      λ i. knowledge (a i) (b i) (c i) (keeping i) k.all
+      λ i. strand_knowledge (a i) (b i) (c i) (keeping i) k.all
 
 -- a strand that has seen the list, and the list after it
-pub record HasLooked {E : Type 0} (v k : Knowledge E) (left right : Me E (Knowledge E)) : Type 0 where
+pub record HasLooked {E : Type 0} (v k : StrandKnowledge E) (left right : Me E (StrandKnowledge E)) : Type 0 where
   pub left_slot : left.1 ≡ []
   pub left_list : left.0.keeps ≡ false
   pub left_some : 0 < left.0.parts
@@ -295,7 +248,7 @@ pub record HasLooked {E : Type 0} (v k : Knowledge E) (left right : Me E (Knowle
   pub next : left.0.least ≡ length k.all
 
 -- a strand that has noted an event, and the list after it
-pub record HasNoted {E : Type 0} (v k : Knowledge E) (e : E) (left right : Me E (Knowledge E)) : Type 0 where
+pub record HasNoted {E : Type 0} (v k : StrandKnowledge E) (e : E) (left right : Me E (StrandKnowledge E)) : Type 0 where
   pub left_slot : left.1 ≡ []
   pub left_list : left.0.keeps ≡ false
   pub left_some : 0 < left.0.parts
@@ -308,15 +261,15 @@ pub record HasNoted {E : Type 0} (v k : Knowledge E) (e : E) (left right : Me E 
 
 module _ {E : Type 0} where
   -- a strand meets the list, notes an event, and the list leaves it again
-  pub noting : (v k : Knowledge E) (c : List (ℕ × E)) (e : E) (list met new left right : Me E (Knowledge E)) → k.keeps ≡ true → c ≡ [] → 0 < v.parts
-      → list ≡ (list_alone k, []) → met ≡ (union v list.0, c) → (new ≡ (with_event met.0 e, met.1)) × (met.0.least ≤ length met.0.all)
+  pub noting : (v k : StrandKnowledge E) (c : List (ℕ × E)) (e : E) (list met new left right : Me E (StrandKnowledge E)) → k.keeps ≡ true → c ≡ [] → 0 < v.parts
+      → list ≡ (list_alone k, []) → met ≡ (both_seats v list.0, c) → (new ≡ (with_event met.0 e, met.1)) × (met.0.least ≤ length met.0.all)
       → left ≡ (without_list new.0, new.1) → right ≡ (list_alone new.0, []) → HasNoted v k e left right
   noting v k c e list met new left right keeping free some_part from joined noted left_is right_is =
-      let M : Type 0 = Me E (Knowledge E) in
-      let both : met ≡ (knowledge v.parts v.own v.least true k.all, c) = joined ∙ (ap (λ (l : M). (union v l.0, c)) from ∙ ap (λ (u : Knowledge E). (u, c)) (meets v k keeping)) in
-      let now : new ≡ (with_event (knowledge v.parts v.own v.least true k.all) e, c) = noted.0 ∙ ap (λ (m : M). (with_event m.0 e, m.1)) both in
-      let l : left ≡ (without_list (with_event (knowledge v.parts v.own v.least true k.all) e), c) = left_is ∙ ap (λ (m : M). (without_list m.0, m.1)) now in
-      let r : right ≡ (list_alone (with_event (knowledge v.parts v.own v.least true k.all) e), []) = right_is ∙ ap (λ (m : M). (list_alone m.0, [])) now in
+      let M : Type 0 = Me E (StrandKnowledge E) in
+      let both : met ≡ (strand_knowledge v.parts v.own v.least true k.all, c) = joined ∙ (ap (λ (l : M). (both_seats v l.0, c)) from ∙ ap (λ (u : StrandKnowledge E). (u, c)) (meets v k keeping)) in
+      let now : new ≡ (with_event (strand_knowledge v.parts v.own v.least true k.all) e, c) = noted.0 ∙ ap (λ (m : M). (with_event m.0 e, m.1)) both in
+      let l : left ≡ (without_list (with_event (strand_knowledge v.parts v.own v.least true k.all) e), c) = left_is ∙ ap (λ (m : M). (without_list m.0, m.1)) now in
+      let r : right ≡ (list_alone (with_event (strand_knowledge v.parts v.own v.least true k.all) e), []) = right_is ∙ ap (λ (m : M). (list_alone m.0, [])) now in
       record {
         left_slot = ap (λ (m : M). m.1) l ∙ free;
         left_list = ap (λ (m : M). m.0.keeps) l;
@@ -330,15 +283,15 @@ module _ {E : Type 0} where
       }
 
   -- a strand meets the list, sees it, and the list leaves it again
-  pub looking : (v k : Knowledge E) (c : List (ℕ × E)) (list met new left right : Me E (Knowledge E)) → k.keeps ≡ true → c ≡ [] → 0 < v.parts
-      → list ≡ (list_alone k, []) → met ≡ (union v list.0, c) → (new ≡ (up_to_date met.0, met.1)) × (met.0.least ≤ length met.0.all)
+  pub looking : (v k : StrandKnowledge E) (c : List (ℕ × E)) (list met new left right : Me E (StrandKnowledge E)) → k.keeps ≡ true → c ≡ [] → 0 < v.parts
+      → list ≡ (list_alone k, []) → met ≡ (both_seats v list.0, c) → (new ≡ (up_to_date met.0, met.1)) × (met.0.least ≤ length met.0.all)
       → left ≡ (without_list new.0, new.1) → right ≡ (list_alone new.0, []) → HasLooked v k left right
   looking v k c list met new left right keeping free some_part from joined seen left_is right_is =
-      let M : Type 0 = Me E (Knowledge E) in
-      let both : met ≡ (knowledge v.parts v.own v.least true k.all, c) = joined ∙ (ap (λ (l : M). (union v l.0, c)) from ∙ ap (λ (u : Knowledge E). (u, c)) (meets v k keeping)) in
-      let now : new ≡ (knowledge v.parts v.own (length k.all) true k.all, c) = seen.0 ∙ ap (λ (m : M). (up_to_date m.0, m.1)) both in
-      let l : left ≡ (knowledge v.parts v.own (length k.all) false [], c) = left_is ∙ ap (λ (m : M). (without_list m.0, m.1)) now in
-      let r : right ≡ (knowledge 0 [] 0 true k.all, []) = right_is ∙ ap (λ (m : M). (list_alone m.0, [])) now in
+      let M : Type 0 = Me E (StrandKnowledge E) in
+      let both : met ≡ (strand_knowledge v.parts v.own v.least true k.all, c) = joined ∙ (ap (λ (l : M). (both_seats v l.0, c)) from ∙ ap (λ (u : StrandKnowledge E). (u, c)) (meets v k keeping)) in
+      let now : new ≡ (strand_knowledge v.parts v.own (length k.all) true k.all, c) = seen.0 ∙ ap (λ (m : M). (up_to_date m.0, m.1)) both in
+      let l : left ≡ (strand_knowledge v.parts v.own (length k.all) false [], c) = left_is ∙ ap (λ (m : M). (without_list m.0, m.1)) now in
+      let r : right ≡ (strand_knowledge 0 [] 0 true k.all, []) = right_is ∙ ap (λ (m : M). (list_alone m.0, [])) now in
       record {
         left_slot = ap (λ (m : M). m.1) l ∙ free;
         left_list = ap (λ (m : M). m.0.keeps) l;
@@ -353,21 +306,21 @@ module _ {E : Type 0} where
       }
 
   -- a strand that has met the list keeps it, and has as many parts
-  pub met_list : (v k : Knowledge E) (c : List (ℕ × E)) (list met : Me E (Knowledge E)) → k.keeps ≡ true → 0 < v.parts → list ≡ (list_alone k, []) → met ≡ (union v list.0, c)
+  pub met_list : (v k : StrandKnowledge E) (c : List (ℕ × E)) (list met : Me E (StrandKnowledge E)) → k.keeps ≡ true → 0 < v.parts → list ≡ (list_alone k, []) → met ≡ (both_seats v list.0, c)
       → (met.0.keeps ≡ true) × (0 < met.0.parts)
   met_list v k c list met keeping some_part from joined =
-      let M : Type 0 = Me E (Knowledge E) in
-      let both : met ≡ (knowledge v.parts v.own v.least true k.all, c) = joined ∙ (ap (λ (l : M). (union v l.0, c)) from ∙ ap (λ (u : Knowledge E). (u, c)) (meets v k keeping)) in
+      let M : Type 0 = Me E (StrandKnowledge E) in
+      let both : met ≡ (strand_knowledge v.parts v.own v.least true k.all, c) = joined ∙ (ap (λ (l : M). (both_seats v l.0, c)) from ∙ ap (λ (u : StrandKnowledge E). (u, c)) (meets v k keeping)) in
       (ap (λ (m : M). m.0.keeps) both, subst (λ (m : M). 0 < m.0.parts) (sym both) some_part)
 
-  -- what a strand that has met the list learns by a look
-  pub learns_met : (v k : Knowledge E) (c : List (ℕ × E)) (list met : Me E (Knowledge E)) → k.keeps ≡ true → list ≡ (list_alone k, []) → met ≡ (union v list.0, c)
-      → Learns met.0 → Learns (knowledge v.parts v.own v.least true k.all)
+  -- a strand that has met the list learns this by a look
+  pub learns_met : (v k : StrandKnowledge E) (c : List (ℕ × E)) (list met : Me E (StrandKnowledge E)) → k.keeps ≡ true → list ≡ (list_alone k, []) → met ≡ (both_seats v list.0, c)
+      → LearnsList met.0 → LearnsList (strand_knowledge v.parts v.own v.least true k.all)
   learns_met v k c list met keeping from joined learnt =
-      let M : Type 0 = Me E (Knowledge E) in
-      let both : met ≡ (knowledge v.parts v.own v.least true k.all, c) = joined ∙ (ap (λ (l : M). (union v l.0, c)) from ∙ ap (λ (u : Knowledge E). (u, c)) (meets v k keeping)) in
-      subst Learns (ap (λ (m : M). m.0) both) learnt
+      let M : Type 0 = Me E (StrandKnowledge E) in
+      let both : met ≡ (strand_knowledge v.parts v.own v.least true k.all, c) = joined ∙ (ap (λ (l : M). (both_seats v l.0, c)) from ∙ ap (λ (u : StrandKnowledge E). (u, c)) (meets v k keeping)) in
+      subst LearnsList (ap (λ (m : M). m.0) both) learnt
 
-  -- a list that is alone holds no slot
-  pub no_slot : (v : Knowledge E) (m : Me E (Knowledge E)) → m ≡ (v, []) → m.1 ≡ []
-  no_slot v m e = ap (λ (x : Me E (Knowledge E)). x.1) e
+  -- a list by itself holds no slot
+  pub no_slot : (v : StrandKnowledge E) (m : Me E (StrandKnowledge E)) → m ≡ (v, []) → m.1 ≡ []
+  no_slot v m e = ap (λ (x : Me E (StrandKnowledge E)). x.1) e

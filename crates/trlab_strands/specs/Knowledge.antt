@@ -2,9 +2,9 @@
 -- the number of its parts, and which events are its own; the keeper knows the list.
 use Rattle.std.specs.Prelude.{◌≡◌, ℕ, ◌+◌, ◌-◌, max, Bool, true, false, cond, eqb, ltb}
 use Rattle.std.specs.Prelude.{List, [], ◌∷◌, ◌++◌, length, count_by, All}
-use Rattle.trlab_strands.specs.declared.limits.TheConstants.{ALL_PARTS}
+use Rattle.trlab_strands.specs.declared.knowledge.TheConstants.{ALL_PARTS}
 use Rattle.trlab_strands.specs.declared.knowledge.Noted.{Noted}
-use Rattle.trlab_strands.specs.declared.knowledge.Knowledge.{Knowledge}
+use Rattle.trlab_strands.specs.declared.knowledge.StrandKnowledge.{StrandKnowledge}
 
 -- how often a number occurs: once if it is below the count, else never
 abbrev pub once_below : ℕ → ℕ → ℕ
@@ -30,51 +30,52 @@ StandsIn {E} events n = (later : List E) × (events ≡ n.before ++ n.event ∷ 
 abbrev pub StandIn : {E : Type 0} → List E → List (Noted E) → Type 0
 StandIn events own = All (StandsIn events) own
 
--- the list is a linearization of these events, that is, all of them in the order of their numbers: there are as
--- many, each is in the list after its earlier events, and each place of the list is the number of exactly one
+-- the list is a linearization of these events, that is, all of them in the order of their numbers: there are
+-- as many, each is in the list after its earlier events, and each index of the list is the number of exactly
+-- one
 pub record IsLinearization {E : Type 0} (events : List E) (own : List (Noted E)) : Type 0 where
   pub count : length own ≡ length events
   pub stand : StandIn events own
   pub once : (k : ℕ) → times k own ≡ once_below k (length events)
 
 -- the knowledge of a seat, by its parts
-abbrev pub knowledge : {E : Type 0} → ℕ → List (Noted E) → ℕ → Bool → List E → Knowledge E
-knowledge parts own least keeps all =
+abbrev pub strand_knowledge : {E : Type 0} → ℕ → List (Noted E) → ℕ → Bool → List E → StrandKnowledge E
+strand_knowledge parts own least keeps all =
     record { parts = parts; own = own; least = least; keeps = keeps; all = all }
 
 -- the knowledge that is left at the seat of a strand that was gathered into another
-abbrev pub nothing : {E : Type 0} → Knowledge E
-nothing = knowledge 0 [] 0 false []
+abbrev pub nothing : {E : Type 0} → StrandKnowledge E
+nothing = strand_knowledge 0 [] 0 false []
 
 -- the first seat has all parts, no event, and the empty list
-abbrev pub opening_knowledge : {E : Type 0} → Knowledge E
-opening_knowledge = knowledge ALL_PARTS [] 0 true []
+abbrev pub first_seat : {E : Type 0} → StrandKnowledge E
+first_seat = strand_knowledge ALL_PARTS [] 0 true []
 
 -- a strand that the list has left
-abbrev pub without_list : {E : Type 0} → Knowledge E → Knowledge E
-without_list k = knowledge k.parts k.own k.least false []
+abbrev pub without_list : {E : Type 0} → StrandKnowledge E → StrandKnowledge E
+without_list k = strand_knowledge k.parts k.own k.least false []
 
 -- the list by itself, if it was there
-abbrev pub list_alone : {E : Type 0} → Knowledge E → Knowledge E
-list_alone k = knowledge 0 [] 0 k.keeps k.all
+abbrev pub list_alone : {E : Type 0} → StrandKnowledge E → StrandKnowledge E
+list_alone k = strand_knowledge 0 [] 0 k.keeps k.all
 
 -- the knowledge of a strand that has given a part away
-abbrev pub less_a_part : {E : Type 0} → Knowledge E → Knowledge E
-less_a_part k = knowledge (k.parts - 1) k.own k.least k.keeps k.all
+abbrev pub less_a_part : {E : Type 0} → StrandKnowledge E → StrandKnowledge E
+less_a_part k = strand_knowledge (k.parts - 1) k.own k.least k.keeps k.all
 
 -- the part that it gives away, which has seen as much of the list
-abbrev pub one_part : {E : Type 0} → Knowledge E → Knowledge E
-one_part k = knowledge 1 [] k.least false []
+abbrev pub one_part : {E : Type 0} → StrandKnowledge E → StrandKnowledge E
+one_part k = strand_knowledge 1 [] k.least false []
 
 -- a strand without the list, and what is known at another seat
-abbrev pub union : {E : Type 0} → Knowledge E → Knowledge E → Knowledge E
-union k l = knowledge (k.parts + l.parts) (k.own ++ l.own) (max k.least l.least) l.keeps l.all
+abbrev pub both_seats : {E : Type 0} → StrandKnowledge E → StrandKnowledge E → StrandKnowledge E
+both_seats k l = strand_knowledge (k.parts + l.parts) (k.own ++ l.own) (max k.least l.least) l.keeps l.all
 
 -- a strand that has seen the whole list
-abbrev pub up_to_date : {E : Type 0} → Knowledge E → Knowledge E
-up_to_date k = knowledge k.parts k.own (length k.all) k.keeps k.all
+abbrev pub up_to_date : {E : Type 0} → StrandKnowledge E → StrandKnowledge E
+up_to_date k = strand_knowledge k.parts k.own (length k.all) k.keeps k.all
 
 -- one event more, after the list
-abbrev pub with_event : {E : Type 0} → Knowledge E → E → Knowledge E
+abbrev pub with_event : {E : Type 0} → StrandKnowledge E → E → StrandKnowledge E
 with_event k e =
-    knowledge k.parts (k.own ++ noted k.all e ∷ []) (length k.all + 1) k.keeps (k.all ++ e ∷ [])
+    strand_knowledge k.parts (k.own ++ noted k.all e ∷ []) (length k.all + 1) k.keeps (k.all ++ e ∷ [])

@@ -2,7 +2,7 @@
 use Rattle.std.specs.Prelude.{◌≡◌, ℕ, ◌+◌, ◌≤◌, List, [], ◌∷◌, ◌++◌, length}
 use Rattle.atomic_table.specs.Seated.{TableId}
 use Rattle.trlab_strands.specs.declared.tokens.Blank.{Blank}
-use Rattle.trlab_strands.specs.declared.ledger.Ledger.{Ghosts}
+use Rattle.trlab_strands.specs.declared.knowledge.Ledger.{Ghosts}
 use Rattle.trlab_strands.specs.declared.tokens.Keeper.{Keeper}
 use Rattle.trlab_strands.specs.declared.tokens.Strand.{Strand}
 use Rattle.trlab_strands.specs.declared.knowledge.Noted.{Noted}
@@ -28,7 +28,7 @@ subhistory_of s = s.seat.me.0.own
 abbrev pub least_of : {L E : Type 0} {ledger : Ghosts L} → Strand L E ledger → ℕ
 least_of s = s.seat.me.0.least
 
--- one more event, after the strand's own and after all events of the list; the strand had seen no more of them
+-- one more event, after the strand's own and after the list; the clock had not been ahead of the list
 abbrev pub Adds : {L E : Type 0} {ledger : Ghosts L}
     → Strand L E ledger → List E → E → Strand L E ledger → Type 0
 Adds old before event new =

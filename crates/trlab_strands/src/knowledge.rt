@@ -3,7 +3,32 @@
 
 use atomic_table::{Join, Play, Split, TableRule};
 use std::collections::LinkedList;
-use std::marker::PhantomData;
+use std::marker::{Brand, PhantomData};
+
+/// The parts of the right to add to a list: there can be as many strands.
+pub const ALL_PARTS: u32 = 1024;
+
+/// Names the strands of one list, so that only strands that belong together are joined. Each call of a program picks
+/// a new name.
+pub trait Ledger {
+    ghost use Rattle.atomic_table.specs.Seated.{TableId};
+
+    ghost name: { TableId };
+}
+
+impl Ledger for Brand {
+    ghost use Rattle.std.specs.Prelude.{[]};
+
+    ghost name = { record {
+      words = 0;
+      slots = 0;
+      views_name = 0;
+      atom = 0;
+      block = 0;
+      offset = 0;
+      slot_names = [];
+    } };
+}
 
 /// An event with all earlier events of the list. No value of this type is ever made.
 pub struct Noted<E> {
@@ -13,7 +38,7 @@ pub struct Noted<E> {
 
 /// The knowledge of a seat: for a strand its parts, its events, and the smallest number that its next event may
 /// have; for the keeper the whole list. No value of this type is ever made.
-pub struct Knowledge<E> {
+pub struct StrandKnowledge<E> {
     pub parts: u32,
     pub own: LinkedList<Noted<E>>,
     pub least: u64,
@@ -26,19 +51,19 @@ pub struct OncePerEvent<E> {
     marker: PhantomData<E>,
 }
 
-impl<E> TableRule<E, Knowledge<E>, ()> for OncePerEvent<E> {
+impl<E> TableRule<E, StrandKnowledge<E>, ()> for OncePerEvent<E> {
     ghost use Rattle.trlab_strands.specs.Rule.{KeepsStrands};
-    ghost use Rattle.trlab_strands.specs.Knowledge.{opening_knowledge};
+    ghost use Rattle.trlab_strands.specs.Knowledge.{first_seat};
 
     ghost holds = { λ key. KeepsStrands };
 
-    ghost first = { λ key. opening_knowledge };
+    ghost first = { λ key. first_seat };
 }
 
 /// The step that notes an event.
 pub struct NoteEvent;
 
-impl<E> Play<E, Knowledge<E>> for NoteEvent {
+impl<E> Play<E, StrandKnowledge<E>> for NoteEvent {
     ghost use Rattle.trlab_strands.specs.Rule.{NotesEvent};
 
     ghost then = { NotesEvent };
@@ -47,7 +72,7 @@ impl<E> Play<E, Knowledge<E>> for NoteEvent {
 /// A step that changes nothing.
 pub struct Look;
 
-impl<E> Play<E, Knowledge<E>> for Look {
+impl<E> Play<E, StrandKnowledge<E>> for Look {
     ghost use Rattle.trlab_strands.specs.Rule.{Looks};
 
     ghost then = { Looks };
@@ -56,7 +81,7 @@ impl<E> Play<E, Knowledge<E>> for Look {
 /// The step by which a strand sees the whole list.
 pub struct See;
 
-impl<E> Play<E, Knowledge<E>> for See {
+impl<E> Play<E, StrandKnowledge<E>> for See {
     ghost use Rattle.trlab_strands.specs.Rule.{Sees};
 
     ghost then = { Sees };
@@ -65,7 +90,7 @@ impl<E> Play<E, Knowledge<E>> for See {
 /// The list leaves a strand.
 pub struct Apart;
 
-impl<E> Split<Knowledge<E>> for Apart {
+impl<E> Split<StrandKnowledge<E>> for Apart {
     ghost use Rattle.trlab_strands.specs.Knowledge.{without_list, list_alone};
 
     ghost left = { without_list };
@@ -76,7 +101,7 @@ impl<E> Split<Knowledge<E>> for Apart {
 /// One part goes to another strand.
 pub struct OnePart;
 
-impl<E> Split<Knowledge<E>> for OnePart {
+impl<E> Split<StrandKnowledge<E>> for OnePart {
     ghost use Rattle.trlab_strands.specs.Knowledge.{less_a_part, one_part};
 
     ghost left = { less_a_part };
@@ -85,12 +110,12 @@ impl<E> Split<Knowledge<E>> for OnePart {
 }
 
 /// Two strands become one, or a strand meets the list.
-pub struct Together;
+pub struct JoinStrands;
 
-impl<E> Join<Knowledge<E>> for Together {
-    ghost use Rattle.trlab_strands.specs.Knowledge.{union, nothing};
+impl<E> Join<StrandKnowledge<E>> for JoinStrands {
+    ghost use Rattle.trlab_strands.specs.Knowledge.{both_seats, nothing};
 
-    ghost both = { union };
+    ghost both = { both_seats };
 
     ghost spent = { nothing };
 }

@@ -1,13 +1,13 @@
-//! Into how many strands a list can be parted, in figures: definitions name the constant, so a changed
-//! one would change its meaning along with it, and is refused here.
+//! The maximum number of strands of a list, as a number. Definitions name the constant, so a changed constant would
+//! change their meaning with it; it is refused here.
 //!
-//! The law is the contract of a function with nothing to do.
+//! The law is the contract of a function with an empty body.
 
 ghost use Rattle.std.specs.Prelude.{◌≡◌};
 
-use crate::limits::ALL_PARTS;
+use crate::knowledge::ALL_PARTS;
 
-/// Into how many strands a list can be parted.
+/// A list has at most 1024 strands.
 pub fn sharing()
     ensures parts { ALL_PARTS ≡ 1024 }
 {}

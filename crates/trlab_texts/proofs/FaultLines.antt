@@ -8,8 +8,8 @@ use Rattle.trlab_asm.specs.declared.fault.Why.{Why}
 use Rattle.trlab_asm.specs.declared.fault.Why.TheVariants.{Empty}
 use Rattle.trlab_asm.specs.declared.fault.AsmFault.{AsmFault}
 use Rattle.trlab_asm.specs.Results.{◌>>=◌}
-use Rattle.trlab_asm.specs.Reading.{Draft, Labels, Line, line_says}
-use Rattle.trlab_asm.specs.Assembly.{LineDraft, Parts, nothing, in_line, with_draft, with_line, first_pass, jump_to, resolve_label, resolve, second_pass, instrs_of, code_of, IsOutOfMemory}
+use Rattle.trlab_asm.specs.Reading.{InstrDraft, Labels, Line, line_says}
+use Rattle.trlab_asm.specs.Assembly.{LineDraft, Parts, no_parts, in_line, with_draft, with_line, first_pass, jump_to, resolve_label, resolve, second_pass, instrs_of, code_of, IsOutOfMemory}
 
 -- a fault stands at a line up to n
 abbrev Within : {A : Type 0} → ℕ → Result A AsmFault → Type 0
@@ -31,7 +31,7 @@ unfolding ReadWithin
 read_more n [] read all here = (here, tt)
 read_more n (first ∷ reads) read all here = (all.0, read_more n reads read all.1 here)
 
-read_line : (n number : ℕ) (reads : List LineDraft) (draft : Option Draft) → ReadWithin n reads → number ≤ n → ReadWithin n (with_draft reads number draft)
+read_line : (n number : ℕ) (reads : List LineDraft) (draft : Option InstrDraft) → ReadWithin n reads → number ≤ n → ReadWithin n (with_draft reads number draft)
 read_line n number reads None all here = all
 read_line n number reads (Some draft) all here = read_more n reads (record { line = number; draft = draft }) all here
 
@@ -92,7 +92,7 @@ nothing_read n = tt
 
 code_within : (kind : Kind) (lines : List (List ℕ)) → Within (length lines) (code_of kind lines)
 code_within kind lines =
-    passes_within (length lines) kind (first_pass nothing 1 lines) (first_within (length lines) 1 lines nothing (omega arith) (nothing_read (length lines)))
+    passes_within (length lines) kind (first_pass no_parts 1 lines) (first_within (length lines) 1 lines no_parts (omega arith) (nothing_read (length lines)))
 
 -- the line of what an assembler says of some lines
 pub line_within : (kind : Kind) (lines : List (List ℕ)) (fault : AsmFault) → (code_of kind lines ≡ Err fault) ⊎ IsOutOfMemory fault → fault.line ≤ length lines

@@ -4,9 +4,9 @@ pub mod FaultLines
 pub mod Numbers
 pub mod Readings
 pub mod Programs
-pub mod OneReading
+pub mod Fine
+pub mod LongTexts
+pub mod OneAnswer
 pub mod OneProgram
 pub mod Said
 pub mod Places
-pub mod SomeReading
-pub mod SomeProgram

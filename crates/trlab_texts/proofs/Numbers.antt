@@ -7,7 +7,7 @@ use Rattle.std.proofs.lemmas.Fmt.{decimal_digit, first_decimal, decimal_is_IsNum
 use Rattle.std.proofs.lemmas.Str.Parse.{digits_value_short}
 use Rattle.std.proofs.lemmas.Slice.Eq.{bytes_eq-Decides}
 use Rattle.std.proofs.lemmas.Bool.{leb-true, le-leb, ltb-true, lt-ltb}
-use Rattle.trlab_bounds.specs.declared.programs.TheConstants.{MOST_DIGITS}
+use Rattle.trlab_bounds.specs.declared.programs.TheConstants.{MAX_DIGITS}
 use Rattle.trlab_bounds.specs.declared.texts.TheConstants.{LONGEST_NUMBER}
 use Rattle.trlab_lines.specs.Numbers.{all_digits, is_numeral}
 use Rattle.trlab_lines.proofs.Digits.{own}
@@ -38,7 +38,7 @@ numeral_form word n other small e =
     let both : true ≡ false = sym (numeral_said word some all) ∙ other in cc
 
 -- and they are at most ten
-pub ten_digits : (word : List ℕ) (n : ℕ) → MOST_DIGITS < length word → n ≤ LONGEST_NUMBER → word ≡ decimal n → ⊥
+pub ten_digits : (word : List ℕ) (n : ℕ) → MAX_DIGITS < length word → n ≤ LONGEST_NUMBER → word ≡ decimal n → ⊥
 ten_digits word n long small e =
     let short : length (decimal n) ≤ 10 = length-decimal-le 10 n (omega arith) (omega arith) (omega arith) in
     let same : length word ≡ length (decimal n) = ap length e in
@@ -49,7 +49,7 @@ both_true true b e = (refl, e)
 both_true false b e = cc
 
 -- ten digits at most, with no needless 0, are those of their value
-pub digits_written : (word : List ℕ) → is_numeral word ≡ true → length word ≤ MOST_DIGITS → (get_or word 0 0 ≡ 48 → length word ≡ 1)
+pub digits_written : (word : List ℕ) → is_numeral word ≡ true → length word ≤ MAX_DIGITS → (get_or word 0 0 ≡ 48 → length word ≡ 1)
     → (word ≡ decimal (digits_value 10 word)) × (digits_value 10 word ≤ LONGEST_NUMBER)
 digits_written word is short needless =
     let parts = both_true (nat_lt 0 (length word)) (all_digits word) is in

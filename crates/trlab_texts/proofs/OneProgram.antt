@@ -1,97 +1,115 @@
--- The lines of a program say one thing only.
-use Rattle.std.proofs.Common.{◌≡◌, ℕ, ◌≤◌, List, [], ◌∷◌, refl, sym, ◌∙◌, ap, subst, inl, inr, arith, Bool, true, false}
+-- The lines of a program say exactly one thing.
+use Rattle.std.proofs.Common.{◌≡◌, ℕ, ◌+◌, ◌<◌, ◌≤◌, ◌^◌, Bool, true, false, List, [], ◌∷◌, length, refl, sym, ◌∙◌, ap, subst, inl, inr, arith}
 use Rattle.std.proofs.lemmas.Bool.{cases_order}
-use Rattle.std.specs.Prelude.{◌≢◌, ◌⊎◌, Option, Some, None, Result, Ok, Err, codes}
+use Rattle.std.proofs.lemmas.List.Elements.{All-from_get_or}
+use Rattle.std.specs.Prelude.{◌≢◌, Option, Some, None, Result, Ok, Err, MatchResult, codes}
 use Rattle.std.specs.Str.{bytes_eq}
 use Rattle.hex.specs.Hex.{decode_of}
 use Rattle.hex.specs.declared.error.FromHexError.{FromHexError}
+use Rattle.hex.proofs.HexLemmas.{decode_of-ok}
 use Rattle.trlab_code.specs.declared.kind.Kind.{Kind}
+use Rattle.trlab_code.specs.declared.kind.Kind.TheVariants.{Motion, Change}
 use Rattle.trlab_code.specs.declared.instruction.Instr.{Instr}
 use Rattle.trlab_code.specs.declared.fault.CodeFault.{CodeFault}
-use Rattle.trlab_code.specs.declared.fault.CodeFault.TheVariants.{Memory as CodeMemory}
-use Rattle.trlab_code.specs.Program.{Program}
-use Rattle.trlab_code.specs.Faults.{IsFirstFault}
-use Rattle.trlab_code.proofs.Injective.{same_program}
-use Rattle.trlab_code.proofs.Spelt.{no_fault}
-use Rattle.trlab_code.proofs.Apart.{one_fault}
+use Rattle.trlab_code.specs.declared.fault.CodeFault.TheVariants.{Kind as OtherKind}
+use Rattle.trlab_code.specs.Program.{Program, IsProgram}
+use Rattle.trlab_code.specs.Laws.{AreBytes, Says}
+use Rattle.trlab_code.proofs.Readable.{something}
+use Rattle.trlab_code.proofs.Said.{one_thing}
+use Rattle.trlab_asm.specs.declared.fault.AsmFault.{AsmFault}
+use Rattle.trlab_asm.specs.declared.fault.Why.TheVariants.{Memory}
+use Rattle.trlab_asm.specs.Assembly.{code_of}
+use Rattle.trlab_asm.proofs.Said.{lines_say}
 use Rattle.trlab_verify.specs.CheckedProgram.{CheckedProgram, IsChecked}
 use Rattle.trlab_verify.specs.Longest.{IsLongest}
 use Rattle.trlab_verify.specs.Verdict.{IsAccepted, IsRefused, fault_at}
+use Rattle.trlab_verify.proofs.Judged.{accepted_or_refused, some_budget}
 use Rattle.trlab_texts.specs.declared.fault.Cause.{Cause}
-use Rattle.trlab_texts.specs.declared.fault.Cause.TheVariants.{Line, Number, Key, OneLane, Order, TooMany, Work, Hex, TooBig, Program as InProgram, Code, Road, StandardRefused, Verdict}
+use Rattle.trlab_texts.specs.declared.fault.Cause.TheVariants.{Line, Hex, Code, Verdict}
 use Rattle.trlab_texts.specs.Lines.{Rest}
 use Rattle.trlab_texts.specs.Words.{word_after}
 use Rattle.trlab_texts.specs.Reading.{Fault, before}
-use Rattle.trlab_texts.specs.Programs.{Spell, BytesSay, DigitsSay, CodeSays, code_line, of_kind, code_line_of, heading, HeadingSays, PartSays, program_part, VerdictSays, verdict, part}
-use Rattle.trlab_texts.proofs.OneReading.{OneRule, OneReading, next_one, then_one}
+use Rattle.trlab_texts.specs.Programs.{BytesSay, DigitsSay, CodeSays, code_line, as_kind, of_kind, code_line_of, after_line, program_after, Part, part_of, heading_line, block, HeadingSays, PartSays, program_part, VerdictSays, verdict, part}
+use Rattle.trlab_texts.proofs.Fine.{Anything, Fine, FineText, code_other, hex_other, line_other, program_other, verdict_other, word_fine}
+use Rattle.trlab_texts.proofs.OneAnswer.{OneLine, OneText, OnePart, OneRule, OneReading, exact, made, next_one, then_one, before_fine, before_one}
 
--- a program that bytes spell
-abbrev SaysProgram : List ℕ → Result Program Cause → Type 0
-SaysProgram bytes says = (program : Program) × (says ≡ Ok program) × Spell bytes program
+-- what bytes say, with the cause of a text
+abbrev with_cause : Result Program CodeFault → Result Program Cause
+with_cause (Ok program) = Ok program
+with_cause (Err fault) = Err (Code fault)
 
--- their first fault
-abbrev SaysFault : List ℕ → Result Program Cause → Type 0
-SaysFault bytes says = (fault : CodeFault) × (says ≡ Err (Code fault)) × IsFirstFault bytes fault × (fault ≢ CodeMemory)
+said_with_cause : (bytes : List ℕ) (said : Result Program CodeFault) → Says bytes said → BytesSay bytes (with_cause said) × Fine IsProgram (with_cause said)
+said_with_cause bytes (Ok program) says = ((says.1, says.0), says.1)
+said_with_cause bytes (Err fault) says = (says, code_other fault)
 
-bytes_cases : (bytes : List ℕ) (says : Result Program Cause) → BytesSay bytes says → SaysProgram bytes says ⊎ SaysFault bytes says
-bytes_cases bytes (Ok program) p = inl (program, refl, p)
-bytes_cases bytes (Err Line) p = absurd p
-bytes_cases bytes (Err Number) p = absurd p
-bytes_cases bytes (Err Key) p = absurd p
-bytes_cases bytes (Err OneLane) p = absurd p
-bytes_cases bytes (Err Order) p = absurd p
-bytes_cases bytes (Err TooMany) p = absurd p
-bytes_cases bytes (Err Hex) p = absurd p
-bytes_cases bytes (Err Work) p = absurd p
-bytes_cases bytes (Err TooBig) p = absurd p
-bytes_cases bytes (Err (InProgram why)) p = absurd p
-bytes_cases bytes (Err (Code fault)) p = inr (fault, refl, p.0, p.1)
-bytes_cases bytes (Err (Road fault)) p = absurd p
-bytes_cases bytes (Err StandardRefused) p = absurd p
-bytes_cases bytes (Err (Verdict reason)) p = absurd p
+without_cause : (bytes : List ℕ) (says : Result Program Cause) → BytesSay bytes says → (said : Result Program CodeFault) × (Says bytes said × (says ≡ with_cause said))
+without_cause bytes (Ok program) p = (Ok program, ((p.1, p.0), refl))
+without_cause bytes (Err (Code fault)) p = (Err fault, (p, refl))
+without_cause bytes (Err _) p = absurd p
 
--- bytes that spell a program have no fault
-not_both : (bytes : List ℕ) (a b : Result Program Cause) → SaysProgram bytes a → SaysFault bytes b → ⊥
-not_both bytes a b x y = y.3 (no_fault x.0 y.0 x.2.0 (subst (λ (t : List ℕ). IsFirstFault t y.0) x.2.1 y.2))
+bytes_one : (bytes : List ℕ) → AreBytes bytes → OneLine IsProgram (BytesSay bytes)
+bytes_one bytes are =
+    let found = something bytes are in
+    let said = said_with_cause bytes found.0 found.1 in
+    record {
+      answer = with_cause found.0;
+      says = said.0;
+      keeps = said.1;
+      only = λ other p. let also = without_cause bytes other p in also.1.1 ∙ ap with_cause (one_thing bytes also.0 found.0 also.1.0 found.1);
+    }
 
-pub bytes_one : (bytes : List ℕ) (a b : Result Program Cause) → BytesSay bytes a → BytesSay bytes b → a ≡ b
-bytes_one bytes a b p q = elim (bytes_cases bytes a p) [
-  | inl x ↦ elim (bytes_cases bytes b q) [
-    | inl y ↦ x.1 ∙ ap Ok (same_program x.0 y.0 (sym x.2.1 ∙ y.2.1)) ∙ sym y.1
-    | inr y ↦ absurd (not_both bytes a b x y)
-  ]
-  | inr x ↦ elim (bytes_cases bytes b q) [
-    | inl y ↦ absurd (not_both bytes b a y x)
-    | inr y ↦ x.1 ∙ ap (λ fault. Err (Code fault)) (one_fault bytes x.0 y.0 x.2 y.2 x.3 y.3) ∙ sym y.1
-  ]
-]
+-- decoded digits are bytes
+decoded : (digits bytes : List ℕ) → decode_of digits ≡ Ok bytes → AreBytes bytes
+decoded digits bytes is = All-from_get_or (λ byte. byte < 2 ^ 8) bytes 0 (λ i below. (decode_of-ok digits bytes is).3 i)
 
-digits_one : (bytes : Result (List ℕ) FromHexError) (a b : Result Program Cause) → DigitsSay bytes a → DigitsSay bytes b → a ≡ b
-digits_one (Ok bytes) a b p q = bytes_one bytes a b p q
-digits_one (Err fault) a b p q = p ∙ sym q
+digits_one : (digits : List ℕ) (bytes : Result (List ℕ) FromHexError) → decode_of digits ≡ bytes → OneLine IsProgram (DigitsSay bytes)
+digits_one digits (Ok bytes) is = bytes_one bytes (decoded digits bytes is)
+digits_one digits (Err fault) is = exact (Err Hex) hex_other
 
-code_one_of : (word : Result (List ℕ) Cause) (a b : Result Program Cause) → CodeSays word a → CodeSays word b → a ≡ b
-code_one_of (Ok digits) a b p q = digits_one (decode_of digits) a b p q
-code_one_of (Err cause) a b p q = p ∙ sym q
+word_one : (word : Result (List ℕ) Cause) → Fine Anything word → OneLine IsProgram (CodeSays word)
+word_one (Ok digits) fine = digits_one digits (decode_of digits) refl
+word_one (Err cause) fine = exact (Err cause) fine
 
-pub code_one : OneRule code_line
-code_one text a b p q = code_one_of (word_after (codes "code ") text) a b p q
+-- each line says one program in hexadecimal digits, or has a fault
+pub code_one : OneRule IsProgram code_line
+code_one text = word_one (word_after (codes "code ") text) (word_fine (codes "code ") text)
 
-code_of_one : (kind : Kind) → OneRule (code_line_of kind)
-code_of_one kind text a b p q = p.1.1 ∙ ap (of_kind kind) (code_one text p.0 q.0 p.1.0 q.1.0) ∙ sym q.1.1
+as_kind_fine : (kind own : Kind) (program : Program) → IsProgram program → Fine IsProgram (as_kind kind own program)
+as_kind_fine Motion Motion program is = is
+as_kind_fine Motion Change program is = code_other OtherKind
+as_kind_fine Change Motion program is = code_other OtherKind
+as_kind_fine Change Change program is = is
 
-headed_one : (kind : Kind) (headed : Bool) (number : ℕ) (text : List ℕ) (left : List (List ℕ)) (a b : Result (Program × Rest) Fault)
-    → HeadingSays kind headed number text left a → HeadingSays kind headed number text left b → a ≡ b
-headed_one kind true number text left a b p q = p ∙ sym q
-headed_one kind false number text left a b p q = next_one (code_line_of kind) number (text ∷ left) a b (code_of_one kind) p q
+of_kind_fine : (kind : Kind) (says : Result Program Cause) → Fine IsProgram says → Fine IsProgram (of_kind kind says)
+of_kind_fine kind (Ok program) is = as_kind_fine kind program.kind program is
+of_kind_fine kind (Err cause) fine = fine
 
-next_program_one : (kind : Kind) (number : ℕ) (left : List (List ℕ)) (a b : Result (Program × Rest) Fault)
-    → PartSays kind number left a → PartSays kind number left b → a ≡ b
-next_program_one kind number [] a b p q = p ∙ sym q
-next_program_one kind number (text ∷ left) a b p q = headed_one kind (bytes_eq text (heading kind)) number text left a b p q
+code_of_one : (kind : Kind) → OneRule IsProgram (code_line_of kind)
+code_of_one kind text = made (of_kind kind) (code_one text) (of_kind_fine kind)
 
-program_one : (kind : Kind) → OneReading (program_part kind)
-program_one kind place a b p q = next_program_one kind place.number place.left a b p q
+after_line_fine : (first : ℕ) (says : Result Program AsmFault) → MatchResult says IsProgram (λ fault. fault.why ≢ Memory) → FineText IsProgram (after_line first says)
+after_line_fine first (Ok program) is = is
+after_line_fine first (Err fault) is = program_other fault.why
+
+-- the lines of a program say one, or have a fault
+pub program_after_fine : (kind : Kind) (first : ℕ) (lines : List (List ℕ)) → FineText IsProgram (program_after kind first lines)
+program_after_fine kind first lines = after_line_fine first (code_of kind lines) (lines_say kind lines)
+
+block_fine : (kind : Kind) (first : ℕ) (left : List (List ℕ)) (parts : Option Part) → FineText (λ (found : Program × Rest). IsProgram found.0) (block kind first left parts)
+block_fine kind first left None = line_other
+block_fine kind first left (Some parts) =
+    before_fine IsProgram (record { number = first + length parts.0 + 2; left = parts.1 }) (program_after kind first parts.0) (program_after_fine kind first parts.0)
+
+headed_one : (kind : Kind) (headed : Bool) (number : ℕ) (text : List ℕ) (left : List (List ℕ)) → OnePart IsProgram (HeadingSays kind headed number text left)
+headed_one kind true number text left = record { one = exact (block kind number left (part_of left)) (block_fine kind number left (part_of left)) }
+headed_one kind false number text left = next_one (code_line_of kind) number (text ∷ left) (code_of_one kind)
+
+next_program_one : (kind : Kind) (number : ℕ) (left : List (List ℕ)) → OnePart IsProgram (PartSays kind number left)
+next_program_one kind number [] = record { one = exact (Err (record { line = number; cause = Line })) line_other }
+next_program_one kind number (text ∷ left) = headed_one kind (bytes_eq text (heading_line kind)) number text left
+
+program_one : (kind : Kind) → OneReading IsProgram (program_part kind)
+program_one kind place = next_program_one kind place.number place.left
 
 -- one longest way
 pub one_longest : (code : List Instr) (n m : ℕ) → IsLongest code 0 n → IsLongest code 0 m → n ≡ m
@@ -132,17 +150,34 @@ pub refused_one : (kind : Kind) (program : Program) (at reason place other : ℕ
 refused_one kind program at reason place other p q =
     one_fault_at (sym p.here ∙ ap (fault_at kind program) (refused_at_one kind program at reason place other p q) ∙ q.here)
 
-verdict_one : (kind : Kind) (first : ℕ) (program : Program) (a b : Result CheckedProgram Fault)
-    → VerdictSays kind first program a → VerdictSays kind first program b → a ≡ b
-verdict_one kind first program (Ok checked) (Ok other) p q = ap Ok (checked_one checked other (p.0 ∙ sym q.0) kind p.1.1 q.1.1)
-verdict_one kind first program (Ok checked) (Err fault) p q = absurd (not_refused kind program q.0 q.1 p.1.0 q.2.0)
-verdict_one kind first program (Err fault) (Ok checked) p q = absurd (not_refused kind program p.0 p.1 q.1.0 p.2.0)
-verdict_one kind first program (Err fault) (Err other) p q =
-    ap Err (p.2.1 ∙ ap (λ reason. record { line = first; cause = Verdict reason }) (refused_one kind program p.0 p.1 q.0 q.1 p.2.0 q.2.0) ∙ sym q.2.1)
+accepted_only : (kind : Kind) (first : ℕ) (checked : CheckedProgram) → IsAccepted kind checked.program → IsChecked kind checked
+    → (other : Result CheckedProgram Fault) → VerdictSays kind first checked.program other → other ≡ Ok checked
+accepted_only kind first checked accepted is (Ok other) p = ap Ok (checked_one other checked p.0 kind p.1.1 is)
+accepted_only kind first checked accepted is (Err fault) p = absurd (not_refused kind checked.program p.0 p.1 accepted p.2.0)
 
-judged_one : (kind : Kind) (first : ℕ) (program : Program) → OneReading (verdict kind first program)
-judged_one kind first program place a b p q = p.1.1 ∙ ap (before place) (verdict_one kind first program p.0 q.0 p.1.0 q.1.0) ∙ sym q.1.1
+refused_only : (kind : Kind) (first : ℕ) (program : Program) (at reason : ℕ) → IsRefused kind program at reason
+    → (other : Result CheckedProgram Fault) → VerdictSays kind first program other → other ≡ Err (record { line = first; cause = Verdict reason })
+refused_only kind first program at reason refused (Ok checked) p = absurd (not_refused kind program at reason p.1.0 refused)
+refused_only kind first program at reason refused (Err fault) p =
+    ap Err (p.2.1 ∙ ap (λ n. record { line = first; cause = Verdict n }) (refused_one kind program p.0 p.1 at reason p.2.0 refused))
 
-pub part_one : (kind : Kind) → OneReading (part kind)
-part_one kind place a b p q =
-    then_one (program_part kind) (verdict kind place.number) (program_one kind) (λ program. judged_one kind place.number program) place a b p q
+-- the verifier says one thing of each program
+verdict_one : (kind : Kind) (first : ℕ) (program : Program) → IsProgram program → OneText (IsChecked kind) (VerdictSays kind first program)
+verdict_one kind first program is = elim (accepted_or_refused kind program) [
+  | inl accepted ↦
+      let found = some_budget kind program is accepted in
+      let checked : CheckedProgram = record { program = program; budget = found.0 } in
+      record { answer = Ok checked; says = (refl, (accepted, found.1)); keeps = found.1; only = accepted_only kind first checked accepted found.1 }
+  | inr refused ↦ record {
+    answer = Err (record { line = first; cause = Verdict refused.1 });
+    says = (refused.0, refused.1, (refused.2, refl));
+    keeps = verdict_other kind program refused.0 refused.1 refused.2;
+    only = refused_only kind first program refused.0 refused.1 refused.2;
+  }
+]
+
+-- each part says one checked program, or has one first fault
+pub part_one : (kind : Kind) → OneReading (IsChecked kind) (part kind)
+part_one kind place =
+    then_one (program_part kind) (verdict kind place.number) (program_one kind)
+    (λ program is behind. before_one behind (verdict_one kind place.number program is)) place

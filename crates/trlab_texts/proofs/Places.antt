@@ -1,5 +1,5 @@
 -- Where parts of some bytes of a line are.
-use Rattle.std.proofs.Common.{Bool, true, false, cond, ◌≡◌, ◌==◌, ℕ, ◌+◌, ◌≤◌, List, [], ◌∷◌, ◌++◌, length, take, drop, get_or, refl, sym, ◌∙◌, ap, subst, arith, length-append, take-append-drop, drop-cons, add-one}
+use Rattle.std.proofs.Common.{Bool, true, false, cond, ◌≡◌, ◌==◌, ℕ, ◌+◌, List, [], ◌∷◌, ◌++◌, length, take, drop, get_or, refl, sym, ◌∙◌, ap, subst, arith, length-append, take-append-drop, drop-cons, add-one}
 use Rattle.std.specs.Prelude.{Option, None, Some, unwrap_or, Result, Ok, Err, nat_le, ◌&&◌}
 use Rattle.std.specs.List.{position}
 use Rattle.std.proofs.lemmas.List.{append_assoc, append-nil}
@@ -9,15 +9,15 @@ use Rattle.trlab_lines.specs.Cutting.{around, cut, without_prefix}
 use Rattle.trlab_texts.specs.declared.fault.Cause.{Cause}
 use Rattle.trlab_texts.specs.declared.fault.Cause.TheVariants.{Number}
 use Rattle.trlab_texts.specs.Words.{within}
-use Rattle.trlab_texts.specs.Places.{IsAt}
+use Rattle.trlab_texts.specs.Places.{HasBytesAt}
 use Rattle.trlab_texts.proofs.Said.{behind_front}
 
 -- a line is at its own start
-pub whole : (line : List ℕ) → IsAt line 0 line
+pub whole : (line : List ℕ) → HasBytesAt line 0 line
 whole line = record { before = []; after = []; parts = sym (append-nil line); place = refl }
 
 -- the first part of some bytes is where they are
-pub first_part : (line bytes front rest : List ℕ) (at : ℕ) → IsAt line at bytes → bytes ≡ front ++ rest → IsAt line at front
+pub first_part : (line bytes front rest : List ℕ) (at : ℕ) → HasBytesAt line at bytes → bytes ≡ front ++ rest → HasBytesAt line at front
 first_part line bytes front rest at is e = record {
   before = is.before;
   after = rest ++ is.after;
@@ -26,7 +26,7 @@ first_part line bytes front rest at is e = record {
 }
 
 -- what follows it is that much later
-pub last_part : (line bytes front rest : List ℕ) (at : ℕ) → IsAt line at bytes → bytes ≡ front ++ rest → IsAt line (at + length front) rest
+pub last_part : (line bytes front rest : List ℕ) (at : ℕ) → HasBytesAt line at bytes → bytes ≡ front ++ rest → HasBytesAt line (at + length front) rest
 last_part line bytes front rest at is e = record {
   before = is.before ++ front;
   after = is.after;
@@ -35,7 +35,7 @@ last_part line bytes front rest at is e = record {
 }
 
 -- what is behind a prefix
-pub behind_prefix : (line bytes prefix rest : List ℕ) (at : ℕ) → IsAt line at bytes → Some rest ≡ without_prefix prefix bytes → IsAt line (at + length prefix) rest
+pub behind_prefix : (line bytes prefix rest : List ℕ) (at : ℕ) → HasBytesAt line at bytes → Some rest ≡ without_prefix prefix bytes → HasBytesAt line (at + length prefix) rest
 behind_prefix line bytes prefix rest at is e = last_part line bytes prefix rest at is (behind_front prefix bytes rest (sym e))
 
 cut_at : (c : ℕ) (text front rest : List ℕ) (place : Option ℕ) → position (λ b. b == c) text ≡ place → Some (front, rest) ≡ around text place → (x : ℕ) × (text ≡ front ++ (x ∷ rest))
@@ -53,17 +53,17 @@ cut_parts : (c : ℕ) (text front rest : List ℕ) → Some (front, rest) ≡ cu
 cut_parts c text front rest e = cut_at c text front rest (position (λ b. b == c) text) refl e
 
 -- what is before a cut
-pub before_cut : (line bytes front rest : List ℕ) (at c : ℕ) → IsAt line at bytes → Some (front, rest) ≡ cut c bytes → IsAt line at front
+pub before_cut : (line bytes front rest : List ℕ) (at c : ℕ) → HasBytesAt line at bytes → Some (front, rest) ≡ cut c bytes → HasBytesAt line at front
 before_cut line bytes front rest at c is e =
     let parts = cut_parts c bytes front rest e in
     first_part line bytes front (parts.0 ∷ rest) at is parts.1
 
 -- what is after it
-pub after_cut : (line bytes front rest : List ℕ) (at c : ℕ) → IsAt line at bytes → Some (front, rest) ≡ cut c bytes → IsAt line (at + length front + 1) rest
+pub after_cut : (line bytes front rest : List ℕ) (at c : ℕ) → HasBytesAt line at bytes → Some (front, rest) ≡ cut c bytes → HasBytesAt line (at + length front + 1) rest
 after_cut line bytes front rest at c is e =
     let parts = cut_parts c bytes front rest e in
     let there = last_part line bytes (front ++ (parts.0 ∷ [])) rest at is (parts.1 ∙ sym (append_snoc front parts.0 rest)) in
-    subst (λ n. IsAt line n rest) (omega (arith, length-append front (parts.0 ∷ []))) there
+    subst (λ n. HasBytesAt line n rest) (omega (arith, length-append front (parts.0 ∷ []))) there
 
 within_fails : (inside : Bool) (n : ℕ) (cause : Cause) → ◌≡◌ {A = Result ℕ Cause} (Err cause) (cond inside (Ok n) (Err Number)) → ◌≡◌ {A = Result ℕ Cause} (cond inside (Ok n) (Err Number)) (Err Number)
 within_fails true n cause e = absurd (cc e)

@@ -14,7 +14,7 @@ use Rattle.trlab_texts.specs.declared.fault.TextFault.{TextFault}
 use Rattle.trlab_texts.specs.declared.fault.TextFault.TheVariants.{At, Memory}
 use Rattle.trlab_texts.specs.Lines.{Rest, IsNextLine}
 use Rattle.trlab_texts.specs.Reading.{line, Reports, ReportsLine}
-use Rattle.trlab_texts.specs.Programs.{as_kind, code_line, code_line_of, heading, program_part, verdict, VerdictSays, part}
+use Rattle.trlab_texts.specs.Programs.{as_kind, code_line, code_line_of, heading_line, program_part, verdict, VerdictSays, part}
 use Rattle.trlab_texts.proofs.Readings.{goes_on}
 
 kind_as : (kind own : Kind) (program : Program) → own ≡ kind → as_kind kind own program ≡ Ok program
@@ -42,7 +42,7 @@ code_of_none kind text NoMemory says = tt
 
 -- a program in one line
 pub in_one_line : (kind : Kind) (place after : Rest) (text : List ℕ) (out : Result (Program × Rest) TextFault) → IsNextLine place text after
-    → bytes_eq text (heading kind) ≡ false → Reports (line (code_line_of kind) place) out → Reports (program_part kind place) out
+    → bytes_eq text (heading_line kind) ≡ false → Reports (line (code_line_of kind) place) out → Reports (program_part kind place) out
 in_one_line kind place after text (Ok found) stands other says = rw (stands.0, other) (rw stands.0 at says)
 in_one_line kind place after text (Err (At number cause)) stands other says = rw (stands.0, other) (rw stands.0 at says)
 in_one_line kind place after text (Err Memory) stands other says = tt

@@ -7,7 +7,7 @@ use Rattle.trlab_texts.specs.declared.fault.LineFault.TheVariants.{Wrong, Memory
 use Rattle.trlab_texts.specs.declared.fault.TextFault.{TextFault}
 use Rattle.trlab_texts.specs.declared.fault.TextFault.TheVariants.{At, Memory}
 use Rattle.trlab_texts.specs.Lines.{Rest, IsNextLine}
-use Rattle.trlab_texts.specs.Reading.{Fault, Rule, Reading, LineSays, ◌>>=◌, line, Reports, ReportsLine, fault_at}
+use Rattle.trlab_texts.specs.Reading.{Fault, Rule, Reading, LineSays, ◌>>=◌, line, Reports, ReportsLine, text_fault}
 
 -- a place is its number and its lines
 pub rest_is : (after : Rest) (n : ℕ) → after.number ≡ n → after ≡ record { number = n; left = after.left }
@@ -22,7 +22,7 @@ line_says rule place after text x stands says =
 -- a line has a fault, or memory ran out
 pub line_fails : {A : Type 0} (rule : Rule A) (place after : Rest) (text : List ℕ) (number : ℕ) (fault : LineFault)
     → IsNextLine place text after → number ≡ place.number
-    → ReportsLine (rule text) (Err fault) → Reports (line rule place) (Err (fault_at number fault))
+    → ReportsLine (rule text) (Err fault) → Reports (line rule place) (Err (text_fault number fault))
 line_fails rule place after text number (Wrong cause) stands here says = rw (stands.0, here) (Err cause, (says, refl))
 line_fails rule place after text number NoMemory stands here says = tt
 

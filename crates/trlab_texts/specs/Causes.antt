@@ -1,5 +1,5 @@
--- The numbers by which refused texts tell their causes.
-use Rattle.std.specs.Prelude.{ℕ, ◌+◌}
+-- The numbers of causes, which are printed for rejected texts.
+use Rattle.std.specs.Prelude.{◌≢◌, ℕ, ◌+◌}
 use Rattle.trlab_code.specs.declared.fault.CodeFault.{CodeFault}
 use Rattle.trlab_code.specs.declared.fault.CodeFault.TheVariants.{Short, Magic, Version, Kind, Count, Opcode, Field, Trailing, Memory as CodeMemory, NeedlessVersion}
 use Rattle.trlab_asm.specs.declared.fault.Why.{Why}
@@ -60,8 +60,8 @@ own_cause_number Work = 7
 own_cause_number Hex = 8
 own_cause_number _ = 0
 
--- the number of a cause in the line of a refused text: 9 where the text is too big, after 10, 20 and 30
--- those of faults of programs and roads, from 40 on what the verifier refuses
+-- the number of a cause: 9 for a text that is too long, 10, 20 and 30 plus the number of a fault of a program
+-- or of a road, and 40 plus the verifier's reason
 abbrev pub cause_number : Cause → ℕ
 cause_number (Program why) = 10 + why_number why
 cause_number (Code fault) = 20 + code_fault_number fault
@@ -70,3 +70,7 @@ cause_number TooBig = 9
 cause_number StandardRefused = 40
 cause_number (Verdict reason) = 40 + reason
 cause_number cause = own_cause_number cause
+
+-- a cause with another number than that of a standard rule whose program is rejected
+abbrev pub IsOtherCause : Cause → Type 0
+IsOtherCause cause = cause_number cause ≢ cause_number StandardRefused

@@ -4,24 +4,24 @@ use Rattle.trlab_texts.specs.declared.line_name.LineName.{LineName}
 use Rattle.trlab_texts.specs.declared.line_name.LineName.TheVariants.{Road, Sweep, Key, Limit, Length, Lanes, Lane, Rule, Motion, Change, Steps, At, Warm, Measure, Cars, End}
 
 -- the first word of a line
-abbrev pub word_of : LineName → List ℕ
-word_of Road = codes "road"
-word_of Sweep = codes "sweep"
-word_of Key = codes "key"
-word_of Limit = codes "limit"
-word_of Length = codes "length"
-word_of Lanes = codes "lanes"
-word_of Lane = codes "lane"
-word_of Rule = codes "rule"
-word_of Motion = codes "motion"
-word_of Change = codes "change"
-word_of Steps = codes "steps"
-word_of At = codes "at"
-word_of Warm = codes "warm"
-word_of Measure = codes "measure"
-word_of Cars = codes "cars"
-word_of End = codes "end"
+abbrev pub name_word : LineName → List ℕ
+name_word Road = codes "road"
+name_word Sweep = codes "sweep"
+name_word Key = codes "key"
+name_word Limit = codes "limit"
+name_word Length = codes "length"
+name_word Lanes = codes "lanes"
+name_word Lane = codes "lane"
+name_word Rule = codes "rule"
+name_word Motion = codes "motion"
+name_word Change = codes "change"
+name_word Steps = codes "steps"
+name_word At = codes "at"
+name_word Warm = codes "warm"
+name_word Measure = codes "measure"
+name_word Cars = codes "cars"
+name_word End = codes "end"
 
 -- the same, and a space after it
 abbrev pub name_and_space : LineName → List ℕ
-name_and_space name = word_of name ++ codes " "
+name_and_space name = name_word name ++ codes " "

@@ -1,4 +1,4 @@
--- Programs in texts: the hexadecimal digits of their bytes on one line, or their own lines in a block.
+-- Programs in texts: their bytes in hexadecimal digits on one line, or a block of lines.
 use Rattle.std.specs.Prelude.{◌≡◌, ◌≢◌, ℕ, ◌+◌, Bool, true, false, List, [], ◌∷◌, length, codes, Option, None, Some, Result, Ok, Err, if◌then◌else◌}
 use Rattle.std.specs.Str.{bytes_eq}
 use Rattle.hex.specs.Hex.{decode_of}
@@ -7,7 +7,7 @@ use Rattle.trlab_code.specs.declared.kind.Kind.{Kind}
 use Rattle.trlab_code.specs.declared.kind.Kind.TheVariants.{Motion, Change}
 use Rattle.trlab_code.specs.declared.fault.CodeFault.TheVariants.{Kind as OtherKind, Memory as CodeMemory}
 use Rattle.trlab_code.specs.Program.{Program, IsProgram}
-use Rattle.trlab_code.specs.Spelling.{spelling}
+use Rattle.trlab_code.specs.Encoding.{encoding}
 use Rattle.trlab_code.specs.Faults.{IsFirstFault as FirstCodeFault}
 use Rattle.trlab_asm.specs.declared.fault.AsmFault.{AsmFault}
 use Rattle.trlab_asm.specs.Assembly.{code_of}
@@ -19,11 +19,11 @@ use Rattle.trlab_texts.specs.Lines.{Rest}
 use Rattle.trlab_texts.specs.Words.{word_after}
 use Rattle.trlab_texts.specs.Reading.{Fault, Rule, Reading, ◌>>=◌, LineSays, before}
 
--- bytes spell a program
+-- bytes encode a program
 abbrev pub Spell : List ℕ → Program → Type 0
-Spell bytes program = IsProgram program × (bytes ≡ spelling program)
+Spell bytes program = IsProgram program × (bytes ≡ encoding program)
 
--- what the bytes of a program say: the program that they spell, or their first fault
+-- what the bytes of a program say: the program that they encode, or their first fault
 abbrev pub BytesSay : List ℕ → Result Program Cause → Type 0
 BytesSay bytes (Ok program) = Spell bytes program
 BytesSay bytes (Err (Code fault)) = FirstCodeFault bytes fault × (fault ≢ CodeMemory)
@@ -43,14 +43,14 @@ CodeSays (Ok digits) says = DigitsSay (decode_of digits) says
 abbrev pub code_line : Rule Program
 code_line text says = CodeSays (word_after (codes "code ") text) says
 
--- a program where one of a kind must stand: one of the other kind is a fault of its code
+-- a program if one of a kind is needed: a program of the other kind is a fault of its code
 abbrev pub as_kind : Kind → Kind → Program → Result Program Cause
 as_kind Motion Motion program = Ok program
 as_kind Motion Change program = Err (Code OtherKind)
 as_kind Change Motion program = Err (Code OtherKind)
 as_kind Change Change program = Ok program
 
--- what is said of a program, where one of a kind must stand
+-- the same, if there is a program
 abbrev pub of_kind : Kind → Result Program Cause → Result Program Cause
 of_kind kind (Err cause) = Err cause
 of_kind kind (Ok program) = as_kind kind program.kind program
@@ -60,8 +60,8 @@ abbrev pub code_line_of : Kind → Rule Program
 code_line_of kind text says =
     (any : Result Program Cause) × (code_line text any × (says ≡ of_kind kind any))
 
--- what an assembler says of the lines after the line `first`, counted in the whole text; where no
--- line is at fault, as in a program without instructions, it stands at the line `first`
+-- what an assembler says of the lines after the line `first`, with line numbers of the whole text; a fault of
+-- no line, as in a program without instructions, is at the line `first`
 abbrev pub after_line : ℕ → Result Program AsmFault → Result Program Fault
 after_line first (Ok program) = Ok program
 after_line first (Err fault) = Err (record { line = first + fault.line; cause = InProgram fault.why })
@@ -79,31 +79,31 @@ abbrev pub with_first : List ℕ → Option Part → Option Part
 with_first text None = None
 with_first text (Some found) = Some (text ∷ found.0, found.1)
 
--- the lines up to the line `end`, and the lines after it; none where no line is `end`
+-- the lines before the line `end`, and the lines after it; none if no line is `end`
 unfoldable pub part_of : List (List ℕ) → Option Part
 part_of [] = None
 part_of (text ∷ left) =
     if bytes_eq text (codes "end") then Some ([], left) else with_first text (part_of left)
 
 -- the lines of a part, and the rest after its line `end`
-abbrev pub IsPart : Rest → List (List ℕ) → Rest → Type 0
-IsPart rest lines after =
+abbrev pub SplitsPart : Rest → List (List ℕ) → Rest → Type 0
+SplitsPart rest lines after =
     (part_of rest.left ≡ Some (lines, after.left)) × (after.number ≡ rest.number + length lines + 1)
 
--- the line that heads a block of a kind
-abbrev pub heading : Kind → List ℕ
-heading Motion = codes "motion"
-heading Change = codes "change"
+-- the line that begins a block of a kind
+abbrev pub heading_line : Kind → List ℕ
+heading_line Motion = codes "motion"
+heading_line Change = codes "change"
 
--- the program of a block whose heading is the line `first`: the lines up to `end`; where that is
--- missing, the text has ended too early
+-- the program of a block that begins on the line `first`: the lines before `end`; if that is missing, the
+-- text ends too early
 abbrev pub block : Kind → ℕ → List (List ℕ) → Option Part → Result (Program × Rest) Fault
 block kind first left None = Err (record { line = first + 1 + length left; cause = Line })
 block kind first left (Some parts) =
     before (record { number = first + length parts.0 + 2; left = parts.1 })
     (program_after kind first parts.0)
 
--- a program by its first line, which is the heading of a block or is not
+-- a program, if its first line begins a block, and if it does not
 abbrev pub HeadingSays : Kind → Bool → ℕ → List ℕ → List (List ℕ)
     → Result (Program × Rest) Fault → Type 0
 HeadingSays kind true number text left out = out ≡ block kind number left (part_of left)
@@ -113,14 +113,14 @@ HeadingSays kind false number text left out = LineSays (code_line_of kind) numbe
 abbrev pub PartSays : Kind → ℕ → List (List ℕ) → Result (Program × Rest) Fault → Type 0
 PartSays kind number [] out = out ≡ Err (record { line = number; cause = Line })
 PartSays kind number (text ∷ left) out =
-    HeadingSays kind (bytes_eq text (heading kind)) number text left out
+    HeadingSays kind (bytes_eq text (heading_line kind)) number text left out
 
 -- a program of a kind: a block, or the line `code X`
 abbrev pub program_part : Kind → Reading Program
 program_part kind rest out = PartSays kind rest.number rest.left out
 
--- what the verifier says of a program of a kind whose first line is `first`: that it is accepted,
--- with its budget, or why it is refused
+-- what the verifier says of a program of a kind whose first line is `first`: that it is accepted, with its
+-- budget, or why it is rejected
 abbrev pub VerdictSays : Kind → ℕ → Program → Result CheckedProgram Fault → Type 0
 VerdictSays kind first program (Ok checked) =
     (checked.program ≡ program) × (IsAccepted kind program × IsChecked kind checked)

@@ -1,4 +1,4 @@
--- What a reader wanted where it refused a file.
+-- What a reader wanted when it rejected a file.
 use Rattle.std.specs.Prelude.{◌≡◌, ℕ, ◌≤◌, List, length, Err}
 use Rattle.trlab_code.specs.declared.kind.Kind.{Kind}
 use Rattle.trlab_road.specs.declared.fault.RoadFault.TheVariants.{Length, SpeedAboveLimit}
@@ -9,17 +9,17 @@ use Rattle.trlab_texts.specs.declared.fault.LineFault.{LineFault}
 use Rattle.trlab_texts.specs.declared.fault.LineFault.TheVariants.{Wrong, Memory as NoMemory}
 use Rattle.trlab_texts.specs.declared.fault.TextFault.{TextFault}
 use Rattle.trlab_texts.specs.declared.fault.TextFault.TheVariants.{At, Memory}
-use Rattle.trlab_texts.specs.declared.wanted.Wanted.{Wanted as Wish}
-use Rattle.trlab_texts.specs.declared.wanted.Wanted.TheVariants.{Nothing, Lines, Number, Digits, SecondLane, Step, Work, Cells, Speed, Program}
-use Rattle.trlab_texts.specs.Places.{IsAt}
+use Rattle.trlab_texts.specs.declared.refusal.Wanted.{Wanted as Wish}
+use Rattle.trlab_texts.specs.declared.refusal.Wanted.TheVariants.{Nothing, Lines, Number, Digits, SecondLane, Step, Work, Cells, Speed, Program}
+use Rattle.trlab_texts.specs.Places.{HasBytesAt}
 use Rattle.trlab_texts.specs.Words.{number_of, within}
 
--- in place of a word of a line, of this size, a number is wanted, and it is none of the range
+-- a word of a line, at this position and of this size, is not a number of the range
 abbrev pub IsNoNumberAt : List ℕ → ℕ → ℕ → ℕ → ℕ → Type 0
 IsNoNumberAt line at size least most = (word : List ℕ)
-    × (IsAt line at word × ((length word ≡ size) × (within least most (number_of word) ≡ Err NoNumber)))
+    × (HasBytesAt line at word × ((length word ≡ size) × (within least most (number_of word) ≡ Err NoNumber)))
 
--- what is wanted for each cause, in a line; other pairs of the two never come
+-- what is wanted for each cause, in a line; other pairs of the two never occur
 abbrev pub IsWantedIn : List ℕ → Cause → Wish → Type 0
 IsWantedIn line Line (Lines names) = Unit {0}
 IsWantedIn line NoNumber (Number at size least most quantity) = IsNoNumberAt line at size least most
@@ -41,7 +41,7 @@ IsWantedIn line (Road fault) Nothing = Unit {0}
 IsWantedIn line StandardRefused Nothing = Unit {0}
 IsWantedIn line cause wanted = ⊥
 
--- the same of a fault of a line; where memory ran out nothing is wanted
+-- the same of a fault of a line; if an allocation fails nothing is wanted
 abbrev pub IsWantedAt : List ℕ → LineFault → Wish → Type 0
 IsWantedAt line (Wrong cause) wanted = IsWantedIn line cause wanted
 IsWantedAt line NoMemory wanted = wanted ≡ Nothing

@@ -15,7 +15,7 @@ has_space text = list_any (λ c. c == 32) text
 abbrev pub is_word : List ℕ → Bool
 is_word text = nat_lt 0 (length text) && not (has_space text)
 
--- what stands after a name, where it is one word: cause Line where it is anything else
+-- the text after a name, if it is one word; anything else has the cause Line
 abbrev pub one_word : Option (List ℕ) → Result (List ℕ) Cause
 one_word None = Err Line
 one_word (Some word) = if is_word word then Ok word else Err Line
@@ -24,7 +24,7 @@ one_word (Some word) = if is_word word then Ok word else Err Line
 abbrev pub word_after : List ℕ → List ℕ → Result (List ℕ) Cause
 word_after name text = one_word (without_prefix name text)
 
--- the number that a word is the decimal digits of
+-- the number whose decimal digits a word is
 abbrev pub number_of : List ℕ → Option ℕ
 number_of word = if bytes_eq (decimal (digits_value 10 word)) word then Some (digits_value 10 word) else None
 
@@ -47,11 +47,11 @@ abbrev pub next_word_is : List ℕ → List (List ℕ) → Bool
 next_word_is word [] = false
 next_word_is word (text ∷ left) = bytes_eq (head_word text) word
 
--- the text where it is one word
+-- the text, if it is one word
 abbrev pub as_word : List ℕ → Option (List ℕ)
 as_word text = if is_word text then Some text else None
 
--- two parts where each is a word
+-- two parts, if each is a word
 abbrev pub both_words : Option (List ℕ × List ℕ) → Option (List ℕ × List ℕ)
 both_words None = None
 both_words (Some parts) = if is_word parts.0 && is_word parts.1 then Some parts else None

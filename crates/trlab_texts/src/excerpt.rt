@@ -1,4 +1,4 @@
-//! Excerpts of lines, which know where in the line they begin.
+//! Excerpts of lines, with their positions, which explanations of faults name.
 
 ghost use Rattle.std.specs.Prelude.{◌≡◌, Err};
 ghost use Rattle.trlab_lines.specs.Cutting.{cut, without_prefix};
@@ -8,13 +8,12 @@ ghost use Rattle.trlab_texts.specs.LineNames.{name_and_space};
 
 use crate::fault::Cause;
 use crate::line_name::LineName;
-use crate::refusal::Objection;
-use crate::wanted::{Quantity, Wanted};
+use crate::refusal::{Objection, Quantity, Wanted};
 use crate::word;
 use std::marker::Model;
 use trlab_bounds::texts::LONGEST_NUMBER;
 
-/// Some bytes of a line, and where in the line they begin.
+/// Some bytes of a line and their position in it.
 #[derive(Drop)]
 pub struct Excerpt<'a> {
     line: &'a [u8],
@@ -24,17 +23,16 @@ pub struct Excerpt<'a> {
 
 impl<'a> Model for Excerpt<'a> {
     ghost use Rattle.std.specs.Prelude.{ℕ, List};
-    ghost use Rattle.trlab_texts.specs.Places.{IsAt};
+    ghost use Rattle.trlab_texts.specs.Places.{HasBytesAt};
 
     ghost Value = { List ℕ };
 
     ghost view = { λ excerpt. excerpt.bytes.now };
 
-    ghost invariant = { λ excerpt. IsAt excerpt.line.now excerpt.at excerpt.bytes.now };
+    ghost invariant = { λ excerpt. HasBytesAt excerpt.line.now excerpt.at excerpt.bytes.now };
 }
 
 impl<'a> Excerpt<'a> {
-    /// The whole line.
     pub fn of(line: &'a [u8]) -> Excerpt<'a>
         ensures { result ≡ line.now }
     {
@@ -45,11 +43,11 @@ impl<'a> Excerpt<'a> {
         }
     }
 
-    /// The one word of a line after its name, which ends with a space.
+    /// The only word after the name of a line; the name ends with a space.
     ///
     /// # Errors
     ///
-    /// `Cause::Line` where anything else is there.
+    /// `Cause::Line` for anything else.
     pub fn word_after(name: &[u8], line: &'a [u8]) -> Result<Excerpt<'a>, Objection<'a>>
         ensures { result ≡ word_after name.now line.now }
     {
@@ -65,11 +63,11 @@ impl<'a> Excerpt<'a> {
         }
     }
 
-    /// The number from `low` to `high` that is the one word of a line after its name.
+    /// The number from `low` to `high` that is the only word after the name of a line.
     ///
     /// # Errors
     ///
-    /// `Cause::Line` where no one word is after the name, and else `Cause::Number`.
+    /// `Cause::Line` unless one word follows the name, `Cause::Number` for any other word.
     pub fn number_after(
         name: LineName,
         low: u32,
@@ -83,14 +81,13 @@ impl<'a> Excerpt<'a> {
         word.number(low, high, quantity)
     }
 
-    /// The bytes themselves.
     pub fn bytes(&self) -> &'a [u8]
         ensures { result.now ≡ self.now }
     {
         self.bytes
     }
 
-    /// What follows a prefix.
+    /// The excerpt after a prefix, if it has this prefix.
     pub fn after(&self, prefix: &[u8]) -> Option<Excerpt<'a>>
         ensures { result ≡ without_prefix prefix.now self.now }
     {
@@ -104,7 +101,7 @@ impl<'a> Excerpt<'a> {
         }
     }
 
-    /// What is before the first byte of this kind, and what is after it.
+    /// The excerpts before and after the first occurrence of a byte.
     pub fn cut(&self, byte: u8) -> Option<(Excerpt<'a>, Excerpt<'a>)>
         ensures { result ≡ cut byte self.now }
     {
@@ -126,21 +123,20 @@ impl<'a> Excerpt<'a> {
         }
     }
 
-    /// Is it one word?
     pub fn is_word(&self) -> bool
         ensures { result ≡ is_word self.now }
     {
         word::is_word(self.bytes)
     }
 
-    /// The excerpt, where it is one word.
+    /// The excerpt, if it is one word.
     pub fn as_word(self) -> Option<Excerpt<'a>>
         ensures { result ≡ as_word self.entry }
     {
         if self.is_word() { Some(self) } else { None }
     }
 
-    /// The two words of which it consists, with one space between them.
+    /// Its two words, if it consists of two words and one space between them.
     pub fn two_words(&self) -> Option<(Excerpt<'a>, Excerpt<'a>)>
         ensures { result ≡ two_words self.now }
     {
@@ -156,7 +152,7 @@ impl<'a> Excerpt<'a> {
         }
     }
 
-    /// The number from `low` to `high` that it writes.
+    /// Its value, if it is a number from `low` to `high`.
     ///
     /// # Errors
     ///
@@ -171,7 +167,7 @@ impl<'a> Excerpt<'a> {
         }
     }
 
-    /// The number that it writes, where it has no more digits than a number may have.
+    /// Its value, if it is a number of at most `MAX_DIGITS` digits.
     ///
     /// # Errors
     ///
@@ -186,7 +182,7 @@ impl<'a> Excerpt<'a> {
         }
     }
 
-    /// That these bytes are no key.
+    /// The objection that these bytes are not a key.
     pub fn no_key(self) -> Objection<'a>
         ensures { result ≡ Cause.Key }
     {
@@ -194,7 +190,7 @@ impl<'a> Excerpt<'a> {
         Objection::new(Cause::Key, self.line, wanted)
     }
 
-    /// That these bytes are no bytes in hexadecimal digits.
+    /// The objection that these bytes are not hexadecimal digits of bytes.
     pub fn no_hex(self) -> Objection<'a>
         ensures { result ≡ Cause.Hex }
     {
@@ -202,7 +198,7 @@ impl<'a> Excerpt<'a> {
         Objection::new(Cause::Hex, self.line, wanted)
     }
 
-    /// That these bytes are no number of this range.
+    /// The objection that these bytes are not a number from `least` to `most`.
     fn no_number(self, least: u64, most: u64, quantity: Quantity) -> Objection<'a>
         requires { within least most (number_of self) ≡ Err Cause.Number }
         ensures { result ≡ Cause.Number }

@@ -1,7 +1,7 @@
-//! Faults: what is wrong with a text, the number that tells it, and the line.
+//! Faults of texts: the cause with its number, and the line.
 
 ghost use Rattle.std.specs.Prelude.{◌≡◌};
-ghost use Rattle.trlab_texts.specs.Reading.{fault_at};
+ghost use Rattle.trlab_texts.specs.Reading.{text_fault};
 ghost use Rattle.trlab_texts.specs.Causes.{cause_number, why_number, code_fault_number, road_fault_number};
 
 use thiserror::Error;
@@ -12,10 +12,10 @@ use trlab_road::RoadFault;
 /// What is wrong in a line of a text.
 #[derive(Clone, Copy, Debug, PartialEq, Eq, Error)]
 pub enum Cause {
-    /// Not the line that must stand here, a wrong count of words, or the text has ended.
+    /// Not a line that may come here, a wrong number of words, or the end of the text.
     #[error("not the line that must stand here")]
     Line,
-    /// No number, or one outside its range.
+    /// Not a number, or a number outside its range.
     #[error("not a number in its range")]
     Number,
     /// The key is not 64 hexadecimal digits.
@@ -24,13 +24,13 @@ pub enum Cause {
     /// A change program on a road of one lane.
     #[error("a change program needs two lanes")]
     OneLane,
-    /// The step does not rise, or is not below the count of steps.
+    /// The step is not above the one before it, or not below the number of steps.
     #[error("the step does not rise, or is not below the count of steps")]
     Order,
     /// More rules of later steps than a job may have, or more points than a sweep may have.
     #[error("too many rules of later steps, or too many points")]
     TooMany,
-    /// The points so far have more steps together than a sweep may have.
+    /// The points so far take more steps together than a sweep may take.
     #[error("too many steps for one sweep")]
     Work,
     /// The bytes of a program are not hexadecimal.
@@ -39,26 +39,26 @@ pub enum Cause {
     /// The text is longer than a text may be.
     #[error("the text is too long")]
     TooBig,
-    /// The lines of a block are no program.
+    /// The lines of a block are not a program.
     #[error("no program: {0}")]
     Program(Why),
-    /// The bytes spell no program of the kind that must stand here.
+    /// The bytes do not encode a program of the kind that is needed here.
     #[error("no program: {0}")]
     Code(CodeFault),
-    /// The lanes show no road.
+    /// The lanes do not show a road.
     #[error("no road: {0}")]
     Road(RoadFault),
-    /// The verifier refuses a program of a standard rule. No text has this cause, because the verifier accepts
+    /// The verifier rejects a program of a standard rule. No text has this cause, because the verifier accepts
     /// these programs (law `standard_programs_are_accepted` of `trlab_rules`).
     #[error("a program of the standard rule is refused")]
     StandardRefused,
-    /// The verifier refuses the program, for this reason.
+    /// The verifier rejects the program, for the reason with this number.
     #[error("the program is refused for reason {0}")]
     Verdict(u32),
 }
 
 impl Cause {
-    /// The number of the cause in the line of a refused text.
+    /// The number of the cause, as it is printed for a rejected text.
     pub fn number(self) -> u64
         ensures { result ≡ cause_number self }
     {
@@ -81,7 +81,6 @@ impl Cause {
     }
 }
 
-/// The number of a fault of a program's lines.
 fn why_number(why: Why) -> u64
     ensures { result ≡ why_number why }
 {
@@ -97,7 +96,6 @@ fn why_number(why: Why) -> u64
     }
 }
 
-/// The number of a fault of a program's bytes.
 fn code_fault_number(fault: CodeFault) -> u64
     ensures { result ≡ code_fault_number fault }
 {
@@ -115,7 +113,6 @@ fn code_fault_number(fault: CodeFault) -> u64
     }
 }
 
-/// The number of a fault of a road's pictures.
 fn road_fault_number(fault: RoadFault) -> u64
     ensures { result ≡ road_fault_number fault }
 {
@@ -130,10 +127,10 @@ fn road_fault_number(fault: RoadFault) -> u64
     }
 }
 
-/// Why a line was not read.
+/// Why a line was rejected.
 #[derive(Clone, Copy, Debug, PartialEq, Eq, Error)]
 pub enum LineFault {
-    /// What is wrong in the line.
+    /// The cause.
     #[error("{0}")]
     Wrong(Cause),
     #[error("out of memory")]
@@ -141,9 +138,9 @@ pub enum LineFault {
 }
 
 impl LineFault {
-    /// The fault of the text, where this is that of the line with this number.
+    /// The fault of a text whose line with this number has this fault.
     pub fn at(self, line: u32) -> TextFault
-        ensures { result ≡ fault_at line self }
+        ensures { result ≡ text_fault line self }
     {
         match self {
             LineFault::Wrong(cause) => TextFault::At { line, cause },
@@ -152,10 +149,10 @@ impl LineFault {
     }
 }
 
-/// Why a text was not read.
+/// Why a text was rejected.
 #[derive(Clone, Copy, Debug, PartialEq, Eq, Error)]
 pub enum TextFault {
-    /// The first fault of the text, with the number of its line.
+    /// The first fault of the text; lines are counted from 1, and line 0 is the whole text.
     #[error("line {line}: {cause}")]
     At { line: u32, cause: Cause },
     #[error("out of memory")]

@@ -8,12 +8,10 @@ mod line_name;
 pub mod program;
 mod refusal;
 mod rest;
-mod wanted;
 pub mod word;
 
 pub use excerpt::Excerpt;
 pub use fault::{Cause, LineFault, TextFault};
 pub use line_name::{LineName, LineNames};
-pub use refusal::{LineRefusal, Objection, Refusal};
+pub use refusal::{LineRefusal, Objection, Quantity, Refusal, Wanted};
 pub use rest::Rest;
-pub use wanted::{Quantity, Wanted};

@@ -1,7 +1,7 @@
-//! The lines of job and sweep files by their first word, and sets of them.
+//! The lines of job and sweep files by their first words, and sets of them.
 
 ghost use Rattle.std.specs.Prelude.{◌≡◌, ◌<◌, IsTrue, ◌↔◌, length};
-ghost use Rattle.trlab_texts.specs.LineNames.{name_and_space, word_of};
+ghost use Rattle.trlab_texts.specs.LineNames.{name_and_space, name_word};
 
 /// A line of a job or sweep file, by its first word.
 #[derive(Clone, Copy, Debug, PartialEq, Eq)]
@@ -41,7 +41,7 @@ pub enum LineName {
 }
 
 impl LineName {
-    /// All of them, in the order of a file.
+    /// All names, in the order of a file.
     pub const ALL: [LineName; 16] = [
         LineName::Road,
         LineName::Sweep,
@@ -85,9 +85,8 @@ impl LineName {
         }
     }
 
-    /// The first word of the line.
     pub fn word(self) -> &'static [u8]
-        ensures { result.now ≡ word_of self }
+        ensures { result.now ≡ name_word self }
     {
         let name = self.name_and_space();
         let (word, _) = name.split_at(name.len() - 1);
@@ -95,33 +94,30 @@ impl LineName {
     }
 }
 
-/// A set of lines by their names.
+/// A set of line names.
 #[derive(Clone, Copy)]
 pub struct LineNames {
     present: [bool; 16],
 }
 
 impl LineNames {
-    /// The empty set.
     pub fn none() -> LineNames {
         LineNames {
             present: [false; 16],
         }
     }
 
-    /// This set with one name more.
+    /// The set with this name added.
     pub fn with(self, name: LineName) -> LineNames {
         let mut present = self.present;
         present[name as usize] = true;
         LineNames { present }
     }
 
-    /// Is a name in the set?
     pub fn has(self, name: LineName) -> bool {
         self.present[name as usize]
     }
 
-    /// Is no name in the set?
     pub fn is_empty(self) -> bool {
         !self.present.contains(&true)
     }

@@ -1,16 +1,75 @@
-//! Refusals: the fault of a line or of a file, and what the reader wanted there.
+//! Refusals: the first fault of a line or of a text, with what the reader wanted instead.
 
 ghost use Rattle.std.specs.Prelude.{◌≡◌, []};
-ghost use Rattle.trlab_texts.specs.Reading.{fault_at};
+ghost use Rattle.trlab_texts.specs.Reading.{text_fault};
 ghost use Rattle.trlab_texts.specs.Wanted.{IsWanted, IsWantedIn};
-ghost use Rattle.trlab_texts.specs.declared.wanted.Wanted.TheVariants.{Nothing};
+ghost use Rattle.trlab_texts.specs.declared.refusal.Wanted.TheVariants.{Nothing};
 
 use crate::fault::{Cause, LineFault, TextFault};
 use crate::line_name::LineNames;
-use crate::wanted::Wanted;
 use std::marker::Model;
+use trlab_code::Code;
 
-/// What is wrong in a line, and what was wanted in place of it.
+/// The quantity that a number of a line states.
+#[derive(Clone, Copy, Debug, PartialEq, Eq)]
+pub enum Quantity {
+    /// A probability, times 2^31.
+    Probability,
+    /// The cars of a road with this many cells.
+    Cars { cells: u32 },
+    /// Anything else.
+    Other,
+}
+
+/// What a reader wanted when it rejected a file. Positions are in bytes from the start of the line.
+#[derive(Drop)]
+pub enum Wanted {
+    /// Nothing to add to the cause.
+    Nothing,
+    /// One of these lines; `End` inside a program.
+    Lines(LineNames),
+    /// A number from `least` to `most` instead of the word at this position.
+    Number {
+        at: usize,
+        length: usize,
+        least: u64,
+        most: u64,
+        quantity: Quantity,
+    },
+    /// Hexadecimal digits from this position on.
+    Digits {
+        at: usize,
+    },
+    /// A second lane; this line has the first one, or the number of lanes.
+    SecondLane {
+        line: u32,
+    },
+    /// A step from `least` on, below `steps`.
+    Step {
+        least: u32,
+        steps: u32,
+    },
+    /// Fewer steps: `points` points of `steps` steps each are too many.
+    Work {
+        points: u32,
+        steps: u32,
+    },
+    /// As many cells as the first lane has; 0 if the first lane is at fault itself.
+    Cells {
+        first: u32,
+    },
+    /// At most this speed.
+    Speed {
+        limit: u32,
+    },
+    /// A program without the fault that the verifier finds in this one at an instruction, counted from 0.
+    Program {
+        code: Code,
+        at: u32,
+    },
+}
+
+/// What is wrong in a line, and what was wanted instead.
 #[derive(Drop)]
 pub struct Objection<'a> {
     cause: Cause,
@@ -30,7 +89,7 @@ impl<'a> Model for Objection<'a> {
 }
 
 impl<'a> Objection<'a> {
-    /// An objection for a cause, and what was wanted in this line.
+    /// An objection with what was wanted in this line.
     pub fn new(cause: Cause, line: &'a [u8], wanted: Wanted) -> Objection<'a>
         requires { IsWantedIn line.now cause wanted }
         ensures { result ≡ cause }
@@ -42,7 +101,7 @@ impl<'a> Objection<'a> {
         }
     }
 
-    /// An objection for a cause that says all.
+    /// An objection whose cause says everything.
     pub fn bare(cause: Cause) -> Objection<'a>
         requires { IsWantedIn [] cause Nothing }
         ensures { result ≡ cause }
@@ -50,15 +109,15 @@ impl<'a> Objection<'a> {
         Objection::new(cause, b"", Wanted::Nothing)
     }
 
-    /// That another line is wanted.
+    /// The objection that another line is wanted.
     pub fn no_line() -> Objection<'a>
         ensures { result ≡ Cause.Line }
     {
         Objection::new(Cause::Line, b"", Wanted::Lines(LineNames::none()))
     }
 
-    /// The refusal of a text whose line of this number it is; a line that is not the right one could have been one
-    /// of these.
+    /// The refusal of a text because of this line. If its cause is `Line`, a line with one of these names is
+    /// wanted.
     pub fn at(self, number: u32, names: LineNames) -> Refusal<'a>
         ensures { result ≡ TextFault.At number self.entry }
     {
@@ -66,7 +125,7 @@ impl<'a> Objection<'a> {
     }
 }
 
-/// Why a line was not read, and what was wanted in it.
+/// Why a line was rejected, and what was wanted instead.
 #[derive(Drop)]
 pub struct LineRefusal<'a> {
     fault: LineFault,
@@ -86,7 +145,7 @@ impl<'a> Model for LineRefusal<'a> {
 }
 
 impl<'a> LineRefusal<'a> {
-    /// The refusal of a line for what is wrong in it.
+    /// The refusal of a line because of an objection.
     pub fn of(objection: Objection<'a>) -> LineRefusal<'a>
         ensures { result ≡ LineFault.Wrong objection.entry }
     {
@@ -102,7 +161,7 @@ impl<'a> LineRefusal<'a> {
         }
     }
 
-    /// Memory ran out.
+    /// An allocation failed.
     pub fn memory() -> LineRefusal<'a>
         ensures { result ≡ LineFault.Memory }
     {
@@ -113,17 +172,16 @@ impl<'a> LineRefusal<'a> {
         }
     }
 
-    /// The fault alone.
     pub fn fault(&self) -> LineFault
         ensures { result ≡ self.now }
     {
         self.fault
     }
 
-    /// The refusal of a text whose line of this number it is; a line that is not the right one could have been one
-    /// of these.
+    /// The refusal of a text because of this line. If its cause is `Line`, a line with one of these names is
+    /// wanted.
     pub fn at(self, number: u32, names: LineNames) -> Refusal<'a>
-        ensures { result ≡ fault_at number self.entry }
+        ensures { result ≡ text_fault number self.entry }
     {
         let LineRefusal {
             fault,
@@ -145,7 +203,7 @@ impl<'a> LineRefusal<'a> {
     }
 }
 
-/// Why a text was not read, and what was wanted at its first fault.
+/// Why a text was rejected, and what was wanted at its first fault.
 #[derive(Drop)]
 pub struct Refusal<'a> {
     fault: TextFault,
@@ -165,7 +223,7 @@ impl<'a> Model for Refusal<'a> {
 }
 
 impl<'a> Refusal<'a> {
-    /// A refusal for a fault, and what was wanted in this line.
+    /// A refusal with what was wanted in this line.
     pub fn new(fault: TextFault, line: &'a [u8], wanted: Wanted) -> Refusal<'a>
         requires { IsWanted line.now fault wanted }
         ensures { result ≡ fault }
@@ -177,7 +235,7 @@ impl<'a> Refusal<'a> {
         }
     }
 
-    /// A refusal for a fault that says all.
+    /// A refusal whose fault says everything.
     pub fn bare(fault: TextFault) -> Refusal<'a>
         requires { IsWanted [] fault Nothing }
         ensures { result ≡ fault }
@@ -185,14 +243,14 @@ impl<'a> Refusal<'a> {
         Refusal::new(fault, b"", Wanted::Nothing)
     }
 
-    /// Memory ran out.
+    /// An allocation failed.
     pub fn memory() -> Refusal<'a>
         ensures { result ≡ TextFault.Memory }
     {
         Refusal::bare(TextFault::Memory)
     }
 
-    /// The refusal of a text at a line that is missing, or that is none of these.
+    /// The refusal of a text because a line with one of these names is missing at this line number.
     pub fn no_line(number: u32, names: LineNames) -> Refusal<'a>
         ensures { result ≡ TextFault.At number Cause.Line }
     {
@@ -203,14 +261,13 @@ impl<'a> Refusal<'a> {
         Refusal::new(fault, b"", Wanted::Lines(names))
     }
 
-    /// The fault alone.
     pub fn fault(&self) -> TextFault
         ensures { result ≡ self.now }
     {
         self.fault
     }
 
-    /// The fault, the line in which a place may be named, and what was wanted.
+    /// The fault, the line to which positions refer, and what was wanted.
     pub fn into_parts(self) -> (TextFault, &'a [u8], Wanted)
         ensures fault { result.0 ≡ self.entry }
         ensures wanted { IsWanted result.1.now result.0 result.2 }

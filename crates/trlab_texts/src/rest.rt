@@ -1,9 +1,9 @@
-//! What is left of a text while it is read line by line.
+//! A text that is read line by line.
 
 ghost use Rattle.std.specs.Prelude.{◌≡◌, ◌+◌, ◌-◌, ◌<◌, ◌^◌, [], ◌∷◌, None, length, MatchOption, MatchResult, IsTrue, ◌↔◌};
 ghost use Rattle.trlab_lines.specs.Lines.{lines_of};
 ghost use Rattle.trlab_texts.specs.Lines.{IsNextLine, Rest as RestOfLines, start};
-ghost use Rattle.trlab_texts.specs.Programs.{IsPart, part_of};
+ghost use Rattle.trlab_texts.specs.Programs.{SplitsPart, part_of};
 ghost use Rattle.std.specs.Fn.{FnOnceReturnsAt};
 ghost use Rattle.trlab_texts.specs.declared.fault.Cause.{Cause};
 ghost use Rattle.trlab_texts.specs.declared.fault.TextFault.{TextFault};
@@ -16,12 +16,12 @@ use crate::word::head_word;
 use std::marker::Model;
 use trlab_lines::next_line;
 
-/// The rest of a text: the lines that are left, and the number of the first, which counts from 1.
+/// The lines of a text that are left, and the number of the first of them, counted from 1.
 #[derive(Drop)]
 pub struct Rest<'a> {
     left: &'a [u8],
     number: u32,
-    /// The lines for which the next one could have been another.
+    /// Other names that the next line may have.
     asked: LineNames,
 }
 
@@ -34,7 +34,7 @@ impl<'a> Model for Rest<'a> {
 }
 
 impl<'a> Rest<'a> {
-    /// All lines of a text, which are fewer than 2^31.
+    /// All lines of a text.
     pub fn start(text: &'a [u8]) -> Rest<'a>
         requires { length text.now < 2 ^ 31 }
         ensures { result ≡ start text.now }
@@ -53,21 +53,20 @@ impl<'a> Rest<'a> {
         self.number
     }
 
-    /// The number of the line before the next one; 0 if there is none.
+    /// The number of the line before the next one; 0 at the start.
     pub fn line_before(&self) -> u32
         ensures { result ≡ self.now.number - 1 }
     {
         self.number.saturating_sub(1)
     }
 
-    /// Is no line left?
     pub fn is_end(&self) -> bool
         ensures { IsTrue result ↔ (self.now.left ≡ []) }
     {
         self.left.is_empty()
     }
 
-    /// The same rest, whose next line may also have this name.
+    /// Notes that the next line may also have this name, for refusals.
     pub fn or(self, name: LineName) -> Rest<'a>
         ensures { result ≡ self.entry }
     {
@@ -83,7 +82,7 @@ impl<'a> Rest<'a> {
         }
     }
 
-    /// Whether a line is left whose first word is this one.
+    /// Whether the next line begins with this word.
     pub fn next_word_is(&self, word: &[u8]) -> bool
         ensures { result ≡ next_word_is word.now self.now.left }
     {
@@ -93,19 +92,19 @@ impl<'a> Rest<'a> {
         }
     }
 
-    /// The names that the next line may have, of which this is one.
+    /// The names that the next line may have, and this one.
     pub fn names_with(&self, name: LineName) -> LineNames {
         self.asked.with(name)
     }
 
-    /// The refusal of a text that has ended here, where a line of this name is missing.
+    /// The refusal of a text that ends here, because a line with this name is missing.
     pub fn ended(&self, name: LineName) -> Refusal<'a>
         ensures { result ≡ TextFault.At self.now.number Cause.Line }
     {
         Refusal::no_line(self.number, self.names_with(name))
     }
 
-    /// The next line, if there is one, and the rest after it.
+    /// Returns the next line, if there is one, and the rest after it.
     pub fn next(self) -> Option<(&'a [u8], Rest<'a>)>
         ensures { MatchOption result (self.entry.left ≡ [])
             (λ found. IsNextLine self.entry found.0.now found.1) }
@@ -122,11 +121,11 @@ impl<'a> Rest<'a> {
         ))
     }
 
-    /// The line that must be here, and the rest after it; it has this name, or another that was asked for.
+    /// Returns the next line and the rest after it. The name is for the refusal; it is not tested here.
     ///
     /// # Errors
     ///
-    /// `Cause::Line` at the number of that line, where no line is left.
+    /// `Cause::Line` at the number of the next line, if no line is left.
     pub fn next_line(self, name: LineName) -> Result<(&'a [u8], Rest<'a>), Refusal<'a>>
         ensures { MatchResult result
             (λ found. IsNextLine self.entry found.0.now found.1)
@@ -136,36 +135,36 @@ impl<'a> Rest<'a> {
         self.next().ok_or(ended)
     }
 
-    /// What the next line says by a rule, and the rest after it; the line has this name.
+    /// Reads the next line, which has this name, by `read`. Returns the value and the rest after the line.
     ///
     /// # Errors
     ///
-    /// That of `next_line`, or the cause that the rule finds, at the number of the line.
+    /// The error of `next_line`, or the objection of `read`, at the number of the line.
     pub fn read_line<T, F: FnOnce(&'a [u8]) -> Result<T, Objection<'a>>>(
         self,
         name: LineName,
-        rule: F,
+        read: F,
     ) -> Result<(T, Rest<'a>), Refusal<'a>>
-        requires { F.IsAlwaysCallable rule }
-        ensures { Reports (line (FnOnceReturnsAt F.FnOnce rule) self.entry) result }
+        requires { F.IsAlwaysCallable read }
+        ensures { Reports (line (FnOnceReturnsAt F.FnOnce read) self.entry) result }
     {
         let number = self.number();
         let names = self.names_with(name);
         let (text, after) = self.next_line(name)?;
-        match rule(text) {
+        match read(text) {
             Ok(value) => Ok((value, after)),
             Err(refusal) => Err(refusal.at(number, names)),
         }
     }
 
-    /// The lines up to the line `end`, and the rest after it.
+    /// Returns the lines before the line `end`, and the rest after it.
     ///
     /// # Errors
     ///
-    /// `Cause::Line` one line past the last, where no line is `end`: the text has ended too early.
+    /// `Cause::Line` one line past the last, if no line is `end`.
     pub fn part(self) -> Result<(&'a [u8], Rest<'a>), Refusal<'a>>
         ensures { MatchResult result
-            (λ found. IsPart self.entry (lines_of found.0.now) found.1)
+            (λ found. SplitsPart self.entry (lines_of found.0.now) found.1)
             (λ fault. (part_of self.entry.left ≡ None)
             × (fault ≡ TextFault.At (self.entry.number + length self.entry.left) Cause.Line)) }
     {

@@ -1,4 +1,4 @@
-//! The words of a line, which single spaces separate, and the numbers that they write.
+//! Words of lines, which single spaces separate, and numbers.
 
 ghost use Rattle.std.specs.Prelude.{◌≡◌, ◌≢◌, ◌≤◌, ℕ, decimal, MatchOption, option_map};
 ghost use Rattle.trlab_bounds.specs.declared.texts.TheConstants.{LONGEST_NUMBER};
@@ -7,28 +7,28 @@ ghost use Rattle.std.specs.Result.{result_map_both};
 ghost use Rattle.trlab_texts.specs.Words.{is_word, word_after, number_of, within, number_within, as_word, head_word, two_words};
 
 use crate::fault::Cause;
-use trlab_bounds::programs::MOST_DIGITS;
+use trlab_bounds::programs::MAX_DIGITS;
 use trlab_lines::{cut, digits_value, is_numeral};
 
-/// What stands after a prefix of a line.
+/// The line after a prefix, if it has this prefix.
 pub fn without_prefix<'a>(prefix: &[u8], line: &'a [u8]) -> Option<&'a [u8]>
     ensures { option_map (λ rest. rest.now) result ≡ without_prefix prefix.now line.now }
 {
     line.strip_prefix(prefix)
 }
 
-/// Is a text one word?
+/// Whether a text is one word: not empty, and without spaces.
 pub fn is_word(text: &[u8]) -> bool
     ensures { result ≡ is_word text.now }
 {
     !text.is_empty() && !text.contains(&b' ')
 }
 
-/// The one word of a line after its name, which ends with a space.
+/// The only word after the name of a line; the name ends with a space.
 ///
 /// # Errors
 ///
-/// `Cause::Line` where anything else stands there.
+/// `Cause::Line` for anything else.
 pub fn word_after<'a>(name: &[u8], line: &'a [u8]) -> Result<&'a [u8], Cause>
     ensures { result_map_both (λ word. word.now) (λ cause. cause) result ≡ word_after name.now line.now }
 {
@@ -38,7 +38,7 @@ pub fn word_after<'a>(name: &[u8], line: &'a [u8]) -> Result<&'a [u8], Cause>
     }
 }
 
-/// The text, where it is one word.
+/// The text, if it is one word.
 pub fn as_word(text: &[u8]) -> Option<&[u8]>
     ensures { option_map (λ word. word.now) result ≡ as_word text.now }
 {
@@ -55,7 +55,7 @@ pub fn head_word(line: &[u8]) -> &[u8]
     }
 }
 
-/// The two words of which a text consists, with one space between them.
+/// The two words of a text, if it consists of two words and one space between them.
 pub fn two_words(text: &[u8]) -> Option<(&[u8], &[u8])>
     ensures { option_map (λ words. (words.0.now, words.1.now)) result ≡ two_words text.now }
 {
@@ -65,7 +65,7 @@ pub fn two_words(text: &[u8]) -> Option<(&[u8], &[u8])>
     }
 }
 
-/// The number that a word writes in at most ten decimal digits, without a sign or a leading 0.
+/// The value of at most ten decimal digits, without a sign or a leading 0.
 fn number(word: &[u8]) -> Option<u64>
     ensures { MatchOption result
         ((n : ℕ) → n ≤ LONGEST_NUMBER → word.now ≢ decimal n)
@@ -74,7 +74,7 @@ fn number(word: &[u8]) -> Option<u64>
     if !is_numeral(word) {
         return None;
     }
-    if word.len() > MOST_DIGITS {
+    if word.len() > MAX_DIGITS {
         return None;
     }
     if word.len() > 1 && word[0] == b'0' {
@@ -83,7 +83,7 @@ fn number(word: &[u8]) -> Option<u64>
     Some(digits_value(word))
 }
 
-/// The number from `low` to `high` that a word writes.
+/// The value of a word, if it is a number from `low` to `high`.
 ///
 /// # Errors
 ///
@@ -98,7 +98,7 @@ pub fn number_from(low: u32, high: u32, word: &[u8]) -> Result<u32, Cause>
     }
 }
 
-/// The number that a word writes, where it has no more digits than a number may have.
+/// The value of a word, if it is a number of at most `MAX_DIGITS` digits.
 ///
 /// # Errors
 ///
@@ -110,11 +110,11 @@ pub fn long_number(word: &[u8]) -> Result<u64, Cause>
     number(word).ok_or(Cause::Number)
 }
 
-/// The number from `low` to `high` that is the one word of a line after its name.
+/// The number from `low` to `high` that is the only word after the name of a line.
 ///
 /// # Errors
 ///
-/// `Cause::Line` where no one word stands after the name, and else `Cause::Number`.
+/// `Cause::Line` unless one word follows the name, `Cause::Number` for any other word.
 pub fn number_after(name: &[u8], low: u32, high: u32, line: &[u8]) -> Result<u32, Cause>
     ensures { result ≡ number_within low high (word_after name.now line.now) }
 {

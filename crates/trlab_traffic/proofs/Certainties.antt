@@ -11,7 +11,7 @@ use Rattle.trlab_code.specs.declared.kind.Kind.TheVariants.{Change, Motion}
 use Rattle.trlab_code.specs.declared.instruction.Instr.{Instr}
 use Rattle.trlab_code.specs.declared.instruction.Instr.TheVariants.{Draw}
 use Rattle.trlab_code.specs.declared.view.View.{View}
-use Rattle.trlab_code.specs.Machine.{Answer, At, Done, EndsFrom, EndsWith, Flag, Goes, State, Store, Stuck, Writes, allows, effect, execute, start, state_after, step}
+use Rattle.trlab_code.specs.Machine.{Answer, At, Done, EndsFrom, EndsWith, Flag, Goes, MachineState, Store, Stuck, Writes, allows, effect, execute, start, state_after, step}
 use Rattle.trlab_code.specs.Program.{Program}
 use Rattle.trlab_verify.specs.CheckedProgram.{CheckedProgram}
 use Rattle.trlab_machine.specs.declared.dice.Dice.{Dice}
@@ -54,7 +54,7 @@ module _ (kind : Kind) (view : View) (words others : List ℕ) (small : Small wo
     unfolding step
     same_step pc s = same_fetched pc s (slice_get code pc) (outcome_at pc)
 
-    same_end : (state : State) (answer : Answer) (n : ℕ) → EndsFrom kind code view words state answer n → EndsFrom kind code view others state answer n
+    same_end : (state : MachineState) (answer : Answer) (n : ℕ) → EndsFrom kind code view words state answer n → EndsFrom kind code view others state answer n
     same_end state answer zero ends = ends
     same_end (At pc s) answer (suc n) ends =
         same_end (step kind code view others pc s) answer n (subst (λ z. EndsFrom kind code view words z answer n) (same_step pc s) ends)

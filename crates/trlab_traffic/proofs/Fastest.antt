@@ -86,7 +86,7 @@ record UpAnswers (limit va ga a vb gb b : ℕ) : Type 0 where
   within_gap : a ≤ ga
   safe : b ≡ min (min (vb + 1) limit) gb
 
--- a car that has gone no further is as slow as its partner, or the partner goes by its gap or the limit from now on
+-- a car that has gone no further is as slow as its partner, or the partner moves by its gap or the limit from now on
 record UpKeeps (limit va fa vb gb fb next : ℕ) : Type 0 where
   no_further : fa ≤ fb
   state : ((fa ≡ fb) × (va ≡ vb) × (fb ≡ 0)) ⊎ ((next ≤ gb) × ((va ≤ vb) ⊎ (min limit gb ≤ vb + 1)))

@@ -110,7 +110,7 @@ free_speed road car free here =
     ap (λ (speed : ℕ). min (min (speed + 1) road.limit) (gap (lane_of road car.lane) car.place)) (free.at_limit car here)
     ∙ at_limit_safe road.limit (gap (lane_of road car.lane) car.place) (free.room car here)
 
--- a motion in which each car goes by the limit
+-- a motion in which each car moves at the limit
 pub record FreeMotion (old new : Cells) : Type 0 where
   pub speeds : ℕ → ℕ → ℕ
   pub goes : (car : Car) → IsAt old car → speeds car.lane car.place ≡ old.limit

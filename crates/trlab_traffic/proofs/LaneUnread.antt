@@ -10,7 +10,7 @@ use Rattle.trlab_code.specs.declared.instruction.Instr.TheVariants.{Num, Get, Si
 use Rattle.trlab_code.specs.declared.instruction.Variable.TheVariants as variable
 use Rattle.trlab_code.specs.declared.instruction.Register.{Register}
 use Rattle.trlab_code.specs.declared.view.View.{View}
-use Rattle.trlab_code.specs.Machine.{Answer, At, Done, Effect, EndsFrom, EndsWith, Ends, Falls, Flag, Goes, Jumps, State, Sticks, Store, Stuck, Value, Writes, allows, effect, end_if, execute, jump_if, on_any, on_flag, on_number, variable_number, start, state_after, step, update, write_difference, write_sized, Number}
+use Rattle.trlab_code.specs.Machine.{Answer, At, Done, Effect, EndsFrom, EndsWith, Ends, Falls, Flag, Goes, Jumps, MachineState, Sticks, Store, Stuck, Value, Writes, allows, effect, end_if, execute, jump_if, on_any, on_flag, on_number, variable_number, start, state_after, step, update, write_difference, write_sized, Number}
 use Rattle.trlab_traffic.specs.Symmetry.{reads_lane}
 
 -- two stores differ in what they hold of the lane alone
@@ -25,7 +25,7 @@ alike_updated s t d v alike = record {
   inputs = λ e k unread. ap (λ (o : Value). cond (nat_eq (variable_number (variable.Input k)) (variable_number (variable.Register d))) v o) (alike.inputs e k unread);
 }
 
-SameState : State → State → Type 0
+SameState : MachineState → MachineState → Type 0
 SameState (At p s) (At q t) = (p ≡ q) × Alike s t
 SameState (Done a) (Done b) = a ≡ b
 SameState Stuck Stuck = Unit {0}
@@ -39,7 +39,7 @@ same_after pc s t (Jumps target) alike = (refl, alike)
 same_after pc s t (Ends answer) alike = refl
 same_after pc s t Sticks alike = tt
 
-same_if : (b : Bool) (x y : State) → SameState x y → SameState (cond b x Stuck) (cond b y Stuck)
+same_if : (b : Bool) (x y : MachineState) → SameState x y → SameState (cond b x Stuck) (cond b y Stuck)
 unfolding SameState
 same_if true x y same = same
 same_if false x y same = tt
@@ -107,7 +107,7 @@ module _ (kind : Kind) (view : View) (words : List ℕ) (lane : ℕ) where
     unfolding step
     same_step pc s t alike = same_fetched s t alike pc (slice_get code pc) (unread_at pc)
 
-    same_end : (x y : State) (answer : Answer) (n : ℕ) → SameState x y → EndsFrom kind code view words x answer n → EndsFrom kind code other words y answer n
+    same_end : (x y : MachineState) (answer : Answer) (n : ℕ) → SameState x y → EndsFrom kind code view words x answer n → EndsFrom kind code other words y answer n
     unfolding SameState
     same_end (Done a) (Done b) answer zero same ends = sym (ap Done same) ∙ ends
     same_end (Done a) (Done b) answer (suc n) same ends = absurd ends

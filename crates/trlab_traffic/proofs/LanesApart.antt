@@ -1,4 +1,4 @@
--- A lane goes by its own cars alone where nobody changes lanes.
+-- Where nobody changes lanes, a lane depends only on its own cars.
 use Rattle.std.proofs.Common.{◌≡◌, ℕ, zero, suc, Some, [], length, refl, sym, ◌∙◌, ap, subst, inl, inr, arith}
 use Rattle.std.proofs.lemmas.Bool.{cases_lt}
 use Rattle.std.proofs.lemmas.List.{get_or_past}

@@ -1,4 +1,4 @@
--- A lane whose cars go by the limit or their gaps, whichever is less: its cars are the slope of heights.
+-- A lane whose cars move at the limit or by their gaps, whichever is less: its cars are the slope of heights.
 use Rattle.std.proofs.Common.{◌≡◌, ◌≢◌, ℕ, zero, suc, ◌+◌, ◌-◌, ◌*◌, ◌%◌, ◌<◌, ◌≤◌, min, max, Bool, true, false, is_some, Some, None, length, refl, sym, ◌∙◌, ap, subst, inl, inr, arith, mod-eq_of_lt, mul-suc}
 use Rattle.std.proofs.Math.Nat.{add-mod_right, add-mul-mod_self_right, mod-add-mod, mod-lt}
 use Rattle.std.proofs.lemmas.Bool.{cases_lt}

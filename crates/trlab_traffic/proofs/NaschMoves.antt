@@ -34,7 +34,7 @@ motion_alone rule dice old new tally none is =
     let same = subst P none is.1.lane_change in
     subst (λ (road : Cells). IsMotionPhase rule.motion dice road new) same.0 is.1.motion
 
--- a car goes by the speed of its rule
+-- a car moves at the speed of its rule
 pub answered : (speed : View → List ℕ → ℕ) (motion : CheckedProgram) (dice : Dice) (road : Cells) (speeds : ℕ → ℕ → ℕ) → MovesBy speed motion.program → IsLegal road → AnswersSpeeds motion dice road speeds
     → (car : Car) → IsAt road car → speeds car.lane car.place ≡ speed (motion_view_of road car) (words_of dice car.number)
 answered speed motion dice road speeds moves legal answers car here =
@@ -42,7 +42,7 @@ answered speed motion dice road speeds moves legal answers car here =
     let words = words_of dice car.number in
     one_answer_each motion dice road car (speeds car.lane car.place) (speed view words) (answers.each car here) (moves view words (motion_view_is_view road car legal here))
 
--- without randomization a car goes by its safe speed
+-- without randomization a car moves at its safe speed
 pub safely : (motion : CheckedProgram) (dice : Dice) (road : Cells) (speeds : ℕ → ℕ → ℕ) → MovesBy (nasch_speed 0) motion.program → IsLegal road → AnswersSpeeds motion dice road speeds
     → (car : Car) → IsAt road car → speeds car.lane car.place ≡ safe_speed car.speed road.limit (gap (lane_of road car.lane) car.place)
 safely motion dice road speeds moves legal answers car here =

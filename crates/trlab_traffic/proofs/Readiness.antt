@@ -1,4 +1,4 @@
--- Without randomization cars are held back by acceleration in the first steps alone; from then on each goes by the
+-- Without randomization cars are held back by acceleration in the first steps alone; from then on each moves at the
 -- limit or its gap, whichever is less, and the lane comes to its capacity.
 use Rattle.std.proofs.Common.{◌≡◌, ℕ, zero, suc, ◌+◌, ◌-◌, ◌*◌, ◌%◌, ◌<◌, ◌≤◌, ◌⊎◌, min, is_some, Some, [], ◌∷◌, length, refl, sym, ◌∙◌, ap, subst, inl, inr, arith, mod-eq_of_lt, mul_comm, suc-mul}
 use Rattle.std.specs.Prelude.{sum_by}
@@ -219,7 +219,7 @@ leapt_far l limit cells count k lane answer some_limit some_cell size full leapi
     one_fits limit zero size length_now some few same = absurd (omega (arith, some))
     one_fits limit (suc n) size length_now some few same = let e = suc-mul limit (suc n) in omega (arith, few, same, e)
 
--- a lane that has leapt leaps once more where its cars go by the limit or their gaps
+-- a lane that has leapt leaps once more where its cars take the limit or their gaps
 leap_on : (limit cells count k : ℕ) (answer : ℕ → ℕ) (old new : Lane) → 1 ≤ limit → 1 ≤ cells → LaneMoves answer old new → LaneFits answer old
     → ((x number speed : ℕ) → at old x ≡ Some (number, speed) → answer x ≡ min limit (gap old x)) → (lane_cars old ≡ count → Leaping limit cells count k old)
     → lane_cars new ≡ count → Leaping limit cells count (suc k) new

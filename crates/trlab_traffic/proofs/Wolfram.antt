@@ -43,7 +43,7 @@ gap_some lane x car here free =
 
 module _ (answer : ℕ → ℕ) (old new : Lane) (m : LaneMoves answer old new)
     (goes : (x number speed : ℕ) → at old x ≡ Some (number, speed) → answer x ≡ min 1 (gap old x)) where
-  -- a car goes by one cell, or stops
+  -- a car moves by one cell, or stops
   goes_one : (x number speed : ℕ) → at old x ≡ Some (number, speed) → 1 ≤ gap old x → answer x ≡ 1
   goes_one x number speed here some = goes x number speed here ∙ (let e : min 1 (gap old x) ≡ 1 = omega (arith, some) in e)
 
@@ -143,7 +143,7 @@ slow_speeds old new motion one l x number speed here =
     ∙ ap (λ (limit : ℕ). min (min (speed + 1) limit) (gap (lane_of old l) x)) one
     ∙ slow speed (gap (lane_of old l) x)
 
--- each lane goes by the rule
+-- each lane follows the rule
 lane_by_184 : (old new : Cells) (motion : SafeMotion old new) → old.limit ≡ 1 → (l : ℕ) → l < length old.lanes → GoesBy 184 (lane_of old l) (lane_of new l)
 lane_by_184 old new motion one l on =
     by_184 (motion.speeds l) (lane_of old l) (lane_of new l) (motion.moves.each_lane l on) (slow_speeds old new motion one l)

@@ -21,7 +21,7 @@ StepKeepsLanesApart =
     → StaysInLane rule → IsNext rule dice road next tally → IsNext rule dice other beside count
     → ShareLane l road other → ShareLane l next beside
 
--- and so it is for ever, under any sheet of such rules
+-- the same holds in every step of a run, under any sheet of such rules
 abbrev pub RunKeepsLanesApart : Type 0
 RunKeepsLanesApart =
     (seed : Seed) (start : Cells) (sheet : Sheet) (step : ℕ) (road other : Cells) (sum count : StepTally)

@@ -22,7 +22,7 @@ pub record IsCertain (rule : Programs) : Type 0 where
   pub motion : All HasOneOutcome rule.motion.program.instrs
   pub change : IfSome rule.change (λ change. All HasOneOutcome change.program.instrs)
 
--- nor does the rule of 1992 without randomization
+-- the rule of 1992 without randomization is deterministic
 abbrev pub NaschWithoutRandomization : Type 0
 NaschWithoutRandomization = (rule : Programs) → IsNasch 0 rule → IsCertain rule
 
@@ -32,7 +32,7 @@ StepIsDeterministic =
     (rule : Programs) (dice other : Dice) (road next : Cells) (tally : StepTally)
     → IsCertain rule → IsNext rule dice road next tally → IsNext rule other road next tally
 
--- and so is a run under any sheet of such rules, for all keys and numbers of its road
+-- the same holds for a run under any sheet of such rules, for all keys and numbers of its road
 abbrev pub RunIsDeterministic : Type 0
 RunIsDeterministic =
     (seed : Seed) (key : List ℕ) (number : ℕ) (sheet : Sheet) (step : ℕ) (road : Cells) (sum : StepTally)

@@ -17,7 +17,7 @@ use Rattle.trlab_traffic.specs.Runs.{StaysInLane}
 abbrev pub way : ℕ → ℕ → ℕ → ℕ
 way n from to = ahead n to (n - from)
 
--- the cell of a car before it moved to its cell by its speed
+-- the cell from which a car has moved to its cell, by its speed
 abbrev pub start_of : ℕ → Car → ℕ
 start_of n car = behind n car.place car.speed
 
@@ -29,7 +29,7 @@ passes n x car = nat_lt (way n (start_of n car) x) car.speed
 abbrev pub passages : Lane → ℕ → ℕ
 passages lane x = count_by (passes (length lane) x) (standing_from 0 0 lane)
 
--- those at the detectors of all its cells, together
+-- the passages at the detectors of all its cells, together
 abbrev pub all_passages : Lane → ℕ
 all_passages lane = sum_by (passages lane) (range_with_len 0 (length lane))
 
@@ -50,8 +50,8 @@ DetectorCountsOne =
 abbrev pub cars_ahead_of : Lane → ℕ → ℕ → ℕ
 cars_ahead_of lane x k = count_by (λ j. is_taken lane (ahead (length lane) x j)) (range_with_len 1 k)
 
--- continuity: the cars in the k cells between two detectors of a lane have become more by those that passed
--- the first, and fewer by those that passed the second
+-- continuity: the number of cars in the k cells between two detectors of a lane grows by the cars that pass the first,
+-- and shrinks by those that pass the second
 abbrev pub IsContinuous : Lane → Lane → ℕ → ℕ → ℕ → ℕ → Type 0
 IsContinuous old new x k first second =
     cars_ahead_of new x k + second ≡ cars_ahead_of old x k + first

@@ -33,7 +33,7 @@ abbrev pub FlowsFreely : Seed → ℕ → Cells → StepTally → Type 0
 FlowsFreely seed step road sum =
     IsFree road × (sum.distance ≡ counted_steps seed step * distance_at_limit seed.road)
 
--- and so it goes on for ever
+-- and free flow continues in every step of a run
 abbrev pub FreeFlowStaysFree : Type 0
 FreeFlowStaysFree =
     (rule : Programs) (seed : Seed) (step : ℕ) (road : Cells) (sum : StepTally)

@@ -1,5 +1,4 @@
--- Homogeneity: no place of a ring differs from the others. A road goes on the same, seen from whichever
--- place.
+-- Homogeneity: all places of a ring are alike. The future of a road does not depend on where cell 0 is.
 use Rattle.std.specs.Prelude.{ℕ, length, map}
 use Rattle.std.specs.List.{range_with_len}
 use Rattle.trlab_road.specs.Cells.{Cells, Lane, at}
@@ -15,7 +14,7 @@ use Rattle.trlab_step.specs.Run.{Seed, Sheet, ComesTo}
 abbrev pub turned_lane : ℕ → Lane → Lane
 turned_lane r lane = map (λ x. at lane (ahead (length lane) x r)) (range_with_len 0 (length lane))
 
--- a road all of whose lanes are turned by r cells; the cars keep their lanes, numbers and speeds
+-- a road with all lanes rotated by r cells; the cars keep their lanes, numbers and speeds
 abbrev pub turned : ℕ → Cells → Cells
 turned r road = record { limit = road.limit; lanes = map (turned_lane r) road.lanes }
 
@@ -27,7 +26,7 @@ StepIsHomogeneous =
     → IsLegal road → IsNext rule dice road next tally
     → IsNext rule dice (turned r road) (turned r next) tally
 
--- and so is a run from a road that is turned, step by step
+-- the same holds in every step of a run from a rotated road
 abbrev pub RunIsHomogeneous : Type 0
 RunIsHomogeneous =
     (seed : Seed) (sheet : Sheet) (step : ℕ) (road : Cells) (sum : StepTally) (r : ℕ)

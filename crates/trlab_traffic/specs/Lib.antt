@@ -22,7 +22,7 @@ pub mod Symmetry
 pub mod Apart
 pub mod Certainty
 pub mod Periods
--- rules that go as others
+-- rules that have the same steps as others
 pub mod Reduction
 pub mod Rule184
 -- the fundamental diagram without randomization

@@ -11,7 +11,7 @@ use Rattle.trlab_step.specs.Run.{Seed, Sheet, ComesTo}
 use Rattle.trlab_traffic.specs.Following.{IsNextAhead}
 use Rattle.trlab_traffic.specs.Runs.{EachRule, StaysInLane}
 
--- the car with the second number is the next one ahead of that with the first
+-- the car `next` is the next one ahead of the car `number`
 pub record IsNextOf (road : Cells) (number next : ℕ) : Type 0 where
   pub car : Car
   pub next_car : Car
@@ -25,7 +25,7 @@ pub record IsNextOf (road : Cells) (number next : ℕ) : Type 0 where
 abbrev pub EachCarHasNext : Type 0
 EachCarHasNext = (road : Cells) (car : Car) → IsAt road car → (next : ℕ) × IsNextOf road car.number next
 
--- and one only
+-- and only one
 abbrev pub NextCarIsOne : Type 0
 NextCarIsOne = (road : Cells) (number next other : ℕ) → IsLegal road
     → IsNextOf road number next → IsNextOf road number other → next ≡ other
@@ -37,7 +37,7 @@ StepKeepsNextCar =
     → StaysInLane rule → IsNext rule dice old new tally
     → IsNextOf old number next → IsNextOf new number next
 
--- and so it is for ever, under any sheet of such rules
+-- the same holds in every step of a run, under any sheet of such rules
 abbrev pub RunKeepsNextCar : Type 0
 RunKeepsNextCar =
     (seed : Seed) (sheet : Sheet) (step : ℕ) (road : Cells) (sum : StepTally) (number next : ℕ)

@@ -22,7 +22,7 @@ RandomizationSlows =
     → p ≤ q → IsNasch p light → IsNasch q heavy → IsLegal road
     → IsNext light dice road next fast → IsNext heavy dice road other slow → IsSlower road fast slow
 
--- and by the rule of 1998 with greater chances, of cars that move and of those that were stopped
+-- and a step of the rule of 1998 with larger probabilities, for moving and for stopped cars
 abbrev pub SlowStartsSlow : Type 0
 SlowStartsSlow =
     (p q p0 q0 : ℕ) (light heavy : Programs) (dice : Dice) (road next other : Cells) (fast slow : StepTally)

@@ -1,4 +1,4 @@
--- Rules that go as another does.
+-- Rules that have the same steps as another.
 use Rattle.std.specs.Prelude.{◌≡◌, ◌↔◌, ℕ, length}
 use Rattle.trlab_road.specs.Cells.{Cells}
 use Rattle.trlab_road.specs.Legal.{IsLegal}
@@ -27,7 +27,7 @@ abbrev pub RickertWithoutChange : Type 0
 RickertWithoutChange =
     (p : ℕ) (rule other : Programs) → IsRickert p 0 rule → IsNasch p other → GoAlike 2 rule other
 
--- a run of a road under one of two rules that go alike is a run of it under the other
+-- a run of a road under one of two such rules is a run of it under the other
 abbrev pub RunsAlike : Type 0
 RunsAlike =
     (rule other : Programs) (seed : Seed) (step : ℕ) (road : Cells) (sum : StepTally)

@@ -24,14 +24,14 @@ abbrev pub elementary : ℕ → Bool → Bool → Bool → Bool
 elementary number behind own ahead =
     nat_eq (number / 2 ^ (4 * digit behind + 2 * digit own + digit ahead) % 2) 1
 
--- a lane has gone on by an elementary automaton
+-- a lane takes a step of an elementary automaton
 abbrev pub GoesBy : ℕ → Lane → Lane → Type 0
 GoesBy number old new = (x : ℕ) → x < length old
     → let taken_behind = is_taken old (behind (length old) x 1) in
     let taken_ahead = is_taken old (ahead (length old) x 1) in
     is_taken new x ≡ elementary number taken_behind (is_taken old x) taken_ahead
 
--- so does each lane of a road, whatever the speeds of its cars were
+-- each lane of a road does, for all speeds of its cars
 abbrev pub NaschIsRule184 : Type 0
 NaschIsRule184 =
     (rule : Programs) (dice : Dice) (old new : Cells) (tally : StepTally) (l : ℕ)

@@ -1,5 +1,4 @@
--- Symmetry of lanes: neither of two lanes differs from the other, under rules that do not ask on which a car
--- is.
+-- Symmetry of lanes: both lanes are alike under rules that do not read on which lane a car is.
 use Rattle.std.specs.Prelude.{◌≡◌, ℕ, Bool, true, false, All, IfSome, [], ◌∷◌, length}
 use Rattle.trlab_code.specs.declared.instruction.Input.TheVariants.{Lane}
 use Rattle.trlab_code.specs.declared.instruction.Instr.{Instr}
@@ -38,7 +37,7 @@ StepIsSymmetric =
     → IgnoresLane rule → length road.lanes ≡ 2 → IsNext rule dice road next tally
     → IsNext rule dice (exchanged road) (exchanged next) tally
 
--- and so is a run from a road whose lanes are exchanged, under any sheet of such rules
+-- the same holds in every step of a run, under any sheet of such rules
 abbrev pub RunIsSymmetric : Type 0
 RunIsSymmetric =
     (seed : Seed) (sheet : Sheet) (step : ℕ) (road : Cells) (sum : StepTally)

@@ -1,6 +1,6 @@
-//! Laws of traffic, whichever code asks the cars and moves them.
+//! Laws of traffic, whatever code computes the answers and moves the cars.
 //!
-//! Each law is the contract of a function with nothing to do.
+//! Each law is the contract of a function with an empty body.
 
 ghost use Rattle.trlab_traffic.specs.Apart.{RunKeepsLanesApart, StepKeepsLanesApart};
 ghost use Rattle.trlab_traffic.specs.Capacity.{CellsAreTakenOrEmpty, RunKeepsToCapacity, StepKeepsToCapacity};
@@ -35,14 +35,14 @@ ghost use Rattle.trlab_traffic.specs.Rows.{RunIsContinuousByRows, StepIsContinuo
 ghost use Rattle.trlab_traffic.specs.Rule184.{EmptyCellsGoBack, NaschIsRule184};
 ghost use Rattle.trlab_traffic.specs.Symmetry.{RickertIgnoresLane, RunIsSymmetric, StepIsSymmetric};
 
-/// In a step under any rule the cars of a legal road together pass over no more cells than are empty, and each
-/// moves no further than the limit.
+/// In a step under any rule all cars of a legal road together pass over at most as many cells as are empty, and each
+/// car moves at most as far as the limit.
 pub fn step_keeps_to_capacity()
     ensures { StepKeepsToCapacity }
 {}
 
-/// So do they in each step of a run that is counted, under any sheet of rules. A road has as many cells as cars and
-/// empty cells together.
+/// The same holds in each counted step of a run, under any schedule of rules. The cells of a road are its cars and its
+/// empty cells.
 pub fn run_keeps_to_capacity()
     ensures cells { CellsAreTakenOrEmpty }
     ensures run { RunKeepsToCapacity }
@@ -162,15 +162,15 @@ pub fn randomization_slows_runs()
     ensures vdr { SlowStartsSlowRuns }
 {}
 
-/// No place of a ring differs from the others: under any rule a legal road that is turned goes on to its next road,
-/// turned as far, with the same tally; and so does a run.
+/// All places of a ring are alike: under any rule the next road of a rotated legal road is its next road, rotated as
+/// far, with the same tally. The same holds for runs.
 pub fn ring_is_homogeneous()
     ensures step { StepIsHomogeneous }
     ensures run { RunIsHomogeneous }
 {}
 
-/// Neither of two lanes differs from the other: under rules whose programs do not read the lane, as that of 1996, a
-/// road whose lanes are exchanged goes on to its next road, exchanged, with the same tally; and so does a run.
+/// Both lanes are alike: under rules whose programs do not read the lane, such as that of 1996, the next road of a road
+/// with its lanes exchanged is its next road, exchanged, with the same tally. The same holds for runs.
 pub fn lanes_are_symmetric()
     ensures rickert { RickertIgnoresLane }
     ensures step { StepIsSymmetric }
@@ -208,7 +208,7 @@ pub fn rules_reduce_to_nasch()
 {}
 
 /// With the limit 1 and without randomization the rule of 1992 is rule 184 (Wolfram 1983, Rev. Mod. Phys. 55, 601), in
-/// which empty cells go back as cars go ahead.
+/// which empty cells move backwards as cars move forwards.
 pub fn nasch_is_rule_184()
     ensures rule { NaschIsRule184 }
     ensures holes { EmptyCellsGoBack }
@@ -228,7 +228,7 @@ pub fn rule_184_comes_to_capacity()
     ensures { Rule184ComesToCapacity }
 {}
 
-/// Cars that start evenly spread come to the capacity of their road as soon as they could have come to the limit.
+/// Evenly spaced cars reach the capacity of their road as soon as they could have reached the limit.
 pub fn even_cars_flow_at_capacity()
     ensures { EvenCarsFlowAtCapacity }
 {}
@@ -260,9 +260,9 @@ pub fn detector_counts_below_peak()
     ensures { DetectorCountsBelowPeak }
 {}
 
-/// Even if cars change lanes, none is lost or made between two rows of detectors, one on each lane. So within one lap
-/// the counts of two rows differ by no more than all cars, or all empty cells, and each row by itself measures the
-/// flow.
+/// Even if cars change lanes, none is lost or created between two rows of detectors, each with one detector on each
+/// lane. So within one lap the counts of two rows differ by at most all cars, or all empty cells, and each row by itself
+/// measures the flow.
 pub fn rows_of_detectors_count()
     ensures step { StepIsContinuousByRows }
     ensures run { RunIsContinuousByRows }

@@ -8,8 +8,8 @@ use Rattle.trlab_code.specs.declared.kind.Kind.TheVariants.{Motion, Change}
 use Rattle.trlab_code.specs.declared.instruction.Instr.{Instr}
 use Rattle.trlab_code.specs.declared.instruction.Instr.TheVariants.{Go, Cross, Stay}
 use Rattle.trlab_code.specs.Program.{Program, IsProgram}
-use Rattle.trlab_code.specs.Flow.{target, falls, is_end}
-use Rattle.trlab_notes.specs.Reasons.{on_target, is_of_kind}
+use Rattle.trlab_code.specs.Flow.{target, falls, is_end, on_target}
+use Rattle.trlab_notes.specs.Reasons.{is_of_kind}
 use Rattle.trlab_notes.specs.Notes.{Note}
 use Rattle.trlab_verify.specs.CheckedProgram.{IsChecked}
 use Rattle.trlab_verify.specs.Longest.{HasWay, IsLongest, IsForward}

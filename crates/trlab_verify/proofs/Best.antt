@@ -8,8 +8,8 @@ use Rattle.trlab_code.specs.declared.instruction.Instr.{Instr}
 use Rattle.trlab_code.specs.declared.instruction.Variable.{Variable}
 use Rattle.trlab_code.specs.declared.instruction.Instr.TheVariants.{Jump, Go, Cross, Stay}
 use Rattle.trlab_code.specs.Program.{Program}
-use Rattle.trlab_code.specs.Flow.{target, falls}
-use Rattle.trlab_notes.specs.Reasons.{on_target, some_unset, some_of_other_kind}
+use Rattle.trlab_code.specs.Flow.{target, falls, on_target}
+use Rattle.trlab_notes.specs.Reasons.{some_unset, some_of_other_kind}
 use Rattle.trlab_notes.specs.Notes.{Note, entry}
 use Rattle.trlab_notes.specs.Transfer.{next_note, jump_note}
 use Rattle.trlab_notes.specs.Order.{join, IsNoStronger}

@@ -11,8 +11,8 @@ use Rattle.trlab_code.specs.declared.instruction.Register.{Register}
 use Rattle.trlab_code.specs.Machine.{update}
 use Rattle.trlab_code.specs.Program.{Program}
 use Rattle.trlab_code.specs.Flow.{target, destination}
-use Rattle.trlab_notes.specs.declared.note.Said.{Said}
-use Rattle.trlab_notes.specs.declared.note.Said.TheVariants.{Nothing, Between, Implies}
+use Rattle.trlab_notes.specs.declared.note.AbstractValue.{AbstractValue}
+use Rattle.trlab_notes.specs.declared.note.AbstractValue.TheVariants.{Nothing, Between, Implies}
 use Rattle.trlab_notes.specs.Notes.{Note, known_level, level_between, same_variable, entry, entry_level, entry_said}
 use Rattle.trlab_notes.specs.Order.{join}
 use Rattle.trlab_notes.specs.Transfer.{sharpen, slacken, chain, least, most, result_said, result_to, to_result, register_to, assign, assign_any, refine_order, refine_flag, next_note, jump_note}
@@ -21,7 +21,7 @@ use Rattle.trlab_verify.specs.TableForm.{HasLevels}
 use Rattle.trlab_verify.proofs.Checking.{ChecksBy}
 use Rattle.trlab_verify.proofs.Best.{best}
 
-known_two : (s t : Said) (same : Bool) (k : ℕ) → k ≤ 2 → level_between s t same k ≤ 2
+known_two : (s t : AbstractValue) (same : Bool) (k : ℕ) → k ≤ 2 → level_between s t same k ≤ 2
 known_two (Between a b) (Between c d) true k h = omega arith
 known_two (Between a b) (Between c d) false k h = grind arith
 known_two (Between a b) Nothing same k h = omega arith
@@ -30,7 +30,7 @@ known_two Nothing t same k h = omega arith
 known_two (Implies i) t same k h = omega arith
 
 -- the greater of two levels, one of which is known
-known_max : (s t : Said) (same : Bool) (j k : ℕ) → level_between s t same j ≤ 2 → k ≤ 2 → level_between s t same (max j k) ≤ 2
+known_max : (s t : AbstractValue) (same : Bool) (j k : ℕ) → level_between s t same j ≤ 2 → k ≤ 2 → level_between s t same (max j k) ≤ 2
 known_max (Between a b) (Between c d) true j k h l = omega arith
 known_max (Between a b) (Between c d) false j k h l = grind arith
 known_max (Between a b) Nothing same j k h l = omega arith
@@ -52,7 +52,7 @@ chain_two (suc i) k zero p q r = omega arith
 chain_two (suc i) k (suc j) p q r = omega arith
 
 module _ (m : Note) (f : HasLevels m) where
-  assign_two : (d : Register) (s : Said) (to from : Variable → ℕ) → ((y : Variable) → to y ≤ 2) → ((y : Variable) → from y ≤ 2) → HasLevels (assign m d s to from)
+  assign_two : (d : Register) (s : AbstractValue) (to from : Variable → ℕ) → ((y : Variable) → to y ≤ 2) → ((y : Variable) → from y ≤ 2) → HasLevels (assign m d s to from)
   unfolding assign known_level update
   assign_two d s to from p q x y = at (same_variable x (variable.Register d)) (same_variable y (variable.Register d))
     where

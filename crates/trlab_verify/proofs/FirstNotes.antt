@@ -6,7 +6,7 @@ use Rattle.std.proofs.lemmas.List.{get_or-map, length-map}
 use Rattle.trlab_code.specs.declared.kind.Kind.{Kind}
 use Rattle.trlab_code.specs.Program.{Program}
 use Rattle.trlab_notes.specs.Notes.{Note, entry, closure, maybe_closure}
-use Rattle.trlab_verify.specs.declared.table.note.Note.{Note as Form}
+use Rattle.trlab_verify.specs.declared.note.Note.{Note as Form}
 use Rattle.trlab_verify.specs.Incoming.{note_at}
 use Rattle.trlab_verify.specs.TableForm.{SaysRanges, meaning, meaning_at, table_of, empty_form}
 use Rattle.trlab_verify.specs.Tables.{AreFirstNotes, blank, note_in, noted_count}

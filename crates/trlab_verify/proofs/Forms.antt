@@ -16,13 +16,13 @@ use Rattle.trlab_code.specs.Machine.{variable_number, register_number}
 use Rattle.trlab_notes.specs.Rows.{AreLevels, known_with, level_at, levels_in, said_in}
 use Rattle.trlab_notes.proofs.Variables.{below, register_below, at_numbers}
 use Rattle.trlab_verify.specs.Longest.{Follows}
-use Rattle.trlab_notes.specs.declared.note.Said.{Said}
-use Rattle.trlab_notes.specs.declared.note.Said.TheVariants.{Nothing}
+use Rattle.trlab_notes.specs.declared.note.AbstractValue.{AbstractValue}
+use Rattle.trlab_notes.specs.declared.note.AbstractValue.TheVariants.{Nothing}
 use Rattle.trlab_notes.proofs.Order.{through}
 use Rattle.trlab_notes.proofs.Closure.{settled_less, settled_more, said_same, side_same, fall_settled, jump_settled}
 use Rattle.trlab_notes.proofs.Tables.{note_same, level_same, known_unfolds}
-use Rattle.trlab_verify.specs.declared.table.note.Note.{Note as Form}
-use Rattle.trlab_verify.specs.declared.table.note.Mark.TheVariants.{Unset}
+use Rattle.trlab_verify.specs.declared.note.Note.{Note as Form}
+use Rattle.trlab_verify.specs.declared.note.Mark.TheVariants.{Unset}
 use Rattle.trlab_verify.specs.TableForm.{said_of, form_said, meaning, HasLevels}
 use Rattle.trlab_verify.proofs.Verdicts.{reason_same}
 use Rattle.trlab_verify.specs.Tables.{ChecksAt}
@@ -35,7 +35,7 @@ pub record Shown (kind : Kind) (code : List Instr) (len : ℕ) (note : ℕ → N
   pub jumps : (t : ℕ) → target i ≡ Some t → t < len → IsNoStronger (note t) (jump_note m i)
 
 -- the levels of the note that a form means are those that its variables and its table give
-module _ (kind : Kind) (form : Form) (said : List Said) (h : (x : Variable) → said_in said x ≡ form_said kind form x) where
+module _ (kind : Kind) (form : Form) (said : List AbstractValue) (h : (x : Variable) → said_in said x ≡ form_said kind form x) where
   form_known : (x y : Variable) → known_level (meaning kind form) x y ≡ known_with said (variable_number x) (variable_number y) (level_at form.levels (variable_number x) (variable_number y))
   form_known x y =
       known_unfolds (meaning kind form) x y
@@ -54,7 +54,7 @@ module _ (kind : Kind) (form : Form) (said : List Said) (h : (x : Variable) → 
   read_is = ap closure (note_same (record { said = said_in said; level = levels_in form.levels; side = form.side }) (meaning kind form) (fun_ext h) refl refl)
 
 -- what a form says, by the numbers of the variables
-pub form_says : (kind : Kind) (form : Form) (said : List Said) → ((x : ℕ) → x < 8 → said_of (get_or form.regs x Unset) ≡ get_or said x Nothing) →
+pub form_says : (kind : Kind) (form : Form) (said : List AbstractValue) → ((x : ℕ) → x < 8 → said_of (get_or form.regs x Unset) ≡ get_or said x Nothing) →
     ((k : Input) → said_in said (variable.Input k) ≡ entry_said kind (variable.Input k)) → (x : Variable) → form_said kind form x ≡ said_in said x
 form_says kind form said h k (variable.Register r) = h (register_number r) (register_below r)
 form_says kind form said h k (variable.Input i) = sym (k i)

@@ -11,8 +11,8 @@ use Rattle.trlab_code.specs.declared.instruction.Variable.TheVariants as variabl
 use Rattle.trlab_code.specs.declared.instruction.Register.{Register}
 use Rattle.trlab_code.specs.Machine.{update, register_number, input_number, allows_input}
 use Rattle.trlab_code.specs.Flow.{target, destination}
-use Rattle.trlab_notes.specs.declared.note.Said.{Said}
-use Rattle.trlab_notes.specs.declared.note.Said.TheVariants.{Nothing, Between, Implies}
+use Rattle.trlab_notes.specs.declared.note.AbstractValue.{AbstractValue}
+use Rattle.trlab_notes.specs.declared.note.AbstractValue.TheVariants.{Nothing, Between, Implies}
 use Rattle.trlab_notes.specs.declared.stored.Stored.{Stored}
 use Rattle.trlab_notes.specs.Notes.{Note, with_side, said_with_side, entry, entry_said, input_range, closure}
 use Rattle.trlab_notes.specs.Order.{join, join_said}
@@ -40,10 +40,10 @@ plain kind k false e = rw e refl
 same_range : (a c b d : ℕ) → a ≡ c → b ≡ d → Between a b ≡ Between c d
 same_range a c b d e f = cc
 
-both_same : (p q : Bool) (r s t : Said) → is_flag r ≡ false → s ≡ r → t ≡ r → join_said (with_side p s) (with_side q t) ≡ r
+both_same : (p q : Bool) (r s t : AbstractValue) → is_flag r ≡ false → s ≡ r → t ≡ r → join_said (with_side p s) (with_side q t) ≡ r
 both_same p q r s t f es et = rw (es, et) (at r f)
   where
-    at : (r : Said) → is_flag r ≡ false → join_said (with_side p r) (with_side q r) ≡ r
+    at : (r : AbstractValue) → is_flag r ≡ false → join_said (with_side p r) (with_side q r) ≡ r
     at Nothing f = refl
     at (Between a b) f = same_range (min a a) a (max b b) b (omega arith) (omega arith)
     at (Implies i) f = absurd (cc f)

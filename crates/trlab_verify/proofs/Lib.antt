@@ -15,3 +15,4 @@ pub mod Strongest
 pub mod Judged
 pub mod Reasons
 pub mod FirstNotes
+pub mod ReasonNumbers

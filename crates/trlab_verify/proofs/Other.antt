@@ -8,12 +8,12 @@ use Rattle.trlab_code.specs.declared.instruction.Instr.{Instr}
 use Rattle.trlab_code.specs.declared.instruction.Instr.TheVariants.{Get}
 use Rattle.trlab_code.specs.Machine.{allows_input}
 use Rattle.trlab_code.specs.Program.{Program}
-use Rattle.trlab_notes.specs.declared.note.Said.{Said}
+use Rattle.trlab_notes.specs.declared.note.AbstractValue.{AbstractValue}
 use Rattle.trlab_notes.specs.Notes.{Note, with_side, said_with_side, level_between, known_level, same_variable, entry, entry_said, entry_level}
 use Rattle.trlab_notes.specs.Transfer.{next_note}
 use Rattle.trlab_notes.specs.Reasons.{reason_against, reason_number, is_of_kind}
-use Rattle.trlab_notes.specs.declared.reason.Reason.{Reason}
-use Rattle.trlab_notes.specs.declared.reason.Reason.TheVariants.{WrongProgram}
+use Rattle.trlab_notes.specs.declared.reasons.Reason.{Reason}
+use Rattle.trlab_notes.specs.declared.reasons.Reason.TheVariants.{WrongProgram}
 use Rattle.std.specs.Option.{option_map}
 use Rattle.trlab_code.specs.declared.instruction.Input.{Input}
 use Rattle.trlab_code.specs.declared.instruction.Variable.{Variable}
@@ -69,7 +69,7 @@ unfolding entry said_with_side known_level
 entry_on kind own m f = record {
   said = λ x l. subst (λ z. SaysNoMore (said_with_side m x) (with_side false z)) (same_entry kind own x l) (f.said x);
   order = λ x y l k.
-      let level : Said → Said → ℕ = λ s t. level_between s t (same_variable x y) (entry_level x y) in
+      let level : AbstractValue → AbstractValue → ℕ = λ s t. level_between s t (same_variable x y) (entry_level x y) in
       let own_first : known_level m x y ≤ level (entry_said kind x) (entry_said own y) = subst (λ z. known_level m x y ≤ level z (entry_said own y)) (same_entry kind own x l) (f.order x y) in
       subst (λ z. known_level m x y ≤ level (entry_said kind x) z) (same_entry kind own y k) own_first;
   beside = f.beside;

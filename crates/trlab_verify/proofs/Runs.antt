@@ -7,12 +7,12 @@ use Rattle.trlab_code.specs.declared.kind.Kind.TheVariants.{Motion, Change}
 use Rattle.trlab_code.specs.declared.instruction.Instr.{Instr}
 use Rattle.trlab_code.specs.declared.instruction.Instr.TheVariants.{Jump, Go, Cross, Stay}
 use Rattle.trlab_code.specs.declared.view.View.{View}
-use Rattle.trlab_notes.specs.declared.note.Said.{Said}
+use Rattle.trlab_notes.specs.declared.note.AbstractValue.{AbstractValue}
 use Rattle.trlab_code.specs.Program.{Program}
 use Rattle.trlab_code.specs.Views.{IsView}
 use Rattle.trlab_code.specs.Machine.{Value, Number, update, Effect, Writes, Falls, Jumps, Ends, Sticks, effect, allows, start, Store, seen, register_number, input_number, Answer, At, state_after, execute, step, EndsFrom, IsSafe}
-use Rattle.trlab_code.specs.Flow.{target, falls}
-use Rattle.trlab_notes.specs.Reasons.{on_target, reason_against}
+use Rattle.trlab_code.specs.Flow.{target, falls, on_target}
+use Rattle.trlab_notes.specs.Reasons.{reason_against}
 use Rattle.trlab_notes.specs.Notes.{Note, entry}
 use Rattle.trlab_notes.specs.Transfer.{next_note, jump_note}
 use Rattle.trlab_notes.specs.Order.{join}
@@ -25,7 +25,7 @@ use Rattle.trlab_code.specs.declared.instruction.Input.TheVariants.{Speed, Limit
 use Rattle.trlab_code.specs.declared.instruction.Variable.{Variable}
 use Rattle.trlab_code.specs.declared.instruction.Variable.TheVariants as variable
 use Rattle.trlab_code.specs.Machine.{Unset, allows_input}
-use Rattle.trlab_notes.specs.declared.note.Said.TheVariants.{Nothing}
+use Rattle.trlab_notes.specs.declared.note.AbstractValue.TheVariants.{Nothing}
 use Rattle.trlab_notes.specs.Notes.{entry_said, entry_level, input_range}
 use Rattle.trlab_notes.proofs.Variables.{register_below}
 use Rattle.trlab_verify.proofs.Reasons.{noted}
@@ -166,7 +166,7 @@ input_fits view h SideBack = (omega arith, h.sideback)
 input_fits view h Lane = (omega arith, h.lane)
 input_fits view h Headspeed = (omega arith, omega (arith, h.headspeed, h.limit))
 
-allowed_fits : (side b : Bool) (said : Said) (n : ℕ) → FitsSaid side said (Number n) → FitsSaid side (cond b said Nothing) (cond b (Number n) Unset)
+allowed_fits : (side b : Bool) (said : AbstractValue) (n : ℕ) → FitsSaid side said (Number n) → FitsSaid side (cond b said Nothing) (cond b (Number n) Unset)
 allowed_fits side true said n f = f
 allowed_fits side false said n f = tt
 

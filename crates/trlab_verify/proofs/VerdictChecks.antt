@@ -9,8 +9,8 @@ use Rattle.std.proofs.lemmas.Option.{slice_get_within}
 use Rattle.trlab_code.specs.declared.kind.Kind.{Kind}
 use Rattle.trlab_code.specs.declared.instruction.Instr.{Instr}
 use Rattle.trlab_code.specs.Program.{Program}
-use Rattle.trlab_code.specs.Flow.{target}
-use Rattle.trlab_notes.specs.Reasons.{on_target, reason_against}
+use Rattle.trlab_code.specs.Flow.{target, on_target}
+use Rattle.trlab_notes.specs.Reasons.{reason_against}
 use Rattle.trlab_notes.specs.Notes.{Note, entry}
 use Rattle.trlab_notes.specs.Transfer.{next_note, jump_note}
 use Rattle.trlab_notes.specs.Order.{join, IsNoStronger}

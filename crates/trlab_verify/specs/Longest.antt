@@ -1,8 +1,7 @@
 -- The ways through a program, and the longest of them.
 use Rattle.std.specs.Prelude.{◌≡◌, ℕ, zero, suc, ◌<◌, ◌≤◌, ◌&&◌, ◌||◌, List, length, IsTrue, Some, nat_eq, slice_get}
 use Rattle.trlab_code.specs.declared.instruction.Instr.{Instr}
-use Rattle.trlab_code.specs.Flow.{target, falls, is_end}
-use Rattle.trlab_notes.specs.Reasons.{on_target}
+use Rattle.trlab_code.specs.Flow.{target, falls, is_end, on_target}
 
 -- the instruction at q may come after the one at pc: as the next, or as a jump's target
 abbrev pub Follows : List Instr → ℕ → ℕ → Type 0
@@ -10,13 +9,13 @@ Follows code pc q =
     (i : Instr) × (slice_get code pc ≡ Some i)
     × IsTrue ((falls i && nat_eq q (suc pc)) || on_target (nat_eq q) (target i))
 
--- a way of n instructions from pc to an end, the end counted
+-- a path of n instructions from pc to an end, the end included
 abbrev pub HasWay : List Instr → ℕ → ℕ → Type 0
 HasWay code pc zero = ⊥
 HasWay code pc (suc zero) = (i : Instr) × (slice_get code pc ≡ Some i) × IsTrue (is_end i)
 HasWay code pc (suc (suc n)) = (q : ℕ) × Follows code pc q × HasWay code q (suc n)
 
--- some way from pc has n instructions, and none has more
+-- some path from pc has n instructions, and none has more
 pub record IsLongest (code : List Instr) (pc n : ℕ) : Type 0 where
   pub way : HasWay code pc n
   pub most : (m : ℕ) → HasWay code pc m → m ≤ n

@@ -6,25 +6,25 @@ use Rattle.trlab_code.specs.declared.instruction.Variable.{Variable}
 use Rattle.trlab_code.specs.declared.instruction.Variable.TheVariants as variable
 use Rattle.trlab_code.specs.Machine.{register_number}
 use Rattle.trlab_code.specs.Program.{Program}
-use Rattle.trlab_notes.specs.declared.note.Said.{Said}
-use Rattle.trlab_notes.specs.declared.note.Said.TheVariants.{Nothing, Between, Implies}
+use Rattle.trlab_notes.specs.declared.note.AbstractValue.{AbstractValue}
+use Rattle.trlab_notes.specs.declared.note.AbstractValue.TheVariants.{Nothing, Between, Implies}
 use Rattle.trlab_notes.specs.Notes.{Note, known_level, entry_said}
 use Rattle.trlab_notes.specs.Rows.{levels_in}
-use Rattle.trlab_verify.specs.declared.table.note.Mark.{Mark}
-use Rattle.trlab_verify.specs.declared.table.note.Mark.TheVariants.{Unset, Num, Flag}
-use Rattle.trlab_verify.specs.declared.table.note.Note.{Note as Form}
-use Rattle.trlab_verify.specs.declared.table.best.NotesFault.{NotesFault}
-use Rattle.trlab_verify.specs.declared.table.best.NotesFault.TheVariants.{Refused, Memory}
+use Rattle.trlab_verify.specs.declared.note.Mark.{Mark}
+use Rattle.trlab_verify.specs.declared.note.Mark.TheVariants.{Unset, Num, Flag}
+use Rattle.trlab_verify.specs.declared.note.Note.{Note as Form}
+use Rattle.trlab_verify.specs.declared.table.NotesFault.{NotesFault}
+use Rattle.trlab_verify.specs.declared.table.NotesFault.TheVariants.{Refused, Memory}
 use Rattle.trlab_verify.specs.Verdict.{IsRefused}
 
 -- the abstract value of a register's mark
-abbrev pub said_of : Mark → Said
+abbrev pub said_of : Mark → AbstractValue
 said_of Unset = Nothing
 said_of (Num lo hi) = Between lo hi
 said_of (Flag imp) = Implies imp
 
 -- the abstract value of a variable in a form: the mark of a register, or the range of an input of the kind
-abbrev pub form_said : Kind → Form → Variable → Said
+abbrev pub form_said : Kind → Form → Variable → AbstractValue
 form_said kind form (variable.Register r) = said_of (slice_index_or form.regs (register_number r) Unset)
 form_said kind form (variable.Input k) = entry_said kind (variable.Input k)
 

@@ -4,7 +4,7 @@ use Rattle.trlab_code.specs.declared.kind.Kind.{Kind}
 use Rattle.trlab_code.specs.declared.instruction.Instr.{Instr}
 use Rattle.trlab_code.specs.Program.{Program}
 use Rattle.trlab_code.specs.Flow.{target}
-use Rattle.trlab_notes.specs.declared.note.Said.TheVariants.{Nothing}
+use Rattle.trlab_notes.specs.declared.note.AbstractValue.TheVariants.{Nothing}
 use Rattle.trlab_notes.specs.Notes.{Note, entry}
 use Rattle.trlab_notes.specs.Order.{IsNoStronger}
 use Rattle.trlab_notes.specs.Reasons.{reason_against}
@@ -60,7 +60,7 @@ pub record AreFirstNotes (kind : Kind) (program : Program) (count : ℕ) (table 
   pub one_each : length table ≡ count
   pub each : (pc : ℕ) → pc < count → note_at kind program.instrs pc ≡ Some (note_in table pc)
 
--- the notes of a program that is refused, as far as the verdict comes
+-- the notes of a rejected program, up to the rejected instruction
 abbrev pub AreNotesOfRefused : Kind → Program → List Note → Type 0
 AreNotesOfRefused kind program table = (at : ℕ) × (reason : ℕ)
     × IsRefused kind program at reason × AreFirstNotes kind program (noted_count at reason) table

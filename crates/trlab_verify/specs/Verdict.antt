@@ -4,8 +4,8 @@ use Rattle.std.specs.Option.{option_map}
 use Rattle.trlab_code.specs.declared.kind.Kind.{Kind}
 use Rattle.trlab_code.specs.declared.instruction.Instr.{Instr}
 use Rattle.trlab_code.specs.Program.{Program}
-use Rattle.trlab_notes.specs.declared.reason.Reason.{Reason}
-use Rattle.trlab_notes.specs.declared.reason.Reason.TheVariants.{Unreachable}
+use Rattle.trlab_notes.specs.declared.reasons.Reason.{Reason}
+use Rattle.trlab_notes.specs.declared.reasons.Reason.TheVariants.{Unreachable}
 use Rattle.trlab_notes.specs.Notes.{Note}
 use Rattle.trlab_notes.specs.Reasons.{reason_against, reason_number}
 use Rattle.trlab_verify.specs.Incoming.{note_at}

@@ -3,9 +3,9 @@ use Rattle.std.specs.Prelude.{◌≡◌}
 use Rattle.trlab_code.specs.declared.kind.Kind.{Kind}
 use Rattle.trlab_code.specs.Program.{Program}
 use Rattle.trlab_code.specs.Machine.{IsSafe}
-use Rattle.trlab_verify.specs.declared.fault.VerifyFault.{VerifyFault}
+use Rattle.trlab_verify.specs.declared.verify.VerifyFault.{VerifyFault}
 use Rattle.trlab_verify.specs.CheckedProgram.{CheckedProgram}
-use Rattle.trlab_verify.specs.Faults.{NoTableChecks, Tells}
+use Rattle.trlab_verify.specs.Faults.{NoTableChecks, IsFaultOf}
 use Rattle.trlab_verify.specs.Longest.{IsLongest}
 use Rattle.trlab_verify.specs.Tables.{SomeTableChecks}
 use Rattle.trlab_verify.specs.Verdict.{IsAccepted}
@@ -23,5 +23,5 @@ pub record IsAcceptedAs (kind : Kind) (code : Program) (program : CheckedProgram
 -- checks, or a failed allocation
 pub record IsRefusedAs (kind : Kind) (code : Program) (back : Program × VerifyFault) : Type 0 where
   pub same : back.0 ≡ code
-  pub refused : Tells kind code back.1
+  pub refused : IsFaultOf kind code back.1
   pub no_table : NoTableChecks kind code back.1

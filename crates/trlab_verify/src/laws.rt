@@ -15,13 +15,13 @@ ghost use Rattle.trlab_verify.specs.Longest.{IsLongest};
 ghost use Rattle.trlab_verify.specs.Tables.{IsNoStrongerAt, Checks, AreVerdictNotes, SomeTableChecks, note_in};
 ghost use Rattle.trlab_verify.specs.Verdict.{IsAccepted, IsRefused};
 
-/// Each program that is accepted as one of a kind is safe within its longest way.
+/// Each program that is accepted as one of a kind is safe within its longest path.
 pub fn accepted_is_safe()
     ensures { (kind : Kind) (program : Program) (budget : ℕ) →
         IsAccepted kind program → IsLongest program.instrs 0 budget → IsSafe kind program.instrs budget }
 {}
 
-/// A program that is accepted is not refused, and a refused one has one first instruction and one reason.
+/// An accepted program is not rejected. A rejection determines its instruction and its reason.
 pub fn verdict_is_one()
     ensures accepted { (kind : Kind) (program : Program) (at reason : ℕ) →
         IsAccepted kind program → ¬ (IsRefused kind program at reason) }
@@ -30,13 +30,13 @@ pub fn verdict_is_one()
         (at ≡ other_at) × (reason ≡ other_reason) }
 {}
 
-/// Each program is accepted as one of a kind, or refused.
+/// Each program is accepted as one of a kind, or rejected.
 pub fn each_is_judged()
     ensures { (kind : Kind) (program : Program) → IsAccepted kind program ⊎
         ((at : ℕ) × (reason : ℕ) × IsRefused kind program at reason) }
 {}
 
-/// Each program that is accepted has a longest way: with that as its budget it is a checked program.
+/// Each accepted program has a longest path: with that as its budget it is a checked program.
 #[tactic(auto, using(crate::proofs::Judged::some_budget))]
 pub fn accepted_is_checked()
     ensures { (kind : Kind) (program : Program) → IsProgram program → IsAccepted kind program →

@@ -3,17 +3,16 @@
 //! docs/PROGRAMS.md explains how.
 #![tactic(auto)]
 
-mod budget;
-mod copies;
-mod fault;
-mod incoming;
+mod check;
 pub mod laws;
+mod note;
 mod program;
 mod table;
 mod verdict;
 mod verify;
 
-pub use fault::VerifyFault;
+pub use check::check_notes;
+pub use note::{Mark, Note};
 pub use program::{AcceptedProgram, Change, ChangeKind, Motion, MotionKind, ProgramKind};
-pub use table::{Mark, Note, NotesFault, check_notes, notes, notes_of_refused};
-pub use verify::{verify_as, verify_change, verify_motion};
+pub use table::{NotesFault, notes, notes_of_refused};
+pub use verify::{VerifyFault, verify_as, verify_change, verify_motion};

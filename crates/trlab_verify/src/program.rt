@@ -1,5 +1,5 @@
-//! Programs that the verifier has accepted, with their budgets. Each kind has its own type, so that no motion
-//! program is run as a change program; everything else is shared.
+//! Programs that the verifier has accepted, with their budgets. Each kind is a type of its own, so no motion
+//! program is run as a change program.
 
 ghost use Rattle.std.specs.Prelude.{◌≡◌, ◌↔◌, IsTrue, IfOk};
 ghost use Rattle.trlab_code.specs.declared.kind.Kind.{Kind as AKind};
@@ -8,16 +8,30 @@ ghost use Rattle.trlab_code.specs.Machine.{IsSafe};
 ghost use Rattle.trlab_verify.specs.CheckedProgram.{IsChecked};
 ghost use Rattle.trlab_verify.specs.Longest.{IsLongest};
 
-use crate::copies::{are_same, copy_of};
 use std::alloc::{AllocError, Global};
 use std::marker::{Model, PhantomData};
 use trlab_code::{Code, Kind};
 
-/// A kind of programs, as a type.
+pub fn copy_of(alloc: Global, code: &Code) -> Result<Code, AllocError>
+    ensures { IfOk result (λ copy. copy ≡ code.now) }
+{
+    let instrs = Vec::from_slice(alloc, code.instrs())?;
+    match Code::new(code.kind(), instrs) {
+        Some(copy) => Ok(copy),
+        None => unreachable!(),
+    }
+}
+
+pub fn are_same(code: &Code, other: &Code) -> bool
+    ensures { IsTrue result ↔ (code.now ≡ other.now) }
+{
+    code.kind() == other.kind() && code.instrs() == other.instrs()
+}
+
+/// A kind of programs as a type.
 pub trait ProgramKind {
     ghost KIND: { AKind };
 
-    /// The kind.
     const KIND: Kind;
 }
 
@@ -67,7 +81,6 @@ impl<K: ProgramKind> Model for AcceptedProgram<K> {
 }
 
 impl<K: ProgramKind> AcceptedProgram<K> {
-    /// An accepted program with its longest way.
     pub(crate) fn new(code: Code, budget: u32) -> AcceptedProgram<K>
         requires { IsChecked K.KIND (record { program = code; budget = budget }) }
         ensures program { result.program ≡ code }
@@ -80,7 +93,6 @@ impl<K: ProgramKind> AcceptedProgram<K> {
         }
     }
 
-    /// The program.
     pub fn code(&self) -> &Code
         ensures value { result.now ≡ self.now.program }
         ensures checked { IsChecked K.KIND self.now }
@@ -97,11 +109,11 @@ impl<K: ProgramKind> AcceptedProgram<K> {
         self.budget
     }
 
-    /// A copy of the program.
+    /// Copies the program.
     ///
     /// # Errors
     ///
-    /// Where memory ran out.
+    /// If an allocation fails.
     pub fn copy(&self, alloc: Global) -> Result<AcceptedProgram<K>, AllocError>
         ensures { IfOk result (λ copy. copy ≡ self.now) }
     {
@@ -109,7 +121,7 @@ impl<K: ProgramKind> AcceptedProgram<K> {
         Ok(AcceptedProgram::new(code, self.budget))
     }
 
-    /// Whether two programs are one: the same instructions.
+    /// Whether two programs have the same instructions.
     pub fn equals(&self, other: &AcceptedProgram<K>) -> bool
         ensures { IsTrue result ↔ (self.now ≡ other.now) }
     {

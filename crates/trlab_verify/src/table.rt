@@ -1,12 +1,171 @@
-//! Tables of notes, one note for each instruction of a program. A table that checks shows that the program is
-//! safe, wherever it comes from (docs/PROGRAMS.md).
+//! The tables of notes that the verifier computes, in the form for callers (docs/PROGRAMS.md).
 
-mod best;
-mod check;
-mod note;
-mod refused;
+ghost use Rattle.std.specs.Prelude.{◌≡◌, ℕ, ◌<◌, ◌≤◌, All, IfErr, IfOk, Some, length, MatchOption};
+ghost use Rattle.trlab_code.specs.Program.{IsInRange, Program};
+ghost use Rattle.trlab_notes.specs.Notes.{Note as ANote, entry, maybe_closure};
+ghost use Rattle.trlab_notes.specs.Stored.{note_of, notes_of};
+ghost use Rattle.trlab_verify.specs.declared.table.NotesFault.TheVariants.{Memory};
+ghost use Rattle.trlab_verify.specs.Incoming.{incoming};
+ghost use Rattle.trlab_verify.specs.TableForm.{HasNoNotes, SaysRanges, meaning, meaning_at, table_of};
+ghost use Rattle.trlab_verify.specs.Tables.{Checks, AreVerdictNotes, AreNotesOfRefused, noted_count};
+ghost use Rattle.trlab_verify.specs.Verdict.{IsAccepted};
+ghost use Rattle.trlab_notes.specs.Reasons.{reason_number};
 
-pub use best::{NotesFault, notes};
-pub use check::check_notes;
-pub use note::{Mark, Note};
-pub use refused::notes_of_refused;
+use crate::note::{Note, first_note, write};
+use crate::verdict::{Rejection, judge, start_notes};
+use std::alloc::{AllocError, Global};
+use thiserror::Error;
+use trlab_code::{Code, Instr, Kind, MAX_INSTRUCTIONS};
+use trlab_notes::{Reason, Stored};
+
+/// Why a program has no notes.
+#[derive(Debug, Drop, Error)]
+pub enum NotesFault {
+    /// The program is rejected as one of its own kind.
+    #[error("the program is refused")]
+    Refused,
+    /// An allocation failed.
+    #[error("out of memory")]
+    Memory,
+}
+
+impl From<AllocError> for NotesFault {
+    ghost from_gives = { λ _ fault. fault ≡ Memory };
+
+    fn from(_: AllocError) -> NotesFault {
+        NotesFault::Memory
+    }
+}
+
+/// The form of the stored note of the instruction at `pc`. The first one contains no more of the order than
+/// holds at the start.
+fn write_at(kind: Kind, pc: usize, stored: &Stored) -> Note
+    requires { SaysRanges kind (note_of stored.now) }
+    ensures first { pc ≡ 0 → meaning kind result ≡ entry kind }
+    ensures later { 0 < pc → meaning kind result ≡ note_of stored.now }
+{
+    if pc == 0 {
+        first_note(kind)
+    } else {
+        write(kind, stored)
+    }
+}
+
+/// The forms of the stored notes.
+pub fn write_all(
+    alloc: Global,
+    kind: Kind,
+    stored: &[Option<Stored>],
+) -> Result<Vec<Note>, AllocError>
+    requires { (pc : ℕ) → pc < length stored.now →
+        (note : ANote) × (notes_of stored.now pc ≡ Some note) × SaysRanges kind note }
+    ensures one_each { IfOk result (λ notes. length notes.items ≡ length stored.now) }
+    ensures first { IfOk result (λ notes. 0 < length stored.now → meaning_at kind notes.items 0 ≡ entry kind) }
+    ensures later { IfOk result (λ notes. (pc : ℕ) → 0 < pc → pc < length stored.now →
+        notes_of stored.now pc ≡ Some (meaning_at kind notes.items pc)) }
+{
+    let mut notes = Vec::with_capacity(alloc, stored.len())?;
+    for pc in 0..stored.len() {
+        match stored[pc] {
+            Some(note) => notes.push(write_at(kind, pc, &note))?,
+            None => unreachable!(),
+        }
+    }
+    Ok(notes)
+}
+
+/// The forms of the notes with which a program is judged as one of its own kind.
+fn judge_notes(
+    alloc: Global,
+    kind: Kind,
+    instrs: &[Instr],
+    stored: &mut [Option<Stored>],
+) -> Result<Vec<Note>, NotesFault>
+    requires few { length instrs.now ≤ MAX_INSTRUCTIONS }
+    requires in_range { All IsInRange instrs.now }
+    requires one_each { length stored.old ≡ length instrs.now }
+    requires begins { (q : ℕ) → q < length instrs.now →
+        notes_of stored.old q ≡ maybe_closure (incoming kind instrs.now 0 q) }
+    ensures accepted { IfOk result (λ notes. IsAccepted kind (record { kind = kind; instrs = instrs.now })) }
+    ensures best { IfOk result (λ notes.
+        AreVerdictNotes kind (record { kind = kind; instrs = instrs.now }) (table_of kind notes.items)) }
+    ensures refused { IfErr result (λ fault. HasNoNotes (record { kind = kind; instrs = instrs.now }) fault) }
+{
+    if judge(kind, kind, instrs, stored).is_some() {
+        return Err(NotesFault::Refused);
+    }
+    Ok(write_all(alloc, kind, stored)?)
+}
+
+/// The notes with which a program is accepted as one of its own kind, one for each instruction.
+///
+/// This table checks, and no table that checks has a stronger note.
+///
+/// # Errors
+///
+/// `Refused` if the program is rejected as one of its own kind: then it has no notes. `Memory` if allocation
+/// fails.
+pub fn notes(alloc: Global, code: &Code) -> Result<Vec<Note>, NotesFault>
+    ensures accepted { IfOk result (λ notes. IsAccepted code.now.kind code.now) }
+    ensures best { IfOk result (λ notes.
+        AreVerdictNotes code.now.kind code.now (table_of code.now.kind notes.items)) }
+    ensures checks { IfOk result (λ notes.
+        Checks code.now.kind code.now (table_of code.now.kind notes.items)) }
+    ensures refused { IfErr result (λ fault. HasNoNotes code.now fault) }
+{
+    let instrs = code.instrs();
+    let kind = code.kind();
+    let mut stored = start_notes(alloc, kind, instrs)?;
+    judge_notes(alloc, kind, instrs, &mut stored)
+}
+
+/// The number of instructions with a note, if the verdict ends at this rejection.
+fn noted_count(refusal: Rejection) -> usize
+    ensures { result ≡ noted_count refusal.at (reason_number refusal.reason) }
+{
+    match refusal.reason {
+        Reason::Unreachable => refusal.at as usize,
+        _ => refusal.at as usize + 1,
+    }
+}
+
+/// The forms of the notes with which a program is rejected as one of its own kind; none if it is accepted.
+fn judge_refused(
+    alloc: Global,
+    kind: Kind,
+    instrs: &[Instr],
+    stored: &mut [Option<Stored>],
+) -> Result<Option<Vec<Note>>, AllocError>
+    requires few { length instrs.now ≤ MAX_INSTRUCTIONS }
+    requires in_range { All IsInRange instrs.now }
+    requires one_each { length stored.old ≡ length instrs.now }
+    requires begins { (q : ℕ) → q < length instrs.now →
+        notes_of stored.old q ≡ maybe_closure (incoming kind instrs.now 0 q) }
+    ensures { let program : Program = record { kind = kind; instrs = instrs.now } in
+        IfOk result (λ notes. MatchOption notes (IsAccepted kind program)
+        (λ notes. AreNotesOfRefused kind program (table_of kind notes.items))) }
+{
+    match judge(kind, kind, instrs, stored) {
+        None => Ok(None),
+        Some(refusal) => {
+            let (judged, _) = stored.split_at(noted_count(refusal));
+            Ok(Some(write_all(alloc, kind, judged)?))
+        }
+    }
+}
+
+/// The notes with which a program is rejected as one of its own kind, one for each instruction up to the
+/// rejected one, which has none if it is unreachable; `None` if the program is accepted.
+///
+/// # Errors
+///
+/// If an allocation fails.
+pub fn notes_of_refused(alloc: Global, code: &Code) -> Result<Option<Vec<Note>>, AllocError>
+    ensures { IfOk result (λ notes. MatchOption notes (IsAccepted code.now.kind code.now)
+        (λ notes. AreNotesOfRefused code.now.kind code.now (table_of code.now.kind notes.items))) }
+{
+    let instrs = code.instrs();
+    let kind = code.kind();
+    let mut stored = start_notes(alloc, kind, instrs)?;
+    judge_refused(alloc, kind, instrs, &mut stored)
+}

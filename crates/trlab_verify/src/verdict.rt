@@ -1,27 +1,81 @@
-//! The verdict on a program: which instruction is refused first, and why. The instructions are judged in
-//! turn, each by the join of its incoming notes (docs/PROGRAMS.md).
+//! The verdict on a program: the first rejected instruction, and the reason. The instructions are judged in
+//! order, each by the join of the notes that arrive there (docs/PROGRAMS.md).
 
-ghost use Rattle.std.specs.Prelude.{◌≡◌, ℕ, ◌<◌, ◌≤◌, length, All, IfOk, IfSome, MatchOption, None};
-ghost use Rattle.trlab_code.specs.Program.{Program, IsInRange};
-ghost use Rattle.trlab_verify.specs.Incoming.{incoming, note_at};
+ghost use Rattle.std.specs.Prelude.{◌≡◌, ℕ, ◌<◌, false, length, Some, nat_eq, if◌then◌else◌, ◌≤◌, All, IfOk, IfSome, MatchOption, None};
+ghost use Rattle.trlab_code.specs.Program.{IsInRange, Program};
+ghost use Rattle.trlab_notes.specs.Transfer.{jump_note};
+ghost use Rattle.trlab_verify.specs.Incoming.{next_note_to, jump_note_to, add_note, add_notes, incoming, note_at};
+ghost use Rattle.trlab_notes.specs.Stored.{note_of, notes_of};
+ghost use Rattle.trlab_notes.specs.Reasons.{may_be_too_large, reason_number};
 ghost use Rattle.trlab_notes.specs.Notes.{maybe_closure};
-ghost use Rattle.trlab_notes.specs.Reasons.{reason_number};
-ghost use Rattle.trlab_notes.specs.Stored.{notes_of};
 ghost use Rattle.trlab_verify.specs.Verdict.{IsAccepted, IsRefused};
 
-use crate::incoming::send;
 use std::alloc::{AllocError, Global};
-use trlab_code::{Code, Instr, Kind, MOST_INSTRUCTIONS};
-use trlab_notes::{Reason, Stored, reason_against};
+use trlab_code::{Code, Instr, Kind, MAX_INSTRUCTIONS};
+use trlab_notes::{Reason, Stored, join, join_itself, jump_note, next_note, reason_against};
+
+/// Joins a note with those that arrived at `pc` before.
+fn add_incoming(notes: &mut [Option<Stored>], pc: usize, note: Stored)
+    requires { pc < length notes.old }
+    ensures { (q : ℕ) → notes_of notes.new q ≡ (if nat_eq q pc
+        then add_note (notes_of notes.old pc) (Some (note_of note)) else notes_of notes.old q) }
+{
+    notes[pc] = match notes[pc] {
+        None => Some(join_itself(&note)),
+        Some(old) => Some(join(&old, &note)),
+    };
+}
+
+/// Sends a note from the instruction at `pc` to the next one.
+fn send_next(notes: &mut [Option<Stored>], pc: usize, note: &Stored, instr: Instr)
+    requires inside { pc < length notes.old }
+    requires in_range { IsInRange instr }
+    requires fits { may_be_too_large (note_of note.now) instr ≡ false }
+    ensures { (q : ℕ) → q < length notes.old →
+        notes_of notes.new q ≡ add_note (notes_of notes.old q) (next_note_to pc (note_of note.now) instr q) }
+{
+    let next = pc + 1;
+    if next >= notes.len() {
+        return;
+    }
+    if let Some(falling) = next_note(note, instr) {
+        add_incoming(notes, next, falling);
+    }
+}
+
+/// Sends a note to the target of a jump.
+fn send_jump(notes: &mut [Option<Stored>], note: &Stored, instr: Instr)
+    ensures { (q : ℕ) → q < length notes.old →
+        notes_of notes.new q ≡ add_note (notes_of notes.old q) (jump_note_to (note_of note.now) instr q) }
+{
+    if let Some(target) = instr.target() {
+        let to = target as usize;
+        if to < notes.len() {
+            add_incoming(notes, to, jump_note(note, instr));
+        }
+    }
+}
+
+/// Sends the notes on the paths from the instruction at `pc` to their targets.
+pub fn send(notes: &mut [Option<Stored>], pc: usize, note: &Stored, instr: Instr)
+    requires inside { pc < length notes.old }
+    requires in_range { IsInRange instr }
+    requires fits { may_be_too_large (note_of note.now) instr ≡ false }
+    ensures { (q : ℕ) → q < length notes.old →
+        notes_of notes.new q ≡ add_notes pc (Some (note_of note.now)) (Some instr) q (notes_of notes.old q) }
+{
+    send_next(notes, pc, note, instr);
+    send_jump(notes, note, instr);
+}
 
 /// The first rejected instruction, and the first reason there.
 #[derive(Clone, Copy)]
-pub struct Refusal {
+pub struct Rejection {
     pub at: u32,
     pub reason: Reason,
 }
 
-/// The notes before the first instruction is judged: it has that of the start, and no other has one.
+/// The notes before the first instruction is judged: only this instruction has one.
 pub fn start_notes(
     alloc: Global,
     kind: Kind,
@@ -37,14 +91,14 @@ pub fn start_notes(
     Ok(notes)
 }
 
-/// Judges each instruction in turn by the join of its incoming notes, and sends notes on from it.
+/// Judges the instructions in order, and sends the notes of each to those that may follow it.
 pub fn judge(
     kind: Kind,
     own: Kind,
     instrs: &[Instr],
     notes: &mut [Option<Stored>],
-) -> Option<Refusal>
-    requires few { length instrs.now ≤ MOST_INSTRUCTIONS }
+) -> Option<Rejection>
+    requires few { length instrs.now ≤ MAX_INSTRUCTIONS }
     requires in_range { All IsInRange instrs.now }
     requires one_each { length notes.old ≡ length instrs.now }
     requires begins { (q : ℕ) → q < length instrs.now →
@@ -59,13 +113,13 @@ pub fn judge(
     for pc in 0..instrs.len() {
         let instr = instrs[pc];
         let Some(note) = notes[pc] else {
-            return Some(Refusal {
+            return Some(Rejection {
                 at: pc as u32,
                 reason: Reason::Unreachable,
             });
         };
         if let Some(reason) = reason_against(kind, own, instrs.len(), pc, &note, instr) {
-            return Some(Refusal {
+            return Some(Rejection {
                 at: pc as u32,
                 reason,
             });
@@ -76,7 +130,7 @@ pub fn judge(
 }
 
 /// The rejection of a program as one of this kind, or `None` if it is accepted.
-pub fn verdict(alloc: Global, kind: Kind, code: &Code) -> Result<Option<Refusal>, AllocError>
+pub fn verdict(alloc: Global, kind: Kind, code: &Code) -> Result<Option<Rejection>, AllocError>
     ensures { IfOk result (λ refusal.
         MatchOption refusal (IsAccepted kind code.now)
         (λ no. IsRefused kind code.now no.at (reason_number no.reason))) }

@@ -1,16 +1,77 @@
-//! The verifier's calls: the accepted program of a code with its budget, or the code again and why it is
-//! refused (docs/PROGRAMS.md).
+//! Verifies codes: returns the accepted program with its budget, or the code again and why it is rejected
+//! (docs/PROGRAMS.md).
 
-ghost use Rattle.std.specs.Prelude.{MatchResult};
+ghost use Rattle.std.specs.Prelude.{◌≡◌, ℕ, ◌+◌, ◌<◌, ◌≤◌, IsTrue, length, slice_index, IfSome, if◌then◌else◌, MatchResult};
+ghost use Rattle.std.specs.Option.{option_map_or};
+ghost use Rattle.trlab_code.specs.Flow.{falls, target};
+ghost use Rattle.trlab_verify.specs.Longest.{IsLongest, IsForward};
 ghost use Rattle.trlab_code.specs.declared.kind.Kind.TheVariants.{Motion as OfMotion, Change as OfChange};
 ghost use Rattle.trlab_verify.specs.Verified.{IsAcceptedAs, IsRefusedAs};
 
-use crate::budget::longest_way;
-use crate::fault::VerifyFault;
 use crate::program::{AcceptedProgram, Change, Motion, ProgramKind};
-use crate::verdict::{Refusal, verdict};
+use crate::verdict::{Rejection, verdict};
 use std::alloc::Global;
-use trlab_code::Code;
+use thiserror::Error;
+use trlab_code::{Code, Instr, MAX_INSTRUCTIONS};
+
+/// Why a program is not accepted.
+#[derive(Clone, Copy, Debug, PartialEq, Eq, Error)]
+pub enum VerifyFault {
+    /// The first rejected instruction, counted from 0, and the number of the first reason there: 1 to 12, as
+    /// listed in `trlab_notes::Reason` and docs/PROGRAMS.md.
+    #[error("refused at {at} reason {reason}")]
+    Why { at: u32, reason: u32 },
+    /// An allocation failed.
+    #[error("out of memory")]
+    Memory,
+}
+
+/// The longest path from the next instruction, 0 if it cannot follow.
+fn longest_of_next(instr: Instr, pc: usize, longest: &[u32; MAX_INSTRUCTIONS]) -> u32
+    requires { IsTrue (falls instr) → pc + 1 < MAX_INSTRUCTIONS }
+    ensures { result ≡ (if falls instr then slice_index longest.now (pc + 1) else 0) }
+{
+    if instr.falls() { longest[pc + 1] } else { 0 }
+}
+
+/// The longest path from a jump's target, 0 if there is none.
+fn longest_of_target(instr: Instr, longest: &[u32; MAX_INSTRUCTIONS]) -> u32
+    requires { IfSome (target instr) (λ target. target < MAX_INSTRUCTIONS) }
+    ensures { result ≡ option_map_or (λ target. slice_index longest.now target) (target instr) 0 }
+{
+    match instr.target() {
+        Some(target) => longest[target as usize],
+        None => 0,
+    }
+}
+
+/// The longest path from the instruction at `pc`; `longest` has those from the later ones.
+fn longest_from(instrs: &[Instr], pc: usize, longest: &[u32; MAX_INSTRUCTIONS]) -> u32
+    requires inside { pc < length instrs.now }
+    requires few { length instrs.now ≤ MAX_INSTRUCTIONS }
+    requires forward { IsForward instrs.now }
+    requires later { (q : ℕ) → pc < q → q < length instrs.now →
+        IsLongest instrs.now q (slice_index longest.now q) }
+    ensures { IsLongest instrs.now pc result }
+{
+    let instr = instrs[pc];
+    let next = longest_of_next(instr, pc, longest);
+    next.max(longest_of_target(instr, longest)) + 1
+}
+
+/// The length of the longest path through a program without jumps backwards. Later instructions come first.
+pub fn longest_way(instrs: &[Instr]) -> u32
+    requires some { 1 ≤ length instrs.now }
+    requires few { length instrs.now ≤ MAX_INSTRUCTIONS }
+    requires forward { IsForward instrs.now }
+    ensures { IsLongest instrs.now 0 result }
+{
+    let mut longest = [0; MAX_INSTRUCTIONS];
+    for pc in (0..instrs.len()).rev() {
+        longest[pc] = longest_from(instrs, pc, &longest);
+    }
+    longest[0]
+}
 
 /// Verifies a code as a program of the kind `K`: returns it as an accepted program, or the same code and the
 /// reason.
@@ -34,7 +95,7 @@ pub fn verify_as<K: ProgramKind>(
             let budget = longest_way(code.instrs());
             Ok(AcceptedProgram::new(code, budget))
         }
-        Ok(Some(Refusal { at, reason })) => Err((
+        Ok(Some(Rejection { at, reason })) => Err((
             code,
             VerifyFault::Why {
                 at,

@@ -1,7 +1,7 @@
 // The fundamental diagram: flow against density. Runs are points, sweeps are curves, and thin lines show the maximum that
 // is proved for every rule: a triangle for each maximum speed.
 
-import { ACCENT, INK, SOFT, tag } from "./draw.js";
+import { ACCENT, INK, SOFT, svgFile, tag } from "./draw.js";
 
 const OLD = "#a5adb8";
 export const across = density => 34 + 316 * density;
@@ -36,8 +36,7 @@ export function diagramOf({ limit, density, flow, marks }) {
     flow === null ? "" : tag("circle", { cx: across(density), cy: up(flow), r: 5, fill: "#fff", stroke: ACCENT, "stroke-width": 2 }),
   ].join("\n");
 }
-export const diagramFile = what => tag("svg", { xmlns: "http://www.w3.org/2000/svg", viewBox: "0 0 360 276", "font-family": "sans-serif" },
-  "\n" + tag("rect", { width: 360, height: 276, fill: "white" }) + "\n" + diagramOf(what) + "\n") + "\n";
+export const diagramFile = what => svgFile("0 0 360 276", tag("rect", { width: 360, height: 276, fill: "white" }), diagramOf(what));
 
 /** The points of a sweep's table. */
 export const pointsOf = table => table.trim().split("\n").slice(1).map(line => line.split(",").map(Number))

@@ -32,9 +32,9 @@ export function fresh(canvas) {
 
 const short = number => +number.toFixed(2);
 export const tag = (name, what, words = "") => `<${name}${Object.entries(what).map(it => ` ${it[0]}="${it[1]}"`).join("")}>${words}</${name}>`;
-/** The parts of a canvas context that these drawings use, written as SVG. */
+/** The parts of a canvas context that these drawings use, written as SVG. Only boxes are turned. */
 export class SvgPen {
-  constructor() { Object.assign(this, { parts: [], path: "", boxes: "", lineWidth: 1 }); }
+  constructor() { Object.assign(this, { parts: [], path: "", boxes: "", lineWidth: 1, angle: 0, middle: [0, 0] }); }
   beginPath() { this.path = ""; }
   moveTo(x, y) { this.path += `M${short(x)} ${short(y)}`; }
   lineTo(x, y) { this.path += `${this.path ? "L" : "M"}${short(x)} ${short(y)}`; }
@@ -45,10 +45,14 @@ export class SvgPen {
   }
   stroke() { this.add("path", { d: this.path, fill: "none", stroke: this.strokeStyle, "stroke-width": this.lineWidth }); }
   fill() { this.add("path", { d: this.path, fill: this.fillStyle }); }
+  translate(x, y) { this.middle = [x, y]; }
+  rotate(angle) { this.angle += angle; }
   fillRect(x, y, wide, high) {
     if (this.filled !== this.fillStyle) this.flush();
     this.filled = this.fillStyle;
-    this.boxes += `M${short(x)} ${short(y)}h${short(wide)}v${short(high)}h${short(-wide)}z`;
+    const [sin, cos, [left, top]] = [Math.sin(this.angle), Math.cos(this.angle), this.middle];
+    const corner = (x, y) => `${short(left + cos * x - sin * y)} ${short(top + sin * x + cos * y)}`;
+    this.boxes += `M${corner(x, y)}L${corner(x + wide, y)} ${corner(x + wide, y + high)} ${corner(x, y + high)}z`;
   }
   text(words, x, y, more = {}) { this.add("text", { x: short(x), y: short(y), fill: SOFT, ...more }, words); }
   add(name, what, words) {
@@ -63,11 +67,11 @@ export class SvgPen {
   image(width, height, [top, right, bottom, left]) {
     this.flush();
     const size = [-left, -top, width + left + right, height + top + bottom], [x, y, wide, high] = size;
-    const paper = tag("rect", { x, y, width: wide, height: high, fill: "white" });
-    const what = { xmlns: "http://www.w3.org/2000/svg", viewBox: size.join(" "), "font-family": "sans-serif", "font-size": 12 };
-    return tag("svg", what, "\n" + [paper, ...this.parts].join("\n") + "\n") + "\n";
+    return svgFile(size.join(" "), tag("rect", { x, y, width: wide, height: high, fill: "white" }), ...this.parts);
   }
 }
+export const svgFile = (viewBox, ...parts) =>
+  tag("svg", { xmlns: "http://www.w3.org/2000/svg", viewBox, "font-family": "sans-serif", "font-size": 12 }, `\n${parts.join("\n")}\n`) + "\n";
 
 /** Call for each car of a speed, or for each dot whose slowest car has this speed, with its place and its lane. */
 function marksOf({ film, scene, share }, bins) {
@@ -83,6 +87,13 @@ function marksOf({ film, scene, share }, bins) {
   }
   return (v, call) => found.forEach((slowest, k) => slowest === v && call((k % bins) / scale, Math.floor(k / bins)));
 }
+/** Draw all cars, the slowest last. */
+function paintCars(pen, { limit }, call, draw) {
+  for (let v = limit; v >= 0; v--) {
+    pen.fillStyle = paint(v, limit);
+    call(v, (x, lane) => draw(x, lane));
+  }
+}
 /** The place and the lane of the followed car, as `marksOf` gives them. */
 export function carNow({ film, share, car, step }) {
   if (!car || car.step !== step) return null;
@@ -93,36 +104,29 @@ export function carNow({ film, share, car, step }) {
 // The ring
 
 const ringOf = ({ film }, size) => ({ middle: size / 2, outer: size / 2 - 4, tall: film.lanes === 2 ? 13 : 18 });
+/** Cars are boxes on a turned pen, which is much faster than lines in Firefox. */
 export function drawRing(pen, size, view) {
   const { film } = view, { middle, outer, tall } = ringOf(view, size), turn = turned / film.length;
-  const line = (x, lane, more = 0) => {
-    const angle = (x + 0.5) * turn, sin = Math.sin(angle), cos = -Math.cos(angle);
-    const from = outer - 2.5 - lane * (tall + 5) + more, to = from - tall - 2 * more;
-    pen.moveTo(middle + sin * from, middle + cos * from);
-    pen.lineTo(middle + sin * to, middle + cos * to);
-  };
-  pen.strokeStyle = LINE;
-  pen.lineWidth = 1;
+  const thick = clamp(turn * (outer - 12) * 0.72, 1.7, 12), call = marksOf(view, 1500), car = carNow(view);
+  Object.assign(pen, { strokeStyle: LINE, lineWidth: 1 });
   for (const k of upTo(film.lanes + 1)) {
     pen.beginPath();
     pen.arc(middle, middle, outer - k * (tall + 5), 0, turned);
     pen.stroke();
   }
   drawArrow(pen, middle, outer - film.lanes * (tall + 5) - 12);
-  const thick = clamp(turn * (outer - 12) * 0.72, 1.7, 12), call = marksOf(view, 1500), car = carNow(view);
-  for (const [style, more, wide] of car ? [["#fff", 4, thick + 6], [INK, 3, thick + 3]] : []) {
-    Object.assign(pen, { strokeStyle: style, lineWidth: wide });
-    pen.beginPath();
-    line(...car, more);
-    pen.stroke();
+  let angle = 0;
+  const box = (x, lane, more = 0) => {
+    pen.rotate((x + 0.5) * turn - angle);
+    angle = (x + 0.5) * turn;
+    pen.fillRect(-thick / 2 - more, 2.5 + lane * (tall + 5) - outer - more, thick + 2 * more, tall + 2 * more);
+  };
+  pen.translate(middle, middle);
+  for (const [style, more] of car ? [["#fff", 3], [INK, 2]] : []) {
+    pen.fillStyle = style;
+    box(...car, more);
   }
-  pen.lineWidth = thick;
-  for (let v = film.limit; v >= 0; v--) {
-    pen.strokeStyle = paint(v, film.limit);
-    pen.beginPath();
-    call(v, (x, lane) => line(x, lane));
-    pen.stroke();
-  }
+  paintCars(pen, film, call, box);
 }
 /** The direction of the traffic: clockwise. */
 function drawArrow(pen, middle, radius) {
@@ -146,7 +150,7 @@ export function ringAt(view, size, x, y) {
 // The straight road: all of it, and below it a part of it that is drawn larger
 
 function drawRoad(pen, view, { top, tall, from, cells, width }) {
-  const scale = width / cells, wide = Math.max(1.4, scale * 0.78), { length, lanes, limit } = view.film;
+  const scale = width / cells, wide = Math.max(1.4, scale * 0.78), { length, lanes } = view.film;
   const box = (x, lane, more = 0) => {
     let place = (((x - from) % length) + length) % length;
     if (place > cells) place -= length;
@@ -160,10 +164,7 @@ function drawRoad(pen, view, { top, tall, from, cells, width }) {
     pen.fillStyle = INK;
     box(...car, tall > 14 ? 3 : 2);
   }
-  for (let v = limit; v >= 0; v--) {
-    pen.fillStyle = paint(v, limit);
-    call(v, (x, lane) => box(x, lane));
-  }
+  paintCars(pen, view.film, call, box);
 }
 /** The places of both bands; a short road has only one. */
 function bandsOf({ film: { length, lanes }, lens }, width, height) {
@@ -202,17 +203,16 @@ export function rowsOf({ film, step }, width, height) {
   const high = Math.max(film.lanes, clamp(Math.round(width / film.length), 1, 8)), rows = Math.max(1, Math.floor(height / high));
   return { high, rows, top: Math.max(film.first, step - rows + 1) };
 }
-/** Rows are kept in a canvas with one dot for each cell; the oldest row is overwritten. */
+/** Rows are kept in a canvas, with a dot for each cell or for each pixel; the oldest row is overwritten. */
 export class Rows {
   constructor() { this.pen = document.createElement("canvas").getContext("2d", { willReadFrequently: true }); }
   draw(pen, width, height, view) {
-    const { film, step } = view, { high, rows, top } = rowsOf(view, width, height), { lanes } = film, wide = Math.min(film.length, 4000);
-    const key = [wide, film.length, lanes, film.limit, rows].join();
+    const { film, step } = view, { high, rows, top } = rowsOf(view, width, height), { lanes } = film;
+    const wide = Math.min(film.length, Math.round(width * devicePixelRatio)), key = [wide, film.length, lanes, film.limit, rows].join();
     if (key !== this.key || film !== this.film) this.begin(key, film, wide, rows);
     if (step !== this.step) for (let k = step > this.step && this.step >= top ? this.step + 1 : top; k <= step; k++) this.row(k, rows, wide);
     this.step = step;
-    pen.imageSmoothingEnabled = width * devicePixelRatio < wide;
-    pen.imageSmoothingQuality = "high";
+    pen.imageSmoothingEnabled = false;
     const piece = (from, to) => to > from && pen.drawImage(this.pen.canvas, 0, from % rows * lanes, wide, (to - from) * lanes, 0, (from - top) * high, width, (to - from) * high);
     const turn = Math.ceil((top + 1) / rows) * rows; // the first step above `top` whose row is the first of the canvas
     piece(top, Math.min(turn, step + 1));
@@ -228,11 +228,11 @@ export class Rows {
     }
   }
   row(step, rows, wide) {
-    const { film, image, table } = this, { cells } = film.of(step), { length } = film, dots = new Uint32Array(image.data.buffer);
+    const { film, image, table } = this, { cells } = film.of(step), dots = new Uint32Array(image.data.buffer), scale = wide / film.length;
     for (let lane = 0, k = 0; lane < film.lanes; lane++) {
       const slowest = new Uint8Array(wide);
-      for (let x = 0; x < length; x++, k++) {
-        const dot = wide === length ? x : Math.floor(x * wide / length), sign = cells[k];
+      for (let x = 0; x < film.length; x++, k++) {
+        const dot = Math.floor(x * scale), sign = cells[k];
         if (sign !== EMPTY && (slowest[dot] === 0 || sign < slowest[dot])) slowest[dot] = sign;
       }
       for (let dot = 0; dot < wide; dot++) dots[dot] = table[slowest[dot]];
@@ -257,7 +257,7 @@ function drawPath(pen, width, high, top, { film, car, step }) {
   }
 }
 
-// Curves beside the space-time diagram, with the same time axis
+// Curves next to the space-time diagram, with the same time axis
 
 const CURVES = ["flow", "density", "speed", "stopped"];
 const SPAN = 25;
@@ -276,22 +276,28 @@ export function drawCurves(pen, width, height, view, rows) {
   const shots = upTo(step - top + 1).map(k => film.of(top + k));
   CURVES.forEach((name, k) => {
     const left = k * (wide + gap);
-    const curve = (style, thick, values) => {
-      Object.assign(pen, { strokeStyle: style, lineWidth: thick });
+    const curve = (style, values) => { // lines of one pixel are fast in every browser
+      Object.assign(pen, { strokeStyle: style, lineWidth: 1 });
       pen.beginPath();
       values.forEach((it, n) => pen.lineTo(left + 1 + (wide - 2) * it / most[name], (n + 0.5) * high));
       pen.stroke();
     };
     pen.fillStyle = LINE;
     pen.fillRect(left, 0, 1, height);
-    if (name === "density") return upTo(film.lanes).forEach(lane => curve(lane ? OTHER : ACCENT, 1.5, shots.map(it => it.densities[lane])));
-    curve(FAINT, 1, shots.map(it => it[name]));
-    curve(ACCENT, 1.5, smooth(film, name, top, step));
+    if (name === "density") return upTo(film.lanes).forEach(lane => curve(lane ? OTHER : ACCENT, shots.map(it => it.densities[lane])));
+    curve(FAINT, shots.map(it => it[name]));
+    curve(ACCENT, smooth(film, name, top, step));
   });
 }
 
 // The same drawings as SVG files
 
+/** Write the first and the last step on the left, and return the height of all rows. */
+function timeAxis(pen, view) {
+  const { high, top } = rowsOf(view, 1000, 300), foot = (view.step - top + 1) * high;
+  for (const [step, y] of [[top, 9], [view.step, foot]]) pen.text(`step ${step}`, -6, y, { "text-anchor": "end" });
+  return foot;
+}
 export const FIGURES = {
   ring(view) {
     const pen = new SvgPen();
@@ -315,19 +321,15 @@ export const FIGURES = {
       }
     }
     drawPath(pen, width, high, top, view);
-    const foot = (step - top + 1) * high, end = { "text-anchor": "end" };
-    pen.text(`step ${top}`, -6, 9, end);
-    pen.text(`step ${step}`, -6, foot, end);
-    pen.text(`position, 0 to ${film.length - 1} cells; time runs down`, width, foot + 18, end);
+    const foot = timeAxis(pen, view);
+    pen.text(`position, 0 to ${film.length - 1} cells; time runs down`, width, foot + 18, { "text-anchor": "end" });
     return pen.image(width, foot, [8, 8, 28, 70]);
   },
   curves(view) {
-    const pen = new SvgPen(), rows = rowsOf(view, 1000, 300), foot = (view.step - rows.top + 1) * rows.high;
-    drawCurves(pen, 480, foot, view, rows);
+    const pen = new SvgPen(), foot = timeAxis(pen, view);
+    drawCurves(pen, 480, foot, view, rowsOf(view, 1000, 300));
     const { limit } = view.film, titles = [`flow, 0 to ${+(limit / (limit + 1)).toFixed(2)}`, "density, 0 to 1", `speed, 0 to ${limit}`, "stopped, 0 to 1"];
     titles.forEach((words, k) => pen.text(words, k * 123.5, -8));
-    pen.text(`step ${rows.top}`, -6, 9, { "text-anchor": "end" });
-    pen.text(`step ${view.step}`, -6, foot, { "text-anchor": "end" });
     return pen.image(480, foot, [28, 8, 8, 70]);
   },
 };

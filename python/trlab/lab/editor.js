@@ -1,51 +1,31 @@
 // Editors of inputs, and the verdicts of trlab on them.
 
-import { upTo } from "./job.js";
+import { answer, upTo } from "./job.js";
 
-/** The sentences of an explanation that propose a change of a line: its place in the line, the text to remove, and the text to insert. */
-const CHANGES = [
-  [/^Above line (\d+), add the line `(.*)`\.$/, (line, put) => [0, "", put + "\n"]],
-  [/^At the (end), add the line `(.*)`\.$/, (line, put) => [0, "", put + "\n"]],
-  [/^Delete line (\d+)\.$/, line => [0, line + "\n", ""]],
-  [/^Replace line (\d+) with `(.*)`\.$/, (line, put) => [0, line, put]],
-  [/^Line (\d+): delete everything from column (\d+) on\.$/, (line, column) => [column - 1, line.slice(column - 1), ""]],
-  [/^Line (\d+), column (\d+): insert `(.*)`\.$/, (line, column, put) => [column - 1, "", put]],
-  [/^Line (\d+), column (\d+): delete `(.*)`\.$/, (line, column, gone) => [column - 1, gone, ""]],
-  [/^Line (\d+), column (\d+): replace `(.*)` with `(.*)`\.$/, (line, column, gone, put) => [column - 1, gone, put]],
-];
-/** The text after the change that a sentence proposes, or null if it proposes none. */
-export function repaired(text, sentence) {
-  const [form, part] = CHANGES.find(it => it[0].test(sentence)) ?? [];
-  if (!form) return null;
-  const [number, ...words] = form.exec(sentence).slice(1), lines = text.split("\n"), at = number === "end" ? lines.length - 1 : number - 1;
-  const [from, gone, put] = part(lines[at], ...words), start = upTo(at).reduce((sum, k) => sum + lines[k].length + 1, from);
-  // Explanations write some bytes as `\x` and two digits.
-  return text.startsWith(gone, start) && !put.includes("\\x") ? text.slice(0, start) + put + text.slice(start + gone.length) : null;
+/** What trlab says of an input: the object that `trlab explain --json` prints. */
+export const explain = async (kind, text) => (await answer(`explain/${kind}`, text)).json();
+/** The line of an error: that of the rejected instruction if a program is rejected; 0 if there is no error. */
+export const lineOf = error => +(/^line (\d+)/.exec(error?.reason?.instruction)?.[1] ?? error?.line ?? 0);
+/** The message about a rejected input, one sentence per line. */
+export function messageOf({ error, facts, repairs }) {
+  const { kind, number, meaning, reason, expected, found, advice } = error;
+  return [
+    `${kind === "cause" ? "Cause" : "Reason"} ${number}: ${meaning}`, reason && `${reason.instruction}\nReason ${reason.number}: ${reason.meaning}`,
+    ...expected.map((it, k) => `${k ? "or" : "Expected:"} ${it}`), found && `Found: ${found}`, facts.length && `Known before it: ${facts.join("; ")}.`,
+    advice && `Advice: ${advice}`, ...repairs.filter(it => it.command).map(it => it.why),
+  ].filter(Boolean).join("\n");
 }
-
-/** The only place that reads the text of `trlab explain`: whether the input is accepted; the line of the fault, and the
- * words about it; the known facts before each line; and the maximum number of instructions of a program. */
-export function readExplanation(said) {
-  const lines = said.trim().split("\n"), accepted = !/^(fault|refused)/.test(said), facts = new Map();
-  // The line before the reason is the rejected one; a fault names its line at once. The words follow.
-  const [reason, cause] = [/^Reason \d/, /^Cause \d/].map(form => lines.findIndex(line => form.test(line)));
-  const line = accepted ? 0 : +/line (\d+)/.exec(reason > 0 ? lines[reason - 1] : said)[1];
-  let known = []; // the facts come above the line that they hold before
-  for (const now of accepted ? lines : []) {
-    if (now.startsWith("    ")) known.push(now.trim());
-    else if (now.startsWith("line ")) {
-      facts.set(parseInt(now.slice(5), 10), known);
-      known = [];
-    }
+/** A repair in words, and the text after its edits, whose places are bytes of lines. */
+export function repaired(text, { why, edits }) {
+  const bytes = [...new TextEncoder().encode(text)], starts = [0], words = [];
+  const read = bytes => new TextDecoder().decode(Uint8Array.from(bytes)), quoted = bytes => `\`${read(bytes).trim()}\``;
+  bytes.forEach((it, k) => it === 10 && starts.push(k + 1));
+  for (const { line, first, last, replacement } of edits.toReversed()) {
+    const put = [...replacement.replace(/\\x(..)/g, (_, byte) => String.fromCharCode(parseInt(byte, 16)))].map(it => it.charCodeAt(0));
+    const gone = bytes.splice(starts[line - 1] + first - 1, last - first + 1, ...put);
+    words.unshift(!gone.length ? `Insert ${quoted(put)}` : put.length ? `Replace ${quoted(gone)} with ${quoted(put)}` : `Delete ${quoted(gone)}`);
   }
-  const budget = /at most (\d+) instructions?/.exec(said)?.[1];
-  return { accepted, line, words: accepted ? "" : lines.slice(Math.max(reason, cause, 0)).join("\n"), facts, budget, said };
-}
-/** The same of the page's server. */
-export async function explain(kind, text) {
-  const got = await fetch(`explain/${kind}`, { method: "POST", body: text }), said = await got.text();
-  if (!got.ok) throw new Error(said);
-  return readExplanation(said);
+  return { words: `${words.join(", ")}: ${why}`, text: read(bytes) };
 }
 
 const LONGEST = 262144;
@@ -54,24 +34,15 @@ export class Editor {
   constructor(id) {
     const box = this.box = document.getElementById(id);
     box.innerHTML = '<div class="lines" aria-hidden="true"><div></div><div></div></div><div class="sheet"><div class="gap" hidden>' +
-      '<div class="words"></div></div><pre class="code" role="textbox" aria-multiline="true" spellcheck="false" tabindex="0"></pre></div>';
+      '<div class="words"></div></div><pre class="code" role="textbox" aria-multiline="true" contenteditable="plaintext-only" spellcheck="false" tabindex="0"></pre></div>';
     const [numbers, sheet] = box.children;
     Object.assign(this, { sheet, first: numbers.children[0], last: numbers.children[1], gap: sheet.children[0], code: sheet.children[1] });
     this.words = this.gap.firstChild;
     this.words.id = id + "words";
     this.code.setAttribute("aria-labelledby", id + "label");
     this.code.setAttribute("aria-describedby", `${id}verdict ${id}words`);
-    this.editable(true);
     this.code.addEventListener("input", () => { this.tell(0); this.changed(); });
-    this.code.addEventListener("paste", event => { // for browsers that do not know plaintext-only
-      if (this.code.contentEditable !== "true") return;
-      event.preventDefault();
-      document.execCommand("insertText", false, event.clipboardData.getData("text/plain"));
-    });
     document.addEventListener("selectionchange", () => this.busy && this.moved?.(this.caretLine()));
-  }
-  editable(can) {
-    try { this.code.contentEditable = can ? "plaintext-only" : "false"; } catch { this.code.contentEditable = String(can); }
   }
   // Enter makes a `br`: so the text is `innerText`, with one line end at the end.
   get value() { return this.long ?? (this.code.innerText && this.code.innerText.replace(/\n{1,2}$/, "") + "\n"); }
@@ -79,7 +50,7 @@ export class Editor {
     if (now === this.value) return;
     this.long = now.length > LONGEST ? now : undefined;
     this.code.textContent = this.long ? "This input is too long for the editor. Save the job file to see it." : now.replace(/\n$/, "");
-    this.editable(!this.long);
+    this.code.contentEditable = this.long ? "false" : "plaintext-only";
     this.tell(0);
   }
   get busy() { return document.activeElement === this.code; }
@@ -90,23 +61,22 @@ export class Editor {
     const part = before.cloneContents();
     return part.textContent.split("\n").length + part.querySelectorAll("br").length;
   }
-  /** A sentence of an explanation: a button if it proposes a change. */
-  sentence(words) {
-    const fixed = this.long ? null : repaired(this.value, words);
-    if (fixed === null) return Object.assign(document.createElement("p"), { textContent: words });
-    const fix = () => {
-      this.value = fixed;
+  /** A button for a repair. */
+  button(repair) {
+    const { words, text } = repaired(this.value, repair);
+    const click = () => {
+      this.value = text;
       this.code.focus();
       this.changed();
     };
-    return Object.assign(document.createElement("button"), { type: "button", textContent: words, onclick: fix });
+    return Object.assign(document.createElement("button"), { type: "button", textContent: words, onclick: click });
   }
-  /** Number the lines, and show words below one of them; line 0 means no words. */
-  tell(line, said = "") {
+  /** Number the lines, and show a message and buttons for its repairs below one of them; line 0 means no message. */
+  tell(line, said = null, repairs = []) {
     const high = 20, lines = this.long ? [""] : this.value.split("\n").slice(0, -1), to = Math.min(line || lines.length, lines.length);
     const longest = lines.reduce((most, now) => Math.max(most, now.length), 0);
     this.sheet.style.minWidth = `calc(${longest + 1}ch + 68px)`; // so that no line wraps
-    this.words.replaceChildren(...said.split("\n").map(sentence => this.sentence(sentence)));
+    this.words.replaceChildren(said ?? "", ...this.long ? [] : repairs.filter(it => it.edits.length).map(it => this.button(it)));
     this.words.style.width = `${this.box.clientWidth - 68}px`;
     this.gap.hidden = !line;
     this.words.style.marginTop = `${to * high + 4}px`;

@@ -1,6 +1,6 @@
 // A run: its snapshots arrive as a stream, and the last ones are kept so that the page can step back.
 
-import { EMPTY, clamp, speedOf } from "./job.js";
+import { EMPTY, clamp, speedOf, upTo } from "./job.js";
 
 /** The bytes of a run's output before the snapshot of a step: `step N` and the lanes, each with its line end. */
 export function bytesBefore(step, { length, lanes }) {
@@ -18,9 +18,7 @@ export class Run {
     this.read(open).catch(fault => fault.name === "AbortError" || fail(fault.message));
   }
   async read(open) {
-    const got = await open(this.stop.signal);
-    if (!got.ok) throw new Error(await got.text());
-    const reader = got.body.getReader();
+    const reader = (await open(this.stop.signal)).body.getReader();
     let rest = new Uint8Array(0);
     for (;;) {
       while (this.waiting.length >= this.most) await new Promise(go => this.wake = go);
@@ -126,13 +124,9 @@ export class Film {
   later({ step, lane, cell }) {
     const { length, lanes, limit } = this;
     if (!this.has(step) || !this.has(step + 1)) return null;
-    const before = this.of(step).cells, { cells } = this.of(step + 1);
-    for (const on of lanes === 2 ? [lane, 1 - lane] : [lane]) {
-      if (on !== lane && before[on * length + cell] !== EMPTY) continue;
-      for (let v = 0; v <= limit && v < length; v++) {
-        const x = (cell + v) % length, sign = cells[on * length + x];
-        if (sign !== EMPTY && speedOf(sign) === v) return { step: step + 1, lane: on, cell: x };
-      }
+    for (const to of upTo((limit + 1) * lanes)) {
+      const next = { step: step + 1, lane: to % lanes, cell: (cell + Math.floor(to / lanes)) % length };
+      if (this.speed(next) === Math.floor(to / lanes) && this.earlier(next).lane === lane) return next;
     }
     return null;
   }

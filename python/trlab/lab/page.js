@@ -1,19 +1,21 @@
-// The page of trlab-lab. The job file is the only truth: a control changes the job, the job is written as a file, trlab
-// reads the file, and the page draws the snapshots that come back. A file that you type goes back into the controls.
+// The page of trlab-lab. The job file is the only truth: a control changes the job, the server writes the job as a file,
+// trlab reads the file, and the page draws the snapshots that come back. A file that you type goes back into the controls.
 
-import { FIRST, clamp, jobOf, jobText, linkOf, roadFits, sweepText, textOfLink, upTo } from "./job.js";
+import { FIRST, answer, clamp, jobOf, linkOf, roadFits, textOfLink } from "./job.js";
 import { bytesBefore } from "./film.js";
 import { FIGURES, colour, rowsOf } from "./draw.js";
 import { across, diagramFile, diagramOf, pointsOf } from "./diagram.js";
-import { Editor, explain } from "./editor.js";
+import { Editor, explain, lineOf, messageOf } from "./editor.js";
 import { $, Player } from "./player.js";
 
-const MOST_BYTES = 4194304, MOST_CELLS = 100000;
+const MOST_BYTES = 4194304, MAX_CELLS = 100000;
 let job = structuredClone(FIRST), examples = {}, marks = [], means = null, table = "", drawn = 0;
+let turn = 0, since = Infinity; // the number of the last request for a file, and the first step that it changes (-1: the road)
 const motion = new Editor("motion"), change = new Editor("change"), text = new Editor("text");
-const complain = words => $("fault").textContent = words;
-const ask = (words, body, signal) => fetch(words, { method: "POST", body, signal });
-/** Call once the calls have stopped for so many milliseconds. */
+const complain = fault => { $("fault").textContent = fault.message ?? fault; };
+/** The file that the server writes for the job. */
+const fileOf = async (kind, more) => (await answer(`file/${kind}`, JSON.stringify({ ...job, ...more }))).text();
+/** Call when no call has come for some milliseconds. */
 function soon(wait, call) {
   let timer;
   return () => {
@@ -30,7 +32,7 @@ const player = new Player({
   over() { settle(); drawDiagram(); },
 }, complain);
 globalThis.lab = { // for the console and for tests
-  player, colour, open: load, get job() { return job; }, get marks() { return marks; }, get table() { return table; },
+  player, colour, open: load, get job() { return job; }, get marks() { return marks; }, get table() { return table; }, get isWriting() { return since < Infinity; },
   rows: () => rowsOf(player.view, $("spacetime").clientWidth, $("spacetime").clientHeight),
 };
 
@@ -40,15 +42,16 @@ const inForce = () => job.rules.findLast(rule => rule.at <= Math.max(0, player.s
 
 // Runs
 
-/** Run a job file. */
-function drive(source, on = false) {
+/** Run a job file from the start, or on from a step. */
+function drive(source, step = -1) {
   settle();
   const { length, lanes, steps } = job;
-  const open = (from, signal) => ask(`run?skip=${bytesBefore(from, { length, lanes })}`, source, signal);
-  means = { from: (on ? player.step : 0) + Math.min(200, steps >> 2), sum: 0, steps: 0, limit: job.limit, density: job.cars / length / lanes };
+  const open = (from, signal) => answer(`run?skip=${bytesBefore(from, { length, lanes })}`, source, signal);
+  means = { from: Math.max(0, step) + Math.min(200, steps >> 2), sum: 0, steps: 0, limit: job.limit, density: job.cars / length / lanes };
+  [turn, since] = [turn + 1, Infinity];
   complain("");
-  if (on) player.resume(open, steps);
-  else player.load(open, job);
+  if (step < 0) player.load(open, job);
+  else player.resume(open, steps, step);
 }
 function count(shot) {
   if (!means || shot.step <= means.from) return;
@@ -64,18 +67,28 @@ function settle() {
 function begin() {
   if (job.start === "file" && !roadFits(job)) job.start = "random";
   if (job.rules.some(rule => rule.live)) job.rules = [{ ...inForce(), at: 0, live: false }];
-  runJob();
+  return runJob();
 }
-/** Write the job as a file and run it: from the start, or on from the step that is shown. */
-function runJob(on = false) {
-  text.value = jobText(job);
-  drive(text.value, on);
+let written;
+/** The job file, once it has the last change of the controls. */
+const lastFile = async () => (await written, text.value);
+/** Run the job from the start, or on from a step. If it changes again while the server writes its file, it is run once, from
+ * the first step that has changed. */
+function runJob(step = -1) {
+  return written = writeJob(step);
+}
+async function writeJob(step) {
+  since = Math.min(since, step);
+  const now = ++turn, source = await fileOf("job").catch(complain);
+  if (now !== turn || source === undefined) return;
+  text.value = source;
+  drive(source, since);
   show();
   judge();
 }
 /** The rule has changed: from the step that is shown on, if cars are driving. */
 function changeRule(what) {
-  const rule = { ...inForce(), ...what, live: true }, { step } = player;
+  const rule = { ...inForce(), ...what, live: true }, step = since < 0 ? 0 : player.step;
   if (rule.model === "own" && !rule.motion) Object.assign(rule, { motion: examples["nasch.rule"], change: examples["lane_change.rule"] });
   const needsRoad = rule.model === "rickert" && job.lanes === 1;
   if (needsRoad) resize({ lanes: 2 });
@@ -84,7 +97,7 @@ function changeRule(what) {
     return begin();
   }
   job.rules = [...job.rules.filter(other => other.at < step), { ...rule, at: step }];
-  runJob(true);
+  return runJob(step);
 }
 /** Change the length or the lanes, and keep the density. */
 function resize(what) {
@@ -94,7 +107,7 @@ function resize(what) {
 
 // Controls
 
-const RANGES = { p: [0, 1], q: [0, 1], density: [0, 1], limit: [1, 35], length: [1, MOST_CELLS], lanes: [1, 2], steps: [0, 500000] };
+const RANGES = { p: [0, 1], q: [0, 1], density: [0, 1], limit: [1, 35], length: [1, MAX_CELLS], lanes: [1, 2], steps: [0, 500000] };
 function set(name, value) {
   const cells = job.length * job.lanes, number = clamp(+value, ...(RANGES[name] ?? [0, cells]));
   if (name === "model") return value === inForce().model || changeRule({ model: value });
@@ -128,7 +141,7 @@ function show(force = false) {
   }
   $("cars").parentNode.querySelector("[type=range]").max = job.length * job.lanes;
   for (const slider of document.querySelectorAll(".field [type=range]")) slider.value = slider.parentNode.querySelector("input").value;
-  for (const part of document.querySelectorAll("[data-model]")) part.hidden = part.dataset.model !== rule.model;
+  for (const part of document.querySelectorAll("[data-model]")) part.hidden = !part.dataset.model.split(" ").includes(rule.model);
   $("carword").textContent = job.cars === 1 ? "car" : "cars";
   $("rings").textContent = job.lanes === 2 ? "two rings" : "a ring";
   $("p").parentNode.hidden = own;
@@ -157,65 +170,60 @@ const nameOf = ({ model, p, q }) => ({ nasch: `p ${p}`, vdr: `p ${p}, ${q}`, ric
 async function sweep(source, name) {
   $("sweep").disabled = true;
   try {
-    const got = await ask("sweep", source);
-    if (!got.ok) throw new Error(await got.text());
-    const reader = got.body.pipeThrough(new TextDecoderStream()).getReader();
+    const reader = (await answer("sweep", source)).body.pipeThrough(new TextDecoderStream()).getReader();
     let all = "";
     for (let part = await reader.read(); !part.done; part = await reader.read()) {
       all += part.value;
       $("sweep").textContent = `${/.*trlab: (\d+) %/s.exec(all)?.[1] ?? 0} %`;
     }
     table = all.replace(/^trlab: .*\n/gm, "");
-    if (!table.startsWith("cars,")) throw new Error((await explain("sweep", source)).said);
+    if (!table.startsWith("cars,")) throw new Error(messageOf(await explain("sweep", source)));
     marks.push({ name, limit: +/^limit (\d+)/m.exec(source)[1], points: pointsOf(table) });
     $("savesweep").disabled = false;
     drawDiagram();
   } catch (fault) {
-    complain(fault.message);
+    complain(fault);
   }
   $("sweep").textContent = "Sweep";
   $("sweep").disabled = false;
 }
 function sweepNow() {
   const [warm, measure] = [["warm", 0], ["measure", 1]].map(([id, least]) => $(id).value = clamp(Math.round(+$(id).value) || least, least, 10000));
-  sweep(sweepText(job, inForce(), warm, measure), nameOf(inForce()));
+  const name = nameOf(inForce());
+  fileOf("sweep", { rule: inForce(), warm, measure }).then(source => sweep(source, name)).catch(complain);
 }
 
 // Inputs that you type
 
-/** The verdict of trlab on an input, shown at the line of its fault; null if you typed on meanwhile. */
+/** The verdict of trlab on an input, shown at the line of its error: whether it is accepted; null if you typed on meanwhile. */
 async function judged(kind, id, place) {
-  const source = place.value, found = await explain(kind, source).catch(fault => complain(fault.message));
+  const source = place.value, found = await explain(kind, source).catch(complain);
   if (!found || source !== place.value) return null;
-  const { accepted, line, words, budget } = found;
-  place.tell(line, words);
-  $(id + "verdict").className = `verdict ${accepted ? "good" : "bad"}`;
-  $(id + "verdict").textContent = !accepted ? `Rejected at line ${line}. The cars follow the last accepted one.`
-    : kind === "check" && budget ? `Accepted: at most ${budget} instructions per car and step.` : "Accepted.";
-  return { ...found, source };
+  const { error, repairs, numbers } = found, line = lineOf(error);
+  place.tell(line, error && messageOf(found), repairs);
+  $(id + "verdict").className = `verdict ${error ? "bad" : "good"}`;
+  $(id + "verdict").textContent = error ? `Rejected at line ${line}. The cars follow the last accepted one.`
+    : kind === "check" ? `Accepted: at most ${numbers.budget} instructions per car and step.` : "Accepted.";
+  place.facts = new Map(found.known.map(it => [it.line, it.facts]));
+  if (place.busy) place.moved?.(place.caretLine());
+  return error ? null : source;
 }
 async function judgeText() {
-  const found = await judged("run", "text", text);
-  if (found) $("explained").textContent = found.said;
-  return found?.accepted ? found.source : null;
+  const accepted = await judged("run", "text", text);
+  answer("explain", text.value).then(got => got.text()).then(said => $("explained").textContent = said).catch(complain);
+  return accepted;
 }
 async function judgeProgram(id, place) {
+  if (id !== "change" || place.value.trim()) return judged("check", id, place);
+  place.tell(0);
   place.facts = null;
-  $(id + "facts").textContent = "";
-  if (id === "change" && !place.value.trim()) {
-    place.tell(0);
-    $("changeverdict").textContent = "No program: no car changes lanes.";
-    return "";
-  }
-  const found = await judged("check", id, place);
-  if (found) place.facts = found.facts;
-  if (found && place.busy) place.moved(place.caretLine());
-  return found?.accepted ? found.source : null;
+  $("changeverdict").textContent = "No program: no car changes lanes.";
+  return "";
 }
 const judge = soon(250, judgeText);
 text.changed = soon(300, async () => {
   const source = await judgeText();
-  if (source !== null) take(source);
+  if (source !== null) take(source, () => source === text.value).catch(complain);
 });
 for (const [id, place] of [["motion", motion], ["change", change]]) {
   place.changed = soon(200, async () => {
@@ -227,9 +235,11 @@ for (const [id, place] of [["motion", motion], ["change", change]]) {
     $(id + "facts").textContent = facts?.length ? `Known before line ${line}: ${facts.join("; ")}.` : facts ? `Nothing is known before line ${line}.` : "";
   };
 }
-/** Run a job file that trlab accepts, as it is. */
-function take(source) {
-  job = jobOf(source);
+/** Run a job file that trlab accepts, as it is, unless it is no longer wanted. */
+async function take(source, isWanted = () => true) {
+  const now = ++turn, found = await jobOf(source);
+  if (now !== turn || !isWanted()) return;
+  job = found;
   text.value = source;
   drive(source);
   show(true);
@@ -240,7 +250,7 @@ function take(source) {
 async function load(name, source) {
   const kind = name.endsWith(".rule") || /^(motion|change)\b/.test(source) ? "check" : /^sweep/i.test(source) ? "sweep" : "run";
   const found = await explain(kind, source);
-  if (!found.accepted) return complain(`${name} is rejected.\n${found.said}`);
+  if (found.error) return complain(`${name} is rejected at line ${lineOf(found.error)}.\n${messageOf(found)}`);
   if (kind === "check") {
     const part = source.startsWith("change") ? "change" : "motion";
     if (part === "change" && job.lanes === 1) [job.lanes, job.cars] = [2, 2 * job.cars];
@@ -248,16 +258,16 @@ async function load(name, source) {
     return begin();
   }
   if (kind === "run") {
-    take(source);
+    await take(source);
     return judge();
   }
-  job = jobOf(source);
-  begin();
+  job = await jobOf(source);
+  await begin();
   await sweep(source, name.replace(".sweep", "").replaceAll("_", " "));
 }
 function openFile(file) {
   if (file.size > MOST_BYTES) return complain(`${file.name} is too long: at most ${MOST_BYTES} bytes are allowed.`);
-  file.text().then(source => load(file.name, source)).catch(fault => complain(fault.message));
+  file.text().then(source => load(file.name, source)).catch(complain);
 }
 function save(name, parts, type) {
   const link = document.createElement("a");
@@ -266,17 +276,13 @@ function save(name, parts, type) {
   link.click();
   setTimeout(() => URL.revokeObjectURL(link.href), 10000);
 }
-async function saveTable() {
-  const got = await ask("series", text.value);
-  if (got.ok) save("series.csv", [await got.blob()], "text/csv");
-  else complain(await got.text());
-}
+const saveTable = () => lastFile().then(file => answer("series", file)).then(got => got.blob()).then(blob => save("series.csv", [blob], "text/csv")).catch(complain);
 function saveFigure() {
   const name = $("figure").value, image = name === "diagram" ? diagramFile(diagram()) : FIGURES[name](player.view);
   save(`${name}.svg`, [image], "image/svg+xml");
 }
 async function copyLink() {
-  history.replaceState(null, "", await linkOf(text.value));
+  history.replaceState(null, "", await linkOf(await lastFile()));
   await navigator.clipboard?.writeText(location.href).catch(() => {});
   $("silent").textContent = $("link").textContent = "Link copied";
   setTimeout(() => $("link").textContent = "Copy a link", 2000);
@@ -310,14 +316,14 @@ function listen() {
   $("controls").addEventListener("submit", event => event.preventDefault());
   const click = {
     newkey: () => again({ key: String(crypto.getRandomValues(new Uint32Array(1))[0]) }), sweep: sweepNow, clear: () => { marks = []; drawDiagram(); },
-    open: () => $("file").click(), savejob: () => save("traffic.job", [text.value], "text/plain"), savetable: saveTable,
+    open: () => $("file").click(), savejob: () => lastFile().then(file => save("traffic.job", [file], "text/plain")), savetable: saveTable,
     savesweep: () => save("sweep.csv", [table], "text/csv"), savefigure: saveFigure, link: copyLink,
   };
   for (const id in click) $(id).onclick = click[id];
   $("file").onchange = event => event.target.files[0] && openFile(event.target.files[0]);
   $("example").onchange = event => {
     const name = event.target.value;
-    if (name) load(name, examples[name]).catch(fault => complain(fault.message));
+    if (name) load(name, examples[name]).catch(complain);
   };
   $("numbers").ontoggle = () => player.redraw();
   $("diagram").onclick = event => {

@@ -7,7 +7,7 @@ import { Rows, bandAt, carNow, colour, drawBands, drawCurves, drawRing, fresh, r
 
 export const $ = id => document.getElementById(id);
 const calm = matchMedia("(prefers-reduced-motion: reduce)").matches;
-const REST = 5000; // A run that waits for a paused page for so many milliseconds ends; it is run again when needed.
+const REST = 5000; // After so long a pause, in milliseconds, a run ends; it is run again when needed.
 
 export class Player {
   /** `hear` has shot(shot), moved() and over(), and each may be missing. `fail` shows a message. */
@@ -26,10 +26,11 @@ export class Player {
     this.begin(open);
     this.legend(job.limit);
   }
-  /** Go on from the step that is shown with another run, which is the same up to this step. */
-  resume(open, steps) {
+  /** Go on from a step with another run, which is the same up to this step. */
+  resume(open, steps, step) {
+    if (this.step > step) this.show(step);
     this.film.steps = steps;
-    this.film.cutAfter(this.step);
+    this.film.cutAfter(step);
     this.begin(open);
   }
   begin(open) {
@@ -107,33 +108,24 @@ export class Player {
   redraw() { Object.assign(this, { drawn: -1, stale: true }); }
 
   tell() {
-    const { film, step } = this, last = name => smooth(film, name, step, step)[0], { cars } = film.of(step);
-    const density = cars / (film.length * film.lanes);
-    $("step").textContent = step;
-    $("steps").textContent = `of ${film.steps} steps`;
-    $("flow").textContent = last("flow").toFixed(3);
-    $("dense").textContent = density.toFixed(3);
-    $("speed").textContent = last("speed").toFixed(2);
-    $("stopped").textContent = `${Math.round(100 * last("stopped"))} %`;
-    $("kept").textContent = `The page keeps the last ${film.most.toLocaleString("en")} snapshots: back to step ${film.first.toLocaleString("en")}.`;
-    $("car").textContent = this.car ? this.carWords() : this.hint ??= $("car").textContent;
-    $("follow").setAttribute("aria-pressed", this.car !== null);
-    if (!this.playing) $("silent").textContent = `Step ${step}: flow ${$("flow").textContent}, mean speed ${$("speed").textContent}, ` +
-      `stopped ${$("stopped").textContent}. ${this.car ? this.carWords() : ""}`;
+    const { film, step, car } = this, last = name => smooth(film, name, step, step)[0];
+    const [flow, speed, stopped] = [last("flow").toFixed(3), last("speed").toFixed(2), `${Math.round(100 * last("stopped"))} %`];
+    const followed = car && `You follow the car in ${film.lanes === 2 ? `lane ${car.lane}, ` : ""}cell ${car.cell}, at ${film.speed(car)} cells per step.`;
+    const words = {
+      step, steps: `of ${film.steps} steps`, flow, speed, stopped, dense: (film.of(step).cars / (film.length * film.lanes)).toFixed(3),
+      kept: `The page keeps the last ${film.most.toLocaleString("en")} snapshots: back to step ${film.first.toLocaleString("en")}.`,
+      car: followed ?? (this.hint ??= $("car").textContent),
+    };
+    for (const id in words) $(id).textContent = words[id];
+    $("follow").setAttribute("aria-pressed", car !== null);
+    if (!this.playing) $("silent").textContent = `Step ${step}: flow ${flow}, mean speed ${speed}, stopped ${stopped}. ${followed ?? ""}`;
     if ($("numbers")?.open) this.fillNumbers();
-  }
-  carWords() {
-    const { lane, cell } = this.car, where = this.film.lanes === 2 ? `lane ${lane}, cell ${cell}` : `cell ${cell}`;
-    return `You follow the car in ${where}, at ${this.film.speed(this.car)} cells per step.`;
   }
   /** The last ten steps as a table. */
   fillNumbers() {
-    const { film, step } = this, row = ({ step, flow, speed, stopped }) => {
-      const line = document.createElement("tr");
-      line.append(...[step, flow.toFixed(4), speed.toFixed(3), stopped.toFixed(3)].map(it => Object.assign(document.createElement("td"), { textContent: it })));
-      return line;
-    };
-    $("rows").replaceChildren(...upTo(Math.min(10, step - film.first + 1)).map(k => row(film.of(step - k))));
+    const { film, step } = this, shots = upTo(Math.min(10, step - film.first + 1)).map(k => film.of(step - k));
+    const cells = ({ step, flow, speed, stopped }) => [step, flow.toFixed(4), speed.toFixed(3), stopped.toFixed(3)];
+    $("rows").innerHTML = shots.map(it => `<tr><td>${cells(it).join("</td><td>")}</td></tr>`).join("");
   }
   legend(limit) {
     const most = Math.min(limit, 9), bars = upTo(most + 1).map(() => document.createElement("i"));

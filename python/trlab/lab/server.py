@@ -17,6 +17,7 @@ from pathlib import Path
 from typing import Any, Dict, List, Optional, Set
 
 from ..location import find_program
+from . import jobs
 
 HERE = Path(__file__).resolve().parent
 MOST_BYTES = 4 * 1024 * 1024
@@ -34,11 +35,11 @@ FILES = {
 RUNS = {"run": ["run"], "series": ["series"], "sweep": ["sweep", "--progress"]}
 """Commands that may take long: at most one per processor runs at a time."""
 QUESTIONS = {
-    "check": ["check"],
-    "explain/run": ["explain", "run"],
-    "explain/sweep": ["explain", "sweep"],
-    "explain/check": ["explain", "check"],
+    "explain": ["explain", "run"],
+    **{f"explain/{kind}": ["explain", "--json", kind] for kind in ("run", "sweep", "check")},
 }
+WRITTEN = ("controls", "file/job", "file/sweep")
+"""Requests that need no process: see `jobs.answer`."""
 HEADERS = {
     "Cache-Control": "no-store",
     "Content-Security-Policy": "default-src 'none'; script-src 'self'; style-src 'self'; connect-src 'self'; "
@@ -142,7 +143,7 @@ class Page(BaseHTTPRequestHandler):
         if name is None:
             return
         length = self.headers.get("Content-Length", "")
-        if name not in RUNS and name not in QUESTIONS:
+        if name not in RUNS and name not in QUESTIONS and name not in WRITTEN:
             self.close_connection = True
             self.answer(404, b"There is no such command.\n")
         elif not re.fullmatch("[0-9]{1,18}", length, re.ASCII):
@@ -151,6 +152,11 @@ class Page(BaseHTTPRequestHandler):
         elif int(length) > MOST_BYTES:
             self.close_connection = True
             self.answer(413, b"The input is too long: at most 4194304 bytes are allowed.\n")
+        elif name in WRITTEN:
+            try:
+                self.answer(200, jobs.answer(name, self.rfile.read(int(length))))
+            except ValueError as error:
+                self.answer(400, f"{error}\n".encode())
         else:
             self.take_turn(name, self.rfile.read(int(length)))
 

@@ -7,20 +7,20 @@ use trlab_sequential_book::{Seed, Snapshot};
 use trlab_step::step_road;
 use trlab_words::{CERTAIN, Chance, Key};
 
-/// The chance by which no car brakes.
+/// No car brakes at random.
 pub const NEVER: u32 = 0;
 
-/// The chance by which a car brakes in half of its steps.
+/// A car brakes with probability 1/2.
 pub const BY_HALF: u32 = CERTAIN / 2;
 
-/// The chance by which each car brakes in each step.
+/// Each car brakes in each step.
 pub const ALWAYS: u32 = CERTAIN;
 
-/// A job of the cars of a picture on one lane, who brake with a chance.
+/// A job of the cars of a picture on one lane, who brake with the probability `chance`.
 #[derive(Clone, Copy)]
-pub struct Job {
+pub struct TestJob {
     pub picture: &'static [u8],
-    /// The byte of which its key is.
+    /// Each byte of its key.
     pub byte: u8,
     /// The number of its road.
     pub number: u32,
@@ -28,9 +28,9 @@ pub struct Job {
     pub steps: u32,
 }
 
-/// A job of two cars who never brake by chance, under the key of zeros.
-pub fn two_cars(number: u32, steps: u32) -> Job {
-    Job {
+/// A job of two cars who never brake at random, with the key of zeros.
+pub fn two_cars(number: u32, steps: u32) -> TestJob {
+    TestJob {
         picture: b"0.0.......",
         byte: 0,
         number,
@@ -39,8 +39,7 @@ pub fn two_cars(number: u32, steps: u32) -> Job {
     }
 }
 
-/// The seed of a job.
-pub fn seed_of(alloc: Global, job: &Job) -> Option<Seed> {
+pub fn seed_of(alloc: Global, job: &TestJob) -> Option<Seed> {
     Some(Seed {
         road: Road::parse(alloc, 5, &[job.picture]).ok()?,
         key: Key([job.byte; 32]),
@@ -49,18 +48,17 @@ pub fn seed_of(alloc: Global, job: &Job) -> Option<Seed> {
     })
 }
 
-/// The rule of 1992 with a chance to brake.
+/// The Nagel-Schreckenberg rule with this probability to brake.
 pub fn rule_of(alloc: Global, chance: u32) -> Option<Rule> {
     nasch(alloc, Chance::new(chance)?).ok()
 }
 
-/// The rule of 1996, which wants two lanes.
+/// A rule for two lanes.
 pub fn crossing(alloc: Global) -> Option<Rule> {
     rickert(alloc, Chance::new(0)?, Chance::new(ALWAYS)?).ok()
 }
 
-/// The rule of a snapshot's sheet in force at a step, by the number of its entry: the one before, or the
-/// next where it begins there.
+/// The index of the entry of a sheet that is in force at a step: the next one if it begins there, else `before`.
 fn entry_at(seen: &Snapshot, before: usize, step: u32) -> usize {
     let next = before.saturating_add(1);
     if next < seen.sheet().len() && seen.sheet().entry(next).0 <= step {
@@ -70,7 +68,7 @@ fn entry_at(seen: &Snapshot, before: usize, step: u32) -> usize {
     }
 }
 
-/// The road to which one worker comes from the seed of a snapshot, under its sheet.
+/// The road of one worker who runs the seed of a snapshot under its sheet.
 fn road_alone(alloc: Global, seen: &Snapshot) -> Option<Road> {
     let start = seen.seed();
     let mut road = start.road.copy(alloc).ok()?;
@@ -88,7 +86,7 @@ fn road_alone(alloc: Global, seen: &Snapshot) -> Option<Road> {
     Some(road)
 }
 
-/// Whether the road of a snapshot is the one to which one worker comes.
+/// Whether a snapshot shows the road of one worker.
 pub fn is_road_alone(alloc: Global, seen: &Snapshot) -> bool {
     match road_alone(alloc, seen) {
         Some(road) => road.equals(seen.road()),

@@ -4,10 +4,10 @@ use std::hint;
 use std::sync::atomic::{AtomicBool, Ordering};
 use trlab_segments::Gate;
 
-/// How many turns a thread waits for another at most.
+/// How often a thread looks for another before it gives up.
 const TURNS: u32 = 100_000_000;
 
-/// Waits until something has come, and says whether it came in time.
+/// Waits until `came` is set. Returns whether it was set in time.
 pub fn waits_for(came: &AtomicBool) -> bool {
     for _ in 0..TURNS {
         if came.load(Ordering::SeqCst) {
@@ -27,7 +27,6 @@ pub struct Meeting {
 }
 
 impl Meeting {
-    /// A gate that no segment has reached.
     pub fn new() -> Self {
         Meeting {
             first: AtomicBool::new(false),

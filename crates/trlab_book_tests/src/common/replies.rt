@@ -1,6 +1,8 @@
-//! Leases of job 0 and replies on them, in few words.
+//! Replies that tests expect, in few words, and those that correspond to the answers of a desk.
 
-/// What a lease of job 0 that runs its own road is in an event.
+use trlab_sequential_book::{BookFault, Lease, Order, Reply, Snapshot};
+
+/// The parts that an event keeps of a lease of job 0 that runs its own road.
 macro_rules! own {
     ($number:expr, $base:expr, $step:expr) => {
         Offered {
@@ -29,7 +31,7 @@ macro_rules! went_out {
 
 pub(crate) use went_out;
 
-/// The reply that job 0 is ordered a step.
+/// The reply that a step of job 0 was ordered.
 macro_rules! ordered {
     ($number:expr, $step:expr, $from:expr) => {
         Reply::Ordered {
@@ -43,7 +45,7 @@ macro_rules! ordered {
 
 pub(crate) use ordered;
 
-/// The reply that a job shows itself at a step, with so many rules.
+/// The reply to a read, with the steps done and the number of rules.
 macro_rules! seen {
     ($step:expr, $entries:expr) => {
         Reply::Seen {
@@ -54,3 +56,47 @@ macro_rules! seen {
 }
 
 pub(crate) use seen;
+
+/// The reply for an answer of `submit` or `replace`.
+pub fn number_reply(answer: Result<u32, BookFault>) -> Reply {
+    match answer {
+        Ok(number) => Reply::Number(number),
+        Err(fault) => Reply::Refused(fault),
+    }
+}
+
+/// The reply for an answer of `revoke` or `cancel`.
+pub fn done_reply(answer: Result<(), BookFault>) -> Reply {
+    match answer {
+        Ok(()) => Reply::Done,
+        Err(fault) => Reply::Refused(fault),
+    }
+}
+
+/// The reply for a lease that went out.
+pub fn lease_reply(lease: &Lease) -> Reply {
+    Reply::Leased {
+        job: lease.job(),
+        number: lease.number(),
+        step: lease.step(),
+        steps: lease.steps(),
+    }
+}
+
+/// The reply for an order.
+pub fn order_reply(order: &Order) -> Reply {
+    Reply::Ordered {
+        job: order.job(),
+        number: order.lease(),
+        step: order.step(),
+        from: order.from(),
+    }
+}
+
+/// The reply for a snapshot.
+pub fn seen_reply(seen: &Snapshot) -> Reply {
+    Reply::Seen {
+        step: seen.step(),
+        entries: seen.sheet().len() as u32,
+    }
+}

@@ -1,27 +1,137 @@
-//! A table with a shared book, one desk, the leases that went out, and what was read. Its calls promise
-//! nothing, so that a test of many calls is proved to be safe in little time: what they answer, and what
-//! they leave in the history, is what the tests are for.
+//! A shared book with one desk, for tests of many calls. The calls of the table promise nothing, so that such a test is
+//! proved in little time: the replies and the history are what the tests are for.
 //!
-//! A call for which memory ran out is made once more, so that a test passes even where one allocation is
-//! refused, whichever it is.
+//! A call is made once more if an allocation failed. So a test passes even if one allocation fails, whichever it is.
 
 ghost use Rattle.std.specs.Prelude.{◌≡◌};
 ghost use Rattle.trlab_strands.specs.Tokens.{name_of};
 
-use crate::common::answers::{done_told, number_told, snapshot_told};
-use crate::common::books::{events_of, history_of};
-use crate::common::calls::{replace, submit};
-use crate::common::held::Held;
-use crate::common::histories::Made;
-use crate::common::jobs::{ALWAYS, Job, NEVER};
+use crate::common::books::{events_of, history_of, replace, submit};
+use crate::common::expected::{Difference, Made};
+use crate::common::jobs::{ALWAYS, NEVER, TestJob};
+use crate::common::replies::{done_reply, lease_reply, number_reply, order_reply, seen_reply};
 use std::alloc::Global;
 use std::sync::Wait;
 use trlab_book::{Desk, SharedBook};
-use trlab_sequential_book::{BookFault, Event, Reply, Snapshot};
+use trlab_sequential_book::{BookFault, Event, Lease, Offered, Order, Reply, Snapshot};
+use trlab_step::Caller;
 use trlab_strands::{Blank, Ledger};
 
-/// A shared book with its desk, the leases that are not back, and what was read. Each job is of the cars of
-/// one picture, under the key of one byte.
+/// The leases that were not given back, by their places, and the orders for them.
+#[derive(Drop)]
+pub struct Held {
+    leases: Vec<Option<Lease>>,
+    orders: Vec<Order>,
+}
+
+/// Runs the last order of a lease, if its next step is not yet this one.
+fn bring_to(alloc: Global, lease: &mut Lease, orders: &[Order], step: u32) -> Option<()> {
+    if lease.step() == step {
+        return Some(());
+    }
+    lease.advance(&Caller, alloc, orders.last()?).ok()
+}
+
+impl Held {
+    pub fn new(alloc: Global) -> Held {
+        Held {
+            leases: Vec::new(alloc),
+            orders: Vec::new(alloc),
+        }
+    }
+
+    /// Runs the last order with the lease of a place, if its next step is not yet this one.
+    fn bring(&mut self, alloc: Global, place: usize, step: u32) -> Option<()> {
+        match self.leases.get_mut(place) {
+            Some(there) => bring_to(alloc, there.as_mut()?, &self.orders, step),
+            None => None,
+        }
+    }
+
+    /// Leases a job, and puts the lease at the next place.
+    pub fn lease<L: Ledger, R: Wait>(
+        &mut self,
+        rt: &R,
+        alloc: Global,
+        book: &SharedBook<L>,
+        desk: &mut Desk<L>,
+    ) -> Option<Reply> {
+        self.leases.reserve(1).ok()?;
+        match book.lease(rt, alloc, desk) {
+            Ok(Some(lease)) => {
+                let told = lease_reply(&lease);
+                self.leases.push_reserved(Some(lease));
+                Some(told)
+            }
+            Ok(None) => Some(Reply::NoLease),
+            Err(fault) => Some(Reply::Refused(fault)),
+        }
+    }
+
+    /// Orders the next step of the lease of a place.
+    pub fn order<L: Ledger, R: Wait>(
+        &mut self,
+        rt: &R,
+        alloc: Global,
+        book: &SharedBook<L>,
+        desk: &mut Desk<L>,
+        offered: Offered,
+    ) -> Option<Reply> {
+        let place = offered.number as usize;
+        self.bring(alloc, place, offered.step)?;
+        self.orders.reserve(1).ok()?;
+        match book.order(rt, alloc, desk, self.leases.get(place)?.as_ref()?) {
+            Ok(order) => {
+                let told = order_reply(&order);
+                self.orders.push_reserved(order);
+                Some(told)
+            }
+            Err(fault) => Some(Reply::Refused(fault)),
+        }
+    }
+
+    /// Gives the lease of a place back. If it is refused, it stays there.
+    pub fn give_back<L: Ledger, R: Wait>(
+        &mut self,
+        rt: &R,
+        alloc: Global,
+        book: &SharedBook<L>,
+        desk: &mut Desk<L>,
+        offered: Offered,
+    ) -> Option<Reply> {
+        let place = offered.number as usize;
+        self.bring(alloc, place, offered.step)?;
+        let there = self.leases.get_mut(place)?;
+        match book.give_back(rt, desk, there.take()?) {
+            Ok(()) => Some(Reply::Done),
+            Err((lease, fault)) => {
+                *there = Some(lease);
+                Some(Reply::Refused(fault))
+            }
+        }
+    }
+
+    /// Moves the lease of a place, at a step, to the next place of `other`. Returns whether it is there. If an
+    /// allocation fails, it is tried once more.
+    pub fn hand_over(&mut self, alloc: Global, place: usize, step: u32, other: &mut Held) -> bool {
+        if self.bring(alloc, place, step).is_none() && self.bring(alloc, place, step).is_none() {
+            return false;
+        }
+        if other.leases.reserve(1).is_err() && other.leases.reserve(1).is_err() {
+            return false;
+        }
+        match self.leases.get_mut(place) {
+            Some(there) => {
+                other.leases.push_reserved(there.take());
+                true
+            }
+            None => false,
+        }
+    }
+}
+
+/// A shared book with its desk, the leases that were not given back, and the results of reads. All jobs have the cars
+/// of one picture, and a key of equal bytes.
 #[derive(Drop)]
 pub struct Table<L: Ledger> {
     pub book: SharedBook<L>,
@@ -48,29 +158,29 @@ impl<L: Ledger> Table<L> {
         }
     }
 
-    /// Submits a job, whose cars never brake by chance.
+    /// Submits a job whose cars never brake at random.
     fn submit<R: Wait>(&mut self, rt: &R, alloc: Global, steps: u32) -> Reply {
-        let job = Job {
+        let job = TestJob {
             picture: self.picture,
             byte: self.byte,
             number: 0,
             chance: NEVER,
             steps,
         };
-        number_told(submit(rt, alloc, &self.book, &mut self.desk, &job))
+        number_reply(submit(rt, alloc, &self.book, &mut self.desk, &job))
     }
 
-    /// Has each car of a job brake in each step.
+    /// Replaces the rule of a job by one under which all cars brake in each step.
     fn replace<R: Wait>(&mut self, rt: &R, alloc: Global, job: u32) -> Reply {
-        number_told(replace(rt, alloc, &self.book, &mut self.desk, job, ALWAYS))
+        number_reply(replace(rt, alloc, &self.book, &mut self.desk, job, ALWAYS))
     }
 
-    /// Reads a job, and keeps what it shows.
+    /// Reads a job, and keeps the snapshot.
     fn read<R: Wait>(&mut self, rt: &R, alloc: Global, job: u32) -> Option<Reply> {
         self.reads.reserve(1).ok()?;
         match self.book.read(rt, alloc, &mut self.desk, job) {
             Ok(seen) => {
-                let told = snapshot_told(&seen);
+                let told = seen_reply(&seen);
                 self.reads.push_reserved(seen);
                 Some(told)
             }
@@ -78,7 +188,7 @@ impl<L: Ledger> Table<L> {
         }
     }
 
-    /// Makes a call, and tells what it answered, or nothing where memory ran out before it was made.
+    /// Makes a call, and returns its reply, or `None` if an allocation failed before the call.
     fn make<R: Wait>(&mut self, rt: &R, alloc: Global, call: Made) -> Option<Reply> {
         match call {
             Made::Submit(steps) => Some(self.submit(rt, alloc, steps)),
@@ -92,13 +202,13 @@ impl<L: Ledger> Table<L> {
                 self.held
                     .give_back(rt, alloc, &self.book, &mut self.desk, offered)
             }
-            Made::Revoke(job) => Some(done_told(self.book.revoke(rt, &mut self.desk, job))),
-            Made::Cancel(job) => Some(done_told(self.book.cancel(rt, &mut self.desk, job))),
+            Made::Revoke(job) => Some(done_reply(self.book.revoke(rt, &mut self.desk, job))),
+            Made::Cancel(job) => Some(done_reply(self.book.cancel(rt, &mut self.desk, job))),
             Made::Read(job) => self.read(rt, alloc, job),
         }
     }
 
-    /// Whether a call answers this. Where memory ran out it has changed nothing, and is made again.
+    /// Whether a call has this reply. If an allocation fails, nothing has changed, and the call is made again.
     pub fn answers<R: Wait>(&mut self, rt: &R, alloc: Global, call: Made, wanted: Reply) -> bool {
         match self.make(rt, alloc, call) {
             None | Some(Reply::Refused(BookFault::Memory)) => {
@@ -108,23 +218,28 @@ impl<L: Ledger> Table<L> {
         }
     }
 
-    /// Makes calls in order, as long as each answers the reply beside it; whether all did.
-    pub fn make_all<R: Wait>(&mut self, rt: &R, alloc: Global, calls: &[(Made, Reply)]) -> bool {
-        for (call, wanted) in calls {
+    /// Makes calls in order, as long as each has the expected reply.
+    pub fn make_all<R: Wait>(
+        &mut self,
+        rt: &R,
+        alloc: Global,
+        calls: &[(Made, Reply)],
+    ) -> Result<(), Difference> {
+        for (index, (call, wanted)) in calls.iter().enumerate() {
             if !self.answers(rt, alloc, *call, *wanted) {
-                return false;
+                return Err(Difference::Reply(index));
             }
         }
-        true
+        Ok(())
     }
 
-    /// Closes the book, and gives its history.
+    /// Closes the book, and returns its history.
     pub fn close(self) -> Option<Vec<Event>> {
         let Table { book, desk, .. } = self;
         history_of(book, desk)
     }
 
-    /// How many events the history has, if the book closes.
+    /// The number of events in the history, if the book closes.
     pub fn events(self) -> Option<usize> {
         let Table { book, desk, .. } = self;
         events_of(book, desk)

@@ -1,14 +1,41 @@
-//! Readers and writers of std that remember what came of their calls.
+//! Readers and writers of std that remember whether a call has failed, and for contracts also the bytes of their
+//! calls.
 
-ghost use Rattle.std.specs.Prelude.{◌≡◌, [], false};
-ghost use Rattle.trlab_campaign.specs.declared.device.flushes.Flushes.TheVariants.{Never};
+ghost use Rattle.std.specs.Prelude.{◌≡◌, ℕ, List, [], ◌++◌, false};
+ghost use Rattle.std.specs.Borrow.{ftrue};
+ghost use Rattle.trlab_campaign.specs.declared.device.Flushes.TheVariants.{Never};
 
-use crate::device::transcript::Transcript;
 use crate::device::{DeviceError, Flushes, Sink, Source};
 use std::io::{Read, Write};
+use std::marker::Model;
 
-/// A reader or a writer, and whether a call of it has failed; of a reader, for contracts alone, the bytes that it
-/// gave, and of a writer those that it took, whether it has handed on all of them and how often it was flushed.
+/// All bytes of some calls, one after another. Only contracts read them: a transcript takes no memory, and its
+/// methods do nothing at run time.
+#[derive(Drop)]
+struct Transcript {
+    ghost bytes: { List ℕ },
+}
+
+impl Model for Transcript {
+    ghost also_owns = { λ _. ftrue };
+}
+
+impl Transcript {
+    /// The transcript of no calls.
+    fn new() -> Transcript
+        ensures { result.bytes ≡ [] }
+    {
+        Transcript {}
+    }
+
+    /// Adds the bytes of a call.
+    fn add(&mut self, _bytes: &[u8])
+        ensures { self.new.bytes ≡ self.old.bytes ++ _bytes.now }
+    {}
+}
+
+/// A reader or writer of std as a `Source` or `Sink`. It remembers whether a call has failed, whether everything
+/// written was flushed, and how often; for contracts also the bytes that it gave or took.
 #[derive(Drop)]
 pub struct Watched<X> {
     inner: X,
@@ -22,7 +49,7 @@ pub struct Watched<X> {
 impl<X> Watched<X> {
     ghost use Rattle.trlab_campaign.specs.Watched.{inner_of, has_failed, given_of, accepted_of, flushes_of};
 
-    /// One that has not failed, has given and taken no byte and was never flushed.
+    /// Wraps a reader or writer, of which no call has been made yet.
     pub fn new(inner: X) -> Watched<X>
         ensures inner { inner_of result ≡ inner }
         ensures fresh { has_failed result ≡ false }
@@ -38,14 +65,6 @@ impl<X> Watched<X> {
             handed_on: false,
             flushes: Flushes::Never,
         }
-    }
-
-    /// What was watched.
-    pub fn into_inner(self) -> X
-        ensures { result ≡ inner_of self }
-    {
-        let Watched { inner, .. } = self;
-        inner
     }
 }
 
@@ -89,7 +108,7 @@ impl<X: Write> Sink for Watched<X> {
         self.handed_on = false;
         match self.inner.write(bytes) {
             Ok(count) => {
-                // A writer that takes nothing would be asked again and again.
+                // A writer that takes nothing would be called again and again.
                 if count == 0 && !bytes.is_empty() {
                     self.failed = true;
                     return Err(DeviceError);

@@ -1,47 +1,30 @@
-//! Whole texts: one is read to its end, or written piece by piece until nothing is owed.
+//! Whole texts: an input is read to its end, and an output is written until nothing of it is left.
 
-ghost use Rattle.std.specs.Prelude.{◌≡◌, ◌+◌, ◌≤◌, ◌<◌, ◌||◌, ◌↔◌, ◌++◌, length, false, true, IfOk};
+ghost use Rattle.std.specs.Prelude.{◌≡◌, ◌+◌, ◌≤◌, ◌||◌, ◌↔◌, ◌++◌, length, false, true, IfOk};
 ghost use Rattle.std.specs.Prelude.{OnOk, IfErr, IfSome, is_err};
-ghost use Rattle.std.specs.Io.KnownBytes.{Consumes, IsAtEnd};
-ghost use Rattle.trlab_campaign.specs.Device.{ConsumesUpTo, Gave};
+ghost use Rattle.trlab_campaign.specs.Device.{ConsumesUpTo, Gave, IsReadOf};
 ghost use Rattle.trlab_campaign.specs.Flushes.{AtMostOnce, HandedOnce};
 ghost use Rattle.trlab_campaign.specs.Writers.{AddsBy, bytes_of};
-ghost use Rattle.trlab_campaign.specs.declared.device.whole.ReadFault.TheVariants.{Device, TooBig};
+ghost use Rattle.trlab_campaign.specs.declared.end.Failure.TheVariants.{Device};
 
 use crate::device::{DeviceError, Sink, Source};
+use crate::end::Failure;
 use std::alloc::Global;
 use trlab_bounds::texts::TEXT_LIMIT;
 
-/// Why a text was not read.
-#[derive(Clone, Copy)]
-pub enum ReadFault {
-    /// One byte more has come than a text may have.
-    TooBig,
-    /// Memory ran out.
-    Memory,
-    /// The reader failed.
-    Device,
-}
-
-/// Reads a text to its end, of which at most one byte more is taken than a text may have.
+/// Reads an input to its end, or its first `TEXT_LIMIT` + 1 bytes if it is longer. Those are enough for a reader of
+/// texts, which refuses any text above `TEXT_LIMIT` bytes.
 ///
 /// # Errors
 ///
-/// `TooBig` where that byte has come, `Memory` or `Device` where memory ran out or the reader failed.
-pub fn read_text<S: Source>(alloc: Global, reader: &mut S) -> Result<Vec<u8>, ReadFault>
+/// `Memory` if an allocation fails, `Device` if the reader fails.
+pub fn read_text<S: Source>(alloc: Global, reader: &mut S) -> Result<Vec<u8>, Failure>
     requires { S.failed reader.old ≡ false }
-    ensures text { IfOk result
-        (λ text. Consumes (S.left reader.old) (S.left reader.new) text.items) }
-    ensures small { IfOk result (λ text. length text.items ≤ TEXT_LIMIT) }
-    ensures whole { OnOk result (IsAtEnd (S.left reader.new)) }
-    ensures big { IfErr result (λ fault. fault ≡ TooBig
-        → IfSome (S.left reader.old) (λ all. TEXT_LIMIT < length all)) }
+    ensures text { IfOk result (λ text. IfSome (S.left reader.old) (IsReadOf text.items)) }
     ensures read { ConsumesUpTo (TEXT_LIMIT + 1) (S.left reader.old) (S.left reader.new) }
     ensures given { IfOk result (λ text. S.given reader.new ≡ S.given reader.old ++ text.items) }
-    ensures over { IfErr result (λ fault. fault ≡ TooBig
-        → Gave (λ bytes. length bytes ≡ TEXT_LIMIT + 1) (S.given reader.old) (S.given reader.new)) }
     ensures stops { Gave (λ bytes. length bytes ≤ TEXT_LIMIT + 1) (S.given reader.old) (S.given reader.new) }
-    ensures fails { IfErr result (λ fault. (S.failed reader.new ≡ true) ↔ (fault ≡ Device)) }
+    ensures fails { IfErr result (λ failure. (S.failed reader.new ≡ true) ↔ (failure ≡ Device)) }
     ensures works { OnOk result (S.failed reader.new ≡ false) }
 {
     let mut text = Vec::new(alloc);
@@ -50,23 +33,23 @@ pub fn read_text<S: Source>(alloc: Global, reader: &mut S) -> Result<Vec<u8>, Re
         let room = (TEXT_LIMIT + 1 - text.len()).min(4096);
         let count = match reader.take(&mut piece[..room]) {
             Ok(count) => count,
-            Err(DeviceError) => return Err(ReadFault::Device),
+            Err(DeviceError) => return Err(Failure::Device),
         };
         if count == 0 {
             return Ok(text);
         }
         if text.extend_from_slice(&piece[..count]).is_err() {
-            return Err(ReadFault::Memory);
+            return Err(Failure::Memory);
         }
     }
-    Err(ReadFault::TooBig)
+    Ok(text)
 }
 
 /// Writes a whole text.
 ///
 /// # Errors
 ///
-/// `DeviceError` where the writer failed: a prefix of the text was written.
+/// `DeviceError` if the writer fails: a prefix of the text was written.
 #[tactic(auto, using(crate::proofs::WrittenBytes::adds_part))]
 pub fn write_text<K: Sink>(writer: &mut K, text: &[u8]) -> Result<(), DeviceError>
     ensures wrote { AddsBy result (bytes_of K.Sink writer.old) (bytes_of K.Sink writer.new) text.now }
@@ -82,11 +65,11 @@ pub fn write_text<K: Sink>(writer: &mut K, text: &[u8]) -> Result<(), DeviceErro
     Ok(())
 }
 
-/// Writes a whole text, and hands it on.
+/// Writes a whole text and flushes the writer.
 ///
 /// # Errors
 ///
-/// Those of `write_text`, also where all was written and not handed on.
+/// `DeviceError` if the writer fails: a prefix of the text was written, or all of it was written and not flushed.
 pub fn write_last<K: Sink>(writer: &mut K, text: &[u8]) -> Result<(), DeviceError>
     ensures wrote { AddsBy result (bytes_of K.Sink writer.old) (bytes_of K.Sink writer.new) text.now }
     ensures handed { OnOk result

@@ -1,11 +1,13 @@
-//! The points of a sweep: each tells what was counted on a road that was run from its start.
+//! The points of a sweep: the counts of a road that is run from its start, by a runner of the book or by the
+//! caller.
 
-ghost use Rattle.std.specs.Prelude.{◌≡◌, IfOk, length};
+ghost use Rattle.std.specs.Prelude.{◌≡◌, IfOk, IfSome, IsTrue, length};
 ghost use Rattle.trlab_diagram.specs.Flow.{IsMeasured};
 ghost use Rattle.trlab_road.specs.Legal.{IsLegal};
 ghost use Rattle.trlab_road.specs.Spreading.{IsEven};
 ghost use Rattle.trlab_step.specs.Run.{IsTallyAt};
 ghost use Rattle.trlab_step.specs.Progress.{at_start};
+ghost use Rattle.trlab_sequential_book.specs.Jobs.{start_of};
 ghost use Rattle.trlab_jobs.specs.Shapes.{all_steps};
 ghost use Rattle.trlab_jobs.specs.Stored.{Spreads};
 ghost use Rattle.trlab_campaign.specs.SweepOutput.{IsPoint, point_of, seed_of, sheet_of};
@@ -14,9 +16,10 @@ use std::alloc::{AllocError, Global};
 use trlab_diagram::Point;
 use trlab_jobs::Sweep;
 use trlab_road::{Road, RoadFault};
-use trlab_step::{Caller, Run, Sheet, StepTally};
+use trlab_sequential_book::{Seed, Sheet as BookSheet, Snapshot};
+use trlab_step::{Caller, Run, Schedule, StepTally};
 
-/// The road of a point at its start, on which so many cars are evenly spread.
+/// The road of a point at its start, with `cars` evenly spaced cars.
 pub fn even_road(alloc: Global, sweep: &Sweep, cars: u32) -> Result<Road, AllocError>
     requires { Spreads sweep.now.setup.shape cars }
     ensures even { IfOk result (λ road. IsEven sweep.now.setup.shape.lanes
@@ -30,18 +33,18 @@ pub fn even_road(alloc: Global, sweep: &Sweep, cars: u32) -> Result<Road, AllocE
     }
 }
 
-/// The run of a point from step 0 on, whose road has this number.
+/// The run of the point with this number from step 0 on.
 fn run_of(alloc: Global, sweep: &Sweep, number: u32, road: Road) -> Result<Run, AllocError>
     requires { length road.lanes ≡ sweep.now.setup.shape.lanes }
     ensures { IfOk result (λ run.
         run ≡ at_start (seed_of sweep.now.setup number road) (sheet_of sweep.now.setup)) }
 {
     let rule = sweep.rule.copy(alloc)?;
-    let sheet = Sheet::new(rule, Vec::new(alloc));
+    let sheet = Schedule::new(rule, Vec::new(alloc));
     Ok(Run::new(alloc, sweep.key, number, sweep.warm, road, sheet))
 }
 
-/// What is counted in the first steps of a run.
+/// The sum of the tallies of a run's first `steps` steps.
 fn count_run(alloc: Global, run: &mut Run, steps: u32) -> Result<StepTally, AllocError>
     requires start { run.old.step ≡ 0 }
     ensures { IfOk result (λ tally. IsTallyAt run.old.seed run.old.sheet steps tally) }
@@ -52,7 +55,7 @@ fn count_run(alloc: Global, run: &mut Run, steps: u32) -> Result<StepTally, Allo
     Ok(run.tally())
 }
 
-/// What is counted on the road of the point with this number, which is run from its start.
+/// The sum of the tallies of the point with this number, whose road is run from its start.
 fn tally_of(alloc: Global, sweep: &Sweep, number: u32, road: Road) -> Result<StepTally, AllocError>
     requires { length road.lanes ≡ sweep.now.setup.shape.lanes }
     ensures { IfOk result (λ tally. IsTallyAt (seed_of sweep.now.setup number road)
@@ -64,8 +67,8 @@ fn tally_of(alloc: Global, sweep: &Sweep, number: u32, road: Road) -> Result<Ste
     tally
 }
 
-/// The point at which so much was counted of so many cars.
-pub fn point_of(sweep: &Sweep, cars: u32, tally: StepTally) -> Point
+/// The point with `cars` cars that have this sum of tallies.
+fn point_of(sweep: &Sweep, cars: u32, tally: StepTally) -> Point
     requires { Spreads sweep.now.setup.shape cars }
     ensures point { result ≡ point_of sweep.now.setup cars tally }
     ensures measured { IsMeasured result }
@@ -80,7 +83,7 @@ pub fn point_of(sweep: &Sweep, cars: u32, tally: StepTally) -> Point
     }
 }
 
-/// The point with this number and so many cars, whose road the caller runs from its start.
+/// The point with this number, whose road the caller runs from its start.
 pub fn run_point(
     alloc: Global,
     sweep: &Sweep,
@@ -96,4 +99,51 @@ pub fn run_point(
 {
     let tally = tally_of(alloc, sweep, number, road)?;
     Ok(point_of(sweep, cars, tally))
+}
+
+/// Whether a seed is that of the point with this number, which starts from `road`.
+fn is_seed_of(sweep: &Sweep, number: u32, road: &Road, seed: &Seed) -> bool
+    ensures { IsTrue result → start_of seed.now ≡ seed_of sweep.now.setup number road.now }
+{
+    seed.number == number
+        && seed.warm == sweep.warm
+        && seed.key == sweep.key
+        && seed.road.equals(road)
+}
+
+/// Whether a sheet is that of a sweep: its rule, from step 0 on.
+#[tactic(auto, using(crate::proofs::OneEntry::one_entry))]
+fn is_sheet_of(sweep: &Sweep, sheet: &BookSheet) -> bool
+    ensures { IsTrue result → sheet.now ≡ sheet_of sweep.now.setup }
+{
+    if sheet.len() != 1 {
+        return false;
+    }
+    let (from, rule) = sheet.entry(0);
+    from == 0 && rule.equals(&sweep.rule)
+}
+
+/// The point with this number by a snapshot of the book, if the snapshot is of that point after its last step. The
+/// point starts from `road`.
+pub fn point_seen(
+    sweep: &Sweep,
+    number: u32,
+    cars: u32,
+    road: &Road,
+    seen: &Snapshot,
+) -> Option<Point>
+    requires spreads { Spreads sweep.now.setup.shape cars }
+    requires even { IsEven sweep.now.setup.shape.lanes
+        sweep.now.setup.shape.cells sweep.now.setup.shape.limit cars road.now }
+    ensures is { IfSome result (λ point. IsPoint sweep.now.setup number cars point) }
+    ensures measured { IfSome result IsMeasured }
+{
+    if seen.step() == sweep.warm + sweep.measure
+        && is_sheet_of(sweep, seen.sheet())
+        && is_seed_of(sweep, number, road, seen.seed())
+    {
+        Some(point_of(sweep, cars, seen.tally()))
+    } else {
+        None
+    }
 }

@@ -1,16 +1,15 @@
-//! The roads of a batch as jobs of a book, which runners take. What they leave undone, the caller runs.
+//! The roads of a sweep as jobs of a book, one batch after another. The caller runs what the runners of the
+//! book leave undone.
 
-ghost use Rattle.std.specs.Prelude.{◌≡◌, ◌<◌, ◌≤◌, All, IfOk, OnOk, get_or, length};
-ghost use Rattle.trlab_bounds.specs.declared.runs.TheConstants.{MOST_RUNNERS, MOST_WORKERS};
+ghost use Rattle.std.specs.Prelude.{◌≡◌, ◌<◌, ◌≤◌, ◌-◌, All, IfOk, OnOk, get_or, length};
+ghost use Rattle.trlab_bounds.specs.declared.runs.TheConstants.{MAX_RUNNERS, MAX_WORKERS};
 ghost use Rattle.trlab_diagram.specs.Flow.{IsMeasured};
 ghost use Rattle.trlab_book.specs.Desks.{parts_of};
 ghost use Rattle.trlab_campaign.specs.SweepOutput.{AreFirstPoints, ArePoints, IsPoint};
 ghost use Rattle.trlab_strands.specs.Tokens.{name_of};
 
-use crate::progress::Observer;
-use crate::sweep::batches::Batch;
-use crate::sweep::points::{even_road, run_point};
-use crate::sweep::snapshots::point_seen;
+use crate::progress::ProgressObserver;
+use crate::sweep::points::{even_road, point_seen, run_point};
 use crate::sweep::work::WorkGate;
 use std::alloc::{AllocError, Global};
 use std::marker::Brand;
@@ -22,7 +21,73 @@ use trlab_jobs::Sweep;
 use trlab_sequential_book::{Event, Seed};
 use trlab_strands::{Blank, Ledger};
 
-/// The runners of a sweep, 1 to 16, with 1 to 16 workers each, who pass its gate.
+/// The most cars that the roads of a batch have together: those of 32 roads of the largest size.
+const MAX_AT_ONCE: u32 = 6_400_000;
+
+/// The points `first` up to but not including `end` of a sweep, whose roads are kept at the same time.
+#[derive(Clone, Copy)]
+struct Batch {
+    first: u32,
+    end: u32,
+    /// Whether the last point has at least as many cars as the first.
+    is_rising: bool,
+}
+
+/// The number after the last point of the batch that begins with the point `first`.
+fn end_of_batch(sweep: &Sweep, first: usize) -> usize
+    requires { first < length sweep.now.cars }
+    ensures { (first < result) × (result ≤ length sweep.now.cars) }
+{
+    let mut cars = sweep.cars[first];
+    for number in first + 1..sweep.cars.len() {
+        cars = cars.saturating_add(sweep.cars[number]);
+        if cars > MAX_AT_ONCE {
+            return number;
+        }
+    }
+    sweep.cars.len()
+}
+
+impl Batch {
+    /// The batch that begins with the point `first`.
+    fn of(sweep: &Sweep, first: usize) -> Batch
+        requires { first < length sweep.now.cars }
+        ensures first { result.first ≡ first }
+        ensures some { first < result.end }
+        ensures end { result.end ≤ length sweep.now.cars }
+    {
+        let end = end_of_batch(sweep, first);
+        let is_rising = sweep.cars[first] <= sweep.cars[end - 1];
+        Batch {
+            first: first as u32,
+            end: end as u32,
+            is_rising,
+        }
+    }
+
+    /// The number of points.
+    fn len(self) -> u32
+        requires { self.first ≤ self.end }
+        ensures { result ≡ self.end - self.first }
+    {
+        self.end - self.first
+    }
+
+    /// The place of a point among the jobs, and of a job among the points, counted from 0. The road that takes
+    /// longest goes first, or one runner would drive it while the others have nothing left.
+    fn place(self, index: u32) -> u32
+        requires { index < self.end - self.first }
+        ensures { result < self.end - self.first }
+    {
+        if self.is_rising {
+            self.end - self.first - 1 - index
+        } else {
+            index
+        }
+    }
+}
+
+/// The runners of a sweep, 1 to 16, each with 1 to 16 workers, which pass its gate.
 #[derive(Drop)]
 pub struct Runners<'a, R, O> {
     pub rt: &'a R,
@@ -32,15 +97,15 @@ pub struct Runners<'a, R, O> {
     pub count: u32,
     pub workers: u32,
     ghost some_runner: { 0 < count },
-    ghost few_runners: { count ≤ MOST_RUNNERS },
+    ghost few_runners: { count ≤ MAX_RUNNERS },
     ghost some_worker: { 0 < workers },
-    ghost few_workers: { workers ≤ MOST_WORKERS },
+    ghost few_workers: { workers ≤ MAX_WORKERS },
     ghost same_points: { gate.now.count ≡ length sweep.now.cars },
 }
 
-impl<'a, R: Threads + Wait + Sync, O: Observer + Sync> Runners<'a, R, O> {
-    /// Submits the roads of a batch, each at the place that it has among the jobs. Where the book takes no
-    /// more, the roads that are left have no job.
+impl<'a, R: Threads + Wait + Sync, O: ProgressObserver + Sync> Runners<'a, R, O> {
+    /// Submits the roads of a batch, each at its place among the jobs. If the book is full, the remaining roads
+    /// have no job.
     fn submit<L: Ledger>(
         &self,
         book: &SharedBook<L>,
@@ -70,8 +135,8 @@ impl<'a, R: Threads + Wait + Sync, O: Observer + Sync> Runners<'a, R, O> {
         Ok(())
     }
 
-    /// The point with this number: that of the book's job, or where the job has not come to its last step,
-    /// that of a run by the caller.
+    /// The point with this number: that of the book's job or, if the job has not reached its last step, that of
+    /// a run by the caller.
     fn point<L: Ledger>(
         &self,
         book: &SharedBook<L>,
@@ -86,12 +151,12 @@ impl<'a, R: Threads + Wait + Sync, O: Observer + Sync> Runners<'a, R, O> {
     {
         let sweep = self.sweep;
         let cars = sweep.cars[number as usize];
+        let road = even_road(self.alloc, sweep, cars)?;
         if let Ok(seen) = book.read(self.rt, self.alloc, desk, job)
-            && let Some(point) = point_seen(sweep, number, cars, &seen)
+            && let Some(point) = point_seen(sweep, number, cars, &road, &seen)
         {
             return Ok(point);
         }
-        let road = even_road(self.alloc, sweep, cars)?;
         run_point(self.alloc, sweep, number, cars, road)
     }
 
@@ -148,11 +213,11 @@ impl<'a, R: Threads + Wait + Sync, O: Observer + Sync> Runners<'a, R, O> {
         self.collect(&book, &mut desk, batch, points)
     }
 
-    /// The points of the sweep, whose roads are run batch by batch.
+    /// The points of the sweep.
     ///
     /// # Errors
     ///
-    /// `AllocError` where memory ran out.
+    /// If an allocation fails.
     pub fn points(&self) -> Result<Vec<Point>, AllocError>
         ensures are { IfOk result (λ points. ArePoints self.now.sweep.now points.items) }
         ensures measured { IfOk result (λ points. All IsMeasured points.items) }

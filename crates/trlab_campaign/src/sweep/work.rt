@@ -1,25 +1,26 @@
-//! The work of a sweep, which is counted as its workers pass a gate. The work of a step is that of its cars.
+//! The progress of a sweep: its workers pass a gate, which counts their work. The work of a step is its number
+//! of cars.
 
 ghost use Rattle.std.specs.Prelude.{◌≡◌, ◌≤◌, length};
 
-use crate::progress::{Milestone, Observer, newly_reached};
+use crate::progress::{Milestone, ProgressObserver, newly_reached};
 use std::sync::atomic::{AtomicU64, Ordering};
 use trlab_jobs::Sweep;
 use trlab_segments::{Asked, Gate};
 use trlab_verify::Motion;
 
-/// A gate that counts the work of a sweep and tells an observer of it. A step counts as its motion
-/// begins, and a hundredth is told by the worker whose step reaches it, so by one alone.
+/// A gate that counts the work of a sweep and reports progress. A step counts when its motion begins, and each
+/// hundredth is reported by the worker whose step reaches it.
 ///
-/// Steps of a lease that was revoked are run once more, and count once more. So the last hundredth is
-/// not told at the gate, but once, when all points are there.
+/// Steps of a revoked lease are run again and count again. So the gate does not report the last hundredth, which is
+/// reported once, when all points are there.
 #[derive(Drop)]
 pub struct WorkGate<'a, O> {
-    observer: &'a O,
+    progress: &'a O,
     is_watching: bool,
     /// The cars of each point.
     cars: &'a [u32],
-    /// How many points there are.
+    /// The number of points.
     count: u32,
     /// The steps of each point.
     steps: u32,
@@ -28,7 +29,7 @@ pub struct WorkGate<'a, O> {
     ghost count_is: { count ≡ length cars.now },
 }
 
-/// The work of the first points.
+/// The work of the first `points` points.
 fn work_of(cars: &[u32], steps: u32, points: usize) -> u64 {
     let mut work: u64 = 0;
     for count in cars.iter().take(points) {
@@ -37,15 +38,15 @@ fn work_of(cars: &[u32], steps: u32, points: usize) -> u64 {
     work
 }
 
-impl<'a, O: Observer> WorkGate<'a, O> {
-    /// A gate for the workers of a sweep.
-    pub fn new(sweep: &'a Sweep, observer: &'a O) -> WorkGate<'a, O>
+impl<'a, O: ProgressObserver> WorkGate<'a, O> {
+    /// A gate at which no work was counted yet.
+    pub fn new(sweep: &'a Sweep, progress: &'a O) -> WorkGate<'a, O>
         ensures { result.count ≡ length sweep.now.cars }
     {
         let steps = sweep.warm + sweep.measure;
         WorkGate {
-            observer,
-            is_watching: observer.is_watching(),
+            progress,
+            is_watching: progress.is_watching(),
             cars: &sweep.cars,
             count: sweep.cars.len() as u32,
             steps,
@@ -54,20 +55,20 @@ impl<'a, O: Observer> WorkGate<'a, O> {
         }
     }
 
-    /// The motion of a step begins on the road with this number.
+    /// Counts a step on the road with this number.
     fn begin_step(&self, number: u32) {
         if let Some(cars) = self.cars.get(number as usize) {
             let cars = u64::from(*cars);
             let before = self.done.fetch_add(cars, Ordering::SeqCst);
-            self.tell(before, before.saturating_add(cars), number + 1);
+            self.report(before, before.saturating_add(cars), number + 1);
         }
     }
 
-    /// So many points are there, the first of the sweep. What the caller has run of them passed no gate, and
-    /// counts now.
+    /// Counts the first `points` points of the sweep as done. The steps that the caller ran passed no gate, and
+    /// count now.
     pub fn collected(&self, points: usize)
-        requires some { 1 ≤ points }
-        requires few { points ≤ self.now.count }
+        requires at_least_one { 1 ≤ points }
+        requires at_most_all { points ≤ self.now.count }
     {
         if self.is_watching
             && let Ok(number) = u32::try_from(points)
@@ -75,14 +76,14 @@ impl<'a, O: Observer> WorkGate<'a, O> {
             let there = work_of(self.cars, self.steps, points);
             let before = self.done.fetch_max(there, Ordering::SeqCst);
             if before < there {
-                self.tell(before, there, number);
+                self.report(before, there, number);
             }
         }
     }
 
-    /// Tells the observer, at work on the point with this number, where the work has come to another
-    /// hundredth, which is not the last.
-    fn tell(&self, before: u64, after: u64, number: u32)
+    /// Reports the hundredth that the work has reached, unless it is the last one or was reached before.
+    /// `number` is the current point.
+    fn report(&self, before: u64, after: u64, number: u32)
         requires rises { before ≤ after }
         requires from_one { 1 ≤ number }
         requires to_last { number ≤ self.now.count }
@@ -90,14 +91,14 @@ impl<'a, O: Observer> WorkGate<'a, O> {
         if let Some(milestone) = newly_reached(before, after, self.whole, number, self.count)
             && milestone.hundredths < 100
         {
-            self.observer.reached(milestone);
+            self.progress.reached(milestone);
         }
     }
 
-    /// All points are there.
+    /// Reports that all points are there.
     pub fn finished(&self) {
         if self.is_watching && self.count > 0 {
-            self.observer.reached(Milestone {
+            self.progress.reached(Milestone {
                 hundredths: 100,
                 number: self.count,
                 count: self.count,
@@ -106,7 +107,7 @@ impl<'a, O: Observer> WorkGate<'a, O> {
     }
 }
 
-impl<'a, O: Observer> Gate for WorkGate<'a, O> {
+impl<'a, O: ProgressObserver> Gate for WorkGate<'a, O> {
     fn pass(&self, number: u32, _worker: u32, phase: u32, segment: u32) {
         if phase == <Motion as Asked<u8>>::PHASE && segment == 0 && self.is_watching {
             self.begin_step(number);

@@ -6,8 +6,8 @@ ghost use Rattle.clap.specs.declared.builder.command.Command.TheViews.{out-Comma
 ghost use Rattle.trlab_command_line.specs.CommandLine.{check_command, command_line, explain_command, program, run_command, series_command, sweep_command};
 
 use crate::arguments::options::{
-    every_option, from_option, number_argument, progress_flag, runners_option, what_argument,
-    workers_option,
+    every_option, from_option, json_flag, number_argument, progress_flag, runners_option,
+    what_argument, workers_option,
 };
 use crate::help::{
     ABOUT, AFTER, CHECK, EVERY_HELP, EXPLAIN, FROM_HELP, Help, RUN, SERIES, SHOWN_EVERY_HELP,
@@ -27,7 +27,6 @@ fn bare_command<'a>(alloc: Global, name: &'a str, help: Help) -> Command<'a>
         .after_help(help.after)
 }
 
-/// The command `check`.
 fn check_command<'a>(alloc: Global) -> Command<'a>
     ensures app { app_of result ≡ check_command }
     ensures local { (fields_of result).has_globals ≡ false }
@@ -35,7 +34,6 @@ fn check_command<'a>(alloc: Global) -> Command<'a>
     bare_command(alloc, "check", CHECK)
 }
 
-/// The command `run`.
 fn run_command<'a>(alloc: Global) -> Result<Command<'a>, AllocError>
     ensures app { IfOk result (λ command. app_of command ≡ run_command) }
     ensures local { IfOk result (λ command. (fields_of command).has_globals ≡ false) }
@@ -47,7 +45,6 @@ fn run_command<'a>(alloc: Global) -> Result<Command<'a>, AllocError>
         .arg(progress_flag(alloc))
 }
 
-/// The command `sweep`.
 fn sweep_command<'a>(alloc: Global) -> Result<Command<'a>, AllocError>
     ensures app { IfOk result (λ command. app_of command ≡ sweep_command) }
     ensures local { IfOk result (λ command. (fields_of command).has_globals ≡ false) }
@@ -58,7 +55,6 @@ fn sweep_command<'a>(alloc: Global) -> Result<Command<'a>, AllocError>
         .arg(progress_flag(alloc))
 }
 
-/// The command `series`.
 fn series_command<'a>(alloc: Global) -> Result<Command<'a>, AllocError>
     ensures app { IfOk result (λ command. app_of command ≡ series_command) }
     ensures local { IfOk result (λ command. (fields_of command).has_globals ≡ false) }
@@ -70,17 +66,17 @@ fn series_command<'a>(alloc: Global) -> Result<Command<'a>, AllocError>
         .arg(progress_flag(alloc))
 }
 
-/// The command `explain`.
 pub fn explain_command<'a>(alloc: Global) -> Result<Command<'a>, AllocError>
     ensures app { IfOk result (λ command. app_of command ≡ explain_command) }
     ensures local { IfOk result (λ command. (fields_of command).has_globals ≡ false) }
 {
     bare_command(alloc, "explain", EXPLAIN)
         .arg(what_argument(alloc))?
-        .arg(number_argument(alloc))
+        .arg(number_argument(alloc))?
+        .arg(json_flag(alloc))
 }
 
-/// The program, of which one command has to be named, without its commands.
+/// The program without its commands, one of which has to be named.
 fn program<'a>(alloc: Global) -> Result<Command<'a>, AllocError>
     ensures { IfOk result (λ command. app_of command ≡ program) }
 {

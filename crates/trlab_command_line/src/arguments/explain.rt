@@ -1,28 +1,28 @@
-//! What `explain` is asked for, by its arguments.
+//! The arguments of `explain`.
 
 ghost use Rattle.std.specs.Prelude.{◌≡◌, IfOk, Ok, codes, option_map};
 ghost use Rattle.clap.specs.Words.{FailsBy, found_of, kind_of, rows_of};
 ghost use Rattle.trlab_command_line.specs.Explains.{explained, explained_in, kinds_of, subject_named, topic_named};
-ghost use Rattle.trlab_command_line.specs.Numbers.{MayHaveNumber};
+ghost use Rattle.trlab_command_line.specs.Numbers.{HasFlag, MayHaveNumber};
 
 use crate::arguments::commands::explain_command;
-use crate::arguments::matches::given_number;
+use crate::arguments::matches::{flag_of, given_number};
 use clap::error::ErrorKind;
 use clap::{ArgMatches, Error};
 use std::alloc::{AllocError, Global};
 use trlab_diagnosis::Subject;
-use trlab_explain::Topic;
+use trlab_explain::{Form, Topic};
 
-/// What is explained.
+/// The subject of an explanation.
 #[derive(Clone, Copy)]
 pub enum Explaining {
-    /// The text on standard input, read as this, or else as what its first word says.
-    Text(Option<Subject>),
-    /// What the cause or the reason of a number means.
+    /// The input on standard input, read as this, or else as its first word says, in this form.
+    Text(Option<Subject>, Form),
+    /// The meaning of the cause or the reason with a number.
     Number(Topic, u32),
 }
 
-/// What a text is read as by the command of this name.
+/// The kind of input that the command of this name reads.
 fn subject_named(name: &[u8]) -> Option<Subject>
     ensures { result ≡ subject_named name.now }
 {
@@ -37,7 +37,7 @@ fn subject_named(name: &[u8]) -> Option<Subject>
     }
 }
 
-/// What is named before a number.
+/// The kind of a number by the word before it.
 fn topic_named(name: &[u8]) -> Option<Topic>
     ensures { result ≡ topic_named name.now }
 {
@@ -50,27 +50,34 @@ fn topic_named(name: &[u8]) -> Option<Topic>
     }
 }
 
-/// What the two arguments ask for, or the kind of error where they do not go together.
-fn explained(what: Option<&str>, number: Option<u32>) -> Result<Explaining, ErrorKind>
-    ensures { result ≡ explained (option_map (λ s. s.now) what.entry) number }
+/// The request of two arguments and the flag `--json`, or the kind of error if they do not go together.
+fn explained(
+    what: Option<&str>,
+    number: Option<u32>,
+    is_json: bool,
+) -> Result<Explaining, ErrorKind>
+    ensures { result ≡ explained (option_map (λ s. s.now) what.entry) number is_json }
 {
+    let form = if is_json { Form::Json } else { Form::Text };
     let Some(what) = what else {
-        return Ok(Explaining::Text(None));
+        return Ok(Explaining::Text(None, form));
     };
     let name = what.as_bytes();
     match (subject_named(name), topic_named(name), number) {
-        (Some(subject), _, None) => Ok(Explaining::Text(Some(subject))),
+        (Some(subject), _, None) => Ok(Explaining::Text(Some(subject), form)),
         (Some(_), _, Some(_)) => Err(ErrorKind::UnknownArgument),
+        (None, Some(_), _) if is_json => Err(ErrorKind::ArgumentConflict),
         (None, Some(topic), Some(number)) => Ok(Explaining::Number(topic, number)),
         (None, Some(_), None) => Err(ErrorKind::MissingRequiredArgument),
         (None, None, _) => Err(ErrorKind::InvalidValue),
     }
 }
 
-/// Why the first argument, or that with a number after it or none, is refused.
+/// The message for arguments that begin with a word and do not go together.
 fn refusal_text(alloc: Global, kind: ErrorKind, what: &str) -> Result<String, AllocError> {
     match kind {
         ErrorKind::UnknownArgument => { format!(in alloc; "`explain {what}` takes no number") }
+        ErrorKind::ArgumentConflict => { format!(in alloc; "`explain {what}` takes no --json") }
         ErrorKind::MissingRequiredArgument => {
             format!(in alloc;
                 "`explain {what}` needs a number, for example `trlab explain {what} 1`"
@@ -91,18 +98,20 @@ fn refusal(alloc: Global, kind: ErrorKind, what: Option<&str>) -> Result<Error, 
     command.error(kind, &text)
 }
 
-/// What `explain` asks for, by its matches.
+/// The request for `explain`, by its matches.
 ///
 /// # Errors
 ///
-/// Where its arguments do not go together, and where memory ran out.
+/// If its arguments do not go together, or an allocation fails.
 pub fn explaining_of(alloc: Global, matches: &ArgMatches) -> Result<Explaining, Error>
-    requires { MayHaveNumber (codes "number") (rows_of (found_of matches.now)) }
+    requires number { MayHaveNumber (codes "number") (rows_of (found_of matches.now)) }
+    requires json { HasFlag (codes "json") (rows_of (found_of matches.now)) }
     ensures answer { IfOk result (λ asked. explained_in (rows_of (found_of matches.now)) ≡ Ok asked) }
     ensures fault { FailsBy (kinds_of (explained_in (rows_of (found_of matches.now)))) result }
 {
     let what = matches.get_str("what");
-    match explained(what, given_number(matches, "number")) {
+    let number = given_number(matches, "number");
+    match explained(what, number, flag_of(matches, "json")) {
         Ok(asked) => Ok(asked),
         Err(kind) => Err(refusal(alloc, kind, what)?),
     }

@@ -1,4 +1,4 @@
-//! What the arguments of a command have among its matches.
+//! The values of arguments among the matches of a command.
 
 ghost use Rattle.std.specs.Prelude.{◌≡◌, ℕ, ◌≤◌, ◌<◌, ◌^◌};
 ghost use Rattle.clap.specs.Words.{Text, rows_of};
@@ -7,7 +7,7 @@ ghost use Rattle.trlab_command_line.specs.Numbers.{GivesFlag, GivesNumber, HasFl
 
 use clap::ArgMatches;
 
-/// The number that an option has among the matches of its command.
+/// The number of an option.
 pub fn number_of(matches: &ArgMatches, option: &str) -> u32
     requires { (least : ℕ) × (most : ℕ) × (v : Text) × (most < 2 ^ 32)
         × HasValueFrom (option.now) least most (rows_of (found_of matches.now)) v }
@@ -22,7 +22,7 @@ pub fn number_of(matches: &ArgMatches, option: &str) -> u32
     }
 }
 
-/// The number that an option from 1 to 16 has among the matches of its command.
+/// The number of an option from 1 to 16.
 pub fn count_of(matches: &ArgMatches, option: &str) -> u32
     requires { (v : Text) × HasValueFrom (option.now) 1 16 (rows_of (found_of matches.now)) v }
     ensures number { GivesNumber (option.now) (rows_of (found_of matches.now)) result }
@@ -32,7 +32,7 @@ pub fn count_of(matches: &ArgMatches, option: &str) -> u32
     number_of(matches, option)
 }
 
-/// The number that an argument has among the matches of its command, where it is given.
+/// The number of an argument, if it is given.
 pub fn given_number(matches: &ArgMatches, argument: &str) -> Option<u32>
     requires { MayHaveNumber (argument.now) (rows_of (found_of matches.now)) }
     ensures { result ≡ number_in (argument.now) (rows_of (found_of matches.now)) }
@@ -40,7 +40,7 @@ pub fn given_number(matches: &ArgMatches, argument: &str) -> Option<u32>
     matches.get_one::<u32>(argument)
 }
 
-/// Whether a flag is given among the matches of its command.
+/// Whether a flag is given.
 pub fn flag_of(matches: &ArgMatches, flag: &str) -> bool
     requires { HasFlag (flag.now) (rows_of (found_of matches.now)) }
     ensures { GivesFlag (flag.now) (rows_of (found_of matches.now)) result }

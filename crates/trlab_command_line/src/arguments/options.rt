@@ -1,15 +1,15 @@
-//! The options of the commands, and the other arguments.
+//! The options and the other arguments of the commands.
 
 ghost use Rattle.std.specs.Prelude.{◌≡◌, false};
 ghost use Rattle.clap.specs.Words.{rule_of};
-ghost use Rattle.trlab_command_line.specs.CommandLine.{count_option, every_option, from_option, number_argument, number_option, progress_flag, runners_option, what_argument, workers_option};
+ghost use Rattle.trlab_command_line.specs.CommandLine.{count_option, every_option, flag, from_option, json_flag, number_argument, number_option, progress_flag, runners_option, what_argument, workers_option};
 
-use crate::help::{NUMBER_HELP, PROGRESS_HELP, RUNNERS_HELP, WHAT_HELP, WORKERS_HELP};
+use crate::help::{JSON_HELP, NUMBER_HELP, PROGRESS_HELP, RUNNERS_HELP, WHAT_HELP, WORKERS_HELP};
 use clap::{Arg, ArgAction, value_parser};
 use std::alloc::Global;
-use trlab_bounds::runs::{MOST_RUNNERS, MOST_STEPS, MOST_WORKERS};
+use trlab_bounds::runs::{MAX_RUNNERS, MAX_STEPS, MAX_WORKERS};
 
-/// The option `--name n`, n from a least to a greatest number, and what it is where it is not given.
+/// The option `--name n`, with the range of n and its default.
 fn number_option<'a>(
     alloc: Global,
     name: &'a str,
@@ -29,7 +29,7 @@ fn number_option<'a>(
         .help(help)
 }
 
-/// The option `--name n`, n from 1 to a greatest number, which is 1 where it is not given.
+/// The option `--name n`, n from 1 to `most`, with the default 1.
 fn count_option<'a>(alloc: Global, name: &'a str, most: u32, help: &'a str) -> Arg<'a>
     ensures rule { rule_of result ≡ count_option name.now most }
     ensures local { result.global ≡ false }
@@ -37,50 +37,59 @@ fn count_option<'a>(alloc: Global, name: &'a str, most: u32, help: &'a str) -> A
     number_option(alloc, name, 1, most, "1", help)
 }
 
-/// The option `--workers n`.
 pub fn workers_option<'a>(alloc: Global) -> Arg<'a>
     ensures rule { rule_of result ≡ workers_option }
     ensures local { result.global ≡ false }
 {
-    count_option(alloc, "workers", MOST_WORKERS, WORKERS_HELP)
+    count_option(alloc, "workers", MAX_WORKERS, WORKERS_HELP)
 }
 
-/// The option `--runners n`.
 pub fn runners_option<'a>(alloc: Global) -> Arg<'a>
     ensures rule { rule_of result ≡ runners_option }
     ensures local { result.global ≡ false }
 {
-    count_option(alloc, "runners", MOST_RUNNERS, RUNNERS_HELP)
+    count_option(alloc, "runners", MAX_RUNNERS, RUNNERS_HELP)
 }
 
-/// The option `--every n`, with the help of its command.
 pub fn every_option<'a>(alloc: Global, help: &'a str) -> Arg<'a>
     ensures rule { rule_of result ≡ every_option }
     ensures local { result.global ≡ false }
 {
-    count_option(alloc, "every", MOST_STEPS, help)
+    count_option(alloc, "every", MAX_STEPS, help)
 }
 
-/// The option `--from s`, with the help of its command.
 pub fn from_option<'a>(alloc: Global, help: &'a str) -> Arg<'a>
     ensures rule { rule_of result ≡ from_option }
     ensures local { result.global ≡ false }
 {
-    number_option(alloc, "from", 0, MOST_STEPS, "0", help)
+    number_option(alloc, "from", 0, MAX_STEPS, "0", help)
 }
 
-/// The flag `--progress`.
+fn flag<'a>(alloc: Global, name: &'a str, help: &'a str) -> Arg<'a>
+    ensures rule { rule_of result ≡ flag name.now }
+    ensures local { result.global ≡ false }
+{
+    Arg::new(alloc, name)
+        .long(name)
+        .action(ArgAction::SetTrue)
+        .help(help)
+}
+
 pub fn progress_flag<'a>(alloc: Global) -> Arg<'a>
     ensures rule { rule_of result ≡ progress_flag }
     ensures local { result.global ≡ false }
 {
-    Arg::new(alloc, "progress")
-        .long("progress")
-        .action(ArgAction::SetTrue)
-        .help(PROGRESS_HELP)
+    flag(alloc, "progress", PROGRESS_HELP)
 }
 
-/// The argument of `explain` that says what is explained.
+pub fn json_flag<'a>(alloc: Global) -> Arg<'a>
+    ensures rule { rule_of result ≡ json_flag }
+    ensures local { result.global ≡ false }
+{
+    flag(alloc, "json", JSON_HELP)
+}
+
+/// The first argument of `explain`: a command, `cause` or `reason`.
 pub fn what_argument<'a>(alloc: Global) -> Arg<'a>
     ensures rule { rule_of result ≡ what_argument }
     ensures local { result.global ≡ false }
@@ -88,7 +97,7 @@ pub fn what_argument<'a>(alloc: Global) -> Arg<'a>
     Arg::new(alloc, "what").help(WHAT_HELP)
 }
 
-/// The argument of `explain` that is the number of a cause or a reason.
+/// The second argument of `explain`: the number of a cause or a reason.
 pub fn number_argument<'a>(alloc: Global) -> Arg<'a>
     ensures rule { rule_of result ≡ number_argument }
     ensures local { result.global ≡ false }

@@ -1,13 +1,12 @@
-//! Candidates for a line that is not the one that must stand there.
+//! Candidates for a line that is not one of those that would be valid there.
 
 use crate::alike::nearest;
 use crate::candidates::number::density_candidate;
 use crate::candidates::program::end_candidates;
 use crate::candidates::{COMMENT, Candidates, LATE, MISSPELLED};
-use crate::draft::{Put, has_odd_blanks};
 use crate::instruction::name_and_operands;
-use crate::line_name::{CHECK_NAMES, is_name_of_line, listed, stands_alone};
-use crate::rules::{RULES, after_rule};
+use crate::names::{CHECK_NAMES, RULES, after_rule, is_lone, is_name_of_line, listed};
+use crate::replacement::{Replacement, has_odd_blanks};
 use crate::subject::{Subject, is_named, subject_named};
 use std::alloc::AllocError;
 use trlab_asm::mnemonic_named;
@@ -18,7 +17,7 @@ use trlab_texts::{LineName, Wanted};
 /// The longest line that is rewritten.
 const LONGEST_LINE: usize = 120;
 
-/// Words of other laboratories, and the names that lines have here.
+/// Words of other programs, and the lines that they mean.
 const OTHER_WORDS: [(&[u8], LineName); 14] = [
     (b"density", LineName::Cars),
     (b"count", LineName::Cars),
@@ -36,17 +35,17 @@ const OTHER_WORDS: [(&[u8], LineName); 14] = [
     (b"sample", LineName::Measure),
 ];
 
-/// Adds a line with the blanks that it should have: none at an end, and one space between two words.
+/// Adds that words are separated by single spaces, with none at either end of the line.
 fn blanks_candidate(list: &mut Candidates<'_>) {
     if list.line.len() <= LONGEST_LINE && has_odd_blanks(list.line) {
         list.whole_line(
             "separate words with one space, with none at either end of the line.",
-            Put::Spaced,
+            Replacement::Spaced,
         );
     }
 }
 
-/// How many bytes stand before the blanks at the end of a line.
+/// The length of a line without the blanks at its end.
 fn end_of_words(line: &[u8]) -> usize {
     let mut end = 0usize;
     let mut place = 0usize;
@@ -59,28 +58,28 @@ fn end_of_words(line: &[u8]) -> usize {
     end
 }
 
-/// Adds a line without what stands after the first such byte, and without the blanks before that.
+/// Adds that the first such byte, all bytes after it and the blanks before it are deleted.
 fn comment_candidate(list: &mut Candidates<'_>, byte: u8) {
     let Some((front, _)) = cut(list.line, byte) else {
         return;
     };
     let kept = end_of_words(front);
-    let gone = list.line.len().saturating_sub(kept);
+    let removed = list.line.len().saturating_sub(kept);
     if kept == 0 {
         list.without_line(COMMENT);
     } else {
-        list.in_line(COMMENT, kept, gone, Put::Bytes(b""));
+        list.in_line(COMMENT, kept, removed, Replacement::Bytes(b""));
     }
 }
 
-/// Adds what is odd about a line, whatever has to stand there.
+/// Adds candidates for characters that are not allowed in any line.
 fn odd_candidates(list: &mut Candidates<'_>) {
     if without_prefix(b"\xef\xbb\xbf", list.line).is_some() {
         list.in_line(
             "the file begins with a byte order mark: save it as plain ASCII.",
             0,
             3,
-            Put::Bytes(b""),
+            Replacement::Bytes(b""),
         );
     }
     if list.line.is_empty() {
@@ -91,15 +90,15 @@ fn odd_candidates(list: &mut Candidates<'_>) {
     comment_candidate(list, b'#');
 }
 
-/// Adds the name in place of the first word of a line, where there is one.
+/// Adds that the first word of the line is replaced, if there is a name for it.
 fn first_word_candidate(list: &mut Candidates<'_>, name: Option<&'static [u8]>) {
     if let Some(name) = name {
         let word = head_word(list.line);
-        list.in_line(MISSPELLED, 0, word.len(), Put::Bytes(name));
+        list.in_line(MISSPELLED, 0, word.len(), Replacement::Bytes(name));
     }
 }
 
-/// The name of a line that may stand there, for a word of other laboratories.
+/// The name of a wanted line, for a word of other programs.
 fn name_of_other(word: &[u8], wanted: &[LineName]) -> Option<&'static [u8]> {
     for pair in &OTHER_WORDS {
         if is_named(word, pair.0) && wanted.contains(&pair.1) {
@@ -109,8 +108,7 @@ fn name_of_other(word: &[u8], wanted: &[LineName]) -> Option<&'static [u8]> {
     None
 }
 
-/// Adds the names of lines that may stand there and that the first word is spelled nearly as, or means
-/// elsewhere.
+/// Adds the names of wanted lines that the first word may mean.
 fn name_candidates(list: &mut Candidates<'_>, wanted: &[LineName]) -> Result<(), AllocError> {
     let word = head_word(list.line);
     let name = nearest(list.alloc, word, wanted)?;
@@ -122,7 +120,7 @@ fn name_candidates(list: &mut Candidates<'_>, wanted: &[LineName]) -> Result<(),
     Ok(())
 }
 
-/// Adds the name of a rule that the word after `rule` is spelled nearly as.
+/// Adds the name of a rule that the word after `rule` may mean.
 fn rule_candidate(list: &mut Candidates<'_>) -> Result<(), AllocError> {
     let Some(rest) = after_rule(list.line) else {
         return Ok(());
@@ -130,12 +128,12 @@ fn rule_candidate(list: &mut Candidates<'_>) -> Result<(), AllocError> {
     let name = head_word(rest);
     if let Some(meant) = nearest(list.alloc, name, &RULES)? {
         let at = list.line.len().saturating_sub(rest.len());
-        list.in_line(MISSPELLED, at, name.len(), Put::Bytes(meant));
+        list.in_line(MISSPELLED, at, name.len(), Replacement::Bytes(meant));
     }
     Ok(())
 }
 
-/// Adds the first line of a program above an instruction.
+/// Adds that the first line of a program is inserted above an instruction.
 fn heading_candidates(list: &mut Candidates<'_>, wanted: &[LineName]) {
     for line in &[LineName::Motion, LineName::Change] {
         if list.fault.subject == Subject::Check || wanted.contains(line) {
@@ -144,10 +142,10 @@ fn heading_candidates(list: &mut Candidates<'_>, wanted: &[LineName]) {
     }
 }
 
-/// Adds above the place each line that may stand there and needs no program after it.
+/// Adds that a wanted line is inserted, for each that no program follows.
 fn lone_candidates(list: &mut Candidates<'_>, mistake: &'static str, wanted: &[LineName]) {
     for line in wanted {
-        if stands_alone(*line) {
+        if is_lone(*line) {
             list.above(mistake, *line);
         }
     }
@@ -164,7 +162,7 @@ fn command_candidate(list: &mut Candidates<'_>) {
                 "this input is for another command.",
                 0,
                 0,
-                Put::ReadAs(other),
+                Replacement::ReadAs(other),
             );
         }
         _ => {}

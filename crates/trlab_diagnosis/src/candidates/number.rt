@@ -1,12 +1,11 @@
-//! Candidates for numbers that are written otherwise, as fractions, with a sign or with a power of ten.
+//! Candidates for numbers that are written as fractions, with a sign or with a power of ten.
 
 use crate::candidates::{Candidates, DIGITS};
-use crate::draft::Put;
 use crate::fault::bytes_at;
-use crate::fraction::{fraction_of, nearest_part};
+use crate::replacement::Replacement;
 use trlab_bounds::programs::CERTAIN;
-use trlab_bounds::roads::{GREATEST_LENGTH, MOST_LANES};
-use trlab_lines::{cut, next_line};
+use trlab_bounds::roads::{MAX_LANES, MAX_LENGTH};
+use trlab_lines::{cut, digits_value, is_numeral, next_line};
 use trlab_texts::word::number_after;
 use trlab_texts::{Quantity, Wanted};
 
@@ -15,7 +14,7 @@ const PROBABILITY: &str = "a probability p is written as p x 2147483648.";
 const DENSITY: &str =
     "`cars` takes a number of cars, not a density; this is that density on this road.";
 
-/// The number of the first line above the fault that is this name and a number, or 0.
+/// The number in the first line above the fault with this name, or 0.
 fn number_above(list: &Candidates<'_>, name: &[u8], most: u32) -> u32 {
     let mut left = list.fault.place.above();
     for _ in 0..list.fault.place.number {
@@ -30,13 +29,13 @@ fn number_above(list: &Candidates<'_>, name: &[u8], most: u32) -> u32 {
     0
 }
 
-/// How many cells the roads of a sweep have, as its lines `length n` and `lanes n` say.
+/// The number of cells of a sweep's roads, by its lines `length n` and `lanes n`.
 fn cells_of(list: &Candidates<'_>) -> u32 {
-    let length = number_above(list, b"length ", GREATEST_LENGTH);
-    length.saturating_mul(number_above(list, b"lanes ", MOST_LANES))
+    let length = number_above(list, b"length ", MAX_LENGTH);
+    length.saturating_mul(number_above(list, b"lanes ", MAX_LANES))
 }
 
-/// The number that a word may mean, a share of a whole or a number by itself, and what was got wrong.
+/// The number that a word may mean, as a part of a whole or as it is, and the mistake.
 fn meaning_of(word: &[u8], of_whole: Option<(&'static str, u32)>) -> Option<(&'static str, u64)> {
     let fraction = fraction_of(word)?;
     if let Some((mistake, whole)) = of_whole {
@@ -47,7 +46,7 @@ fn meaning_of(word: &[u8], of_whole: Option<(&'static str, u32)>) -> Option<(&'s
     Some((DIGITS, fraction.whole()?))
 }
 
-/// Adds the number that a word may mean which stands at a byte of the line.
+/// Adds the number that a word of the line may mean, after `at` bytes.
 fn meanings(
     list: &mut Candidates<'_>,
     at: usize,
@@ -55,21 +54,21 @@ fn meanings(
     of_whole: Option<(&'static str, u32)>,
 ) {
     if let Some((mistake, number)) = meaning_of(word, of_whole) {
-        list.in_line(mistake, at, word.len(), Put::Number("", number));
+        list.in_line(mistake, at, word.len(), Replacement::Number("", number));
     }
 }
 
-/// Adds what a chance may mean that stands at a byte of the line, in parts of 2^31.
+/// Adds the probability that a word of the line may mean, times 2^31.
 pub fn chance_candidates(list: &mut Candidates<'_>, at: usize, word: &[u8]) {
     meanings(list, at, word, Some((PROBABILITY, CERTAIN)));
 }
 
-/// Adds what a number may mean that stands at a byte of the line.
+/// Adds the whole number that a word of the line may mean.
 pub fn whole_candidates(list: &mut Candidates<'_>, at: usize, word: &[u8]) {
     meanings(list, at, word, None);
 }
 
-/// The count of cars that a line `density x` means.
+/// The number of cars that a line `density x` means.
 fn count_of_density(list: &Candidates<'_>) -> Option<u32> {
     let (_, word) = cut(list.line, b' ')?;
     nearest_part(fraction_of(word)?, cells_of(list))
@@ -78,11 +77,11 @@ fn count_of_density(list: &Candidates<'_>) -> Option<u32> {
 /// Adds the line `cars n` for a line `density x`.
 pub fn density_candidate(list: &mut Candidates<'_>) {
     if let Some(count) = count_of_density(list) {
-        list.whole_line(DENSITY, Put::Number("cars ", u64::from(count)));
+        list.whole_line(DENSITY, Replacement::Number("cars ", u64::from(count)));
     }
 }
 
-/// Adds what the number at fault of a job or sweep text may mean: a share of 2^31, or of the cells.
+/// Adds the number that the word at fault in a job or sweep may mean: a part of 2^31 or of the cells, or as it is.
 pub fn number_candidates(list: &mut Candidates<'_>) {
     let (Some((at, length)), Wanted::Number { quantity, .. }) = (
         list.fault.word(),
@@ -97,4 +96,105 @@ pub fn number_candidates(list: &mut Candidates<'_>) {
     };
     let word = bytes_at(list.line, at, length);
     meanings(list, at, word, of_whole);
+}
+
+/// The maximum number of digits of a part of a fraction.
+const MAX_FRACTION_DIGITS: usize = 9;
+
+/// A fraction of two whole numbers.
+#[derive(Clone, Copy)]
+pub struct Fraction {
+    over: u128,
+    under: u128,
+}
+
+impl Fraction {
+    /// The fraction as a whole number, if it is one.
+    pub fn whole(self) -> Option<u64> {
+        if self.under == 0 || self.over % self.under != 0 {
+            return None;
+        }
+        u64::try_from(self.over / self.under).ok()
+    }
+}
+
+/// The number of some digits, unless there are too many; 0 if there are none.
+fn value_of(digits: &[u8]) -> Option<u128> {
+    if digits.is_empty() {
+        return Some(0);
+    }
+    if !is_numeral(digits) || digits.len() > MAX_FRACTION_DIGITS {
+        return None;
+    }
+    Some(u128::from(digits_value(digits)))
+}
+
+fn power_of_ten(exponent: u128) -> u128 {
+    let mut power = 1u128;
+    for _ in 0..exponent.min(18) as u32 {
+        power = power.saturating_mul(10);
+    }
+    power
+}
+
+/// The fraction that a word writes, with or without a decimal point.
+fn decimal_of(word: &[u8]) -> Option<Fraction> {
+    let (whole, digits) = cut(word, b'.').unwrap_or((word, b""));
+    if whole.is_empty() && digits.is_empty() {
+        return None;
+    }
+    let under = power_of_ten(digits.len() as u128);
+    let over = value_of(whole)?
+        .saturating_mul(under)
+        .saturating_add(value_of(digits)?);
+    Some(Fraction { over, under })
+}
+
+/// The fraction that a word writes with an exponent after `e`.
+fn power_form_of(word: &[u8]) -> Option<Fraction> {
+    let (front, power) = cut(word, b'e').or(cut(word, b'E'))?;
+    let Fraction { over, under } = decimal_of(front)?;
+    match power.strip_prefix(b"-") {
+        Some(power) => Some(Fraction {
+            over,
+            under: under.saturating_mul(power_of_ten(value_of(power)?)),
+        }),
+        None => Some(Fraction {
+            over: over.saturating_mul(power_of_ten(value_of(power)?)),
+            under,
+        }),
+    }
+}
+
+/// The fraction that a word writes, for example `0.25`, `.25`, `25%`, `1/4`, `1e4` or `007`.
+pub fn fraction_of(word: &[u8]) -> Option<Fraction> {
+    let word = word.strip_prefix(b"+").unwrap_or(word);
+    if let Some(front) = word.strip_suffix(b"%") {
+        let Fraction { over, under } = decimal_of(front)?;
+        return Some(Fraction {
+            over,
+            under: under.saturating_mul(100),
+        });
+    }
+    if let Some((over, under)) = cut(word, b'/') {
+        if over.is_empty() || under.is_empty() {
+            return None;
+        }
+        return Some(Fraction {
+            over: value_of(over)?,
+            under: value_of(under)?,
+        });
+    }
+    power_form_of(word).or(decimal_of(word))
+}
+
+/// A fraction of a whole, rounded to the nearest number, if the fraction is at most 1.
+pub fn nearest_part(fraction: Fraction, whole: u32) -> Option<u32> {
+    let Fraction { over, under } = fraction;
+    if under == 0 || over > under {
+        return None;
+    }
+    let twice = over.saturating_mul(u128::from(whole)).saturating_mul(2);
+    let part = twice.saturating_add(under) / under.saturating_mul(2).max(1);
+    u32::try_from(part).ok()
 }

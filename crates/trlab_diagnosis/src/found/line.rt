@@ -1,17 +1,18 @@
-//! What is found at a line of another name than those that would be valid, or with other words.
+//! The problem with a line that is not one of those that would be valid there.
+
+ghost use Rattle.std.specs.Prelude.{IfSome};
+ghost use Rattle.trlab_diagnosis.specs.Oddities.{Shows};
 
 use crate::fault::Fault;
 use crate::found::{push_count, push_quoted};
-use crate::line_name::{is_name, is_of, named};
-use crate::odd::{odd_words, oddity_of};
-use crate::rules::{after_rule, rule_named};
+use crate::names::{after_rule, is_name, is_of, named, rule_named};
 use crate::subject::Subject;
 use std::alloc::AllocError;
 use trlab_lines::Page;
-use trlab_texts::word::head_word;
+use trlab_texts::word::{head_word, without_prefix};
 use trlab_texts::{LineName, LineNames};
 
-/// How many words a text has, with one space between two.
+/// The number of words of a text, separated by single spaces.
 fn count_words(text: &[u8]) -> u64 {
     let mut count = 1u64;
     for byte in text {
@@ -101,5 +102,54 @@ pub fn push_line(page: &mut Page, fault: &Fault<'_>, names: LineNames) -> Result
         push_word(page, fault.subject, head_word(line), names)
     } else {
         Ok(())
+    }
+}
+
+/// A character that is not allowed in any line outside programs, or an empty line.
+#[derive(Clone, Copy)]
+pub enum Oddity {
+    ByteOrderMark,
+    CarriageReturn,
+    Empty,
+    Tab,
+    FirstSpace,
+    FinalSpace,
+    Comment,
+}
+
+/// The first oddity of a line, in the order of the list.
+pub fn oddity_of(line: &[u8]) -> Option<Oddity>
+    ensures { IfSome result (Shows line.now) }
+{
+    if without_prefix(b"\xef\xbb\xbf", line).is_some() {
+        Some(Oddity::ByteOrderMark)
+    } else if line.contains(&b'\r') {
+        Some(Oddity::CarriageReturn)
+    } else if line.is_empty() {
+        Some(Oddity::Empty)
+    } else if line.contains(&b'\t') {
+        Some(Oddity::Tab)
+    } else if line.first() == Some(&b' ') {
+        Some(Oddity::FirstSpace)
+    } else if line.last() == Some(&b' ') {
+        Some(Oddity::FinalSpace)
+    } else if line.contains(&b';') || line.contains(&b'#') {
+        Some(Oddity::Comment)
+    } else {
+        None
+    }
+}
+
+/// An oddity in words.
+pub fn odd_words(oddity: Oddity) -> &'static str {
+    match oddity {
+        Oddity::ByteOrderMark => "the file begins with a byte order mark: save it as plain ASCII.",
+        Oddity::CarriageReturn =>
+            "the line ends with a carriage return (Windows line ending): use LF only.",
+        Oddity::Empty => "the line is empty: empty lines are allowed only inside programs.",
+        Oddity::Tab => "the line contains a tab: separate words with one space.",
+        Oddity::FirstSpace => "the line begins with a space.",
+        Oddity::FinalSpace => "the line ends with a space.",
+        Oddity::Comment => "the line has a comment: comments are allowed only inside programs.",
     }
 }

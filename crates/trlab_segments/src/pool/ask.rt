@@ -1,30 +1,31 @@
-//! How the caller has all cars of a phase asked.
+//! How a pool asks the cars of a phase: the caller opens it to the helpers, works on it as they do, and lines up the
+//! answers once no helper has it.
 
-ghost use Rattle.std.specs.Prelude.{◌≡◌, ◌<◌, IfErr, IfOk, IfSome};
+ghost use Rattle.std.specs.Prelude.{◌≡◌, ◌<◌, IfErr, IfOk, IfSome, OnOk};
 ghost use Rattle.std.specs.Arc.{arc_value};
 ghost use Rattle.trlab_road.specs.Cells.{cars};
 ghost use Rattle.trlab_segments.specs.Drawers.{IsNew};
 ghost use Rattle.trlab_segments.specs.Results.{AnswersAll, IsCutWhole};
 
-use crate::gate::Gate;
 use crate::phase::Asked;
 use crate::pool::Pool;
 use crate::pool::brief::{Brief, brief_of, draw_all};
 use crate::pool::results::split_pass;
-use crate::pool::task::Task;
-use crate::pool::task_slot::TaskSlot;
+use crate::pool::task::{Task, TaskSlot};
+use crate::segment::Gate;
 use crate::tickets::Drawer;
 use std::alloc::{AllocError, AllocFailed, Global};
 use std::sync::{Arc, Wait};
 use std::{hint, thread};
 use trlab_machine::Dice;
 use trlab_road::Road;
-use trlab_step::Onlooker;
+use trlab_step::{Caller, Executor, StepObserver};
+use trlab_verify::{Change, Motion};
 
 /// How often the caller looks for the last helper before it lets another thread go on.
 const LOOKS: u32 = 1000;
 
-/// The phase, once no helper has it.
+/// Waits until no helper has the phase, and returns it.
 fn alone<A, P: Asked<A>, R: Wait>(rt: &R, task: Arc<Task<A, P>, Global>) -> Task<A, P>
     ensures { result ≡ arc_value task }
 {
@@ -45,11 +46,11 @@ fn alone<A, P: Asked<A>, R: Wait>(rt: &R, task: Arc<Task<A, P>, Global>) -> Task
     unreachable!()
 }
 
-/// What is asked, as all workers see it.
+/// A phase, as all workers share it.
 ///
 /// # Errors
 ///
-/// Gives the road back where an allocation was refused.
+/// Returns the road if an allocation fails.
 fn shared_task<A: Copy + Drop, P: Asked<A> + Drop>(
     alloc: Global,
     brief: Brief<P>,
@@ -70,85 +71,123 @@ fn shared_task<A: Copy + Drop, P: Asked<A> + Drop>(
 }
 
 impl<'a, R: Wait, G: Gate> Pool<'a, R, G> {
-    /// Opens a phase to the helpers, and shows its road to an onlooker.
-    fn open<A: Copy + Drop, P: Asked<A> + Drop, O: Onlooker>(
+    /// Opens a phase to the helpers, and shows its road to an observer.
+    fn open<A: Copy + Drop, P: Asked<A> + Drop, O: StepObserver>(
         &self,
         slot: &TaskSlot<A, P>,
         task: &Arc<Task<A, P>, Global>,
-        onlooker: &mut O,
+        observer: &mut O,
     )
-        ensures { O.sees onlooker.old (arc_value task.now).brief.road onlooker.new }
+        ensures { O.observes observer.old (arc_value task.now).brief.road observer.new }
     {
         if let Ok(shared) = Arc::try_clone(task) {
             slot.publish(self.rt, shared);
             self.rendezvous.wake();
         }
-        onlooker.see(&task.brief.road);
+        observer.observe(&task.brief.road);
     }
 
-    /// The road of a brief, and what its program answers to all cars, in standing order: the caller asks them
-    /// with as many workers as a drawer has passes, who find the task in this slot. It shows the road to an
-    /// onlooker once they are woken.
+    /// Replaces a list by the answers of a brief's program to all cars, in standing order, and returns the brief's
+    /// road. There are as many workers as the drawer has passes; helpers find the task in this slot. The road is
+    /// shown to an observer once they are woken.
     ///
     /// # Errors
     ///
-    /// Where an allocation was refused, to the caller or to a helper.
-    fn carry_out<A: Copy + Drop, P: Asked<A> + Drop, O: Onlooker>(
+    /// If an allocation fails, in the caller or in a helper.
+    fn execute<A: Copy + Drop, P: Asked<A> + Drop, O: StepObserver>(
         &self,
-        alloc: Global,
         slot: &TaskSlot<A, P>,
+        answers: &mut Vec<A>,
         brief: Brief<P>,
         drawer: Drawer,
-        onlooker: &mut O,
-    ) -> (Road, Result<Vec<A>, AllocError>)
+        observer: &mut O,
+    ) -> (Road, Result<(), AllocError>)
         requires new { IsNew brief.tickets drawer }
         requires cut { IsCutWhole brief }
         requires lanes { P.can_ask brief.road }
         ensures road { result.0 ≡ brief.road }
-        ensures seen { O.sees onlooker.old brief.road onlooker.new }
-        ensures answers { IfOk result.1 (λ answers. AnswersAll P.answers brief answers.items) }
+        ensures seen { O.observes observer.old brief.road observer.new }
+        ensures answers { OnOk result.1 (AnswersAll P.answers brief answers.new.items) }
     {
+        let alloc = *answers.allocator();
         let (reserve, mut mine) = split_pass(&brief.tickets, drawer);
         let task = match shared_task(alloc, brief, reserve) {
             Ok(task) => task,
             Err(road) => {
-                onlooker.see(&road);
+                observer.observe(&road);
                 return (road, Err(AllocError));
             }
         };
-        self.open(slot, &task, onlooker);
+        self.open(slot, &task, observer);
         let parts = draw_all(alloc, &task.brief, &mut mine, 0, self.gate);
         slot.withdraw(self.rt);
-        alone(self.rt, task).settle(self.rt, alloc, mine, parts)
+        alone(self.rt, task).settle(self.rt, answers, mine, parts)
     }
 
-    /// What a program answers to all cars of a road, in standing order. The road is with the workers until
-    /// it is back in its place; an onlooker sees it while they are asked.
+    /// Replaces a list by the answers of a program to all cars of a road, in standing order. The road is with the
+    /// workers until it is back in its place; an observer sees it while they are asked.
     ///
     /// # Errors
     ///
-    /// Where an allocation was refused to any worker.
-    pub fn answers_of<A: Copy + Drop, P: Asked<A> + Drop, O: Onlooker>(
+    /// If an allocation fails in any worker.
+    fn ask<A: Copy + Drop, P: Asked<A> + Drop, O: StepObserver>(
         &self,
-        alloc: Global,
         slot: &TaskSlot<A, P>,
+        answers: &mut Vec<A>,
         program: &P,
-        dice: &Dice,
         road: &mut Road,
-        onlooker: &mut O,
-    ) -> Result<Vec<A>, AllocError>
+        dice: &Dice,
+        observer: &mut O,
+    ) -> Result<(), AllocError>
         requires lanes { P.can_ask road.old }
         ensures same { road.new ≡ road.old }
-        ensures seen { O.sees onlooker.old road.old onlooker.new }
-        ensures answers { IfOk result (λ answers.
-            P.answers program.now dice.now road.old 0 (cars road.old) answers.items) }
+        ensures seen { O.observes observer.old road.old observer.new }
+        ensures answers { OnOk result (
+            P.answers program.now dice.now road.old 0 (cars road.old) answers.new.items) }
     {
+        let alloc = *answers.allocator();
         let Ok((brief, drawer)) = brief_of::<A, P>(alloc, program, dice, road, self.workers) else {
-            onlooker.see(road);
+            observer.observe(road);
             return Err(AllocError);
         };
-        let (back, told) = self.carry_out(alloc, slot, brief, drawer, onlooker);
+        let (back, asked) = self.execute(slot, answers, brief, drawer, observer);
         *road = back;
-        told
+        asked
+    }
+}
+
+impl<'a, R: Wait, G: Gate> Executor for Pool<'a, R, G> {
+    ghost is_ready = { λ _. Unit {0} };
+
+    fn speeds<O: StepObserver>(
+        &self,
+        alloc: Global,
+        answers: &mut Vec<u8>,
+        road: &mut Road,
+        motion: &Motion,
+        dice: &Dice,
+        observer: &mut O,
+    ) -> Result<(), AllocError> {
+        if self.workers == 1 {
+            return Caller.speeds(alloc, answers, road, motion, dice, observer);
+        }
+        let slot = &self.rendezvous.motions;
+        self.ask(slot, answers, motion, road, dice, observer)
+    }
+
+    fn crossings<O: StepObserver>(
+        &self,
+        alloc: Global,
+        answers: &mut Vec<bool>,
+        road: &mut Road,
+        change: &Change,
+        dice: &Dice,
+        observer: &mut O,
+    ) -> Result<(), AllocError> {
+        if self.workers == 1 {
+            return Caller.crossings(alloc, answers, road, change, dice, observer);
+        }
+        let slot = &self.rendezvous.changes;
+        self.ask(slot, answers, change, road, dice, observer)
     }
 }

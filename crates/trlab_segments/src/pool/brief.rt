@@ -1,31 +1,29 @@
-//! What is asked in a phase, as threads have it in common.
+//! The question of a phase, as threads share it: a program, dice, the road, and the tickets of its segments.
 
-ghost use Rattle.std.specs.Prelude.{◌≡◌, ◌<◌, ◌≤◌, IfOk, OnErr};
-ghost use Rattle.trlab_bounds.specs.declared.runs.TheConstants.{MOST_WORKERS};
+ghost use Rattle.std.specs.Prelude.{◌≡◌, ◌<◌, ◌≤◌, IfOk, OnErr, OnOk};
+ghost use Rattle.trlab_bounds.specs.declared.runs.TheConstants.{MAX_WORKERS};
 ghost use Rattle.trlab_segments.specs.Answered.{HasParts};
 ghost use Rattle.trlab_segments.specs.Drawers.{IsFrom, IsNew};
 ghost use Rattle.trlab_segments.specs.Results.{AnswersAll, AsksOf, HasDone, IsCutWhole, IsRight};
 ghost use Rattle.trlab_segments.specs.Segments.{first_car};
 
-use crate::gate::Gate;
-use crate::phase::lineup::collect;
-use crate::phase::work::work;
-use crate::phase::{Asked, Part, Phase};
-use crate::segment::segment_count;
+use crate::parts::{Part, collect, work};
+use crate::phase::{Asked, Phase};
+use crate::segment::{Gate, segment_count};
 use crate::tickets::{Drawer, Tickets};
 use std::alloc::{AllocError, Global};
 use std::mem;
-use trlab_machine::{Dice, LANES};
+use trlab_machine::{BLOCK_CARS, Dice};
 use trlab_road::Road;
 
-/// How many segments there are for a worker, where each has enough cars.
-const SEGMENTS_A_WORKER: u32 = 16;
+/// The number of segments per worker if each has enough cars.
+const SEGMENTS_PER_WORKER: u32 = 16;
 
-/// How many cars a segment has, so that to draw it costs little beside asking them.
-const CARS_A_SEGMENT: u32 = 256;
+/// The minimum number of cars per segment: to draw a segment then costs little next to asking its cars.
+const CARS_PER_SEGMENT: u32 = 256;
 
-/// A program that all cars of a road are asked by, with these dice, and the tickets of the segments into
-/// which the cars are cut.
+/// A program to run for all cars of a road, with these dice, and the tickets of the segments into which the cars are
+/// cut.
 #[derive(Drop)]
 pub struct Brief<P> {
     pub program: P,
@@ -34,28 +32,28 @@ pub struct Brief<P> {
     pub tickets: Tickets,
 }
 
-/// How many segments there are for so many workers: as many as in a single step, and on a road of many cars
-/// more, so that nobody waits long for the last. Each fills its blocks then, or nearly so, since a block of
-/// few cars takes as long as a full one.
+/// The number of segments for `workers` workers: as many as in a single step, and more on a road of many cars, so that
+/// nobody waits long for the last. Their blocks are full, or nearly so, because a block of few cars takes as long as a
+/// full one.
 fn segments_for(cars: u32, workers: u32) -> u32
     requires some { 0 < workers }
-    requires few { workers ≤ MOST_WORKERS }
+    requires few { workers ≤ MAX_WORKERS }
     ensures { first_car cars result result ≡ cars }
 {
-    let block = LANES as u32;
+    let block = BLOCK_CARS as u32;
     let blocks = cars.div_ceil(block);
     let each = blocks
-        .div_ceil(SEGMENTS_A_WORKER * workers)
-        .max(CARS_A_SEGMENT / block);
+        .div_ceil(SEGMENTS_PER_WORKER * workers)
+        .max(CARS_PER_SEGMENT / block);
     segment_count(cars, workers).max(blocks.div_ceil(each))
 }
 
-/// What is asked of all cars of a road by so many workers, and the first drawer of its tickets. The road goes
-/// into the brief; another stands in its place meanwhile.
+/// The brief of a phase for `workers` workers, and the first drawer of its tickets. The road moves into the brief; an
+/// empty one takes its place meanwhile.
 ///
 /// # Errors
 ///
-/// Where an allocation was refused; then the road is where it was.
+/// If an allocation fails; the road then stays in its place.
 pub fn brief_of<A, P: Asked<A> + Drop>(
     alloc: Global,
     program: &P,
@@ -64,7 +62,7 @@ pub fn brief_of<A, P: Asked<A> + Drop>(
     workers: u32,
 ) -> Result<(Brief<P>, Drawer), AllocError>
     requires some { 0 < workers }
-    requires few { workers ≤ MOST_WORKERS }
+    requires few { workers ≤ MAX_WORKERS }
     ensures asked { IfOk result (λ r. AsksOf program.now dice.now road.old r.0) }
     ensures cut { IfOk result (λ r. IsCutWhole r.0) }
     ensures new { IfOk result (λ r. IsNew r.0.tickets r.1) }
@@ -90,7 +88,7 @@ pub fn brief_of<A, P: Asked<A> + Drop>(
 ///
 /// # Errors
 ///
-/// Where an allocation was refused.
+/// If an allocation fails.
 pub fn draw_all<A: Drop, P: Asked<A>, G: Gate>(
     alloc: Global,
     brief: &Brief<P>,
@@ -112,22 +110,22 @@ pub fn draw_all<A: Drop, P: Asked<A>, G: Gate>(
     work(alloc, &phase, &brief.tickets, drawer, worker, gate)
 }
 
-/// The road, and the answers of all its cars, by the parts of the tickets that a drawer has.
+/// Replaces a list by the answers of all cars, from the parts of the tickets that a drawer has, and returns the road.
 ///
 /// # Errors
 ///
-/// Where an allocation was refused.
+/// If an allocation fails.
 pub fn finish<A: Copy + Drop, P: Asked<A> + Drop>(
-    alloc: Global,
+    answers: &mut Vec<A>,
     brief: Brief<P>,
     drawer: Drawer,
     parts: &[Part<A>],
-) -> (Road, Result<Vec<A>, AllocError>)
+) -> (Road, Result<(), AllocError>)
     requires cut { IsCutWhole brief }
     requires lanes { P.can_ask brief.road }
     requires done { HasDone P.answers brief drawer parts.now }
     ensures road { result.0 ≡ brief.road }
-    ensures answers { IfOk result.1 (λ answers. AnswersAll P.answers brief answers.items) }
+    ensures answers { OnOk result.1 (AnswersAll P.answers brief answers.new.items) }
 {
     let Brief {
         program,
@@ -140,12 +138,12 @@ pub fn finish<A: Copy + Drop, P: Asked<A> + Drop>(
         road: &road,
         dice: &dice,
     };
-    let answers = collect(alloc, &phase, tickets, drawer, parts);
-    (road, answers)
+    let collected = collect(answers, &phase, tickets, drawer, parts);
+    (road, collected)
 }
 
 impl<P: Drop> Brief<P> {
-    /// The road alone.
+    /// The road, without the rest.
     pub fn into_road(self) -> Road
         ensures { result ≡ self.road }
     {

@@ -1,5 +1,5 @@
-//! A lock whose value fits a key that never changes: what it is to fit is a fact that the value's type
-//! names. Whoever takes the value knows that it fits, and puts back one that does.
+//! A lock whose value fits a key that never changes. The value's type defines what fits; a thread that takes the value
+//! knows that it fits, and puts back one that fits too.
 
 ghost use Rattle.std.specs.Prelude.{◌≡◌, IfOk, IfSome};
 ghost use Rattle.trlab_segments.specs.KeyedLocks.{Guarded, HasOnly, Seized};
@@ -10,9 +10,9 @@ use std::marker::PhantomData;
 use std::sync::Wait;
 use std::thread;
 
-/// A value that fits some keys.
+/// A value that fits certain keys.
 pub trait Keyed<K> {
-    // The keys that it fits.
+    // Whether a value fits a key.
     ghost fits: { K → Self → Type 0 };
 }
 
@@ -43,7 +43,7 @@ impl<T, K> Play<Option<T>, K> for Release {
     ghost then = { λ st m r n. Unit {0} };
 }
 
-/// A value that fits a key. One word says whether somebody has it.
+/// A value that fits a key. One word records whether a thread has it.
 #[derive(Drop)]
 pub struct KeyedLock<T: Keyed<K>, K> {
     pub table: Table<Option<T>, K, K, LockRule<T, K>, Global>,
@@ -51,7 +51,7 @@ pub struct KeyedLock<T: Keyed<K>, K> {
     ghost one_slot: { table.shared.table_id.slots ≡ 1 },
 }
 
-/// What whoever took the value has, and gives up to put it back.
+/// The right to put the value back.
 #[derive(Drop)]
 pub struct Guard<T, K> {
     pub seat: Seat<Option<T>, K>,
@@ -62,7 +62,7 @@ impl<K, T: Keyed<K> + Drop> KeyedLock<T, K> {
     ///
     /// # Errors
     ///
-    /// Where an allocation was refused; then the value is dropped.
+    /// If an allocation fails; then the value is dropped.
     pub fn new(alloc: Global, value: T, key: &K) -> Result<KeyedLock<T, K>, AllocError>
         requires { T.fits key.now value }
         ensures { IfOk result (λ lock. lock.table.shared.key ≡ key.now) }
@@ -75,7 +75,7 @@ impl<K, T: Keyed<K> + Drop> KeyedLock<T, K> {
         }
     }
 
-    /// The value, or none where somebody has it.
+    /// The value; `None` if another thread has it.
     fn try_take(&self) -> Option<(T, Guard<T, K>)>
         ensures fits { IfSome result (λ taken. T.fits self.now.table.shared.key taken.0) }
         ensures from { IfSome result (λ taken. taken.1.seat.table_id ≡ self.now.table.shared.table_id) }
@@ -90,7 +90,7 @@ impl<K, T: Keyed<K> + Drop> KeyedLock<T, K> {
         None
     }
 
-    /// The value, once nobody else has it.
+    /// The value, once no other thread has it.
     pub fn take<R: Wait>(&self, rt: &R) -> (T, Guard<T, K>)
         ensures fits { T.fits self.now.table.shared.key result.0 }
         ensures from { result.1.seat.table_id ≡ self.now.table.shared.table_id }

@@ -2,8 +2,8 @@
 
 ghost use Rattle.std.specs.Thread.{IsSync};
 
-use crate::gate::Gate;
-use crate::pool::task_slot::TaskSlot;
+use crate::pool::task::TaskSlot;
+use crate::segment::Gate;
 use std::alloc::Global;
 use std::hint;
 use std::sync::Wait;
@@ -11,14 +11,14 @@ use std::sync::atomic::{AtomicBool, AtomicU64, Ordering};
 use std::thread::{Threads, join};
 use trlab_verify::{Change, Motion};
 
-/// How often a watchful helper looks for the next phase before it sleeps: for some longer than the calling
-/// thread is alone between two phases of a road of some ten thousand cars.
+/// How often a watchful helper looks for the next phase before it sleeps. This takes a little longer than the calling
+/// thread works alone between two phases of a road of some ten thousand cars.
 const LOOKS: u32 = 30000;
 
-/// How many phases a helper that looked in vain sleeps for without a look, before it looks again.
+/// After a look without success, a helper goes to sleep at once for this number of phases.
 const NAPS: u32 = 32;
 
-/// The phases that are open, of which there is one at a time, and a number that grows with each.
+/// The open phase, at most one at a time, and a number that grows with each phase.
 #[derive(Drop)]
 pub struct Rendezvous {
     pub motions: TaskSlot<u8, Motion>,
@@ -62,13 +62,13 @@ impl Rendezvous {
         self.wake();
     }
 
-    /// Whether helpers are to end.
+    /// Whether the run has ended.
     fn is_closed(&self) -> bool {
         self.closed.load(Ordering::SeqCst)
     }
 
-    /// The number, once it is not this one. Until then the helper sleeps: the system lets nobody sleep who comes after
-    /// the number has changed, so no wake-up is missed.
+    /// Sleeps until the number of the phase is not `seen`, and returns it. The system compares the number before a
+    /// thread sleeps, so no wake-up is missed.
     fn next<R: Wait>(&self, rt: &R, seen: u64) -> u64 {
         for _ in rt.forever() {
             let now = self.turn.load(Ordering::SeqCst);
@@ -80,7 +80,7 @@ impl Rendezvous {
         unreachable!()
     }
 
-    /// Whether the number changes while a helper looks at it.
+    /// Whether the number changes within `looks` looks.
     fn changes_soon(&self, seen: u64) -> bool {
         for _ in 0..self.looks {
             if self.turn.load(Ordering::SeqCst) != seen {
@@ -91,8 +91,8 @@ impl Rendezvous {
         false
     }
 
-    /// Looks for the next phase, unless the helper did so in vain not long ago, and answers for how many
-    /// phases it goes to sleep without a look from then on.
+    /// Looks for the next phase, unless `naps` phases are left in which the helper sleeps at once. Returns the number
+    /// of such phases from now on.
     fn watch(&self, seen: u64, naps: u32) -> u32 {
         if naps > 0 {
             naps - 1
@@ -123,8 +123,8 @@ impl Rendezvous {
     }
 }
 
-/// Lets so many helpers serve at a rendezvous, each in a thread of its own; each starts the next one, unless
-/// the run has ended by then.
+/// Lets helpers serve at a rendezvous, each in a thread of its own. Each starts the next one, unless the run has ended
+/// by then.
 pub fn help_all<R: Threads + Wait + Sync, G: Gate + Sync>(
     rt: &R,
     alloc: Global,

@@ -1,23 +1,23 @@
-//! The results of a phase so far: what helpers have deposited, and the passes that none of them has taken.
+//! The results of a phase so far: the deposits of helpers, and the passes that none of them has taken.
 
 ghost use Rattle.std.specs.Prelude.{IfOk, IfSome};
 ghost use Rattle.trlab_segments.specs.Results.{AreResults, HasDone, TellsDone};
 ghost use Rattle.trlab_segments.specs.Drawers.{IsFrom, IsJoined, IsNew};
 
-use crate::phase::part::joined;
-use crate::phase::{Asked, Part};
+use crate::parts::{Part, joined};
+use crate::phase::Asked;
 use crate::pool::brief::Brief;
 use crate::pool::keyed_lock::Keyed;
 use crate::tickets::{Drawer, Tickets};
 use std::alloc::{AllocError, Global};
 
-/// The passes that no helper has taken yet, what helpers have drawn, and the answers that they deposited.
+/// The passes that no helper has taken yet, the tickets that helpers have drawn, and their answers.
 #[derive(Drop)]
 pub struct Results<A> {
     pub reserve: Option<Drawer>,
     pub done: Option<Drawer>,
     pub parts: Vec<Part<A>>,
-    /// Whether an allocation was refused to a helper.
+    /// Whether an allocation failed in a helper.
     pub failed: bool,
 }
 
@@ -73,7 +73,7 @@ pub fn split_pass(tickets: &Tickets, drawer: Drawer) -> (Option<Drawer>, Drawer)
     (Some(drawer), pass)
 }
 
-/// The results, where a helper has deposited what it did.
+/// The results, after a helper has deposited its drawer and its parts.
 pub fn deposit<A: Drop, P: Asked<A>>(
     alloc: Global,
     brief: &Brief<P>,
@@ -108,7 +108,7 @@ pub fn deposit<A: Drop, P: Asked<A>>(
     }
 }
 
-/// A drawer with what another drew before, if there is one, and what this drew.
+/// One drawer with the tickets of an earlier one, if there is one, and of this one.
 fn one_drawer(tickets: &Tickets, before: Option<Drawer>, drawer: Drawer) -> Drawer
     requires before { IfSome before (IsFrom tickets.now) }
     requires from { IsFrom tickets.now drawer }
@@ -120,11 +120,11 @@ fn one_drawer(tickets: &Tickets, before: Option<Drawer>, drawer: Drawer) -> Draw
     }
 }
 
-/// What everyone did, with every pass that came back.
+/// All parts, and one drawer with all passes that came back.
 ///
 /// # Errors
 ///
-/// Where an allocation was refused, to a helper or to the caller.
+/// If an allocation failed, in a helper or in the caller.
 pub fn gathered<A: Drop, P: Asked<A>>(
     brief: &Brief<P>,
     results: Results<A>,

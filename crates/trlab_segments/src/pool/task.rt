@@ -1,21 +1,22 @@
-//! A phase that threads have in common: what is asked, and the results so far.
+//! A phase that threads share: its brief and the results so far; and the slot in which helpers find it.
 
-ghost use Rattle.std.specs.Prelude.{◌≡◌, IfErr, IfOk, IfSome};
+ghost use Rattle.std.specs.Prelude.{◌≡◌, IfErr, IfOk, IfSome, OnOk};
 ghost use Rattle.trlab_segments.specs.Results.{AnswersAll, AreResults, IsCutWhole, TellsDone};
 ghost use Rattle.trlab_segments.specs.Drawers.{IsNew};
 ghost use Rattle.trlab_segments.specs.KeyedLocks.{HasOnly};
 
-use crate::gate::Gate;
-use crate::phase::{Asked, Part};
+use crate::parts::Part;
+use crate::phase::Asked;
 use crate::pool::brief::{Brief, draw_all, finish};
 use crate::pool::keyed_lock::{Guard, KeyedLock};
 use crate::pool::results::{Results, deposit, gathered, take_pass};
+use crate::segment::Gate;
 use crate::tickets::Drawer;
 use std::alloc::{AllocError, Global};
-use std::sync::Wait;
+use std::sync::{Arc, Mutex, Wait};
 use trlab_road::Road;
 
-/// What is asked, and the results so far, which are kept right for it.
+/// The brief of a phase, and the results so far, which are always right for it.
 #[derive(Drop)]
 pub struct Task<A, P: Asked<A>> {
     pub brief: Brief<P>,
@@ -28,7 +29,7 @@ impl<A: Copy + Drop, P: Asked<A> + Drop> Task<A, P> {
     ///
     /// # Errors
     ///
-    /// Gives back what is asked where an allocation was refused.
+    /// Returns the brief if an allocation fails.
     pub fn begin(
         alloc: Global,
         brief: Brief<P>,
@@ -69,7 +70,7 @@ impl<A: Copy + Drop, P: Asked<A> + Drop> Task<A, P> {
         self.results.put_back(results, guard);
     }
 
-    /// Helps, where a pass is left: asks the cars of segments until none is left, and deposits the answers.
+    /// Helps if a pass is left: asks the cars of segments until none is left, and deposits the answers.
     pub fn help<R: Wait, G: Gate>(&self, rt: &R, alloc: Global, gate: &G) {
         let (results, guard) = self.take(rt);
         let (results, taken) = take_pass(&self.brief, results);
@@ -83,23 +84,23 @@ impl<A: Copy + Drop, P: Asked<A> + Drop> Task<A, P> {
         self.put_back(results, guard);
     }
 
-    /// The road, and the answers of all its cars, once no helper is left, by the parts that helpers deposited
-    /// and those that the caller drew itself.
+    /// Replaces a list by the answers of all cars, from the parts that helpers deposited and those that the caller drew
+    /// itself, and returns the road. No helper may be left.
     ///
     /// # Errors
     ///
-    /// Where an allocation was refused, to the caller or to a helper.
+    /// If an allocation fails, in the caller or in a helper.
     pub fn settle<R: Wait>(
         self,
         rt: &R,
-        alloc: Global,
+        answers: &mut Vec<A>,
         mine: Drawer,
         parts: Result<Vec<Part<A>>, AllocError>,
-    ) -> (Road, Result<Vec<A>, AllocError>)
+    ) -> (Road, Result<(), AllocError>)
         requires cut { IsCutWhole self.brief }
         requires done { TellsDone P.answers self.brief mine parts }
         ensures road { result.0 ≡ self.brief.road }
-        ensures answers { IfOk result.1 (λ answers. AnswersAll P.answers self.brief answers.items) }
+        ensures answers { OnOk result.1 (AnswersAll P.answers self.brief answers.new.items) }
     {
         let (found, _) = self.take(rt);
         let Task {
@@ -107,12 +108,12 @@ impl<A: Copy + Drop, P: Asked<A> + Drop> Task<A, P> {
             results: _results,
         } = self;
         match gathered(&brief, found, mine, parts) {
-            Ok((drawer, parts)) => finish(alloc, brief, drawer, &parts),
+            Ok((drawer, parts)) => finish(answers, brief, drawer, &parts),
             Err(_) => (brief.into_road(), Err(AllocError)),
         }
     }
 
-    /// The road alone.
+    /// The road, without the rest.
     pub fn into_road(self) -> Road
         ensures { result ≡ self.brief.road }
     {
@@ -121,5 +122,47 @@ impl<A: Copy + Drop, P: Asked<A> + Drop> Task<A, P> {
             results: _results,
         } = self;
         brief.into_road()
+    }
+}
+
+/// The slot of at most one phase of a kind: the caller publishes the phase, and its helpers find it.
+#[derive(Drop)]
+pub struct TaskSlot<A, P: Asked<A>> {
+    open: Mutex<Option<Arc<Task<A, P>, Global>>>,
+}
+
+impl<A: Drop, P: Asked<A> + Drop> TaskSlot<A, P> {
+    /// A slot with no phase.
+    pub fn new() -> TaskSlot<A, P> {
+        TaskSlot {
+            open: Mutex::new(None),
+        }
+    }
+
+    /// Opens a phase to helpers.
+    pub fn publish<R: Wait>(&self, rt: &R, task: Arc<Task<A, P>, Global>) {
+        let before = {
+            let mut open = self.open.lock(rt);
+            open.replace(task)
+        };
+        drop(before);
+    }
+
+    /// Closes the phase: no helper can join it from now on.
+    pub fn withdraw<R: Wait>(&self, rt: &R) {
+        let before = {
+            let mut open = self.open.lock(rt);
+            open.take()
+        };
+        drop(before);
+    }
+
+    /// The phase that is open.
+    pub fn task<R: Wait>(&self, rt: &R) -> Option<Arc<Task<A, P>, Global>> {
+        let open = self.open.lock(rt);
+        match &*open {
+            Some(task) => Arc::try_clone(task).ok(),
+            None => None,
+        }
     }
 }

@@ -1,8 +1,8 @@
-use Rattle.trlab_asm.specs.Operands.{register, target}
+use Rattle.trlab_asm.specs.Operands.{register, jump_target}
 use Rattle.trlab_asm.proofs.Shapes.{both_said}
 use Rattle.trlab_asm.proofs.operands.register_target.Goals as goal
 
 pub returns-in-Some : goal.returns-in-Some
 returns-in-Some c =
-    both_said register target c.args.text.now c.in-Some.first.now c.in-Some.rest.now c.register.result c.target.result c.both.result
-    c.in-Some.ensures c.register.ensures c.target.ensures c.both.ensures
+    both_said register jump_target c.args.text.now c.in-Some.first.now c.in-Some.rest.now c.register.result c.jump_target.result c.both.result
+    c.in-Some.ensures c.register.ensures c.jump_target.ensures c.both.ensures

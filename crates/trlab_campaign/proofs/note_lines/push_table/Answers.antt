@@ -1,6 +1,6 @@
 use Rattle.std.proofs.Common.{◌≡◌, ◌-◌, ◌++◌, ◌∙◌, ap, arith, length, sym, append-nil}
 use Rattle.std.proofs.lemmas.List.{get_or_default}
-use Rattle.trlab_verify.specs.declared.table.note.Note.{Note as Form}
+use Rattle.trlab_verify.specs.declared.note.Note.{Note as Form}
 use Rattle.trlab_verify.specs.TableForm.{empty_form, meaning, meaning_at}
 use Rattle.trlab_campaign.specs.NoteLines.{note_line}
 use Rattle.trlab_campaign.proofs.Lines.{next_number}

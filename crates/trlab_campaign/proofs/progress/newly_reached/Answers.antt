@@ -10,8 +10,8 @@ invariant_of-result c =
     let reached = is_reached c.args.before c.args.after c.args.whole c.requires.rises other in
     let at_hand = c.requires.at_hand reached.more reached.left in
     record {
-      some = subst (λ (n : ℕ). 1 ≤ n) (sym c.hundredths-reached.ensures) reached.some;
-      few = subst (λ (n : ℕ). n ≤ 100) (sym c.hundredths-reached.ensures) reached.few;
+      at_least_one = subst (λ (n : ℕ). 1 ≤ n) (sym c.hundredths-reached.ensures) reached.some;
+      at_most_all = subst (λ (n : ℕ). n ≤ 100) (sym c.hundredths-reached.ensures) reached.few;
       from_one = at_hand.0;
       to_last = at_hand.1;
     }

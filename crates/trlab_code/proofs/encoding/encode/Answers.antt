@@ -4,7 +4,7 @@ use Rattle.std.proofs.lemmas.List.Concat.{flat_map-append}
 use Rattle.std.specs.List.{flat_map}
 use Rattle.trlab_code.specs.declared.instruction.Instr.{Instr}
 use Rattle.trlab_code.specs.Program.{version_of}
-use Rattle.trlab_code.specs.Spelling.{spelling, header, instr_bytes, row_bytes}
+use Rattle.trlab_code.specs.Encoding.{encoding, header, instr_bytes, row_bytes}
 use Rattle.trlab_code.proofs.encoding.encode.Goals as goal
 
 pub overflow_cast-header : goal.overflow_cast-header
@@ -14,7 +14,7 @@ pub loop-instr-init : goal.loop-instr-init
 loop-instr-init c = rw (c.in_ok-extend_from_slice.ensures.items, c.in_ok-bytes.ensures.items, c.bytes.ensures, c.version.ensures, c.kind.ensures, c.instrs-instrs.ensures.value)
 
 pub returns : goal.returns
-unfolding spelling
+unfolding encoding
 returns c =
     let whole : take c.loop-instr.instr-index c.instrs-instrs.result.now ≡ c.args.code.now.instrs = take_all _ _ c.loop-instr-test.false ∙ c.instrs-instrs.ensures.value in
     rw whole at c.loop-instr.invariant

@@ -1,5 +1,5 @@
 use Rattle.std.proofs.Common.{arith, inl, inr, refl, subst, codes}
-use Rattle.trlab_bounds.specs.declared.runs.TheConstants.{MOST_RUNNERS, MOST_STEPS, MOST_WORKERS}
+use Rattle.trlab_bounds.specs.declared.runs.TheConstants.{MAX_RUNNERS, MAX_STEPS, MAX_WORKERS}
 use Rattle.clap.specs.Words.{found_of, rows_of}
 use Rattle.trlab_command_line.specs.Requests.{IsEntered}
 use Rattle.trlab_command_line.proofs.CommandLine.{entered_name}
@@ -10,87 +10,93 @@ pub count_of-requires : goal.count_of-requires
 count_of-requires c =
     let rows = rows_of (found_of c.args.matches.now) in
     let entered : IsEntered (codes "run") rows = subst (λ n. IsEntered n rows) c.in-run.is c.requires in
-    option_of run (codes "workers") (codes "1") 1 MOST_WORKERS refl rows entered
+    option_of run (codes "workers") (codes "1") 1 MAX_WORKERS refl rows entered
 
 pub number_of-requires : goal.number_of-requires
 number_of-requires c =
     let rows = rows_of (found_of c.args.matches.now) in
     let entered : IsEntered (codes "run") rows = subst (λ n. IsEntered n rows) c.in-run.is c.requires in
-    let given = option_of run (codes "every") (codes "1") 1 MOST_STEPS refl rows entered in
-    (1, MOST_STEPS, given.0, omega arith, given.1)
+    let given = option_of run (codes "every") (codes "1") 1 MAX_STEPS refl rows entered in
+    (1, MAX_STEPS, given.0, omega arith, given.1)
 
 pub number_of-requires-in-run : goal.number_of-requires-in-run
 number_of-requires-in-run c =
     let rows = rows_of (found_of c.args.matches.now) in
     let entered : IsEntered (codes "run") rows = subst (λ n. IsEntered n rows) c.in-run.is c.requires in
-    let given = option_of run (codes "from") (codes "0") 0 MOST_STEPS refl rows entered in
-    (0, MOST_STEPS, given.0, omega arith, given.1)
+    let given = option_of run (codes "from") (codes "0") 0 MAX_STEPS refl rows entered in
+    (0, MAX_STEPS, given.0, omega arith, given.1)
 
 pub flag_of-requires : goal.flag_of-requires
 flag_of-requires c =
     let rows = rows_of (found_of c.args.matches.now) in
     let entered : IsEntered (codes "run") rows = subst (λ n. IsEntered n rows) c.in-run.is c.requires in
-    flag_has run refl rows entered
+    flag_has run (codes "progress") refl rows entered
 
 pub count_of-requires-in-sweep : goal.count_of-requires-in-sweep
 count_of-requires-in-sweep c =
     let rows = rows_of (found_of c.args.matches.now) in
     let entered : IsEntered (codes "sweep") rows = subst (λ n. IsEntered n rows) c.in-sweep.is c.requires in
-    option_of sweep (codes "runners") (codes "1") 1 MOST_RUNNERS refl rows entered
+    option_of sweep (codes "runners") (codes "1") 1 MAX_RUNNERS refl rows entered
 
 pub count_of-requires-in-sweep-2 : goal.count_of-requires-in-sweep-2
 count_of-requires-in-sweep-2 c =
     let rows = rows_of (found_of c.args.matches.now) in
     let entered : IsEntered (codes "sweep") rows = subst (λ n. IsEntered n rows) c.in-sweep.is c.requires in
-    option_of sweep (codes "workers") (codes "1") 1 MOST_WORKERS refl rows entered
+    option_of sweep (codes "workers") (codes "1") 1 MAX_WORKERS refl rows entered
 
 pub flag_of-requires-in-sweep : goal.flag_of-requires-in-sweep
 flag_of-requires-in-sweep c =
     let rows = rows_of (found_of c.args.matches.now) in
     let entered : IsEntered (codes "sweep") rows = subst (λ n. IsEntered n rows) c.in-sweep.is c.requires in
-    flag_has sweep refl rows entered
+    flag_has sweep (codes "progress") refl rows entered
 
 pub count_of-requires-in-series : goal.count_of-requires-in-series
 count_of-requires-in-series c =
     let rows = rows_of (found_of c.args.matches.now) in
     let entered : IsEntered (codes "series") rows = subst (λ n. IsEntered n rows) c.in-series.is c.requires in
-    option_of series (codes "workers") (codes "1") 1 MOST_WORKERS refl rows entered
+    option_of series (codes "workers") (codes "1") 1 MAX_WORKERS refl rows entered
 
 pub number_of-requires-in-series : goal.number_of-requires-in-series
 number_of-requires-in-series c =
     let rows = rows_of (found_of c.args.matches.now) in
     let entered : IsEntered (codes "series") rows = subst (λ n. IsEntered n rows) c.in-series.is c.requires in
-    let given = option_of series (codes "every") (codes "1") 1 MOST_STEPS refl rows entered in
-    (1, MOST_STEPS, given.0, omega arith, given.1)
+    let given = option_of series (codes "every") (codes "1") 1 MAX_STEPS refl rows entered in
+    (1, MAX_STEPS, given.0, omega arith, given.1)
 
 pub number_of-requires-in-series-2 : goal.number_of-requires-in-series-2
 number_of-requires-in-series-2 c =
     let rows = rows_of (found_of c.args.matches.now) in
     let entered : IsEntered (codes "series") rows = subst (λ n. IsEntered n rows) c.in-series.is c.requires in
-    let given = option_of series (codes "from") (codes "0") 0 MOST_STEPS refl rows entered in
-    (0, MOST_STEPS, given.0, omega arith, given.1)
+    let given = option_of series (codes "from") (codes "0") 0 MAX_STEPS refl rows entered in
+    (0, MAX_STEPS, given.0, omega arith, given.1)
 
 pub flag_of-requires-in-series : goal.flag_of-requires-in-series
 flag_of-requires-in-series c =
     let rows = rows_of (found_of c.args.matches.now) in
     let entered : IsEntered (codes "series") rows = subst (λ n. IsEntered n rows) c.in-series.is c.requires in
-    flag_has series refl rows entered
+    flag_has series (codes "progress") refl rows entered
 
-pub explaining_of-requires : goal.explaining_of-requires
-explaining_of-requires c =
+pub explaining_of-requires-clause-number : goal.explaining_of-requires-clause-number
+explaining_of-requires-clause-number c =
     let rows = rows_of (found_of c.args.matches.now) in
     let entered : IsEntered (codes "explain") rows = subst (λ n. IsEntered n rows) c.in-explain.is c.requires in
     number_has explain refl rows entered
+
+pub explaining_of-requires-clause-json : goal.explaining_of-requires-clause-json
+explaining_of-requires-clause-json c =
+    let rows = rows_of (found_of c.args.matches.now) in
+    let entered : IsEntered (codes "explain") rows = subst (λ n. IsEntered n rows) c.in-explain.is c.requires in
+    flag_has explain (codes "json") refl rows entered
 
 pub returns-in-run-clause-counts : goal.returns-in-run-clause-counts
 returns-in-run-clause-counts c =
     let rows = rows_of (found_of c.args.matches.now) in
     let entered : IsEntered (codes "run") rows = subst (λ n. IsEntered n rows) c.in-run.is c.requires in
     let workers = c.count_of.ensures in
-    let every = option_of run (codes "every") (codes "1") 1 MOST_STEPS refl rows entered in
-    let from = option_of run (codes "from") (codes "0") 0 MOST_STEPS refl rows entered in
-    let some = c.number_of.ensures.within 1 MOST_STEPS every.0 (omega arith) every.1 in
-    let few = c.number_of-in-run.ensures.within 0 MOST_STEPS from.0 (omega arith) from.1 in
+    let every = option_of run (codes "every") (codes "1") 1 MAX_STEPS refl rows entered in
+    let from = option_of run (codes "from") (codes "0") 0 MAX_STEPS refl rows entered in
+    let some = c.number_of.ensures.within 1 MAX_STEPS every.0 (omega arith) every.1 in
+    let few = c.number_of-in-run.ensures.within 0 MAX_STEPS from.0 (omega arith) from.1 in
     ((workers.some, workers.few), some, few.1)
 
 pub returns-in-series-clause-counts : goal.returns-in-series-clause-counts
@@ -98,10 +104,10 @@ returns-in-series-clause-counts c =
     let rows = rows_of (found_of c.args.matches.now) in
     let entered : IsEntered (codes "series") rows = subst (λ n. IsEntered n rows) c.in-series.is c.requires in
     let workers = c.count_of-in-series.ensures in
-    let every = option_of series (codes "every") (codes "1") 1 MOST_STEPS refl rows entered in
-    let from = option_of series (codes "from") (codes "0") 0 MOST_STEPS refl rows entered in
-    let some = c.number_of-in-series.ensures.within 1 MOST_STEPS every.0 (omega arith) every.1 in
-    let few = c.number_of-in-series-2.ensures.within 0 MOST_STEPS from.0 (omega arith) from.1 in
+    let every = option_of series (codes "every") (codes "1") 1 MAX_STEPS refl rows entered in
+    let from = option_of series (codes "from") (codes "0") 0 MAX_STEPS refl rows entered in
+    let some = c.number_of-in-series.ensures.within 1 MAX_STEPS every.0 (omega arith) every.1 in
+    let few = c.number_of-in-series-2.ensures.within 0 MAX_STEPS from.0 (omega arith) from.1 in
     ((workers.some, workers.few), some, few.1)
 
 pub unreachable-requires : goal.unreachable-requires

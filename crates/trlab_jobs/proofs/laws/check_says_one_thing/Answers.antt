@@ -1,5 +1,4 @@
-use Rattle.trlab_jobs.proofs.OneCheck.{one_thing}
-use Rattle.trlab_jobs.proofs.SomeCheck.{something}
+use Rattle.trlab_jobs.proofs.OneCheck.{one_thing, something}
 use Rattle.trlab_jobs.proofs.laws.check_says_one_thing.Goals as goal
 
 pub returns : goal.returns

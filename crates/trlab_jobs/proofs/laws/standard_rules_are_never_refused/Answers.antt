@@ -1,4 +1,6 @@
-use Rattle.trlab_jobs.proofs.NeverRefused.{checks_never, jobs_never, sweeps_never}
+use Rattle.trlab_jobs.proofs.OneText.{jobs_never}
+use Rattle.trlab_jobs.proofs.OneSweep.{sweeps_never}
+use Rattle.trlab_jobs.proofs.OneCheck.{checks_never}
 use Rattle.trlab_jobs.proofs.laws.standard_rules_are_never_refused.Goals as goal
 
 pub returns : goal.returns

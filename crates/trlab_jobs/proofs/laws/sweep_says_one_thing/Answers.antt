@@ -1,5 +1,4 @@
-use Rattle.trlab_jobs.proofs.OneSweep.{one_thing}
-use Rattle.trlab_jobs.proofs.SomeSweep.{something}
+use Rattle.trlab_jobs.proofs.OneSweep.{one_thing, something}
 use Rattle.trlab_jobs.proofs.laws.sweep_says_one_thing.Goals as goal
 
 pub returns : goal.returns

@@ -1,5 +1,4 @@
-use Rattle.trlab_jobs.proofs.OneText.{one_thing}
-use Rattle.trlab_jobs.proofs.SomeText.{something}
+use Rattle.trlab_jobs.proofs.OneText.{one_thing, something}
 use Rattle.trlab_jobs.proofs.laws.text_says_one_thing.Goals as goal
 
 pub returns : goal.returns

@@ -2,7 +2,7 @@ use Rattle.std.proofs.Common.{arith}
 use Rattle.std.proofs.lemmas.Grind.{common_steps}
 use Rattle.trlab_jobs.proofs.HandedOn.{handed_on}
 use Rattle.trlab_jobs.proofs.SweepCounts.{counts_fail, counts_said}
-use Rattle.trlab_jobs.proofs.SomeSweep.{said_stored}
+use Rattle.trlab_jobs.proofs.OneSweep.{said_stored}
 use Rattle.trlab_jobs.proofs.sweep.read_lines.Goals as goal
 
 pub invariant_of-result : goal.invariant_of-result

@@ -1,5 +1,5 @@
 use Rattle.std.proofs.Common.{◌≡◌, ℕ, ◌<◌, nat_eq, get_or}
-use Rattle.trlab_notes.specs.declared.note.Said.TheVariants.{Nothing}
+use Rattle.trlab_notes.specs.declared.note.AbstractValue.TheVariants.{Nothing}
 use Rattle.trlab_notes.specs.Notes.{level_between}
 use Rattle.trlab_notes.specs.Rows.{level_in}
 use Rattle.trlab_notes.proofs.levels.known_row.Given as goal

@@ -1,6 +1,6 @@
 use Rattle.std.proofs.Common.{◌≡◌, ℕ, ◌<◌, [], length, nat_eq, get_or}
 use Rattle.trlab_bounds.specs.declared.programs.TheConstants.{VARIABLES}
-use Rattle.trlab_notes.specs.declared.note.Said.TheVariants.{Nothing}
+use Rattle.trlab_notes.specs.declared.note.AbstractValue.TheVariants.{Nothing}
 use Rattle.trlab_notes.specs.Notes.{level_between}
 use Rattle.trlab_notes.specs.Rows.{level_of}
 use Rattle.trlab_notes.proofs.levels.known_rows.Given as goal

@@ -1,5 +1,5 @@
 use Rattle.std.proofs.Common.{ℕ, ◌<◌, get_or}
-use Rattle.trlab_notes.specs.declared.note.Said.TheVariants.{Nothing}
+use Rattle.trlab_notes.specs.declared.note.AbstractValue.TheVariants.{Nothing}
 use Rattle.trlab_notes.specs.Notes.{with_side}
 use Rattle.trlab_notes.specs.Order.{SaysNoMore}
 use Rattle.trlab_notes.proofs.strength.has_weaker_variables.Given as goal

@@ -3,7 +3,7 @@ use Rattle.std.specs.Prelude.{sum_by}
 use Rattle.trlab_road.specs.LaneCars.{LaneCar}
 use Rattle.trlab_road.specs.Cells.{lane_cars}
 use Rattle.trlab_road.specs.LaneChange.{LaneCrosses}
-use Rattle.trlab_road.specs.Stored.{Rises, AreSorted, cells_of, lanes_from, list_at, lane_crosses_at}
+use Rattle.trlab_road.specs.Stored.{IsSortedFrom, AreSorted, cells_of, lanes_from, list_at, lane_crosses_at}
 use Rattle.trlab_road.proofs.ListLeaving.{crosses_from}
 use Rattle.trlab_road.proofs.ListRoads.{list_counted, list_within, crosses_two, two_written, two_sorted}
 use Rattle.trlab_road.proofs.lane_change.change_lanes.Goals as goal
@@ -22,7 +22,7 @@ module _ (n : ℕ) (lists : List (Vec LaneCar Global)) (answers : List Bool) (ow
       let b = ap length is in
       omega (arith, a, b, each)
 
-  sorted_0 : Rises 0 n own
+  sorted_0 : IsSortedFrom 0 n own
   sorted_0 = rw is (sorted.rises 0 (lane_0 (length lists) two))
 
   each_1 : (beside : List LaneCar) → beside ≡ list_at lists 1 → length own + length beside ≤ length answers

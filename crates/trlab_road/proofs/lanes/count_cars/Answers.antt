@@ -1,12 +1,12 @@
 use Rattle.std.proofs.Common.{◌≡◌, ◌<◌, ◌≤◌, ◌∙◌, ℕ, List, Vec, Global, length, get_or, ap, arith}
 use Rattle.trlab_road.specs.LaneCars.{LaneCar}
-use Rattle.trlab_bounds.specs.declared.roads.TheConstants.{GREATEST_LENGTH}
+use Rattle.trlab_bounds.specs.declared.roads.TheConstants.{MAX_LENGTH}
 use Rattle.trlab_road.specs.Stored.{list_at}
 use Rattle.trlab_road.proofs.ListRoads.{list_read, one_list_more}
 use Rattle.trlab_road.proofs.lanes.count_cars.Goals as goal
 
 -- the list that the loop reads is short
-short : (l m : ℕ) (lists : List (Vec LaneCar Global)) (v : Vec LaneCar Global) → ((j : ℕ) → j < length lists → length (list_at lists j) ≤ GREATEST_LENGTH)
+short : (l m : ℕ) (lists : List (Vec LaneCar Global)) (v : Vec LaneCar Global) → ((j : ℕ) → j < length lists → length (list_at lists j) ≤ MAX_LENGTH)
     → l < length lists → v ≡ get_or lists l v → m ≡ length v.items → (m ≡ length (list_at lists l)) × (m ≤ 100000)
 short l m lists v small h is size =
     let here = ap length (list_read lists l v h is) in

@@ -13,18 +13,18 @@ returns-then-last-from-clause-sheet c rule =
     let s = subst IsBookSheet c.in-Some.ensures.items c.requires.sheet in
     sheet_at c.pop.new.self.items c.in-Some.last c.args.from rule s c.if-last-from.true
 
-pub returns-then-len-ge-MOST_ENTRIES-clause-err : goal.returns-then-len-ge-MOST_ENTRIES-clause-err
-returns-then-len-ge-MOST_ENTRIES-clause-err c rule =
+pub returns-then-len-ge-MAX_ENTRIES-clause-err : goal.returns-then-len-ge-MAX_ENTRIES-clause-err
+returns-then-len-ge-MAX_ENTRIES-clause-err c rule =
     let s = subst IsBookSheet c.in-Some.ensures.items c.requires.sheet in
     let b = begin_before c.args.from c.pop.new.self.items c.in-Some.last (subst (BeginBy c.args.from) c.in-Some.ensures.items c.requires.begin) c.if-last-from.false in
     let all = ap length (ap (λ v. entered v c.args.from rule) c.in-Some.ensures.items ∙ entered_after c.pop.new.self.items c.in-Some.last c.args.from rule s.is_sheet b) in
     let more = length-append (c.pop.new.self.items ++ c.in-Some.last ∷ []) ((c.args.from, rule) ∷ []) in
     let n : c.len.result ≡ length (c.pop.new.self.items ++ c.in-Some.last ∷ []) = search (rules, c.len.ensures, c.push_reserved.ensures) in
-    let many = c.if-len-ge-MOST_ENTRIES.true in
+    let many = c.if-len-ge-MAX_ENTRIES.true in
     omega arith
 
-pub returns-then-len-ge-MOST_ENTRIES-clause-same : goal.returns-then-len-ge-MOST_ENTRIES-clause-same
-returns-then-len-ge-MOST_ENTRIES-clause-same c = c.push_reserved.ensures.items ∙ sym c.in-Some.ensures.items
+pub returns-then-len-ge-MAX_ENTRIES-clause-unchanged : goal.returns-then-len-ge-MAX_ENTRIES-clause-unchanged
+returns-then-len-ge-MAX_ENTRIES-clause-unchanged c = c.push_reserved.ensures.items ∙ sym c.in-Some.ensures.items
 
 pub returns-clause-ok : goal.returns-clause-ok
 returns-clause-ok c rule =
@@ -38,6 +38,6 @@ returns-clause-sheet c rule =
     let s = subst IsBookSheet c.in-Some.ensures.items c.requires.sheet in
     let b = begin_before c.args.from c.pop.new.self.items c.in-Some.last (subst (BeginBy c.args.from) c.in-Some.ensures.items c.requires.begin) c.if-last-from.false in
     let n : c.len.result ≡ length (c.pop.new.self.items ++ c.in-Some.last ∷ []) = search (rules, c.len.ensures, c.push_reserved.ensures) in
-    let few = c.if-len-ge-MOST_ENTRIES.false in
+    let few = c.if-len-ge-MAX_ENTRIES.false in
     rw (c.reserve.ensures.items, c.push_reserved.ensures.items)
     (sheet_after c.pop.new.self.items c.in-Some.last c.args.from rule s b (omega arith))

@@ -19,8 +19,8 @@ crossings-requires-clause-ready g c = c.requires.ready
 pub crossings-requires-clause-two_lanes : goal.crossings-requires-clause-two_lanes
 crossings-requires-clause-two_lanes g c = c.requires.two_lanes
 
-pub after_lane_change_in-requires : goal.after_lane_change_in-requires
-after_lane_change_in-requires g c = rw (c.deref.ensures.value, c.crossings.ensures.same) (whole_free c.args.change.now _ c.args.road.now c.crossings.new.answers.items c.requires.two_lanes c.in_ok-crossings.ensures.crossings)
+pub after_lane_change-requires : goal.after_lane_change-requires
+after_lane_change-requires g c = rw (c.deref.ensures.value, c.crossings.ensures.same) (whole_free c.args.change.now _ c.args.road.now c.crossings.new.answers.items c.requires.two_lanes c.in_ok-crossings.ensures.crossings)
 
 pub count_crossing-requires : goal.count_crossing-requires
 count_crossing-requires g c =

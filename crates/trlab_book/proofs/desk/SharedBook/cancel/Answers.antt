@@ -15,5 +15,5 @@ returns g c =
     let kept = c.deref_mut.result.now.kept in
     let call = Cancel c.args.job in
     let told = done_reply c.cancel-answer.result in
-    is_made (λ book. Unit {0}) kept c.cancel-answer.new.self call told _ c.args.desk.now c.note_event.new.desk c.cancel-answer.ensures.made c.deref_mut.result.now.noted (λ is. tt) c.cancel-answer.ensures.full
+    is_made (λ book. Unit {0}) kept c.cancel-answer.new.self call told _ c.args.desk.now c.note_event.new.self c.cancel-answer.ensures.made c.deref_mut.result.now.noted (λ is. tt) c.cancel-answer.ensures.full
     (c.note_event.ensures call told (has_come kept c.cancel-answer.new.self call told _ c.cancel-answer.ensures.made c.cancel-answer.ensures.full c.deref_mut.result.now.noted)).1

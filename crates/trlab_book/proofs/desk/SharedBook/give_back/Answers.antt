@@ -21,6 +21,6 @@ returns-clause-made g c =
     let call = GiveBack (offered c.args.lease same) in
     let told = back_reply c.give_back-answer.result in (
       same,
-      is_made (TellsSame c.args.lease same) kept c.give_back-answer.new.self call told _ c.args.desk.now c.note_event.new.desk c.give_back-answer.ensures.noted.2 c.deref_mut.result.now.noted (λ is. OnTrue_at is c.give_back-answer.ensures.noted.1) c.give_back-answer.ensures.full
+      is_made (TellsSame c.args.lease same) kept c.give_back-answer.new.self call told _ c.args.desk.now c.note_event.new.self c.give_back-answer.ensures.noted.2 c.deref_mut.result.now.noted (λ is. OnTrue_at is c.give_back-answer.ensures.noted.1) c.give_back-answer.ensures.full
           (c.note_event.ensures call told (has_come kept c.give_back-answer.new.self call told _ c.give_back-answer.ensures.noted.2 c.give_back-answer.ensures.full c.deref_mut.result.now.noted)).1,
     )

@@ -16,5 +16,5 @@ returns g c =
     let kept = c.deref_mut.result.now.kept in
     let call = LeaseCall in
     let told = lease_reply c.lease-answer.result in
-    is_made (IsOfLease c.lease-answer.result) kept c.lease-answer.new.self call told _ c.args.desk.now c.note_event.new.desk c.lease-answer.ensures.made c.deref_mut.result.now.noted (λ is. c.lease-answer.ensures.lent) c.lease-answer.ensures.full
+    is_made (IsOfLease c.lease-answer.result) kept c.lease-answer.new.self call told _ c.args.desk.now c.note_event.new.self c.lease-answer.ensures.made c.deref_mut.result.now.noted (λ is. c.lease-answer.ensures.lent) c.lease-answer.ensures.full
     (c.note_event.ensures call told (has_come kept c.lease-answer.new.self call told _ c.lease-answer.ensures.made c.lease-answer.ensures.full c.deref_mut.result.now.noted)).1

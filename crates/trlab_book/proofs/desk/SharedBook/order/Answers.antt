@@ -20,6 +20,6 @@ returns g c =
     let call = OrderCall (offered c.args.lease.now same) in
     let told = order_reply c.order-answer.result in (
       same,
-      is_made (IsOfOrder c.args.lease.now same c.order-answer.result) kept c.order-answer.new.self call told _ c.args.desk.now c.note_event.new.desk c.order-answer.ensures.noted.2 c.deref_mut.result.now.noted (λ is. (OnTrue_at is c.order-answer.ensures.noted.1, c.order-answer.ensures.rule)) c.order-answer.ensures.full
+      is_made (IsOfOrder c.args.lease.now same c.order-answer.result) kept c.order-answer.new.self call told _ c.args.desk.now c.note_event.new.self c.order-answer.ensures.noted.2 c.deref_mut.result.now.noted (λ is. (OnTrue_at is c.order-answer.ensures.noted.1, c.order-answer.ensures.rule)) c.order-answer.ensures.full
           (c.note_event.ensures call told (has_come kept c.order-answer.new.self call told _ c.order-answer.ensures.noted.2 c.order-answer.ensures.full c.deref_mut.result.now.noted)).1,
     )

@@ -16,5 +16,5 @@ returns g c =
     let kept = c.deref_mut.result.now.kept in
     let call = Read c.args.job in
     let told = seen_reply c.read-answer.result in
-    is_made (IsOfRead c.args.job c.read-answer.result) kept c.read-answer.new.self call told _ c.args.desk.now c.note_event.new.desk c.read-answer.ensures.made c.deref_mut.result.now.noted (λ is. c.read-answer.ensures.seen) c.read-answer.ensures.full
+    is_made (IsOfRead c.args.job c.read-answer.result) kept c.read-answer.new.self call told _ c.args.desk.now c.note_event.new.self c.read-answer.ensures.made c.deref_mut.result.now.noted (λ is. c.read-answer.ensures.seen) c.read-answer.ensures.full
     (c.note_event.ensures call told (has_come kept c.read-answer.new.self call told _ c.read-answer.ensures.made c.read-answer.ensures.full c.deref_mut.result.now.noted)).1

@@ -21,4 +21,4 @@ returns-clause-desk g c =
       full = λ _. fault.ensures.full;
     })).1 in
     let down = rw fault.ensures.none at put.1 in
-    (put.0, is_none c.deref_mut.result.now.kept (Refused fault.result) _ c.args.desk.now c.note_event.new.desk put.0 c.deref_mut.result.now.noted fault.ensures.full down)
+    (put.0, is_none c.deref_mut.result.now.kept (Refused fault.result) _ c.args.desk.now c.note_event.new.self put.0 c.deref_mut.result.now.noted fault.ensures.full down)

@@ -7,13 +7,13 @@ pub invariant_of-deref_mut : goal.invariant_of-deref_mut
 invariant_of-deref_mut g c =
     let kept = c.deref_mut.result.now.kept in
     let call = Replace c.args.job c.args.rule in
-    let told = number_reply c.replace_copied-answer.result in
-    record { noted = (c.note_event.ensures call told (has_come kept c.replace_copied-answer.new.self call told _ c.replace_copied-answer.ensures.made c.replace_copied-answer.ensures.full c.deref_mut.result.now.noted)).0 }
+    let told = number_reply c.replace-answer.result in
+    record { noted = (c.note_event.ensures call told (has_come kept c.replace-answer.new.self call told _ c.replace-answer.ensures.made c.replace-answer.ensures.full c.deref_mut.result.now.noted)).0 }
 
 pub returns : goal.returns
 returns g c =
     let kept = c.deref_mut.result.now.kept in
     let call = Replace c.args.job c.args.rule in
-    let told = number_reply c.replace_copied-answer.result in
-    is_made (λ book. Unit {0}) kept c.replace_copied-answer.new.self call told _ c.args.desk.now c.note_event.new.desk c.replace_copied-answer.ensures.made c.deref_mut.result.now.noted (λ is. tt) c.replace_copied-answer.ensures.full
-    (c.note_event.ensures call told (has_come kept c.replace_copied-answer.new.self call told _ c.replace_copied-answer.ensures.made c.replace_copied-answer.ensures.full c.deref_mut.result.now.noted)).1
+    let told = number_reply c.replace-answer.result in
+    is_made (λ book. Unit {0}) kept c.replace-answer.new.self call told _ c.args.desk.now c.note_event.new.self c.replace-answer.ensures.made c.deref_mut.result.now.noted (λ is. tt) c.replace-answer.ensures.full
+    (c.note_event.ensures call told (has_come kept c.replace-answer.new.self call told _ c.replace-answer.ensures.made c.replace-answer.ensures.full c.deref_mut.result.now.noted)).1

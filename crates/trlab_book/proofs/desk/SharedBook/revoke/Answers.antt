@@ -15,5 +15,5 @@ returns g c =
     let kept = c.deref_mut.result.now.kept in
     let call = Revoke c.args.job in
     let told = done_reply c.revoke-answer.result in
-    is_made (λ book. Unit {0}) kept c.revoke-answer.new.self call told _ c.args.desk.now c.note_event.new.desk c.revoke-answer.ensures.made c.deref_mut.result.now.noted (λ is. tt) c.revoke-answer.ensures.full
+    is_made (λ book. Unit {0}) kept c.revoke-answer.new.self call told _ c.args.desk.now c.note_event.new.self c.revoke-answer.ensures.made c.deref_mut.result.now.noted (λ is. tt) c.revoke-answer.ensures.full
     (c.note_event.ensures call told (has_come kept c.revoke-answer.new.self call told _ c.revoke-answer.ensures.made c.revoke-answer.ensures.full c.deref_mut.result.now.noted)).1

@@ -13,7 +13,7 @@ pub invariant_of-self : goal.invariant_of-self
 invariant_of-self c = record { replays = replays_put (event c) c.make_room.new.self.replays }
 
 pub returns-clause-made : goal.returns-clause-made
-returns-clause-made c = makes_put c.args.self.now c.make_room.new.self _ (Revoke c.args.job) (done_reply c.revoke-answer.result) c.make_room.ensures.same (event c.before)
+returns-clause-made c = makes_put c.args.self.now c.make_room.new.self _ (Revoke c.args.job) (done_reply c.revoke-answer.result) c.make_room.ensures.unchanged (event c.before)
 
 pub returns-clause-full : goal.returns-clause-full
-returns-clause-full c = tells_put c.args.self.now c.make_room.new.self (done_reply c.revoke-answer.result) c.make_room.ensures.same (event c.before)
+returns-clause-full c = tells_put c.args.self.now c.make_room.new.self (done_reply c.revoke-answer.result) c.make_room.ensures.unchanged (event c.before)

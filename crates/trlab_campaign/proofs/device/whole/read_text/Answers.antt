@@ -2,8 +2,7 @@ use Rattle.std.proofs.Common.{◌≡◌, ◌++◌, ◌∙◌, take, arith, refl,
 use Rattle.std.proofs.lemmas.List.{take-append-le}
 use Rattle.std.proofs.Math.Bool.{or-false}
 use Rattle.std.proofs.lemmas.Bool.{false≢true}
-use Rattle.trlab_bounds.specs.declared.texts.TheConstants.{TEXT_LIMIT}
-use Rattle.trlab_campaign.proofs.KnownBytes.{consumes_more, consumes_none, consumes_kept, consumes_last, consumes_over, given_last, given_more, given_more_none}
+use Rattle.trlab_campaign.proofs.KnownBytes.{consumes_more, consumes_none, consumes_kept, consumes_last, given_last, given_more, given_more_none, read_over, read_whole}
 use Rattle.trlab_campaign.proofs.device.whole.read_text.Goals as goal
 
 pub loop-piece-init : goal.loop-piece-init
@@ -20,26 +19,17 @@ loop-piece-preserved g c =
       works = c.in-Ok.ensures.fails ∙ (or-false _ ∙ c.loop-piece.invariant.works);
     }
 
-pub returns-clause-big : goal.returns-clause-big
-returns-clause-big g c = λ _. consumes_over _ _ c.loop-piece.text.items TEXT_LIMIT (omega arith) c.loop-piece.invariant.read
-
 pub returns-clause-read : goal.returns-clause-read
 returns-clause-read g c = (c.loop-piece.text.items, omega arith, c.loop-piece.invariant.read)
 
 pub returns-clause-fails : goal.returns-clause-fails
-returns-clause-fails g c = (λ failed. absurd (false≢true (sym c.loop-piece.invariant.works ∙ failed)), λ e. cc)
-
-pub returns-in-Err-clause-big : goal.returns-in-Err-clause-big
-returns-in-Err-clause-big g c = λ e. absurd (cc)
+returns-clause-fails g c = tt
 
 pub returns-in-Err-clause-read : goal.returns-in-Err-clause-read
 returns-in-Err-clause-read g c = (c.loop-piece.text.items, omega arith, consumes_kept _ _ _ _ c.loop-piece.invariant.read c.in-Err.ensures.bytes)
 
 pub returns-in-Err-clause-fails : goal.returns-in-Err-clause-fails
 returns-in-Err-clause-fails g c = (λ _. refl, λ _. rw c.loop-piece.invariant.works at c.in-Err.ensures.fails)
-
-pub returns-then-is_err-clause-big : goal.returns-then-is_err-clause-big
-returns-then-is_err-clause-big g c = λ e. absurd (cc)
 
 pub returns-then-is_err-clause-read : goal.returns-then-is_err-clause-read
 returns-then-is_err-clause-read g c =
@@ -55,63 +45,35 @@ returns-then-count-eq0-clause-works g c = c.in-Ok.ensures.fails ∙ (or-false _ 
 pub returns-in-Err-clause-text : goal.returns-in-Err-clause-text
 returns-in-Err-clause-text g c = tt
 
-pub returns-in-Err-clause-small : goal.returns-in-Err-clause-small
-returns-in-Err-clause-small g c = tt
-
-pub returns-in-Err-clause-whole : goal.returns-in-Err-clause-whole
-returns-in-Err-clause-whole g c = tt
-
 pub returns-in-Err-clause-works : goal.returns-in-Err-clause-works
 returns-in-Err-clause-works g c = tt
 
 pub returns-then-is_err-clause-text : goal.returns-then-is_err-clause-text
 returns-then-is_err-clause-text g c = tt
 
-pub returns-then-is_err-clause-small : goal.returns-then-is_err-clause-small
-returns-then-is_err-clause-small g c = tt
-
-pub returns-then-is_err-clause-whole : goal.returns-then-is_err-clause-whole
-returns-then-is_err-clause-whole g c = tt
-
 pub returns-then-is_err-clause-works : goal.returns-then-is_err-clause-works
 returns-then-is_err-clause-works g c = tt
 
 pub returns-clause-text : goal.returns-clause-text
-returns-clause-text g c = tt
-
-pub returns-clause-small : goal.returns-clause-small
-returns-clause-small g c = tt
-
-pub returns-clause-whole : goal.returns-clause-whole
-returns-clause-whole g c = tt
+returns-clause-text g c = read_over _ _ c.loop-piece.text.items (omega arith) c.loop-piece.invariant.read
 
 pub returns-clause-works : goal.returns-clause-works
-returns-clause-works g c = tt
+returns-clause-works g c = c.loop-piece.invariant.works
 
 pub returns-then-count-eq0-clause-text : goal.returns-then-count-eq0-clause-text
-returns-then-count-eq0-clause-text g c = consumes_last _ _ _ c.loop-piece.text.items c.take.new.buffer c.in-Ok.count c.if-count-eq0.true c.loop-piece.invariant.read c.in-Ok.ensures.bytes.0
-
-pub returns-then-count-eq0-clause-small : goal.returns-then-count-eq0-clause-small
-returns-then-count-eq0-clause-small g c = omega (arith, c.loop-piece-test.true, c.len.ensures)
-
-pub returns-then-count-eq0-clause-whole : goal.returns-then-count-eq0-clause-whole
-returns-then-count-eq0-clause-whole g c = c.in-Ok.ensures.bytes.1 c.if-count-eq0.true (omega (arith, length-take c.min-room.result c.loop-piece.piece))
+returns-then-count-eq0-clause-text g c =
+    read_whole _ _ c.loop-piece.text.items (consumes_last _ _ _ c.loop-piece.text.items c.take.new.buffer c.in-Ok.count c.if-count-eq0.true c.loop-piece.invariant.read c.in-Ok.ensures.bytes.0)
+    (c.in-Ok.ensures.bytes.1 c.if-count-eq0.true (omega (arith, length-take c.min-room.result c.loop-piece.piece)))
 
 pub returns-then-count-eq0-clause-read : goal.returns-then-count-eq0-clause-read
 returns-then-count-eq0-clause-read g c =
     (c.loop-piece.text.items, omega (arith, c.loop-piece.invariant.small), consumes_last _ _ _ c.loop-piece.text.items c.take.new.buffer c.in-Ok.count c.if-count-eq0.true c.loop-piece.invariant.read c.in-Ok.ensures.bytes.0)
 
-pub returns-then-count-eq0-clause-big : goal.returns-then-count-eq0-clause-big
-returns-then-count-eq0-clause-big g c = tt
-
 pub returns-then-count-eq0-clause-fails : goal.returns-then-count-eq0-clause-fails
 returns-then-count-eq0-clause-fails g c = tt
 
 pub returns-clause-given : goal.returns-clause-given
-returns-clause-given g c = tt
-
-pub returns-clause-over : goal.returns-clause-over
-returns-clause-over g c = λ _. (c.loop-piece.text.items, (c.loop-piece.invariant.given, omega (arith, c.loop-piece.invariant.small)))
+returns-clause-given g c = c.loop-piece.invariant.given
 
 pub returns-clause-stops : goal.returns-clause-stops
 returns-clause-stops g c = (c.loop-piece.text.items, (c.loop-piece.invariant.given, omega (arith, c.loop-piece.invariant.small)))
@@ -119,17 +81,11 @@ returns-clause-stops g c = (c.loop-piece.text.items, (c.loop-piece.invariant.giv
 pub returns-in-Err-clause-given : goal.returns-in-Err-clause-given
 returns-in-Err-clause-given g c = tt
 
-pub returns-in-Err-clause-over : goal.returns-in-Err-clause-over
-returns-in-Err-clause-over g c = λ e. absurd (cc)
-
 pub returns-in-Err-clause-stops : goal.returns-in-Err-clause-stops
 returns-in-Err-clause-stops g c = (c.loop-piece.text.items, (given_more_none _ _ _ c.loop-piece.text.items c.loop-piece.invariant.given c.in-Err.ensures.gives, omega (arith, c.loop-piece.invariant.small)))
 
 pub returns-then-is_err-clause-given : goal.returns-then-is_err-clause-given
 returns-then-is_err-clause-given g c = tt
-
-pub returns-then-is_err-clause-over : goal.returns-then-is_err-clause-over
-returns-then-is_err-clause-over g c = λ e. absurd (cc)
 
 pub returns-then-is_err-clause-stops : goal.returns-then-is_err-clause-stops
 returns-then-is_err-clause-stops g c =
@@ -137,9 +93,6 @@ returns-then-is_err-clause-stops g c =
 
 pub returns-then-count-eq0-clause-given : goal.returns-then-count-eq0-clause-given
 returns-then-count-eq0-clause-given g c = given_last _ _ _ c.loop-piece.text.items c.take.new.buffer c.in-Ok.count c.if-count-eq0.true c.loop-piece.invariant.given c.in-Ok.ensures.gives
-
-pub returns-then-count-eq0-clause-over : goal.returns-then-count-eq0-clause-over
-returns-then-count-eq0-clause-over g c = tt
 
 pub returns-then-count-eq0-clause-stops : goal.returns-then-count-eq0-clause-stops
 returns-then-count-eq0-clause-stops g c =

@@ -1,27 +1,21 @@
-use Rattle.std.proofs.Common.{◌≡◌, ◌∙◌, ap, ap₂, codes, inl, inr, subst, sym}
+use Rattle.std.proofs.Common.{◌≡◌, ◌∙◌, ap, codes, inl, inr, subst, sym}
 use Rattle.clap.specs.Kinds.{HasKind}
 use Rattle.clap.specs.Words.{found_of, rows_of}
 use Rattle.clap.proofs.WalkLemmas.{first_value-rows}
-use Rattle.trlab_command_line.specs.Explains.{explained, explained_in, kinds_of}
+use Rattle.trlab_command_line.specs.Explains.{explained_in, kinds_of}
+use Rattle.trlab_command_line.proofs.Matches.{explained_same}
 use Rattle.trlab_command_line.proofs.arguments.explain.explaining_of.Goals as goal
 
 pub returns-in-Ok-clause-answer : goal.returns-in-Ok-clause-answer
 returns-in-Ok-clause-answer c =
-    let found = found_of c.args.matches.now in
-    let same : c.explained.result ≡ explained_in (rows_of found) =
-    c.explained.ensures ∙ ap₂ explained (c.get_str-what.ensures ∙ first_value-rows found (codes "what")) c.given_number.ensures in
-    sym same ∙ c.in-Ok.is
+    sym (explained_same (rows_of (found_of c.args.matches.now)) _ _ _ _ c.explained.ensures (c.get_str-what.ensures ∙ first_value-rows (found_of c.args.matches.now) (codes "what")) c.given_number-number.ensures c.flag_of.ensures) ∙ c.in-Ok.is
 
 pub returns-in-Ok-clause-fault : goal.returns-in-Ok-clause-fault
 returns-in-Ok-clause-fault c =
-    let found = found_of c.args.matches.now in
-    let same : c.explained.result ≡ explained_in (rows_of found) =
-    c.explained.ensures ∙ ap₂ explained (c.get_str-what.ensures ∙ first_value-rows found (codes "what")) c.given_number.ensures in
-    ap kinds_of (sym same ∙ c.in-Ok.is)
+    ap kinds_of (sym (explained_same (rows_of (found_of c.args.matches.now)) _ _ _ _ c.explained.ensures (c.get_str-what.ensures ∙ first_value-rows (found_of c.args.matches.now) (codes "what")) c.given_number-number.ensures c.flag_of.ensures) ∙ c.in-Ok.is)
 
 pub returns-in_ok-refusal-in-Err-clause-fault : goal.returns-in_ok-refusal-in-Err-clause-fault
 returns-in_ok-refusal-in-Err-clause-fault c =
-    let found = found_of c.args.matches.now in
-    let same : c.explained.result ≡ explained_in (rows_of found) =
-    c.explained.ensures ∙ ap₂ explained (c.get_str-what.ensures ∙ first_value-rows found (codes "what")) c.given_number.ensures in
+    let same : c.explained.result ≡ explained_in (rows_of (found_of c.args.matches.now)) =
+    explained_same (rows_of (found_of c.args.matches.now)) _ _ _ _ c.explained.ensures (c.get_str-what.ensures ∙ first_value-rows (found_of c.args.matches.now) (codes "what")) c.given_number-number.ensures c.flag_of.ensures in
     subst (λ r. HasKind (kinds_of r) c.in_ok-refusal-in-Err.field-0) (sym (sym same ∙ c.in-Err.is)) (inr (inl c.in_ok-refusal-in-Err.ensures))

@@ -1,10 +1,10 @@
 use Rattle.std.proofs.Common.{rules, ◌≤◌, arith, length, append-nil}
 use Rattle.std.proofs.lemmas.Bool.{le-ltb}
 use Rattle.std.proofs.lemmas.List.{take_all}
-use Rattle.trlab_lines.specs.declared.page.TheConstants.{MOST_QUOTED}
+use Rattle.trlab_lines.specs.declared.page.TheConstants.{MAX_QUOTED}
 use Rattle.trlab_lines.proofs.page.Page.quote.Goals as goal
 
-pub returns-else-line-gt-MOST_QUOTED : goal.returns-else-line-gt-MOST_QUOTED
-returns-else-line-gt-MOST_QUOTED c =
-    let short : length c.args.line.now ≤ MOST_QUOTED = omega (arith, c.if-line-gt-MOST_QUOTED.false) in
-    rw (take_all MOST_QUOTED c.args.line.now short, le-ltb MOST_QUOTED (length c.args.line.now) short, append-nil) c.show_all-else-line-gt-MOST_QUOTED.ensures
+pub returns-else-line-gt-MAX_QUOTED : goal.returns-else-line-gt-MAX_QUOTED
+returns-else-line-gt-MAX_QUOTED c =
+    let short : length c.args.line.now ≤ MAX_QUOTED = omega (arith, c.if-line-gt-MAX_QUOTED.false) in
+    rw (take_all MAX_QUOTED c.args.line.now short, le-ltb MAX_QUOTED (length c.args.line.now) short, append-nil) c.show_all-else-line-gt-MAX_QUOTED.ensures

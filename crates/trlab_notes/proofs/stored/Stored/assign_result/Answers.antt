@@ -1,5 +1,5 @@
 use Rattle.std.proofs.Common.{◌∙◌, ap, sym, rules, get_or, set}
-use Rattle.trlab_notes.specs.declared.note.Said.TheVariants.{Nothing}
+use Rattle.trlab_notes.specs.declared.note.AbstractValue.TheVariants.{Nothing}
 use Rattle.trlab_notes.specs.Notes.{closure}
 use Rattle.trlab_notes.specs.Transfer.{assign, result_to, to_result}
 use Rattle.trlab_notes.specs.Rows.{level_in}

@@ -1,7 +1,7 @@
 use Rattle.std.proofs.Common.{◌≡◌, ◌≤◌, ◌∙◌, ℕ, List, Err, length, refl, sym, ap, subst, inl, inr, arith}
 use Rattle.std.proofs.lemmas.Result.{err_from_is_err_and}
 use Rattle.std.proofs.lemmas.List.{length-map}
-use Rattle.trlab_bounds.specs.declared.roads.TheConstants.{GREATEST_LIMIT}
+use Rattle.trlab_bounds.specs.declared.roads.TheConstants.{MAX_LIMIT}
 use Rattle.trlab_road.specs.Cells.{Lane, Cells}
 use Rattle.trlab_road.specs.Legal.{IsLegal}
 use Rattle.trlab_road.specs.Pictures.{AreGoodPictures, Shows, ShowsCell}
@@ -64,11 +64,11 @@ pub returns-in_err-lanes-clause-told : goal.returns-in_err-lanes-clause-told
 returns-in_err-lanes-clause-told c = let p = err_from_is_err_and c.from_residual-in_err-lanes.result c.from_residual-in_err-lanes.ensures.1 in λ fault f other. inr (p.1 ∙ ap Err p.2)
 
 -- good pictures are good under the greatest limit too
-shows_more : (limit character : ℕ) → limit ≤ GREATEST_LIMIT → ShowsCell limit character → ShowsCell GREATEST_LIMIT character
+shows_more : (limit character : ℕ) → limit ≤ MAX_LIMIT → ShowsCell limit character → ShowsCell MAX_LIMIT character
 shows_more limit character low (inl empty) = inl empty
 shows_more limit character low (inr shown) = inr (record { speed = shown.speed; within = (let within = shown.within in omega (arith, low, within)); shown = shown.shown })
 
-good_more : (limit : ℕ) (ps : List (List ℕ)) → AreGoodPictures limit ps → AreGoodPictures GREATEST_LIMIT ps
+good_more : (limit : ℕ) (ps : List (List ℕ)) → AreGoodPictures limit ps → AreGoodPictures MAX_LIMIT ps
 good_more limit ps good = record {
   shape = record { lanes = good.shape.lanes; lengths = good.shape.lengths; limit_fits = record { some_limit = omega arith; low_limit = omega arith } };
   cells = λ l x on h. shows_more limit _ good.shape.limit_fits.low_limit (good.cells l x on h);

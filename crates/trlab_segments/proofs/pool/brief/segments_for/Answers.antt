@@ -1,4 +1,4 @@
-use Rattle.trlab_segments.proofs.Cuts.{no_car_behind}
+use Rattle.trlab_segments.proofs.Borders.{no_car_behind}
 use Rattle.std.proofs.Common.{arith}
 use Rattle.trlab_segments.proofs.pool.brief.segments_for.Goals as goal
 

@@ -1,7 +1,7 @@
 use Rattle.std.proofs.Common.{sym, ◌∙◌}
 use Rattle.trlab_sequential_book.specs.Comparison.{OrderCall, offered}
 use Rattle.trlab_sequential_book.specs.Answers.{is_memory, order_reply}
-use Rattle.trlab_sequential_book.specs.Machine.{State}
+use Rattle.trlab_sequential_book.specs.Machine.{BookState}
 use Rattle.trlab_sequential_book.proofs.Booking.{counted, full_stays, full_told, next_order, told_made}
 use Rattle.trlab_sequential_book.proofs.book.Book.order_as.Goals as goal
 
@@ -14,13 +14,13 @@ returns-then-is_full-clause-state c = full_stays c.args.self.now (OrderCall (off
 pub returns-clause-reply : goal.returns-clause-reply
 returns-clause-reply c =
     let book = c.self.inside in
-    let state : State = record { count = book.count; next = book.next; jobs = book.jobs.items } in
+    let state : BookState = record { count = book.count; next = book.next; jobs = book.jobs.items } in
     let answer = c.order_in-answer.result in
     told_made state c.args.self.now (is_memory answer) (OrderCall (offered c.args.lease.now c.args.same)) (order_reply answer) c.self.view_is (sym c.is_full.ensures ∙ c.if-is_full.false) c.order_in-answer.ensures.reply
 
 pub returns-clause-state : goal.returns-clause-state
 returns-clause-state c =
     let book = c.self.inside in
-    let state : State = record { count = book.count; next = book.next; jobs = book.jobs.items } in
+    let state : BookState = record { count = book.count; next = book.next; jobs = book.jobs.items } in
     let answer = c.order_in-answer.result in
     counted state c.args.self.now (is_memory answer) (OrderCall (offered c.args.lease.now c.args.same)) (order_reply answer) c.order_in-answer.new.jobs.items c.count_after-self-inside.result c.self.view_is (sym c.is_full.ensures ∙ c.if-is_full.false) (next_order book.next answer) c.count_after-self-inside.ensures.value c.order_in-answer.ensures.reply c.order_in-answer.ensures.jobs

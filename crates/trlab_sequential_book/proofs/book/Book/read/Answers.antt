@@ -1,7 +1,7 @@
 use Rattle.std.proofs.Common.{sym, ◌∙◌}
 use Rattle.trlab_sequential_book.specs.declared.event.Call.TheVariants.{Read}
 use Rattle.trlab_sequential_book.specs.Answers.{is_memory, seen_reply}
-use Rattle.trlab_sequential_book.specs.Machine.{State, served}
+use Rattle.trlab_sequential_book.specs.Machine.{BookState, served}
 use Rattle.trlab_sequential_book.proofs.Booking.{counted, full_stays, full_told, next_seen, reading_stays, same_jobs, told_made, told_seen}
 use Rattle.trlab_sequential_book.proofs.book.Book.read.Goals as goal
 
@@ -14,7 +14,7 @@ returns-then-is_full-clause-state c = full_stays c.args.self.now (Read c.args.jo
 pub returns-clause-reply : goal.returns-clause-reply
 returns-clause-reply c =
     let book = c.self.inside in
-    let state : State = record { count = book.count; next = book.next; jobs = book.jobs.items } in
+    let state : BookState = record { count = book.count; next = book.next; jobs = book.jobs.items } in
     let answer = c.read_in-answer.result in
     let told = told_seen state.jobs c.deref.result.now c.args.job (is_memory answer) (seen_reply answer) c.deref.ensures.value c.read_in-answer.ensures.reply in
     told_made state c.args.self.now (is_memory answer) (Read c.args.job) (seen_reply answer) c.self.view_is (sym c.is_full.ensures ∙ c.if-is_full.false) told
@@ -22,7 +22,7 @@ returns-clause-reply c =
 pub returns-clause-state : goal.returns-clause-state
 returns-clause-state c =
     let book = c.self.inside in
-    let state : State = record { count = book.count; next = book.next; jobs = book.jobs.items } in
+    let state : BookState = record { count = book.count; next = book.next; jobs = book.jobs.items } in
     let answer = c.read_in-answer.result in
     let m = is_memory answer in
     let told = told_seen state.jobs c.deref.result.now c.args.job m (seen_reply answer) c.deref.ensures.value c.read_in-answer.ensures.reply in

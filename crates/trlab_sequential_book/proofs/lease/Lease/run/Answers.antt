@@ -3,7 +3,7 @@ use Rattle.std.proofs.lemmas.Bool.{false≢true}
 use Rattle.std.specs.Arc.{arc_value}
 use Rattle.std.specs.Prelude.{Result, Ok, Err, IsErr, IsTrue, OnErr, OnOk}
 use Rattle.std.specs.declared.alloc.AllocError.{AllocError}
-use Rattle.trlab_sequential_book.specs.declared.ran.Ran.{Ran}
+use Rattle.trlab_sequential_book.specs.declared.lease.ExecutedStep.{ExecutedStep}
 use Rattle.trlab_sequential_book.specs.Leases.{IsSteady}
 use Rattle.trlab_sequential_book.proofs.LeaseRuns.{has_stepped, lease_grows, still, still_lease}
 use Rattle.trlab_sequential_book.proofs.lease.Lease.run.Goals as goal
@@ -16,12 +16,12 @@ refused : (told : Result (Unit {0}) AllocError) (P : Type 0) → P → OnErr tol
 refused (Ok done) P p = tt
 refused (Err fault) P p = p
 
-grown : (before reserved after : List Ran) (ran : Ran) → after ≡ reserved ++ ran ∷ [] → reserved ≡ before → after ≡ before ++ ran ∷ []
-grown before reserved after ran pushed same = pushed ∙ ap (λ (xs : List Ran). xs ++ ran ∷ []) same
+grown : (before reserved after : List ExecutedStep) (ran : ExecutedStep) → after ≡ reserved ++ ran ∷ [] → reserved ≡ before → after ≡ before ++ ran ∷ []
+grown before reserved after ran pushed same = pushed ∙ ap (λ (xs : List ExecutedStep). xs ++ ran ∷ []) same
 
 -- where no step is added, what is known of the rules stays known
-still_steady : (is_steady : Bool) (before after : List Ran) → after ≡ before → (IsTrue is_steady → IsSteady before) → IsTrue is_steady → IsSteady after
-still_steady is_steady before after same known = subst (λ (xs : List Ran). IsTrue is_steady → IsSteady xs) (sym same) known
+still_steady : (is_steady : Bool) (before after : List ExecutedStep) → after ≡ before → (IsTrue is_steady → IsSteady before) → IsTrue is_steady → IsSteady after
+still_steady is_steady before after same known = subst (λ (xs : List ExecutedStep). IsTrue is_steady → IsSteady xs) (sym same) known
 
 pub invariant_of-self : goal.invariant_of-self
 invariant_of-self g c = (
@@ -49,7 +49,7 @@ returns-in_err-shared-clause-err g c = refused _ _ (still _ _ _ _ refl c.reserve
 
 pub invariant_of-self-in_err-tally : goal.invariant_of-self-in_err-tally
 invariant_of-self-in_err-tally g c = (
-  still_lease _ _ _ c.in_err-tally.ensures.same c.reserve.ensures.items c.self.invariant.0,
+  still_lease _ _ _ c.in_err-tally.ensures.unchanged c.reserve.ensures.items c.self.invariant.0,
   still_steady _ _ _ c.reserve.ensures.items c.self.invariant.1,
 )
 
@@ -57,7 +57,7 @@ pub returns-in_err-tally-clause-ok : goal.returns-in_err-tally-clause-ok
 returns-in_err-tally-clause-ok g c = no_step _ _ c.from_residual-in_err-tally.ensures.0
 
 pub returns-in_err-tally-clause-err : goal.returns-in_err-tally-clause-err
-returns-in_err-tally-clause-err g c = refused _ _ (still _ _ _ _ c.in_err-tally.ensures.same c.reserve.ensures.items c.self.view_is)
+returns-in_err-tally-clause-err g c = refused _ _ (still _ _ _ _ c.in_err-tally.ensures.unchanged c.reserve.ensures.items c.self.view_is)
 
 pub invariant_of-self-2 : goal.invariant_of-self-2
 invariant_of-self-2 g c = (

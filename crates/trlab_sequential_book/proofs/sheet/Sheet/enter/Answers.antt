@@ -11,6 +11,6 @@ invariant_of-self-2 c = rw c.push_reserved.ensures.items (c.in_ok-make_way.ensur
 pub returns-clause-ok : goal.returns-clause-ok
 returns-clause-ok c = (
   c.push_reserved.ensures.items ∙ c.in_ok-make_way.ensures.ok c.in_ok-rule.rule ∙ ap (λ v. entered v c.args.from c.in_ok-rule.rule) c.self.view_is ∙ ap (λ rule. entered c.args.self.now c.args.from rule) c.in_ok-rule.ensures,
-  (invariant_of-self-2 c).few,
+  (invariant_of-self-2 c).at_most_max,
   (invariant_of-self-2 c).is_sheet,
 )

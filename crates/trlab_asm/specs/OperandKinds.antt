@@ -1,0 +1,57 @@
+-- What the operands of instructions have to be.
+use Rattle.std.specs.Prelude.{ℕ, ◌-◌, Bool, List, [], ◌∷◌, codes, Option, None, Some, is_some}
+use Rattle.trlab_bounds.specs.declared.programs.TheConstants.{CERTAIN, MAX_NUMBER, WORDS}
+use Rattle.trlab_lines.specs.Cutting.{without_prefix}
+use Rattle.trlab_lines.specs.Numbers.{is_numeral}
+use Rattle.trlab_asm.specs.Names.{register_named, input_named}
+use Rattle.trlab_asm.specs.Operands.{is_label}
+use Rattle.trlab_asm.specs.declared.names.Mnemonic.{Mnemonic}
+use Rattle.trlab_asm.specs.declared.names.Mnemonic.TheVariants as name
+use Rattle.trlab_asm.specs.declared.operands.OperandKind.{OperandKind}
+use Rattle.trlab_asm.specs.declared.operands.OperandKind.TheVariants.{Register, Result, Number, Divisor, Word, Chance, Input, Target}
+
+-- the operands of an instruction, from left to right
+abbrev pub kinds_of : Mnemonic → List OperandKind
+kinds_of name.Num = Result ∷ Number ∷ []
+kinds_of name.Get = Result ∷ Input ∷ []
+kinds_of name.Side = Result ∷ []
+kinds_of name.Draw = Result ∷ Word ∷ Chance ∷ []
+kinds_of name.Copy = Result ∷ Register ∷ []
+kinds_of name.Add = Result ∷ Register ∷ Register ∷ []
+kinds_of name.Sub = Result ∷ Register ∷ Register ∷ []
+kinds_of name.Mul = Result ∷ Register ∷ Number ∷ []
+kinds_of name.Div = Result ∷ Register ∷ Divisor ∷ []
+kinds_of name.Min = Result ∷ Register ∷ Register ∷ []
+kinds_of name.Max = Result ∷ Register ∷ Register ∷ []
+kinds_of name.Not = Result ∷ Register ∷ []
+kinds_of name.And = Result ∷ Register ∷ Register ∷ []
+kinds_of name.Or = Result ∷ Register ∷ Register ∷ []
+kinds_of name.Jump = Target ∷ []
+kinds_of name.JumpLess = Register ∷ Register ∷ Target ∷ []
+kinds_of name.JumpAtMost = Register ∷ Register ∷ Target ∷ []
+kinds_of name.JumpTrue = Register ∷ Target ∷ []
+kinds_of name.JumpFalse = Register ∷ Target ∷ []
+kinds_of name.Go = Register ∷ []
+kinds_of name.Cross = []
+kinds_of name.Stay = []
+
+-- the smallest and the largest number of a kind of operands, if they are numbers
+abbrev pub range_of : OperandKind → Option (ℕ × ℕ)
+range_of Number = Some (0, MAX_NUMBER)
+range_of Divisor = Some (1, MAX_NUMBER)
+range_of Word = Some (0, WORDS - 1)
+range_of Chance = Some (0, CERTAIN)
+range_of other = None
+
+-- the digits of `@` and a pc, or a label
+abbrev pub is_target_after : List ℕ → Option (List ℕ) → Bool
+is_target_after word None = is_label word
+is_target_after word (Some digits) = is_numeral digits
+
+-- a word has the form of an operand; a number may still be outside its range
+abbrev pub has_form : OperandKind → List ℕ → Bool
+has_form Register word = is_some (register_named word)
+has_form Result word = is_some (register_named word)
+has_form Input word = is_some (input_named word)
+has_form Target word = is_target_after word (without_prefix (codes "@") word)
+has_form other word = is_numeral word

@@ -1,0 +1,6 @@
+use Rattle.trlab_book.specs.Desks.{AddsRunnerCalls}
+use Rattle.trlab_book.proofs.running.Runner.take_leases.Given as goal
+
+abbrev pub invariant-loop : goal.invariant-loop
+invariant-loop g l =
+    (goal.iterator-loop g).can_next l.iterator' × (goal.iterator-loop g).is_finite l.iterator' × AddsRunnerCalls l.initial.desk l.desk

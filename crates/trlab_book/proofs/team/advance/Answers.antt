@@ -1,0 +1,11 @@
+use Rattle.std.proofs.Common.{rules}
+use Rattle.trlab_book.proofs.team.advance.Goals as goal
+
+pub returns-clause-ok : goal.returns-clause-ok
+returns-clause-ok g c = search rules
+
+pub returns-clause-err : goal.returns-clause-err
+returns-clause-err g c = search rules
+
+pub returns-clause-wrong : goal.returns-clause-wrong
+returns-clause-wrong g c = search rules

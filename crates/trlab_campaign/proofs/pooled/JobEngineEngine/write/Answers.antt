@@ -1,0 +1,35 @@
+use Rattle.std.specs.Prelude.{Ok, Err}
+use Rattle.trlab_texts.specs.Reading.{Fault}
+use Rattle.trlab_jobs.specs.Job.{JobText, LinesSay}
+use Rattle.trlab_campaign.specs.Output.{IsOutputOf}
+use Rattle.trlab_campaign.specs.Writers.{bytes_of}
+use Rattle.trlab_campaign.proofs.Endings.{memory_ends, read_says, refusal_ends, said_ends}
+use Rattle.trlab_campaign.proofs.pooled.JobEngineEngine.write.Goals as goal
+
+pub returns-in-Err-At-clause-ends : goal.returns-in-Err-At-clause-ends
+returns-in-Err-At-clause-ends g c = λ input read.
+    let fault : Fault = record { line = c.in-Err-At.line; cause = c.in-Err-At.cause } in
+    let told = rw c.in-Err-At.field-0-is at c.in-Err-At.ensures.told in
+    let answer = rw c.in-Err-At.field-0-is at c.refuse.ensures.answer in
+    let output = g.C.Account.outputs c.args.self.account.now in
+    let says = read_says LinesSay c.args.text.now input (Err fault) read told in
+    record {
+      answer = refusal_ends JobText output c.refuse.result input fault (bytes_of g.K.Sink c.args.writer.now) (bytes_of g.K.Sink c.refuse.new.writer) says answer;
+      handed = c.refuse.ensures.handed;
+      device = c.refuse.ensures.device;
+    }
+
+pub returns-in-Err-Memory-clause-ends : goal.returns-in-Err-Memory-clause-ends
+returns-in-Err-Memory-clause-ends g c = λ input read.
+    memory_ends g.K.Sink (IsOutputOf (g.C.Account.outputs c.args.self.account.now) input) c.args.writer.now c.requires.works
+
+pub returns-clause-ends : goal.returns-clause-ends
+returns-clause-ends g c = λ input read.
+    let output = g.C.Account.outputs c.args.self.account.now in
+    let ends = c.drive.ensures in
+    let says = read_says LinesSay c.args.text.now input (Ok c.in-Ok.job) read c.in-Ok.ensures.told in
+    record {
+      answer = said_ends JobText output c.drive.result input c.in-Ok.job _ _ says ends.answer;
+      handed = ends.handed;
+      device = ends.device;
+    }

@@ -1,5 +1,0 @@
-use Rattle.std.proofs.Common.{refl}
-use Rattle.trlab_campaign.proofs.verdict.accepted_verdict.Goals as goal
-
-pub returns : goal.returns
-returns c = (refl, c.in_ok-text.ensures)

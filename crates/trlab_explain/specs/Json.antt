@@ -1,0 +1,33 @@
+-- The JSON form of explanations.
+use Rattle.std.specs.Prelude.{◌≡◌, ℕ, ◌-◌, ◌==◌, ⊤, Bool, List, [], ◌∷◌, ◌++◌, All, codes, decimal, length, take, if◌then◌else◌}
+use Rattle.json.specs.Print.{print}
+use Rattle.json.specs.Token.{Token, begin_object, end_object, begin_array, end_array, key, string, number, boolean, null, bad}
+use Rattle.trlab_lines.specs.Plain.{IsPlain}
+
+-- the text of a token is plain
+abbrev pub HasPlainText : Token → Type 0
+HasPlainText begin_object = ⊤
+HasPlainText end_object = ⊤
+HasPlainText begin_array = ⊤
+HasPlainText end_array = ⊤
+HasPlainText (key s) = All IsPlain s
+HasPlainText (string s) = All IsPlain s
+HasPlainText (number s) = All IsPlain s
+HasPlainText (boolean b) = ⊤
+HasPlainText null = ⊤
+HasPlainText bad = ⊤
+
+-- the line that a command prints, without its end; null if it prints none
+abbrev pub answer_token : List ℕ → Token
+answer_token line = if length line == 0 then null else string (take (length line - 1) line)
+
+-- the last members of the object of an explanation: the exit status and the line that the command prints
+abbrev pub object_end : Bool → List ℕ → List Token
+object_end refused answer =
+    key (codes "status") ∷ number (decimal (if refused then 1 else 0))
+    ∷ key (codes "answer") ∷ answer_token answer ∷ end_object ∷ []
+
+-- a text is one line, and ends as the object of an explanation does
+abbrev pub EndsObject : Bool → List ℕ → List ℕ → Type 0
+EndsObject refused answer text =
+    (first : List Token) × (text ≡ print (first ++ object_end refused answer) ++ 10 ∷ [])

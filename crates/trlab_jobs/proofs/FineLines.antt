@@ -1,0 +1,86 @@
+-- What lines say: numbers in their ranges, chances that a program may have, and steps in order.
+use Rattle.std.proofs.Common.{◌≡◌, ℕ, ◌<◌, ◌≤◌, Bool, true, false, List, refl, leb-true, ltb-true}
+use Rattle.std.specs.Prelude.{◌==◌, ◌&&◌, ok_or, Result, Ok, Err, nat_le, nat_lt, codes, if◌then◌else◌}
+use Rattle.std.specs.Str.{bytes_eq}
+use Rattle.hex.specs.Hex.{decode_sized}
+use Rattle.hex.specs.declared.error.FromHexError.{FromHexError}
+use Rattle.trlab_bounds.specs.declared.programs.TheConstants.{CERTAIN}
+use Rattle.trlab_bounds.specs.declared.texts.TheConstants.{LONGEST_NUMBER}
+use Rattle.trlab_asm.specs.Results.{◌>>=◌}
+use Rattle.trlab_texts.specs.declared.fault.Cause.{Cause}
+use Rattle.trlab_texts.specs.declared.fault.Cause.TheVariants.{Line, Order, TooMany}
+use Rattle.trlab_texts.specs.Words.{number_of, word_after}
+use Rattle.trlab_texts.proofs.Fine.{Anything, Fine, InRange, line_other, key_other, order_other, too_many_other, bind_fine, choose, found_fine, word_fine, within_fine}
+use Rattle.trlab_jobs.specs.declared.rule_line.RuleLine.{RuleLine}
+use Rattle.trlab_jobs.specs.declared.rule_line.RuleLine.TheVariants.{Nasch, Vdr, Rickert, Own}
+use Rattle.trlab_jobs.specs.Job.{key_line, key_of, key_of_hex}
+use Rattle.trlab_jobs.specs.RuleLines.{rule_words, chance_of, rule_numbers, rule_line, later_words, step_of, admit_step, later_line}
+
+-- a line of fixed words
+pub fixed_fine : (words text : List ℕ) → Fine {A = Unit {0}} Anything (if bytes_eq text words then Ok tt else Err Line)
+fixed_fine words text = choose Anything (bytes_eq text words) (Ok tt) (Err Line) (λ e. tt) (λ e. line_other)
+
+hex_fine : (key : Result (List ℕ) FromHexError) → Fine Anything (key_of_hex key)
+hex_fine (Ok key) = tt
+hex_fine (Err fault) = key_other
+
+key_fine : (word : Result (List ℕ) Cause) → Fine Anything word → Fine Anything (key_of word)
+key_fine (Ok word) fine = hex_fine (decode_sized word 32)
+key_fine (Err cause) fine = fine
+
+pub key_line_fine : (text : List ℕ) → Fine Anything (key_line text)
+key_line_fine text = key_fine (word_after (codes "key ") text) (word_fine (codes "key ") text)
+
+-- the chances of a rule are such as a program may have
+abbrev pub Chances : RuleLine ℕ → Type 0
+Chances (Nasch p) = p ≤ CERTAIN
+Chances (Vdr p p0) = (p ≤ CERTAIN) × (p0 ≤ CERTAIN)
+Chances (Rickert p c) = (p ≤ CERTAIN) × (c ≤ CERTAIN)
+Chances Own = Unit {0}
+
+-- a later rule is in force from a step on that is in order
+pub record InOrder (steps least : ℕ) (at : ℕ × RuleLine ℕ) : Type 0 where
+  pub rises : least ≤ at.0
+  pub below : at.0 < steps
+  pub chances : Chances at.1
+
+chance_fine : (word : List ℕ) → Fine (InRange 0 CERTAIN) (chance_of word)
+chance_fine word = within_fine 0 CERTAIN (number_of word)
+
+two_fine : (make : ℕ → ℕ → RuleLine ℕ) → ((p c : ℕ) → p ≤ CERTAIN → c ≤ CERTAIN → Chances (make p c)) → (first second : List ℕ)
+    → Fine Chances (chance_of first >>= λ p. chance_of second >>= λ c. Ok (make p c))
+two_fine make fit first second =
+    bind_fine (InRange 0 CERTAIN) Chances (chance_of first) (λ p. chance_of second >>= λ c. Ok (make p c)) (chance_fine first) (λ p h.
+    bind_fine (InRange 0 CERTAIN) Chances (chance_of second) (λ c. Ok (make p c)) (chance_fine second) (λ c k. fit p c h.high k.high))
+
+rule_numbers_fine : (words : RuleLine (List ℕ)) → Fine Chances (rule_numbers words)
+rule_numbers_fine (Nasch p) = bind_fine (InRange 0 CERTAIN) Chances (chance_of p) (λ p. Ok (Nasch p)) (chance_fine p) (λ p h. h.high)
+rule_numbers_fine (Vdr p p0) = two_fine (λ p p0. Vdr p p0) (λ p p0 h k. (h, k)) p p0
+rule_numbers_fine (Rickert p c) = two_fine (λ p c. Rickert p c) (λ p c h k. (h, k)) p c
+rule_numbers_fine Own = tt
+
+pub rule_line_fine : (text : List ℕ) → Fine Chances (rule_line text)
+rule_line_fine text =
+    bind_fine Anything Chances (ok_or (rule_words text) Line) rule_numbers (found_fine (rule_words text)) (λ words any. rule_numbers_fine words)
+
+abbrev Admits : ℕ → ℕ → ℕ → Type 0
+Admits steps least step = (least ≤ step) × (step < steps)
+
+both_hold : (steps least step : ℕ) (above below : Bool) → (above ≡ true → least ≤ step) → (below ≡ true → step < steps) → above && below ≡ true → Admits steps least step
+both_hold steps least step true true h k e = (h refl, k refl)
+both_hold steps least step true false h k e = absurd (cc e)
+both_hold steps least step false below h k e = absurd (cc e)
+
+admit_step_fine : (room steps least step : ℕ) → Fine (Admits steps least) (admit_step room steps least step)
+admit_step_fine room steps least step =
+    choose (Admits steps least) (room == 0) (Err TooMany) (if nat_le least step && nat_lt step steps then Ok step else Err Order) (λ e. too_many_other) (λ e.
+    choose (Admits steps least) (nat_le least step && nat_lt step steps) (Ok step) (Err Order)
+    (both_hold steps least step (nat_le least step) (nat_lt step steps) (leb-true least step) (ltb-true step steps)) (λ e. order_other))
+
+pub later_line_fine : (room steps least : ℕ) (text : List ℕ) → Fine (InOrder steps least) (later_line room steps least text)
+later_line_fine room steps least text =
+    bind_fine Anything (InOrder steps least) (ok_or (later_words text) Line) _ (found_fine (later_words text)) (λ words any.
+    bind_fine (InRange 0 LONGEST_NUMBER) (InOrder steps least) (step_of words.0) _ (within_fine 0 LONGEST_NUMBER (number_of words.0)) (λ step any.
+    bind_fine Chances (InOrder steps least) (rule_numbers words.1) _ (rule_numbers_fine words.1) (λ rule fit.
+    bind_fine (Admits steps least) (InOrder steps least) (admit_step room steps least step) _ (admit_step_fine room steps least step) (λ from in_order.
+    record { rises = in_order.0; below = in_order.1; chances = fit }))))

@@ -1,0 +1,39 @@
+use Rattle.trlab_jobs.proofs.HandedOn.{handed_on}
+use Rattle.trlab_jobs.proofs.SweepLines.{limit_fails, cells_fail, lanes_fail, shape_said}
+use Rattle.trlab_jobs.proofs.sweep.read_shape.Goals as goal
+
+pub returns-in_err-limit : goal.returns-in_err-limit
+returns-in_err-limit c =
+    let fault = handed_on c.from_residual.result c.in_err-limit.field-0.0 c.from_residual.ensures.0 c.from_residual.ensures.1 in
+    record {
+      told = rw fault (limit_fails c.args.rest c.in_err-limit.field-0.0 c.in_err-limit.ensures.told);
+      cells = rw fault tt;
+      some = rw fault tt;
+      few = rw fault tt;
+    }
+
+pub returns-in_err-cells : goal.returns-in_err-cells
+returns-in_err-cells c =
+    let fault = handed_on c.from_residual-in_err-cells.result c.in_err-cells.field-0.0 c.from_residual-in_err-cells.ensures.0 c.from_residual-in_err-cells.ensures.1 in
+    record {
+      told = rw fault (cells_fail c.in_ok-limit.limit c.args.rest c.in_ok-limit.rest c.in_err-cells.field-0.0 c.in_ok-limit.ensures.told c.in_err-cells.ensures.told);
+      cells = rw fault tt;
+      some = rw fault tt;
+      few = rw fault tt;
+    }
+
+pub returns-in_err-lanes : goal.returns-in_err-lanes
+returns-in_err-lanes c =
+    let fault = handed_on c.from_residual-in_err-lanes.result c.in_err-lanes.field-0.0 c.from_residual-in_err-lanes.ensures.0 c.from_residual-in_err-lanes.ensures.1 in
+    record {
+      told = rw fault (lanes_fail c.in_ok-limit.limit c.in_ok-cells.cells c.args.rest c.in_ok-limit.rest c.in_ok-cells.rest c.in_err-lanes.field-0.0
+          c.in_ok-limit.ensures.told c.in_ok-cells.ensures.told c.in_err-lanes.ensures.told);
+      cells = rw fault tt;
+      some = rw fault tt;
+      few = rw fault tt;
+    }
+
+pub returns-clause-told : goal.returns-clause-told
+returns-clause-told c =
+    shape_said c.in_ok-limit.limit c.in_ok-cells.cells c.in_ok-lanes.lanes c.args.rest c.in_ok-limit.rest c.in_ok-cells.rest c.in_ok-lanes.rest
+    c.in_ok-limit.ensures.told c.in_ok-cells.ensures.told c.in_ok-lanes.ensures.told

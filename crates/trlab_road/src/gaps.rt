@@ -1,0 +1,244 @@
+//! Gaps ahead and behind on a lane, the speed of the next car, and the surroundings of a car on the other lane.
+//!
+//! A lane's list is sorted by place, and on the ring the first car is ahead of the last. On the other lane a place is
+//! found by binary search, or near the index that the previous car found.
+
+ghost use Rattle.std.specs.Prelude.{◌≡◌, ◌<◌, ◌≤◌, ℕ, length, IfSome, if◌then◌else◌, nat_lt};
+ghost use Rattle.trlab_bounds.specs.declared.roads.TheConstants.{MAX_LENGTH};
+ghost use Rattle.trlab_road.specs.Gaps.{behind, clear_cells, gap, headspeed};
+ghost use Rattle.trlab_road.specs.Stored.{IsParted, IsSortedFrom, cells_of, place_of, IsRising, IsFirstFrom, StandsBeside};
+ghost use Rattle.trlab_road.specs.Cells.{cars_before};
+
+use crate::car::{LaneCar, place_at, speed_at};
+
+/// The gap ahead of a car on its own lane, and the speed of its leader.
+#[derive(Clone, Copy)]
+pub struct Ahead {
+    /// How many cells ahead of it are empty.
+    pub gap: u32,
+    /// The speed of the next car in cells per step; the car's own speed if there is no other.
+    pub headspeed: u32,
+}
+
+/// The gap and the leader of the car at an index of a lane's list. The leader of the last car is the first.
+pub fn look_ahead(cars: &[LaneCar], cells: usize, index: usize) -> Ahead
+    requires small { cells ≤ MAX_LENGTH }
+    requires sorted { IsSortedFrom 0 cells cars.now }
+    requires here { index < length cars.now }
+    ensures gap { result.gap ≡ gap (cells_of cells cars.now) (place_of cars.now index) }
+    ensures headspeed { result.headspeed ≡ headspeed (cells_of cells cars.now) (place_of cars.now index) }
+    ensures within { result.gap < cells }
+{
+    let place = place_at(cars, index);
+    let next = index + 1;
+    if next < cars.len() {
+        Ahead {
+            gap: place_at(cars, next) - place - 1,
+            headspeed: speed_at(cars, next),
+        }
+    } else {
+        Ahead {
+            gap: cells as u32 - 1 - place + place_at(cars, 0),
+            headspeed: speed_at(cars, 0),
+        }
+    }
+}
+
+/// The number of empty cells ahead of a place; the cars from index `next` on are those past it.
+fn gap_ahead(cars: &[LaneCar], cells: usize, place: usize, next: usize) -> usize
+    requires small { cells ≤ MAX_LENGTH }
+    requires inside { place < cells }
+    requires sorted { IsSortedFrom 0 cells cars.now }
+    requires parted { IsParted cars.now place next }
+    ensures value { result ≡ gap (cells_of cells cars.now) place }
+    ensures within { result < cells }
+{
+    if next < cars.len() {
+        place_at(cars, next) as usize - place - 1
+    } else if cars.is_empty() {
+        cells - 1
+    } else {
+        cells - 1 - place + place_at(cars, 0) as usize
+    }
+}
+
+/// The number of empty cells behind an empty place; the cars from index `next` on are those past it.
+fn gap_behind(cars: &[LaneCar], cells: usize, place: usize, next: usize) -> usize
+    requires small { cells ≤ MAX_LENGTH }
+    requires inside { place < cells }
+    requires sorted { IsSortedFrom 0 cells cars.now }
+    requires within { next ≤ length cars.now }
+    requires before { (k : ℕ) → k < next → k < length cars.now → place_of cars.now k < place }
+    requires after { (k : ℕ) → next ≤ k → k < length cars.now → place < place_of cars.now k }
+    ensures value { result ≡ clear_cells (cells_of cells cars.now) (behind cells place) }
+    ensures within { result < cells }
+{
+    if next > 0 {
+        place - place_at(cars, next - 1) as usize - 1
+    } else if cars.is_empty() {
+        cells - 1
+    } else {
+        cells - 1 - place_at(cars, cars.len() - 1) as usize + place
+    }
+}
+
+/// The index of the first car from a place on.
+fn first_from(cars: &[LaneCar], place: u32) -> usize
+    requires sorted { IsRising cars.now }
+    ensures { IsFirstFrom cars.now place result }
+{
+    cars.partition_point(
+        |car: &LaneCar| -> bool
+            ensures { result ≡ nat_lt car.now.place place }
+        { car.place() < place },
+    )
+}
+
+/// The surroundings of a car on the other lane.
+#[derive(Clone, Copy)]
+pub struct Beside {
+    /// Is the side cell empty?
+    pub is_empty: bool,
+    /// The number of empty cells ahead of it, 0 if it is taken.
+    pub ahead: u32,
+    /// The number of empty cells behind it, 0 if it is taken.
+    pub behind: u32,
+    /// The number of cars of the other lane before the side cell.
+    pub next: usize,
+}
+
+/// How many cars are looked at together, before they are looked at one by one.
+const TOGETHER: usize = 4;
+
+/// Passes those of the next four cars that are before a place, if there are four: by a sum, so that no branch
+/// depends on their places.
+#[inline(always)]
+fn past_four(cars: &[LaneCar], place: u32, near: usize) -> usize
+    requires within { near ≤ length cars.now }
+    requires sorted { IsRising cars.now }
+    requires before { (k : ℕ) → k < near → k < length cars.now → place_of cars.now k < place }
+    ensures within { result ≤ length cars.now }
+    ensures before { (k : ℕ) → k < result → k < length cars.now → place_of cars.now k < place }
+{
+    let mut next = near;
+    if TOGETHER <= cars.len() - near {
+        for k in near..near + TOGETHER {
+            next += usize::from(place_at(cars, k) < place);
+        }
+    }
+    next
+}
+
+/// The index of the first car from a place on, searched from an index near it: from car to car if no earlier
+/// car is possible, else by binary search.
+fn first_near(cars: &[LaneCar], place: u32, near: usize) -> usize
+    requires sorted { IsRising cars.now }
+    ensures { IsFirstFrom cars.now place result }
+{
+    if near == 0 || near > cars.len() || place_at(cars, near - 1) >= place {
+        return first_from(cars, place);
+    }
+    let near = past_four(cars, place, near);
+    for next in near..cars.len() {
+        if place_at(cars, next) >= place {
+            return next;
+        }
+    }
+    cars.len()
+}
+
+/// The index of the first car from a place on, if it is one of the five cars from an index near it, the car
+/// before that index is before the place, and it is not the first car of all.
+#[inline(always)]
+fn first_of_five(cars: &[LaneCar], place: u32, near: usize) -> Option<usize>
+    requires sorted { IsRising cars.now }
+    ensures found { IfSome result (λ next. IsFirstFrom cars.now place next) }
+    ensures past { IfSome result (λ next. 0 < next) }
+    ensures not_last { IfSome result (λ next. next < length cars.now) }
+{
+    if near == 0 || near > cars.len() || place_at(cars, near - 1) >= place {
+        return None;
+    }
+    let next = past_four(cars, place, near);
+    if next < cars.len() && place_at(cars, next) >= place {
+        Some(next)
+    } else {
+        None
+    }
+}
+
+/// A number if a test holds, else 0.
+#[inline(always)]
+fn only_if(test: bool, number: u32) -> u32
+    ensures { result ≡ (if test then number else 0) }
+{
+    if test { number } else { 0 }
+}
+
+/// The surroundings of a place that is past one car and not past the next: by differences, so that no branch
+/// depends on whether the side cell is taken. Only the proof reads the number of cells.
+#[inline(always)]
+fn look_between(cars: &[LaneCar], cells: usize, place: u32, next: usize) -> Beside
+    requires inside { place < cells }
+    requires sorted { IsSortedFrom 0 cells cars.now }
+    requires found { IsFirstFrom cars.now place next }
+    requires past { 0 < next }
+    requires not_last { next < length cars.now }
+    ensures beside { StandsBeside cells cars.now place result }
+    ensures next { result.next ≡ next }
+{
+    let to_next = place_at(cars, next) - place;
+    let is_empty = to_next != 0;
+    Beside {
+        is_empty,
+        ahead: to_next.saturating_sub(1),
+        behind: only_if(is_empty, place - place_at(cars, next - 1) - 1),
+        next,
+    }
+}
+
+/// The surroundings of a place; the cars from index `next` on are those from there on. It works also past the
+/// last car of the list and before the first.
+fn look_anywhere(cars: &[LaneCar], cells: usize, place: u32, next: usize) -> Beside
+    requires small { cells ≤ MAX_LENGTH }
+    requires inside { place < cells }
+    requires sorted { IsSortedFrom 0 cells cars.now }
+    requires found { IsFirstFrom cars.now place next }
+    ensures beside { StandsBeside cells cars.now place result }
+    ensures next { result.next ≡ next }
+{
+    if next < cars.len() && place_at(cars, next) == place {
+        return Beside {
+            is_empty: false,
+            ahead: 0,
+            behind: 0,
+            next,
+        };
+    }
+    Beside {
+        is_empty: true,
+        ahead: gap_ahead(cars, cells, place as usize, next) as u32,
+        behind: gap_behind(cars, cells, place as usize, next) as u32,
+        next,
+    }
+}
+
+/// The surroundings of a place, searched from an index near it: mostly one of five cars is the next.
+#[inline(always)]
+pub fn look_beside(cars: &[LaneCar], cells: usize, place: u32, near: usize) -> Beside
+    requires small { cells ≤ MAX_LENGTH }
+    requires inside { place < cells }
+    requires sorted { IsSortedFrom 0 cells cars.now }
+    ensures beside { StandsBeside cells cars.now place result }
+    ensures next { result.next ≡ cars_before (cells_of cells cars.now) place }
+{
+    if let Some(next) = first_of_five(cars, place, near) {
+        return look_between(cars, cells, place, next);
+    }
+    let next = first_near(cars, place, near);
+    if 0 < next && next < cars.len() {
+        look_between(cars, cells, place, next)
+    } else {
+        look_anywhere(cars, cells, place, next)
+    }
+}

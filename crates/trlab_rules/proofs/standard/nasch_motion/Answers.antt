@@ -1,0 +1,19 @@
+use Rattle.std.proofs.Common.{List, sym, subst}
+use Rattle.trlab_code.specs.declared.kind.Kind.TheVariants.{Motion}
+use Rattle.trlab_code.specs.declared.instruction.Instr.{Instr}
+use Rattle.trlab_verify.specs.Verdict.{IsAccepted}
+use Rattle.trlab_rules.specs.Published.{nasch_speed}
+use Rattle.trlab_rules.specs.Standard.{nasch_program}
+use Rattle.trlab_rules.proofs.NaschRuns.{nasch_moves}
+use Rattle.trlab_rules.proofs.Accepted.{nasch_accepted}
+use Rattle.trlab_rules.proofs.GivenPrograms.{motion_given, program_of}
+use Rattle.trlab_rules.proofs.standard.nasch_motion.Goals as goal
+
+pub checked-requires-clause-accepted : goal.checked-requires-clause-accepted
+checked-requires-clause-accepted c =
+    subst (λ (z : List Instr). IsAccepted Motion (program_of Motion z)) (sym c.in_ok-nasch_instrs.ensures.value) (nasch_accepted c.args.p)
+
+pub returns : goal.returns
+returns c =
+    motion_given c.checked.result c.in_ok-nasch_instrs.field-0.items (nasch_program c.args.p).instrs c.in_ok-nasch_instrs.ensures.value (nasch_speed c.args.p) (nasch_moves c.args.p)
+    c.checked.ensures

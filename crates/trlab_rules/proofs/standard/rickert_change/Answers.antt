@@ -1,0 +1,19 @@
+use Rattle.std.proofs.Common.{List, sym, subst}
+use Rattle.trlab_code.specs.declared.kind.Kind.TheVariants.{Change}
+use Rattle.trlab_code.specs.declared.instruction.Instr.{Instr}
+use Rattle.trlab_verify.specs.Verdict.{IsAccepted}
+use Rattle.trlab_rules.specs.Published.{rickert_crosses}
+use Rattle.trlab_rules.specs.Standard.{rickert_program}
+use Rattle.trlab_rules.proofs.RickertRuns.{rickert_changes}
+use Rattle.trlab_rules.proofs.Accepted.{rickert_accepted}
+use Rattle.trlab_rules.proofs.GivenPrograms.{change_given, program_of}
+use Rattle.trlab_rules.proofs.standard.rickert_change.Goals as goal
+
+pub checked-requires-clause-accepted : goal.checked-requires-clause-accepted
+checked-requires-clause-accepted c =
+    subst (λ (z : List Instr). IsAccepted Change (program_of Change z)) (sym c.in_ok-rickert_instrs.ensures.value) (rickert_accepted c.args.c)
+
+pub returns : goal.returns
+returns c =
+    change_given c.checked.result c.in_ok-rickert_instrs.field-0.items (rickert_program c.args.c).instrs c.in_ok-rickert_instrs.ensures.value (rickert_crosses c.args.c) (rickert_changes c.args.c)
+    c.checked.ensures

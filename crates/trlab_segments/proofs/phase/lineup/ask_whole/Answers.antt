@@ -1,5 +1,0 @@
-use Rattle.std.proofs.Common.{rules}
-use Rattle.trlab_segments.proofs.phase.lineup.ask_whole.Goals as goal
-
-pub returns : goal.returns
-returns g c = search rules

@@ -1,0 +1,178 @@
+//! The answers of segments: each worker asks the cars of those that it draws, and then the answers of all segments
+//! become one list, whichever worker computed them.
+
+ghost use Rattle.std.specs.Prelude.{◌≡◌, ◌<◌, ◌++◌, [], ◌∷◌, All, IfOk, IsOkAnd, OnOk, map};
+ghost use Rattle.trlab_road.specs.Cells.{cars};
+ghost use Rattle.trlab_segments.specs.Answered.{HasNumber, HasParts, IsPart, ticket_of};
+ghost use Rattle.trlab_segments.specs.Drawers.{IsFrom, count_of, passes_of, tickets_of};
+ghost use Rattle.trlab_segments.specs.Knowledge.{IsWhole, times};
+ghost use Rattle.trlab_segments.specs.Segments.{first_car};
+
+use crate::phase::{Asked, Phase};
+use crate::segment::{Gate, Segment};
+use crate::tickets::{Drawer, Tickets};
+use std::alloc::{AllocError, Global};
+
+/// The answers of the cars of a segment, in standing order, with the segment's number.
+#[derive(Drop)]
+pub struct Part<A> {
+    pub number: u32,
+    pub answers: Vec<A>,
+}
+
+/// Asks the cars of segment `number` of `count`, and puts their part after the others.
+///
+/// # Errors
+///
+/// If an allocation fails.
+fn add_part<A: Drop, P: Asked<A>>(
+    parts: &mut Vec<Part<A>>,
+    alloc: Global,
+    phase: &Phase<P>,
+    count: u32,
+    number: u32,
+) -> Result<(), AllocError>
+    requires number { number < count }
+    requires lanes { P.can_ask phase.now.road.now }
+    ensures numbers { OnOk result (
+        map ticket_of parts.new.items ≡ map ticket_of parts.old.items ++ number ∷ []) }
+    ensures right { OnOk result (All (IsPart P.answers phase.now count) parts.old.items
+        → All (IsPart P.answers phase.now count) parts.new.items) }
+{
+    let mut answers = Vec::new(alloc);
+    let segment = Segment::of(phase.road.cars(), count, number);
+    P::ask(&mut answers, phase, segment)?;
+    parts.push(Part { number, answers })?;
+    Ok(())
+}
+
+/// Asks the cars of one segment after the other, as their numbers are drawn, until none is left.
+///
+/// # Errors
+///
+/// If an allocation fails.
+pub fn work<A: Drop, P: Asked<A>, G: Gate>(
+    alloc: Global,
+    phase: &Phase<P>,
+    tickets: &Tickets,
+    drawer: &mut Drawer,
+    worker: u32,
+    gate: &G,
+) -> Result<Vec<Part<A>>, AllocError>
+    requires from { IsFrom tickets.now drawer.old }
+    requires fresh { tickets_of drawer.old ≡ [] }
+    requires lanes { P.can_ask phase.now.road.now }
+    ensures from { IsFrom tickets.now drawer.new }
+    ensures passes { passes_of drawer.new ≡ passes_of drawer.old }
+    ensures parts { IfOk result (λ parts.
+        HasParts (IsPart P.answers phase.now (count_of tickets.now)) drawer.new parts.items) }
+{
+    let mut parts = Vec::new(alloc);
+    while let Some(number) = tickets.draw(drawer) {
+        gate.pass(phase.dice.road, worker, P::PHASE, number);
+        add_part(&mut parts, alloc, phase, tickets.plan.count, number)?;
+    }
+    Ok(parts)
+}
+
+/// The parts of two workers, in one list.
+///
+/// # Errors
+///
+/// If an allocation fails now, or failed for one of the workers.
+pub fn joined<A: Drop>(
+    some: Result<Vec<Part<A>>, AllocError>,
+    more: Result<Vec<Part<A>>, AllocError>,
+) -> Result<Vec<Part<A>>, AllocError>
+    ensures { IfOk result (λ all.
+        IsOkAnd some (λ some. IsOkAnd more (λ more. all.items ≡ some.items ++ more.items))) }
+{
+    let mut all = some?;
+    let mut more = more?;
+    if all.is_empty() {
+        return Ok(more);
+    }
+    all.append(&mut more)?;
+    Ok(all)
+}
+
+/// The index of the part with this number.
+fn place_of<A>(parts: &[Part<A>], number: u32) -> usize
+    requires { 0 < times number (map ticket_of parts.now) }
+    ensures { HasNumber parts.now result number }
+{
+    for place in 0..parts.len() {
+        if parts[place].number == number {
+            return place;
+        }
+    }
+    unreachable!()
+}
+
+/// Replaces a list by the answers of the parts of `count` segments, in the order of their numbers. A list that is
+/// long enough is filled again, without an allocation.
+///
+/// # Errors
+///
+/// If an allocation fails.
+pub fn line_up<A: Copy, P: Asked<A>>(
+    answers: &mut Vec<A>,
+    phase: &Phase<P>,
+    count: u32,
+    parts: &[Part<A>],
+) -> Result<(), AllocError>
+    requires right { All (IsPart P.answers phase.now count) parts.now }
+    requires whole { IsWhole (map ticket_of parts.now) count }
+    ensures { OnOk result (P.answers phase.now.program.now phase.now.dice.now
+        phase.now.road.now 0 (first_car (cars phase.now.road.now) count count) answers.new.items) }
+{
+    answers.clear();
+    answers.reserve(phase.road.cars() as usize)?;
+    for number in 0..count {
+        let place = place_of(parts, number);
+        answers.extend_from_slice(&parts[place].answers)?;
+    }
+    Ok(())
+}
+
+/// Replaces a list by the answers of all cars, in standing order.
+///
+/// # Errors
+///
+/// If an allocation fails.
+fn ask_whole<A, P: Asked<A>>(answers: &mut Vec<A>, phase: &Phase<P>) -> Result<(), AllocError>
+    requires { P.can_ask phase.now.road.now }
+    ensures { OnOk result (P.answers phase.now.program.now phase.now.dice.now
+        phase.now.road.now 0 (cars phase.now.road.now) answers.new.items) }
+{
+    let to = phase.road.cars();
+    P::ask(answers, phase, Segment { from: 0, to })
+}
+
+/// Replaces a list by the answers of all cars, in standing order, from the parts of the tickets that a drawer has. If
+/// a ticket is missing, all cars are asked here.
+///
+/// # Errors
+///
+/// If an allocation fails.
+pub fn collect<A: Copy, P: Asked<A>>(
+    answers: &mut Vec<A>,
+    phase: &Phase<P>,
+    tickets: Tickets,
+    drawer: Drawer,
+    parts: &[Part<A>],
+) -> Result<(), AllocError>
+    requires lanes { P.can_ask phase.now.road.now }
+    requires from { IsFrom tickets drawer }
+    requires parts { HasParts (IsPart P.answers phase.now (count_of tickets)) drawer parts.now }
+    requires cut { first_car (cars phase.now.road.now) (count_of tickets) (count_of tickets)
+        ≡ cars phase.now.road.now }
+    ensures { OnOk result (P.answers phase.now.program.now phase.now.dice.now
+        phase.now.road.now 0 (cars phase.now.road.now) answers.new.items) }
+{
+    let count = tickets.plan.count;
+    match tickets.finish(drawer) {
+        Ok(()) => line_up(answers, phase, count, parts),
+        Err(_) => ask_whole(answers, phase),
+    }
+}

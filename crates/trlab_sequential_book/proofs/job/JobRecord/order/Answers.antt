@@ -1,0 +1,34 @@
+use Rattle.std.proofs.Common.{arith, ◌≡◌, ap, sym, ◌∙◌, subst, true, Some}
+use Rattle.trlab_step.specs.Run.{in_force}
+use Rattle.trlab_sequential_book.specs.Machine.{JobState, job_state, is_own}
+use Rattle.trlab_sequential_book.specs.Comparison.{offered}
+use Rattle.trlab_sequential_book.proofs.Booking.{own_parts}
+use Rattle.trlab_sequential_book.proofs.Entering.{begin_more}
+use Rattle.trlab_sequential_book.proofs.job.JobRecord.order.Goals as goal
+
+pub invariant_of-self : goal.invariant_of-self
+invariant_of-self c =
+    let j = c.self.inside in
+    let i = c.self.invariant in
+    let l = c.args.lease.now in
+    let own : is_own (offered l c.args.same) c.args.self.now ≡ true = sym c.owns.ensures ∙ c.if-not-owns.false in
+    let state = job_state j.seed j.sheet j.steps j.high j.done j.cancelled j.out in
+    let P : JobState → Type 0 = λ s. is_own (offered l c.args.same) s ≡ true in
+    let parts = own_parts (offered l c.args.same) state (subst P (sym c.self.view_is) own) in
+    let by = parts.1 in
+    let high = i.ordered in
+    let within = i.within in
+    let other = c.if-step-self.false in
+    let at = c.step-step.ensures.value in
+    let most = c.max-self-inside.ensures in
+    record {
+      ordered = omega arith;
+      within = omega arith;
+      begin = begin_more j.high c.max-self-inside.result j.sheet (omega arith) i.begin;
+      run = i.run;
+    }
+
+pub returns-clause-rule : goal.returns-clause-rule
+returns-clause-rule c =
+    let seen = ap (λ (s : JobState). in_force s.sheet c.step-step.result) c.self.view_is in
+    sym seen ∙ c.entry_in_force-entry.ensures.rule ∙ ap Some (sym c.in_ok-rule.ensures)

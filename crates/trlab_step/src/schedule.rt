@@ -1,0 +1,51 @@
+//! The schedule of a run: each rule is in force from its step on, until the step of the next rule.
+
+ghost use Rattle.std.specs.Prelude.{◌≡◌, ◌<◌, Some, ℕ};
+ghost use Rattle.trlab_rules.specs.Rules.{Programs};
+ghost use Rattle.trlab_step.specs.Run.{Rises, in_force, sheet_with};
+
+use std::marker::Model;
+use trlab_rules::Rule;
+
+/// The rules of a run: the first is in force from step 0 on, each later one from its own step on.
+#[derive(Drop)]
+pub struct Schedule {
+    first: Rule,
+    later: Vec<(u32, Rule)>,
+}
+
+impl Model for Schedule {
+    ghost use Rattle.std.specs.Prelude.{◌∷◌};
+    ghost use Rattle.trlab_step.specs.Run.{Rises, Sheet};
+
+    ghost Value = { Sheet };
+
+    ghost view = { λ schedule. (0, schedule.first) ∷ schedule.later.items };
+
+    ghost invariant = { λ schedule. Rises 1 schedule.later.items };
+}
+
+impl Schedule {
+    /// The schedule of a first rule and of later ones, in order of their steps. A later rule for step 0 replaces the
+    /// first.
+    pub fn new(first: Rule, mut later: Vec<(u32, Rule)>) -> Schedule
+        requires { Rises 0 later.items }
+        ensures { result ≡ sheet_with first later.items }
+    {
+        let begins = later.first().is_some_and(|entry| entry.0 == 0);
+        let first = if begins { later.remove(0).1 } else { first };
+        Schedule { first, later }
+    }
+
+    /// The rule in force at a step: the last one that begins at this step or before.
+    pub(crate) fn in_force(&self, step: u32) -> &Rule
+        ensures { in_force self.now step ≡ Some result.now }
+    {
+        let begun = self.later.partition_point(|entry| entry.0 <= step);
+        if begun == 0 {
+            &self.first
+        } else {
+            &self.later[begun - 1].1
+        }
+    }
+}

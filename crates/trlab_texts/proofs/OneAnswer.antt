@@ -1,0 +1,152 @@
+-- Rules, readings and texts that say exactly one thing, which is fine.
+use Rattle.std.proofs.Common.{◌≡◌, ℕ, Bool, true, false, List, [], ◌∷◌, length, refl, sym, ◌∙◌, ap, subst}
+use Rattle.std.specs.Prelude.{Option, None, Some, IfSome, Result, Ok, Err, IfOk, MatchResult, nat_lt}
+use Rattle.trlab_texts.specs.declared.fault.Cause.{Cause}
+use Rattle.trlab_texts.specs.declared.fault.Cause.TheVariants.{Line, TooBig}
+use Rattle.trlab_bounds.specs.declared.texts.TheConstants.{TEXT_LIMIT}
+use Rattle.trlab_texts.specs.Causes.{IsOtherCause}
+use Rattle.trlab_texts.specs.Lines.{Rest}
+use Rattle.trlab_texts.specs.Reading.{Fault, Rule, Reading, say, Continues, ◌>>=◌, line_with_rest, LineSays, line, exactly, SizedTextSays, TextSays, perhaps, before, at_line, of_line}
+use Rattle.trlab_texts.proofs.Fine.{IsOtherFault, Fine, FineText, line_other, too_big_other, at_line_fine}
+
+-- exactly one thing is said; a value keeps what is asked, and so does a fault
+pub record One {A E : Type 0} (Keeps : A → Type 0) (Fails : E → Type 0) (Says : Result A E → Type 0) : Type 0 where
+  pub answer : Result A E
+  pub says : Says answer
+  pub keeps : MatchResult answer Keeps Fails
+  pub only : (other : Result A E) → Says other → other ≡ answer
+
+-- one line says one thing
+abbrev pub OneLine : {A : Type 0} → (A → Type 0) → (Result A Cause → Type 0) → Type 0
+OneLine Keeps Says = One Keeps IsOtherCause Says
+
+-- and so does a text
+abbrev pub OneText : {A : Type 0} → (A → Type 0) → (Result A Fault → Type 0) → Type 0
+OneText Keeps Says = One Keeps IsOtherFault Says
+
+-- one thing is said before the lines that are left
+pub record OnePart {A : Type 0} (Keeps : A → Type 0) (Says : Result (A × Rest) Fault → Type 0) : Type 0 where
+  pub one : OneText (λ found. Keeps found.0) Says
+
+-- a rule by which each line says one thing
+abbrev pub OneRule : {A : Type 0} → (A → Type 0) → Rule A → Type 0
+OneRule Keeps rule = (text : List ℕ) → OneLine Keeps (rule text)
+
+-- a reading by which lines say one thing from each place on
+abbrev pub OneReading : {A : Type 0} → (A → Type 0) → Reading A → Type 0
+OneReading Keeps reading = (place : Rest) → OnePart Keeps (reading place)
+
+-- two answers are one
+pub agree : {A E : Type 0} {Keeps : A → Type 0} {Fails : E → Type 0} {Says : Result A E → Type 0} (a b : Result A E)
+    → One Keeps Fails Says → Says a → Says b → a ≡ b
+agree a b one p q = one.only a p ∙ sym (one.only b q)
+
+keeps_ok : {A E : Type 0} (P : A → Type 0) (F : E → Type 0) (says : Result A E) → MatchResult says P F → IfOk says P
+keeps_ok P F (Ok x) keeps = keeps
+keeps_ok P F (Err fault) keeps = tt
+
+-- there is an answer, and its value keeps what is asked
+pub said : {A E : Type 0} {Keeps : A → Type 0} {Fails : E → Type 0} {Says : Result A E → Type 0}
+    → One Keeps Fails Says → (says : Result A E) × (Says says × IfOk says Keeps)
+said {A} {E} {Keeps} {Fails} one = (one.answer, (one.says, keeps_ok Keeps Fails one.answer one.keeps))
+
+-- each fault is fine
+pub fails : {A E : Type 0} {Keeps : A → Type 0} {Fails : E → Type 0} {Says : Result A E → Type 0} (fault : E)
+    → One Keeps Fails Says → Says (Err fault) → Fails fault
+fails {A} {E} {Keeps} {Fails} fault one p = subst (λ (says : Result A E). MatchResult says Keeps Fails) (sym (one.only (Err fault) p)) one.keeps
+
+-- each value keeps what is asked
+pub values : {A E : Type 0} {Keeps : A → Type 0} {Fails : E → Type 0} {Says : Result A E → Type 0} (value : A)
+    → One Keeps Fails Says → Says (Ok value) → Keeps value
+values {A} {E} {Keeps} {Fails} value one p = subst (λ (says : Result A E). MatchResult says Keeps Fails) (sym (one.only (Ok value) p)) one.keeps
+
+-- what is stated as a value
+pub exact : {A E : Type 0} {P : A → Type 0} {F : E → Type 0} (value : Result A E) → MatchResult value P F → One P F (λ says. says ≡ value)
+exact value keeps = record { answer = value; says = refl; keeps = keeps; only = λ other p. p }
+
+-- what is made of an answer
+pub made : {A B E G : Type 0} {P : A → Type 0} {F : E → Type 0} {Q : B → Type 0} {H : G → Type 0} {Says : Result A E → Type 0} (make : Result A E → Result B G)
+    → One P F Says → ((says : Result A E) → MatchResult says P F → MatchResult (make says) Q H)
+    → One Q H (λ out. (says : Result A E) × (Says says × (out ≡ make says)))
+made make one keeps = record {
+  answer = make one.answer;
+  says = (one.answer, (one.says, refl));
+  keeps = keeps one.answer one.keeps;
+  only = λ other p. p.1.1 ∙ ap make (one.only p.0 p.1.0);
+}
+
+in_line_fine : {A : Type 0} (P : A → Type 0) (number : ℕ) (left : List (List ℕ)) (says : Result A Cause)
+    → Fine P says → FineText (λ (found : A × Rest). P found.0) (line_with_rest number left says)
+in_line_fine P number left (Ok x) fine = fine
+in_line_fine P number left (Err cause) fine = fine
+
+-- the next line
+pub next_one : {A : Type 0} {P : A → Type 0} (rule : Rule A) (number : ℕ) (left : List (List ℕ)) → OneRule P rule → OnePart P (LineSays rule number left)
+next_one {A} {P} rule number [] one = record { one = exact (Err (record { line = number; cause = Line })) line_other }
+next_one {A} {P} rule number (text ∷ left) one = record { one = made (line_with_rest number left) (one text) (in_line_fine P number left) }
+
+pub line_one : {A : Type 0} {P : A → Type 0} (rule : Rule A) → OneRule P rule → OneReading P (line rule)
+line_one rule one place = next_one rule place.number place.left one
+
+-- a line by a rule that is a function
+pub exact_line : {A : Type 0} {P : A → Type 0} (rule : List ℕ → Result A Cause) → ((text : List ℕ) → Fine P (rule text)) → OneReading P (line (exactly rule))
+exact_line rule fine = line_one (exactly rule) (λ text. exact (rule text) (fine text))
+
+with_more : {A : Type 0} (P Q : A → Type 0) (found : Result (A × Rest) Fault) → ((x : A) → P x → Q x) → FineText (λ (x : A × Rest). P x.0) found → FineText (λ (x : A × Rest). Q x.0) found
+with_more P Q (Ok found) more fine = more found.0 fine
+with_more P Q (Err fault) more fine = fine
+
+-- what is said keeps more
+pub part_with : {A : Type 0} {P Q : A → Type 0} {Says : Result (A × Rest) Fault → Type 0} → ((x : A) → P x → Q x) → OnePart P Says → OnePart Q Says
+part_with {A} {P} {Q} more part =
+    let one = part.one in
+    record { one = record { answer = one.answer; says = one.says; keeps = with_more P Q one.answer more one.keeps; only = one.only } }
+
+after_one : {A B : Type 0} {Q : B → Type 0} (P : A → Type 0) (next : A → Reading B) (found : Result (A × Rest) Fault) → FineText (λ (x : A × Rest). P x.0) found
+    → ((x : A) → P x → OneReading Q (next x)) → OnePart Q (Continues next found)
+after_one P next (Ok found) fine rest = rest found.0 fine found.1
+after_one P next (Err fault) fine rest = record { one = exact (Err fault) fine }
+
+-- one reading after another
+pub then_one : {A B : Type 0} {P : A → Type 0} {Q : B → Type 0} (first : Reading A) (next : A → Reading B)
+    → OneReading P first → ((x : A) → P x → OneReading Q (next x)) → OneReading Q (first >>= next)
+then_one {A} {B} {P} {Q} first next one rest place =
+    let found = (one place).one in
+    let more = (after_one {Q = Q} P next found.answer found.keeps rest).one in
+    record {
+      one = record {
+        answer = more.answer;
+        says = (found.answer, (found.says, more.says));
+        keeps = more.keeps;
+        only = λ other p. more.only other (subst (λ (r : Result (A × Rest) Fault). Continues next r other) (found.only p.0 p.1.0) p.1.1);
+      };
+    }
+
+pub said_one : {A : Type 0} {P : A → Type 0} (x : A) → P x → OneReading P (say x)
+said_one x keeps place = record { one = exact (Ok (x, place)) keeps }
+
+pub perhaps_one : {A : Type 0} {P : A → Type 0} (there : Bool) (reading : Reading A) → OneReading P reading → OneReading (λ (o : Option A). IfSome o P) (perhaps there reading)
+perhaps_one {A} {P} true reading one = then_one reading (λ (x : A). say (Some x)) one (λ x keeps. said_one (Some x) keeps)
+perhaps_one {A} {P} false reading one = said_one None tt
+
+pub before_fine : {A : Type 0} (P : A → Type 0) (place : Rest) (says : Result A Fault) → FineText P says → FineText (λ (found : A × Rest). P found.0) (before place says)
+before_fine P place (Ok x) fine = fine
+before_fine P place (Err fault) fine = fine
+
+-- what is said before a place
+pub before_one : {A : Type 0} {P : A → Type 0} {Says : Result A Fault → Type 0} (place : Rest) → OneText P Says
+    → OnePart P (λ out. (says : Result A Fault) × (Says says × (out ≡ before place says)))
+before_one {A} {P} place one = record { one = made (before place) one (before_fine P place) }
+
+-- a line that was read
+pub of_line_one : {A : Type 0} {P : A → Type 0} {Says : Result A Cause → Type 0} (number : ℕ) → OneLine P Says → OneReading P (of_line number Says)
+of_line_one {A} {P} number one place =
+    record { one = made (λ says. before place (at_line number says)) one (λ says fine. before_fine P place (at_line number says) (at_line_fine P number says fine)) }
+
+sized_one : {A : Type 0} {P : A → Type 0} (Says : List ℕ → Result A Fault → Type 0) (long : Bool) (text : List ℕ) → OneText P (Says text) → OneText P (SizedTextSays Says long text)
+sized_one Says true text one = exact (Err (record { line = 0; cause = TooBig })) too_big_other
+sized_one Says false text one = one
+
+-- a text says one thing where its lines do
+pub text_one : {A : Type 0} {P : A → Type 0} (Says : List ℕ → Result A Fault → Type 0) (text : List ℕ) → OneText P (Says text) → OneText P (TextSays Says text)
+text_one Says text one = sized_one Says (nat_lt TEXT_LIMIT (length text)) text one

@@ -1,0 +1,135 @@
+//! Notes in the form in which callers read and write them: marks of the registers, and levels by the numbers of
+//! variables. A form does not list the inputs, because their ranges are known (docs/PROGRAMS.md).
+
+ghost use Rattle.std.specs.Prelude.{◌≡◌, ◌↔◌, ℕ, ◌<◌, ◌≤◌, IfSome, IsTrue, None, slice_index};
+ghost use Rattle.trlab_code.specs.declared.instruction.Variable.{Variable as AVariable};
+ghost use Rattle.trlab_notes.specs.Notes.{closure, entry};
+ghost use Rattle.trlab_notes.specs.Rows.{AreLevels, known_with, said_in};
+ghost use Rattle.trlab_notes.specs.Stored.{note_of};
+ghost use Rattle.trlab_verify.specs.TableForm.{form_said, said_of, meaning, HasLevels, SaysRanges};
+
+use trlab_code::{Kind, VARIABLES};
+use trlab_notes::{AbstractValue, Stored, entry_levels, entry_said, level_between};
+
+/// The abstract value of a register.
+#[derive(Clone, Copy, PartialEq, Eq)]
+pub enum Mark {
+    /// Unknown: the register may be unset, or hold a number on one path and a flag on another.
+    Unset,
+    /// It holds a number from the first to the second, both included. If the first is above the second, control
+    /// never comes here.
+    Num(u32, u32),
+    /// It holds a flag. `true`: if the flag is true, the side cell is empty.
+    Flag(bool),
+}
+
+/// The knowledge of the values before an instruction, on every path that leads there.
+#[derive(Clone, Copy, PartialEq, Eq)]
+pub struct Note {
+    /// The abstract values of the registers `r0` to `r7`.
+    pub regs: [Mark; 8],
+    /// The order of the variables: `levels[x][y]` is 1 if variable x is at most variable y, 2 if it is below,
+    /// and 0 if nothing is known beyond the ranges. The variables are `r0` to `r7`, speed, limit, gap, sidegap,
+    /// sideback, lane and headspeed. Entries with x = y, or of a variable that is not a number, are not used.
+    pub levels: [[u8; VARIABLES]; VARIABLES],
+    /// Is the side cell known to be empty?
+    pub side: bool,
+}
+
+/// The abstract value of a mark.
+fn said_by(mark: Mark) -> AbstractValue
+    ensures { result ≡ said_of mark }
+{
+    match mark {
+        Mark::Unset => AbstractValue::Nothing,
+        Mark::Num(low, high) => AbstractValue::Between(low, high),
+        Mark::Flag(imp) => AbstractValue::Implies(imp),
+    }
+}
+
+/// The mark of an abstract value.
+fn mark_of(said: AbstractValue) -> Mark
+    ensures { said_of result ≡ said }
+{
+    match said {
+        AbstractValue::Nothing => Mark::Unset,
+        AbstractValue::Between(low, high) => Mark::Num(low, high),
+        AbstractValue::Implies(imp) => Mark::Flag(imp),
+    }
+}
+
+/// The abstract values of a form's variables, in the order of their numbers.
+fn variables(kind: Kind, form: &Note) -> [AbstractValue; VARIABLES]
+    ensures { (x : AVariable) → said_in result x ≡ form_said kind form.now x }
+{
+    let mut variables = entry_said(kind);
+    for x in 0..8 {
+        variables[x] = said_by(form.regs[x]);
+    }
+    variables
+}
+
+/// Whether no level of the variable with the number x that is looked at is above 2.
+fn has_levels_from(said: &[AbstractValue; VARIABLES], levels: &[u8; VARIABLES], x: usize) -> bool
+    requires { x < VARIABLES }
+    ensures { IsTrue result ↔ ((y : ℕ) → y < VARIABLES →
+        known_with said.now x y (slice_index levels.now y) ≤ 2) }
+{
+    for y in 0..VARIABLES {
+        if level_between(said[x], said[y], x == y, levels[y]) > 2 {
+            return false;
+        }
+    }
+    true
+}
+
+/// Whether no level that is looked at is above 2.
+fn has_levels(said: &[AbstractValue; VARIABLES], levels: &[[u8; VARIABLES]; VARIABLES]) -> bool
+    ensures { IsTrue result ↔ AreLevels said.now levels.now }
+{
+    for x in 0..VARIABLES {
+        if !has_levels_from(said, &levels[x], x) {
+            return false;
+        }
+    }
+    true
+}
+
+/// The note that a form means, stored; none if a level above 2 is used.
+pub fn read(kind: Kind, form: &Note) -> Option<Stored>
+    ensures none { result ≡ None → ¬ (HasLevels (meaning kind form.now)) }
+    ensures some { IfSome result (λ stored. HasLevels (meaning kind form.now)) }
+    ensures stored { IfSome result (λ stored. note_of stored ≡ closure (meaning kind form.now)) }
+{
+    let said = variables(kind, form);
+    if !has_levels(&said, &form.levels) {
+        return None;
+    }
+    Some(Stored::new(said, &form.levels, form.side))
+}
+
+/// The form of a note that has the ranges of the inputs.
+pub fn write(kind: Kind, note: &Stored) -> Note
+    requires { SaysRanges kind (note_of note.now) }
+    ensures { meaning kind result ≡ note_of note.now }
+{
+    let mut regs = [Mark::Unset; 8];
+    for x in 0..8 {
+        regs[x] = mark_of(note.said[x]);
+    }
+    Note {
+        regs,
+        levels: note.levels(),
+        side: note.side,
+    }
+}
+
+/// The form of the first instruction's note: its order is that at the start.
+pub fn first_note(kind: Kind) -> Note
+    ensures { meaning kind result ≡ entry kind }
+{
+    let mut note = write(kind, &Stored::entry(kind));
+    let levels = entry_levels();
+    note.levels = levels;
+    note
+}
