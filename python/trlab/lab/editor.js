@@ -11,7 +11,7 @@ export function messageOf({ error, facts, repairs }) {
   const { kind, number, meaning, reason, expected, found, advice } = error;
   return [
     `${kind === "cause" ? "Cause" : "Reason"} ${number}: ${meaning}`, reason && `${reason.instruction}\nReason ${reason.number}: ${reason.meaning}`,
-    ...expected.map((it, k) => `${k ? "or" : "Expected:"} ${it}`), found && `Found: ${found}`, facts.length && `Known before it: ${facts.join("; ")}.`,
+    ...expected.map((it, k) => `${k ? "or" : "Expected:"} ${it}`), found && `Found: ${found}`, facts.length && `Known before it: ${facts.join("; ").replace(/\.$/, "")}.`,
     advice && `Advice: ${advice}`, ...repairs.filter(it => it.command).map(it => it.why),
   ].filter(Boolean).join("\n");
 }
