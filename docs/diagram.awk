@@ -103,8 +103,8 @@ END {
     height = highest > 0 ? highest * 1.05 : 1
     print "<svg xmlns=\"http://www.w3.org/2000/svg\" viewBox=\"0 0 580 400\" font-family=\"sans-serif\" font-size=\"13\">"
     print "<rect width=\"580\" height=\"400\" fill=\"white\"/>"
-    if (is_series) axes("time, steps", "mean distance per car, cells")
-    else axes("density, cars per cell", "flow, cars per step")
+    if (is_series) axes("time (steps)", "mean distance per car (cells)")
+    else axes("density (cars per cell)", "flow (cars per step)")
     for (t = 1; t <= tables; t++) {
         curve(t)
         if (label[t] != label[t - 1]) legend(label[t])

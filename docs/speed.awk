@@ -23,6 +23,15 @@ $1 ~ /^[a-z]+[0-9 ]+$/ && $column["cells"] == 100000 && $column["cars"] == 30000
     }
 }
 
+# A rule as its line in a file, and as probabilities: `nasch 536870912 (p = 0.25)`.
+function title(line,  word, words, symbol, shown, k) {
+    words = split(line, word, " ")
+    split(word[1] == "rickert" ? "p c" : "p p0", symbol, " ")
+    for (k = 2; k <= words; k++)
+        shown = shown (k > 2 ? ", " : "") sprintf("%s = %.6g", symbol[k - 1], word[k] / 2147483648)
+    return sprintf("%s (%s)", line, shown)
+}
+
 function across(x) { return left + (right - left) * x / slowest }
 
 function text(x, y, anchor, what,  more) {
@@ -31,7 +40,7 @@ function text(x, y, anchor, what,  more) {
 
 # The bars of a rule below its name; returns where the next rule begins.
 function bars(r, y,  k) {
-    text(left, y, "start", rule[r], " font-weight=\"bold\"")
+    text(left, y, "start", title(rule[r]), " font-weight=\"bold\"")
     y += 6
     for (k = 1; k <= colors; k++) {
         if (!time[r, k]) continue

@@ -6,14 +6,14 @@ L. W. Schruben, H. Singh and L. Tierney, Optimal tests for initialization bias i
     z = -sqrt(45) / (n^1.5 sigma) * sum over k from 1 to n of (1 - k / n) S(k)
 
 It gives most weight to the beginning. For a long stationary series it has the standard normal distribution, if sigma^2 / n
-is the variance of the mean. Here sigma is estimated from the last half of the series, where a start is felt least, by the
-means of 20 batches of consecutive windows; so `p` is that of Student's distribution with 19 degrees of freedom.
+is the variance of the mean. Here sigma is estimated from the last half of the series, which the initial state affects
+least, with the means of 20 batches of consecutive windows. So `p` follows Student's distribution with 19 degrees of freedom.
 
 The batches must be nearly independent: a batch, which is 1/40 of the series, must be longer than the time after which the
-flow forgets a fluctuation. Otherwise the test finds drifts where there are none. A small `p` means that the start is still
-felt: leave out more steps (`first`). A large `p` does not prove that nothing drifts, because a drift that is much smaller
-than the noise of the series goes unnoticed. Then test several series under different keys: if none drifts, the sum of their
-`z`, divided by the square root of their number, has nearly the standard normal distribution."""
+flow forgets a fluctuation. Otherwise the test reports drifts that do not exist. A small `p` means that the initial state
+still matters: leave out more steps (`first`). A large `p` does not prove that nothing drifts, because the test misses a
+drift much smaller than the noise. Then test several series with different keys: if none drifts, the sum of their `z`,
+divided by the square root of their number, has nearly the standard normal distribution."""
 from __future__ import annotations
 
 from itertools import accumulate

@@ -62,7 +62,7 @@ def write_texts(
 
     A task passes `per_task` inputs to the program with these words, for example `["series", "--every", "100"]`, and
     writes `folder/NAME.csv` (`folder/NAME.out` for `run`). A result is complete or absent, even if a task is killed;
-    a task that is started again skips finished inputs. Slurm's messages go to `folder/slurm-*.out`. If the cluster
+    a restarted task skips finished inputs. Slurm's messages go to `folder/slurm-*.out`. If the cluster
     limits the number of tasks, often to 1001, increase `per_task`. Without Slurm, `sh folder/array.sh` runs all
     inputs in sequence, and GNU parallel runs N tasks side by side:
 
@@ -96,8 +96,8 @@ def write_texts(
 def read_tables(
     folder: Union[str, Path], kind: type[Row], texts: Optional[Mapping[str, Union[Job, Sweep]]] = None
 ) -> Dict[str, Table[Row]]:
-    """The tables `folder/NAME.csv` of such tasks by name; `kind` is `Point` or `Window`. With the `texts` of
-    `write_texts` the tables have their order, and each must be whole: one `ValueError` names every missing, empty,
+    """Read the tables `folder/NAME.csv` of these tasks, by name; `kind` is `Point` or `Window`. With the `texts` of
+    `write_texts` the tables come in their order, and each must be whole: one `ValueError` names every missing, empty,
     short or damaged file. Without `texts` every table of the folder is read, and a table that ends after a whole row
     counts as whole."""
     place = Path(folder).expanduser()

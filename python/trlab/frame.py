@@ -22,8 +22,8 @@ Columns = Dict[str, Any]
 
 
 class Frame(Sequence[Any]):
-    """Rows with the same columns: `frame[0].flow` is a number, `for row in frame` works. `columns` are the names of all
-    columns, and `axes` of those that identify a row: the parameters, and `step`, `density` or `point` if a choice has
+    """Rows with the same columns: `frame[0].flow` is a number, `for row in frame` works. `columns` has the names of all
+    columns; `axes` has the names that identify a row: the parameters, and `step`, `density` or `point` if a choice has
     several rows. `errors` maps choices to the exceptions that were kept."""
 
     def __init__(
@@ -62,9 +62,9 @@ class Frame(Sequence[Any]):
 
     def means(self, axis: str, of: Optional[Iterable[str]] = None) -> Frame:
         """The means along an axis, for example `frame.means("seed")`: one row for each choice of the other axes. Every
-        column of numbers, or every column in `of`, holds its mean, and `NAME_error` the standard error: the standard
-        deviation of the n values divided by the square root of n, NaN if n is 1. `count` is n. Errors assume
-        independent values, such as those of different keys. A column of strings is kept if it has one string per row
+        column of numbers (or every column in `of`) holds its mean, and `NAME_error` its standard error. This is the
+        standard deviation of the n values divided by the square root of n, NaN if n is 1. `count` is n. Errors assume
+        independent values, for example from different keys. A column of strings is kept if it has one string per row
         of the result."""
         if axis not in self.axes:
             raise ValueError(f"{axis!r} is not an axis of the frame: these are {', '.join(self.axes)}")

@@ -31,12 +31,12 @@ class Grid:
         for row in frame.means("seed"):
             print(row.chance, row.density, row.flow, row.flow_error)
 
-    `make` gets each parameter by name, and `key`, a number below 2**256. Values are numbers or strings; others, such
-    as rules, need names, which frames show: `rule={"nasch": Nasch(0.25), "slow": SlowToStart("1/64", 0.75)}`.
+    `make` gets each parameter by name, and `key`, a number below 2**256. Values are numbers or strings. Other values,
+    such as rules, need names, which frames show: `rule={"nasch": Nasch(0.25), "slow": SlowToStart("1/64", 0.75)}`.
 
-    The key depends only on the names and values of the parameters (`key_for`): a choice keeps its key if the grid
+    The key depends only on the names and values of the parameters (`key_for`). A choice keeps its key if the grid
     grows, and different choices have independent random numbers. With another key in `make`, for example `key=seed`,
-    choices of one seed share their random numbers, and differences are less noisy."""
+    choices with the same seed share their random numbers, and differences are less noisy."""
 
     def __init__(self, make: Callable[..., Any], /, **parameters: Union[Iterable[Any], Mapping[str, Any]]) -> None:
         values = {name: _named_values(name, given) for name, given in parameters.items()}
@@ -58,7 +58,7 @@ class Grid:
 
     def run(self, **options: Any) -> Frame:
         """Run all inputs, with the options of `trlab.results`, and return one frame. A result is a table, a number, a
-        named tuple or mapping, or a list of those, with one row each. With `errors="keep"`, choices without a result
+        named tuple, a mapping, or a list of these, with one row each. With `errors="keep"`, choices without a result
         are in `frame.errors`."""
         found = dict(self.results(**options))
         return frame_of({choice: found[choice] for choice in self.inputs}, self.names)
@@ -69,7 +69,7 @@ class Grid:
         return dict(zip(self._file_names(), self.inputs.values()))
 
     def frame(self, results: Mapping[str, Any]) -> Frame:
-        """One frame of results by the names of `texts`, for example those of `read_tables`."""
+        """One frame of results by the names of `texts`, for example from `read_tables`."""
         return frame_of({choice: results[name] for name, choice in zip(self._file_names(), self.inputs)}, self.names)
 
     def _file_names(self) -> List[str]:

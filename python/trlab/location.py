@@ -24,13 +24,13 @@ _ON_PATH = "TRLAB_FOUND_ON_PATH"
 def find_program() -> str:
     """The path of the program, which is the first of these:
 
-    1. the one in the environment variable `TRLAB`, a path that may be relative or begin with `~`;
-    2. that of the installed package, unpacked on first use into `$XDG_CACHE_HOME/trlab` or `~/.cache/trlab`, and
-       compared with its SHA-256;
-    3. that of the checkout, as `./trlab` finds it;
+    1. the environment variable `TRLAB`, a path that may be relative or begin with `~`;
+    2. the program of the installed package, unpacked on first use into `$XDG_CACHE_HOME/trlab` or `~/.cache/trlab`,
+       and compared with its SHA-256;
+    3. the program of the checkout, as `./trlab` finds it;
     4. `trlab` on the `PATH`.
 
-    Raises `FileNotFoundError` if there is none, and `ValueError` if `TRLAB` names something else than trlab."""
+    Raises `FileNotFoundError` if none is found, and `ValueError` if `TRLAB` names something else."""
     named = os.environ.get("TRLAB")
     return _named(named) if named else _packed() or _of_checkout() or _on_path() or _nowhere()
 

@@ -75,7 +75,7 @@ def results(
       iterator, for example `lambda job: job.series(every=100, first=1000)`.
     - `cache` is a folder that keeps the outputs of the program. If a run is interrupted, even by `kill -9`, start it
       again with the same folder: finished outputs are read, and `call` is applied to them again. Files are named by
-      the SHA-256 of arguments, input and program, so a change never gets an old result; damaged files are never used.
+      the SHA-256 of arguments, input and program, so a change never gets an old result; damaged files are not used.
       Several runs, also on several machines, may share a folder.
     - `executor` is any executor of `concurrent.futures`, which you shut down yourself; by default each thread waits
       for one process of the program. With other processes (`ProcessPoolExecutor`, dask's `client.get_executor()`,
@@ -104,7 +104,7 @@ def results(
 
 def map(call: Callable[[Text], Result], texts: Iterable[Text], at_once: Optional[int] = None) -> List[Result]:
     """Apply `call` to every input and return the results in order, for example `map(Sweep.sweep, sweeps)`. `at_once` is
-    that of `results`. If a call raises an exception, the others are stopped and it is raised."""
+    as in `results`. If a call raises an exception, the other calls are stopped and it is raised."""
     found = dict(results(list(texts), call, at_once=at_once))
     return [found[place] for place in range(len(found))]
 

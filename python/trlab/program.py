@@ -21,10 +21,11 @@ class Refused(Exception):
     - `answer`: the output of the command, for example `fault line 5 cause 2`;
     - `line`, from 1 (0: the input is too long), and its rejected bytes `first` to `last`, from 1 (None: the whole
       line);
-    - `cause`: the error number of an input, and `reason`: that of a program, which may be a part of it; or None;
+    - `cause`: the error number of an input, or None; `reason`: the verifier's, also for a program within an input, or
+      None;
     - `pc`: the rejected instruction of a program, from 0, or None;
     - `meaning`, and `found` and `advice`, which may be None;
-    - `expected`: a list of strings; `facts`: a list of those known before the rejected instruction;
+    - `expected`: a list of strings; `facts`: a list of the facts known before the rejected instruction;
     - `repairs`: a list of dicts with `why`, and `edits` or else a `command` that accepts the input. An edit is a dict:
       the bytes `first` to `last` of `line` become `replacement`, which is inserted before `first` if `last` is
       `first` - 1."""

@@ -85,7 +85,7 @@ class _WindowColumns(NamedTuple):
 class Window(_WindowColumns, _Counted):
     """A row of a series: the counts of the `steps` steps that end with the snapshot of `step`, with the units and
     properties of a `Point`. `cars0`, `distance0` and `stopped0` are sums over the snapshots after these steps: the
-    cars on lane 0, their speeds, and the stopped ones; the last three are those of lane 1."""
+    cars on lane 0, their speeds, and the stopped cars. The last three are for lane 1."""
 
     __slots__ = ()
 
@@ -109,8 +109,8 @@ class Table(ResultList[Row]):
 
     @classmethod
     def read(cls, kind: Type[Row], text: Union[str, bytes]) -> Table[Row]:
-        """The output of `trlab sweep` (`kind` is `Point`) or `trlab series` (`Window`). Raises `ValueError` with the
-        line if it is anything else, or cut off."""
+        """Read the output of `trlab sweep` (`kind` is `Point`) or `trlab series` (`Window`). Raises `ValueError` with
+        the line if it is anything else, or cut off."""
         plain = text if isinstance(text, str) else text.decode()
         return cls(kind, WrittenRows(kind, plain.replace("\r\n", "\n") if "\r" in plain else plain))
 
@@ -148,7 +148,7 @@ class Table(ResultList[Row]):
 
     def plot(self, name: str = "") -> Figure:
         """The fundamental diagram of a sweep, averaged by density with error bars of two standard errors, or the flow of
-        a series against the step. Notebooks show it; `trlab.figure.diagram` compares tables."""
+        a series against the step. Notebooks show it; `trlab.figure.diagram({"name": table})` compares tables."""
         from .figure import diagram
 
         return diagram({name: self})
@@ -166,7 +166,7 @@ class Table(ResultList[Row]):
 
 
 class Pictures(ResultList[Picture]):
-    """The snapshots of a run, as a list that takes one byte per cell: a `Picture` is made each time you ask for one."""
+    """The snapshots of a run, as a list that takes one byte per cell: each access makes a `Picture`."""
 
     def __init__(self, pictures: Iterable[Picture] = ()) -> None:
         self._held = pictures if isinstance(pictures, WrittenPictures) else list(pictures)
@@ -182,7 +182,7 @@ class Pictures(ResultList[Picture]):
 
     @classmethod
     def read(cls, text: Union[str, bytes]) -> Pictures:
-        """The output of `trlab run`. Raises `ValueError` with the line if it is anything else, or cut off."""
+        """Read the output of `trlab run`. Raises `ValueError` with the line if it is anything else, or cut off."""
         plain = text.encode() if isinstance(text, str) else text
         return cls(read_pictures(plain.replace(b"\r\n", b"\n") if b"\r" in plain else plain))
 
@@ -236,7 +236,7 @@ class Pictures(ResultList[Picture]):
         return page_of(self, limit, title)
 
     def trajectories(self) -> Trajectories:
-        """The trajectory of every car. Raises `ValueError` unless the snapshots are those of consecutive steps of one
+        """The trajectory of every car. Raises `ValueError` unless the snapshots are from consecutive steps of one
         run (or of a part, such as `job.run()[1000:]`)."""
         from .following import trajectories_of
 

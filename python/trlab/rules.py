@@ -23,7 +23,7 @@ class Nasch:
 @dataclass(frozen=True)
 class SlowToStart:
     """Barlovic, Santen, Schadschneider and Schreckenberg (1998). `brake` is the braking probability of moving cars,
-    `stopped` that of stopped cars, 0 to 1."""
+    `stopped` of stopped cars, 0 to 1."""
 
     brake: Chance
     stopped: Chance

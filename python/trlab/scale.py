@@ -7,8 +7,8 @@ from math import isfinite
 
 @dataclass(frozen=True)
 class Scale:
-    """The length of a cell in metres and the duration of a step in seconds, by default those of Nagel and Schreckenberg
-    (1992), with which one cell per step is 27 km/h. The methods take numbers or arrays of numpy:
+    """The length of a cell in metres and the duration of a step in seconds, by default as in Nagel and Schreckenberg
+    (1992): one cell per step is 27 km/h. The methods take numbers or arrays of numpy:
 
         Scale().kilometres_per_hour(5)                  # 135.0
         Scale().vehicles_per_hour(point.passing)"""

@@ -23,7 +23,7 @@ PLACEMENTS = ("even", "jam", "random")
 @dataclass(frozen=True)
 class Start:
     """An initial state: `even`, `moving`, `jam` or `random(seed)`. `placement` is "even", "jam" or "random"; `speed` and
-    `seed` are those of `random`."""
+    `seed` are as in `random`."""
 
     placement: str
     speed: Optional[int] = 0
@@ -83,7 +83,8 @@ jam = Start("jam")
 
 def random(seed: int, speed: Optional[int] = 0) -> Start:
     """Uniformly random cells, the same in every version of Python. `seed`, 0 to 2**256 - 1, is independent of `key`.
-    `speed` is the initial speed of all cars in cells per step; None means the maximum speed."""
+    `speed` is the initial speed of all cars in cells per step; None means the maximum speed. Import `random` by name:
+    `from trlab import *` leaves it and `map` out."""
     return Start("random", speed, seed)
 
 

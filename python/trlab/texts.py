@@ -17,12 +17,12 @@ from .units import MOST_CARS, MAX_CELLS, MOST_SPEED, MAX_STEPS, Density, Key, ca
 class Job:
     """A road, a rule and a number of steps.
 
-    The road has `lanes` lanes of `length` cells (at most 100,000), with `cars` cars in total or the number nearest to
-    `density`, placed as `start` says. Or `start` is the road itself, and these four are left out: a list of speeds by
-    cell, in cells per step, with None or -1 for an empty cell; two such lists for two lanes.
+    The road has `lanes` lanes of `length` cells (at most 100,000). `cars` cars in total, or the number nearest to
+    `density`, are placed in the initial state `start`. Or leave out these four and let `start` be the road: a list of
+    speeds by cell (cells per step; None or -1 for an empty cell), or two such lists.
 
     `limit` is the maximum speed in cells per step, 1 to 35. `at` maps steps to the rules that take over then. A job
-    of more than 500,000 steps runs as several inputs, each of which continues the previous one. If the program
+    of more than 500,000 steps runs as several inputs, each of which continues the previous input. If the program
     rejects the job, `Refused` is raised when it runs."""
 
     limit: int
@@ -78,8 +78,8 @@ class Job:
         return _text(lines)
 
     def run(self, workers: int = 1, every: int = 1, first: int = 0) -> Pictures:
-        """The snapshots of step 0 and after each step, or only of the steps `first`, `first + every` and so on; the
-        others are never made, so a long run fits in memory:
+        """The snapshots of step 0 and after each step, or only of the steps `first`, `first + every` and so on. Other
+        snapshots are never made, so a long run fits in memory:
 
             job.run(every=100, first=5000).space_time()
 
@@ -102,9 +102,8 @@ class Job:
         return Table.read(Window, ask(["series", *_shown(every, first, workers)], self.text()))
 
     def continued(self, picture: Picture, key: Optional[Key] = None, steps: Optional[int] = None) -> Job:
-        """A job of `steps` steps, by default as many as this one, that begins with the road of `picture`, the last
-        snapshot of this job or any other one. Its steps count from 0 again; the rule in force at the snapshot's step
-        and the later rules of `at` apply at the same times.
+        """A job that continues from `picture`, the last snapshot of this job or any other, for `steps` steps, by default
+        as many as this job has. Its steps count from 0 again, and `at` is shifted to match.
 
         The default `key` is derived (see `Key`) from `trlab continued KEY STEP`, with the snapshot's step. This job's
         own key would draw the random numbers of its first steps again.
@@ -133,9 +132,8 @@ class Sweep:
     **An even initial state biases the mean** for thousands of steps, by up to 0.3 percent with `warm=3000` (see
     STUDIES.md). If the third digit matters, sweep from `random` states too and choose a `warm` for which they agree.
 
-    An even sweep of at most 200 points and, of all points together, 500,000 steps is a single input, `.text()`; a
-    larger one runs as its `.parts()`. From any other state, or if `warm + measure` is above 500,000, every point is a
-    job of `.jobs()`."""
+    An even sweep of at most 200 points and 500,000 steps in total is a single input, `.text()`; a larger sweep runs as
+    its `.parts()`. From any other state, or if `warm + measure` is above 500,000, every point is a job of `.jobs()`."""
 
     limit: int
     rule: Rule
@@ -184,20 +182,20 @@ class Sweep:
         counts = self.counts()
         for cars in counts:
             if self.lanes == 2 and cars > 1 and self.length % cars == 0:
-                warnings.warn(f"all {cars} cars start on lane 0: their count divides the length")
+                warnings.warn(f"all {cars} cars start on lane 0: their number divides the lane length")
         lines = ["sweep 1", f"key {key_digits(self.key)}", f"limit {self.limit}", f"length {self.length}"]
         lines += [f"lanes {self.lanes}", *self.rule.lines(), f"warm {self.warm}", f"measure {self.measure}"]
         return _text(lines + [f"cars {cars}" for cars in counts])
 
     def parts(self) -> List[Sweep]:
-        """The largest sweeps within the limits of one input that together are this sweep. The first has this sweep's
-        key; part n, from 1 on, has the key derived from `trlab part KEY n`, because point i of an input draws the
-        random numbers of road i. Raises `ValueError` if the points are jobs."""
+        """This sweep, split into the largest sweeps that fit into one input. The first has this sweep's key. Part n,
+        from 1 on, has the key derived from `trlab part KEY n`, because point i of an input draws the random numbers of
+        road i. Raises `ValueError` if the points are jobs."""
         return sweeping.parts(self)
 
     def jobs(self) -> List[Job]:
         """One job per point, of `warm + measure` steps: its `series(every=measure, first=warm)` is the point's row.
-        Point i, from 0 on, has the key derived from `trlab point KEY i`, and for `random(seed)` the seed derived from
+        Point i, from 0 on, has the key derived from `trlab point KEY i`. The seed of `random(seed)` is derived from
         `trlab seed SEED i`, read as a hexadecimal number. Jobs of an even sweep draw other random numbers than its
         `.text()`."""
         return sweeping.jobs(self)
@@ -240,7 +238,7 @@ def _shown(every: int, first: int, workers: int) -> List[str]:
 
 
 def explain(text: Union[str, Job, Sweep]) -> str:
-    """The text of `trlab explain`: the error in an input and how to fix it, or the work of a valid one."""
+    """The output of `trlab explain`: the error in an input and how to fix it, or the work of a valid input."""
     return explained(text if isinstance(text, str) else text.text()).stdout.rstrip("\n")
 
 

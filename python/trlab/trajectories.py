@@ -1,4 +1,4 @@
-"""Trajectories: which car is which in the pictures of a run, and what follows from that.
+"""Trajectories: the paths of single cars in the snapshots of a run, and measurements on them.
 
 The results are arrays if numpy is installed, otherwise lists of lists. Both are indexed `[step][car]`."""
 from __future__ import annotations
@@ -25,7 +25,7 @@ class Jam(NamedTuple):
 
 
 class Trip(NamedTuple):
-    """A trip of `car`: it passes the first detector in step `start`, and the second one `time` steps later."""
+    """A trip of `car`: it passes the first detector in step `start`, and the second `time` steps later."""
 
     car: int
     start: int
@@ -38,7 +38,7 @@ class Trajectories:
 
     A `Grid` holds whole numbers indexed `[step][car]`: an array of 32-bit integers if numpy is installed, otherwise a
     list of lists. Row 0 is the step `first`. `cell` is 0 to `length` - 1. `distance` is the cell in row 0 plus all
-    speeds since, not wrapped round the ring. `speed` is in cells per step: the car drove this far in the step before."""
+    later speeds, not wrapped round the ring. `speed` is the cells that the car drove in the previous step."""
 
     first: int
     length: int
@@ -69,7 +69,7 @@ class Trajectories:
         return [_ahead(row, places, self.lanes) for row in self._rows("lane", "cell")]
 
     def headways(self) -> Grid:
-        """The empty cells between each car and the next one on its lane, 0 to `length` - 1 (the car itself)."""
+        """The empty cells between each car and the next car on its lane, 0 to `length` - 1 (the car itself)."""
         if self._by_numpy:
             return self._by_numpy.gaps(self, self.ahead())
         return [
@@ -106,7 +106,7 @@ class Trajectories:
         return trips
 
     def jams(self) -> List[Jam]:
-        """The jams by their first step: connected components of stopped cars in space and time. Two stopped cars are
+        """The jams in order of first step: connected components of stopped cars in space and time. Two stopped cars are
         connected if they are neighbours on a lane in the same step, or the same car in consecutive steps. Leave jams
         with `is_cut` out of a mean, or make the run much longer than a jam."""
         last_row = len(self) - 1
@@ -124,9 +124,9 @@ class Trajectories:
         return [part.jam(self.first, last_row) for part in parts.values()]
 
     def speed_correlation(self, places: int = 0, later: int = 0) -> float:
-        """Pearson's correlation, -1 to 1, over all cars and steps, of the speed of a car and that of the car `places`
-        places ahead, `later` steps later: in space with `places=k`, in time with `later=t`. NaN if one of the speeds
-        does not vary. Raises `ValueError` if `later` is not between 0 and the number of steps."""
+        """Pearson's correlation, over all cars and steps, of a car's speed with the speed of the car `places` places
+        ahead, `later` steps later. Use `places=k` for space and `later=t` for time. NaN if a speed does not vary.
+        Raises `ValueError` if `later` is not between 0 and the number of steps."""
         if not 0 <= later < len(self):
             raise ValueError(f"later must be between 0 and {len(self) - 1}, not {later}")
         sums = self._by_numpy.sums_of_speeds if self._by_numpy else Trajectories._sums

@@ -15,9 +15,9 @@ Density = Chance
 """Cars per cell, 0 to 1, written like a probability."""
 
 Key = Union[int, str]
-"""The seed of the random numbers: a whole number from 0 to 2**256 - 1, or 64 hexadecimal digits. A key that is derived,
-for example from `trlab part KEY 3`, is the SHA-256 of these ASCII characters, with KEY as 64 lower-case hexadecimal
-digits and the number in decimal."""
+"""The seed of the random numbers: a whole number from 0 to 2**256 - 1, or 64 hexadecimal digits. A derived key, for
+example from `trlab part KEY 3`, is the SHA-256 of these ASCII characters. KEY has 64 lower-case hexadecimal digits
+there, and the number is decimal."""
 
 ALWAYS = 2**31
 """The number in input files for the probability 1."""

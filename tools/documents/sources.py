@@ -10,6 +10,9 @@ from plain import STAND_INS, content, files_below
 
 COMMENT = re.compile(r"^\s*(?:///?|//!|--) ?(.*)$", re.M)
 CODE = re.compile(r"`[^`]*`")
+EXAMPLE = re.compile(r"^ *//[/!] ```(?:text)?\n(.*?)^ *//[/!] ```$", re.M | re.S)
+DOC_MARK = re.compile(r"^ *//[/!]", re.M)
+REMARK = re.compile(r"//.*$", re.M)
 DIALECT = re.compile(
     r"\b(?:so many|so much|go(?:es)? by|tells?|hand(?:s|ed)? (?:on|back)|whoever|in vain|by the clock|anew|mends?|"
     r"memory (?:ran|runs) out|where an? \w+ (?:fails|was refused)|in place of)\b",
@@ -19,13 +22,9 @@ TYPE = re.compile(r"^\s*(?:pub(?:\([a-z]+\))? )?(?:struct|enum|trait) (\w+)", re
 DEFINITION = re.compile(r"^(?:(?:abbrev|unfoldable|opaque) )*pub (?:record |data )?(\w+)(?= |$)", re.M)
 NO_DEFINITION = {"mod", "use", "record", "data"}
 # Stand-ins per 1000 words of comments; pages may have MAX_STAND_INS.
-MAX_IN_COMMENTS = 16
-# Names that still mean two things, in crates that have little to do with each other. Rename one and take it out; add none.
-TWICE = set(
-    "Named Rejection Adds Draws HasCounts HasNumber HasSeen IsFirstFault IsFresh IsReadOf IsSame Makes Says "
-    "Shows kinds_of least_of name_of number_in number_of parts_of seed_of sheet_of start start_of subhistory_of "
-    "subject_named times".split()
-)
+MAX_IN_COMMENTS = 10
+# Names that still mean two things. Rename one and take it out; add none.
+TWICE = {"IsFirstFault", "Rejection", "Says", "Shows"}
 
 
 def crate_of(path):
@@ -60,6 +59,34 @@ def names_are_of_one_thing():
         yield not new, f"{kind}s of one name: {new}"
 
 
+def without_layout(code):
+    """Code without remarks and spaces, so that it does not matter how it is divided into lines."""
+    return re.sub(r",(?=[)\]}])", "", re.sub(r"\s", "", REMARK.sub("", code)))
+
+
+def has_in_order(code, lines):
+    at = 0
+    for line in lines:
+        at = code.find(line, at) + len(line)
+        if at < len(line):
+            return False
+    return True
+
+
+def examples_are_compiled():
+    files = sources("src", ".rt")
+    compiled = [(crate_of(path), without_layout(content(path))) for path in files]
+    for path in files:
+        crate, name, examples = crate_of(path), os.path.relpath(path, TOP), EXAMPLE.findall(content(path))
+        if path.endswith("src/lib.rt") and not crate.endswith("_tests"):
+            yield bool(examples), f"{name} begins with an example"
+        for example in examples:
+            lines = [without_layout(line) for line in DOC_MARK.sub("", example).splitlines()]
+            found = any(other != crate and has_in_order(code, lines) for other, code in compiled)
+            yield found, f"the example of {name} is compiled in another crate: {lines[0]}"
+
+
 def verdicts():
     yield from comments_are_plain()
+    yield from examples_are_compiled()
     yield from names_are_of_one_thing()

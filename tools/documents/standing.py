@@ -75,6 +75,11 @@ FENCED = re.compile(r"^```.*?^```$", re.M | re.S)
 LINK = re.compile(r"\]\(([^)\s]+)\)")
 # A function that a document names, and the clauses that it names right after it.
 CITED_CLAUSES = re.compile(r"`(?:\w+::)?([a-z]\w*)`(?: \(`trlab_\w+`\))?,? \(?clauses? ((?:`\w+`(?:, | and )?)+)")
+# Records that a document names with fields: "`IsDriven`, fields `start` and `legal`", "field `calls` of `IsCleanStep`".
+LISTED = r"((?:`\w+`(?:, | and )?)+)"
+CITED_FIELDS = re.compile(rf"((?:`[A-Z]\w*`(?: and )?)+)(?: \(`trlab_\w+`\))?[,:] fields? {LISTED}")
+FIELDS_OF = re.compile(rf"\bfields? {LISTED} of (`[A-Z]\w*`)")
+RECORD = re.compile(r"^pub record (\w+)(.*?)(?=^\S|\Z)", re.M | re.S)
 CONTRACT = re.compile(r"\bfn (\w+)(.*?)(?=\n *\{\n|\bfn |\Z)", re.S)
 SHOWN = re.compile(r"^`(crates/[^`]+)`:\n\n```\w*\n(.*?)^```$", re.M | re.S)
 
@@ -270,6 +275,29 @@ def clauses_are_there():
                     yield is_there, f"{document} names the clause `{clause}` of `{function}`, which is not there"
 
 
+@functools.cache
+def fields():
+    """The fields of the records of a name, in all definitions."""
+    found = {}
+    for name in known_files():
+        if name.endswith(".antt"):
+            for record, body in RECORD.findall(content(name)):
+                found.setdefault(record, set()).update(re.findall(r"^  pub (\w+) :", body, re.M))
+    return found
+
+
+def fields_are_there():
+    """Each field that a document names with one or two records is one of them."""
+    for document in documents():
+        if document != OF_OLD:
+            text = re.sub(r"\s+", " ", content(document))
+            cited = CITED_FIELDS.findall(text) + [(record, listed) for listed, record in FIELDS_OF.findall(text)]
+            for records, listed in cited:
+                there = set().union(*(fields().get(record, ()) for record in QUOTED.findall(records)))
+                for field in QUOTED.findall(listed):
+                    yield field in there, f"{document} names the field `{field}` of {records}, which is not there"
+
+
 def pages_are_short():
     """Each page keeps to its word limit. Bars of tables count, as for `wc -w`; a table that a script writes does not."""
     for page, most in MAX_WORDS.items():
@@ -315,6 +343,7 @@ def verdicts():
         files_of_maps_are_there,
         names_are_there,
         clauses_are_there,
+        fields_are_there,
         figure_is_of_the_table,
         pages_are_short,
         lines_are_short,

@@ -1,5 +1,5 @@
--- What program the lines of a text say. The first pass reads them in order, the second gives jumps the pcs of
--- their labels.
+-- The program of a text. The first pass reads its lines in order, the second gives jumps the pcs of their
+-- labels.
 use Rattle.std.specs.Prelude.{◌≡◌, ℕ, ◌+◌, ◌==◌, List, [], ◌∷◌, ◌++◌, length, map, bytes_eq, Option, None, Some, Result, Ok, Err, if◌then◌else◌}
 use Rattle.std.specs.Map.{update}
 use Rattle.trlab_code.specs.Program.{Program}
@@ -12,7 +12,7 @@ use Rattle.trlab_asm.specs.declared.fault.Why.{Why}
 use Rattle.trlab_asm.specs.declared.fault.Why.TheVariants.{Empty, NoLabel, Memory}
 use Rattle.trlab_asm.specs.declared.fault.AsmFault.{AsmFault}
 
--- what a line says, or its fault with the line's number
+-- the result for a line, with the line's number at a fault
 abbrev pub in_line : {A : Type 0} → ℕ → Result A Why → Result A AsmFault
 in_line number (Ok x) = Ok x
 in_line number (Err why) = Err (record { line = number; why = why })
@@ -27,39 +27,39 @@ pub record Parts : Type 0 where
   pub labels : Labels
   pub reads : List LineDraft
 
--- the numbers of the lines of the instructions
+-- the line numbers of the instructions
 abbrev pub line_numbers : Parts → List ℕ
 line_numbers parts = map (λ read. read.line) parts.reads
 
--- those of no line
+-- the parts of an empty text
 abbrev pub no_parts : Parts
 no_parts = record { labels = λ name. None; reads = [] }
 
--- labels with one more at pc, if there is one
+-- labels with one more at pc, if the line has a label
 abbrev pub with_label : Labels → ℕ → Option (List ℕ) → Labels
 with_label labels pc None = labels
 with_label labels pc (Some name) = update bytes_eq labels name (Some pc)
 
--- instructions with one more, if there is one
+-- instructions with one more, if the line has an instruction
 abbrev pub with_draft : List LineDraft → ℕ → Option InstrDraft → List LineDraft
 with_draft reads number None = reads
 with_draft reads number (Some draft) = reads ++ (record { line = number; draft = draft } ∷ [])
 
--- what was read so far, and what one line more says: its label names the next instruction
+-- the parts that were read so far, with one more line: its label names the next instruction
 abbrev pub with_line : Parts → ℕ → Line → Parts
 with_line parts number line = record {
   labels = with_label parts.labels (length parts.reads) line.label;
   reads = with_draft parts.reads number line.draft;
 }
 
--- the first pass: what the lines from a number on say after what was read so far, or the first fault
+-- the first pass: the parts that were read so far, with the lines from a number on, or the first fault
 unfoldable pub first_pass : Parts → ℕ → List (List ℕ) → Result Parts AsmFault
 first_pass parts number [] = Ok parts
 first_pass parts number (line ∷ left) =
     in_line number (line_says parts.labels (length parts.reads) line)
     >>= λ said. first_pass (with_line parts number said) (number + 1) left
 
--- a jump with another target; other instructions have none
+-- a jump with another target; other instructions stay as they are
 abbrev pub with_target : ℕ → Instr → Instr
 with_target pc (Jump t) = Jump pc
 with_target pc (JumpLess a b t) = JumpLess a b pc
@@ -88,13 +88,13 @@ second_pass labels [] = Ok []
 second_pass labels (read ∷ reads) =
     resolve labels read >>= λ instr. second_pass labels reads >>= λ instrs. Ok (instr ∷ instrs)
 
--- the instructions of what was read; none is a fault of no line
+-- the instructions that were read; a text without instructions has a fault without a line
 abbrev pub instrs_of : Parts → Result (List Instr) AsmFault
 instrs_of parts =
     if length parts.reads == 0 then Err (record { line = 0; why = Empty })
     else second_pass parts.labels parts.reads
 
--- the program of this kind that the lines of a text say, numbered from 1, or their first fault
+-- the program of this kind in the lines of a text, which are numbered from 1, or the first fault
 abbrev pub code_of : Kind → List (List ℕ) → Result Program AsmFault
 code_of kind lines = do
   parts ← first_pass no_parts 1 lines

@@ -85,7 +85,7 @@ abbrev pub instr_line : ℕ → Bool → ℕ → Instr → List ℕ
 instr_line count marked pc instr =
     if marked then label_text pc ++ (58 ∷ 32 ∷ instr_text count instr) else instr_text count instr
 
--- the lines of the instructions from a pc on; those that a jump goes to are marked
+-- the lines of the instructions from a pc on; the targets of jumps are marked
 unfoldable pub text_from : List Instr → ℕ → List Instr → List ℕ
 text_from instrs pc [] = []
 text_from instrs pc (instr ∷ left) =

@@ -1,4 +1,4 @@
--- What the operands of instructions have to be.
+-- The kinds of the operands of instructions.
 use Rattle.std.specs.Prelude.{ℕ, ◌-◌, Bool, List, [], ◌∷◌, codes, Option, None, Some, is_some}
 use Rattle.trlab_bounds.specs.declared.programs.TheConstants.{CERTAIN, MAX_NUMBER, WORDS}
 use Rattle.trlab_lines.specs.Cutting.{without_prefix}
@@ -10,7 +10,7 @@ use Rattle.trlab_asm.specs.declared.names.Mnemonic.TheVariants as name
 use Rattle.trlab_asm.specs.declared.operands.OperandKind.{OperandKind}
 use Rattle.trlab_asm.specs.declared.operands.OperandKind.TheVariants.{Register, Result, Number, Divisor, Word, Chance, Input, Target}
 
--- the operands of an instruction, from left to right
+-- the kinds of an instruction's operands, from left to right
 abbrev pub kinds_of : Mnemonic → List OperandKind
 kinds_of name.Num = Result ∷ Number ∷ []
 kinds_of name.Get = Result ∷ Input ∷ []
@@ -43,7 +43,7 @@ range_of Word = Some (0, WORDS - 1)
 range_of Chance = Some (0, CERTAIN)
 range_of other = None
 
--- the digits of `@` and a pc, or a label
+-- digits after `@`, or a label without it
 abbrev pub is_target_after : List ℕ → Option (List ℕ) → Bool
 is_target_after word None = is_label word
 is_target_after word (Some digits) = is_numeral digits

@@ -15,7 +15,7 @@ use Rattle.trlab_asm.specs.declared.fault.Why.TheVariants.{Operand, Number}
 use Rattle.trlab_bounds.specs.declared.programs.TheConstants.{MAX_NUMBER, MAX_DIGITS}
 use Rattle.trlab_bounds.specs.declared.programs.TheConstants.{LONGEST_LABEL}
 
--- the one word of an operand
+-- the only word of an operand
 abbrev pub word : List ℕ → Result (List ℕ) Why
 word text = ok_or (only_word text) Operand
 

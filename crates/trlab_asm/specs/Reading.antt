@@ -1,4 +1,4 @@
--- What a line of a program's text says.
+-- The label and the instruction of a line of a program's text.
 use Rattle.std.specs.Prelude.{ℕ, ◌==◌, List, length, nat_lt, Option, None, Some, ok_or, Result, Ok, Err, if◌then◌else◌}
 use Rattle.trlab_code.specs.declared.instruction.Instr.{Instr}
 use Rattle.trlab_code.specs.declared.instruction.Instr.TheVariants.{Num, Get, Side, Draw, Copy, Add, Sub, Mul, Div, Min, Max, Not, And, Or, Jump, JumpLess, JumpAtMost, JumpTrue, JumpFalse, Go, Cross, Stay}
@@ -80,8 +80,8 @@ draft_of name.Go text = register text >>= λ a. whole_draft (Go a)
 draft_of name.Cross text = no_operand text >>= λ none. whole_draft Cross
 draft_of name.Stay text = no_operand text >>= λ none. whole_draft Stay
 
--- the instruction at pc, from its name and what follows: first the name is judged, then whether a program has
--- room for it, then its operands
+-- the instruction at pc, from its name and the text after it: first the name is judged, then the room that a
+-- program has for it, then its operands
 abbrev pub instruction : ℕ → List ℕ × List ℕ → Result (Option InstrDraft) Why
 instruction pc parts = do
   name ← ok_or (mnemonic_named parts.0) Word
@@ -100,7 +100,7 @@ abbrev pub if_free : List ℕ → Option ℕ → Result (Option (List ℕ)) Why
 if_free text None = Ok (Some text)
 if_free text (Some pc) = Err LabelTwice
 
--- a label that has not been there
+-- a label that is new
 abbrev pub new_label : Labels → List ℕ → Result (Option (List ℕ)) Why
 new_label labels text = if is_label text then if_free text (labels text) else Err Word
 
@@ -109,18 +109,18 @@ abbrev pub label_of : Labels → Option (List ℕ) → Result (Option (List ℕ)
 label_of labels None = Ok None
 label_of labels (Some text) = ok_or (only_word text) Word >>= new_label labels
 
--- what a line says: a label, an instruction, both or none
+-- the content of a line: a label, an instruction, both or neither
 pub record Line : Type 0 where
   pub label : Option (List ℕ)
   pub draft : Option InstrDraft
 
--- what a line says that is cut at its `:`
+-- the content of a line that is cut at its `:`
 abbrev pub parts_say : Labels → ℕ → Option (List ℕ) × List ℕ → Result Line Why
 parts_say labels pc parts = do
   label ← label_of labels parts.0
   draft ← body pc (without_indent parts.1)
   Ok (record { label = label; draft = draft })
 
--- what a line says after these labels, if its instruction is the one at this pc
+-- the content of a line after these labels, whose instruction would be at this pc
 abbrev pub line_says : Labels → ℕ → List ℕ → Result Line Why
 line_says labels pc line = parts_say labels pc (label_and_rest (without_comment line))

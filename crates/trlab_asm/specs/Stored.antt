@@ -1,4 +1,4 @@
--- How the code keeps what the first pass has read: labels in a map, instructions in a list.
+-- How the code keeps the results of the first pass: labels in a map, instructions in a list.
 use Rattle.std.specs.Ordering.{nat_cmp}
 use Rattle.std.specs.Cmp.Lexicographic.{slice_cmp}
 use Rattle.std.specs.BTreeMap as tree

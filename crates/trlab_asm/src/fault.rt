@@ -6,7 +6,7 @@ ghost use Rattle.trlab_asm.specs.declared.fault.Why.TheVariants.{Memory};
 use std::alloc::AllocError;
 use thiserror::Error;
 
-/// What is wrong with a program text, with its number.
+/// The fault of a program text, with its number.
 ///
 /// Lines are read in order. In a line, faults of the label come first, then an unknown instruction, then too
 /// many instructions, then the form of all operands, then their ranges. `Empty` comes after all lines, and then

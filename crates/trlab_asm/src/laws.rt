@@ -5,20 +5,20 @@
 ghost use Rattle.trlab_asm.specs.Laws.{CanonicalTextSaysTheProgram, OneProgramOfAText, TextsSaySomething};
 ghost use Rattle.trlab_asm.specs.Laws.{InputsAreNamed, InstructionsAreNamed, RegistersAreNamed};
 
-/// Each register, input and instruction has one name, which no other one has.
+/// Each register, input and instruction has one name, and no two have the same name.
 pub fn names()
     ensures registers { RegistersAreNamed }
     ensures inputs { InputsAreNamed }
     ensures instructions { InstructionsAreNamed }
 {}
 
-/// Any text says a program or has a first fault, which is never `Memory`.
+/// Any text has a program or a first fault, which is never `Memory`.
 #[tactic(auto, using(crate::proofs::Said::something))]
 pub fn texts_say_something()
     ensures { TextsSaySomething }
 {}
 
-/// The canonical text of a program says this program.
+/// Reading the canonical text of a program returns this program.
 #[tactic(auto, using(crate::proofs::Reread::again))]
 pub fn canonical_text_says_the_program()
     ensures { CanonicalTextSaysTheProgram }

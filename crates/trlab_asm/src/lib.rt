@@ -1,4 +1,9 @@
 //! The text of driver programs: from lines to programs, and back to the one text that is printed.
+//!
+//! ```text
+//! let code = assemble(alloc, Kind::Motion, b"get r0,gap ; all of it\ngo r0").ok()?;
+//! let text = disassemble(alloc, &code).ok()?; // "get r0, gap\ngo r0\n"
+//! ```
 #![tactic(auto)]
 
 mod assembly;

@@ -143,15 +143,15 @@ pub fn mnemonic_text(name: Mnemonic) -> &'static [u8]
     }
 }
 
-/// A value with a name.
-trait Named: Copy {
+/// A value whose name has a text.
+trait HasText: Copy {
     ghost said: { Self → List ℕ };
 
     fn text(self) -> &'static [u8]
         ensures { result.now ≡ said self };
 }
 
-impl Named for Register {
+impl HasText for Register {
     ghost said = { register_text };
 
     fn text(self) -> &'static [u8] {
@@ -159,7 +159,7 @@ impl Named for Register {
     }
 }
 
-impl Named for Input {
+impl HasText for Input {
     ghost said = { input_text };
 
     fn text(self) -> &'static [u8] {
@@ -167,7 +167,7 @@ impl Named for Input {
     }
 }
 
-impl Named for Mnemonic {
+impl HasText for Mnemonic {
     ghost said = { mnemonic_text };
 
     fn text(self) -> &'static [u8] {
@@ -176,7 +176,7 @@ impl Named for Mnemonic {
 }
 
 /// The first of these values with this name.
-fn first_named<X: Named>(all: &[X], word: &[u8]) -> Option<X>
+fn first_named<X: HasText>(all: &[X], word: &[u8]) -> Option<X>
     ensures { result ≡ find (λ x. bytes_eq (X.said x) word.now) all.now }
 {
     all.iter().copied().find(|x| x.text() == word)

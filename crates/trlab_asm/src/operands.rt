@@ -1,4 +1,4 @@
-//! The operands of an instruction, which commas separate: what each has to be, and how they are read.
+//! The operands of an instruction, which commas separate: their kinds, and how they are read.
 
 ghost use Rattle.std.specs.Prelude.{◌≡◌, ◌≤◌, true, IfOk, option_map, Ok, ◌<◌, ok_or};
 ghost use Rattle.trlab_asm.specs.OperandKinds.{kinds_of, range_of, has_form};
@@ -15,7 +15,7 @@ use trlab_bounds::programs::{LONGEST_LABEL, MAX_DIGITS, MAX_NUMBER};
 use trlab_code::{CERTAIN, Input, Register, WORDS};
 use trlab_lines::{cut, digits_value, is_numeral, only_word};
 
-/// What an operand of an instruction has to be.
+/// The kind of an operand: its form, and its range if it is a number.
 #[derive(Clone, Copy, PartialEq, Eq)]
 pub enum OperandKind {
     /// A register that is read.
@@ -24,7 +24,7 @@ pub enum OperandKind {
     Result,
     /// Any number.
     Number,
-    /// A number by which another one is divided.
+    /// A divisor.
     Divisor,
     /// The number of a random word.
     Word,
@@ -70,7 +70,7 @@ impl OperandKind {
     }
 }
 
-/// What the operands of an instruction have to be, from left to right.
+/// The kinds of an instruction's operands, from left to right.
 pub fn operand_kinds(name: Mnemonic) -> &'static [OperandKind]
     ensures { result.now ≡ kinds_of name }
 {

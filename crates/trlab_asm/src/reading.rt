@@ -265,7 +265,7 @@ fn label_of<'a>(labels: &Labels<'a>, text: Option<&'a [u8]>) -> Result<Option<&'
     }
 }
 
-/// Reads a line after these labels, whose instruction, if it has one, is the one at `pc`.
+/// Reads a line after these labels; its instruction, if it has one, is at `pc`.
 pub(crate) fn read_line<'a>(labels: &Labels<'a>, pc: usize, line: &'a [u8]) -> Result<Line<'a>, Why>
     ensures value { result ≡ line_says (pcs labels.now) pc line.now }
     ensures room { IfOk result (λ said. OnSome said.draft (pc < MAX_INSTRUCTIONS)) }

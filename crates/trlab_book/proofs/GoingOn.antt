@@ -11,31 +11,31 @@ use Rattle.trlab_sequential_book.specs.declared.fault.BookFault.{BookFault}
 use Rattle.trlab_sequential_book.specs.declared.fault.BookFault.TheVariants.{Ended, Full, HistoryFull, LanesMismatch, Memory, NoSuchJob, SheetFull, StrangerLease}
 use Rattle.trlab_book.specs.declared.running.RunFault.{RunFault}
 use Rattle.trlab_book.specs.declared.running.RunFault.TheVariants as run
-use Rattle.trlab_sequential_book.specs.Answers.{is_event}
+use Rattle.trlab_sequential_book.specs.Answers.{is_event, tells_full}
 use Rattle.trlab_sequential_book.specs.Comparison.{OrderCall, offered}
 use Rattle.trlab_sequential_book.specs.Leases.{LeaseState}
 use Rattle.trlab_sequential_book.specs.Machine.{BookState}
 use Rattle.trlab_sequential_book.specs.Replay.{event}
 use Rattle.trlab_strands.specs.declared.knowledge.Ledger.{Ghosts}
 use Rattle.trlab_strands.specs.declared.knowledge.Noted.{Noted}
-use Rattle.trlab_strands.specs.Knowledge.{noted, number_of}
-use Rattle.trlab_strands.specs.Tokens as strand
+use Rattle.trlab_strands.specs.Knowledge.{noted, event_number}
+use Rattle.trlab_strands.specs.Tokens.{IsSameStrand}
 use Rattle.trlab_book.specs.declared.desk.Desk.{Desk}
-use Rattle.trlab_book.specs.Desks.{AreOfRunners, AddsRunnerCalls, HasEnded, HasSeen, IsNoEvent, IsOneEvent, MakesOf, subhistory_of, is_of_runner, finds_no_job, least_of, no_job_count, parts_of, tells_full}
+use Rattle.trlab_book.specs.Desks.{AreOfRunners, AddsRunnerCalls, HasEnded, HasSeen, IsNoEvent, IsOneEvent, MakesOf, subhistory_of, is_of_runner, finds_no_job, clock_of, no_job_count, parts_of}
 use Rattle.trlab_sequential_book.specs.declared.book.TheConstants.{MAX_EVENTS}
 
 -- calls within a span are within a wider one
 wider : (from to below above : ℕ) (numbered : List (Noted Event)) → below ≤ from → to ≤ above → AreOfRunners from to numbered → AreOfRunners below above numbered
 wider from to below above numbered low high are = All-weaker
-    (λ (x : Noted Event). (from ≤ number_of x) × (number_of x < to) × (is_of_runner x.event.call ≡ true))
-    (λ (x : Noted Event). (below ≤ number_of x) × (number_of x < above) × (is_of_runner x.event.call ≡ true))
+    (λ (x : Noted Event). (from ≤ event_number x) × (event_number x < to) × (is_of_runner x.event.call ≡ true))
+    (λ (x : Noted Event). (below ≤ event_number x) × (event_number x < above) × (is_of_runner x.event.call ≡ true))
     (λ x is. (omega (arith, is.0), omega (arith, is.1), is.2))
     numbered are
 
 -- the calls of two lists within one span
 both : (from to : ℕ) (xs ys : List (Noted Event)) → AreOfRunners from to xs → AreOfRunners from to ys → AreOfRunners from to (xs ++ ys)
 both from to xs ys first second =
-    All-append (λ (x : Noted Event). (from ≤ number_of x) × (number_of x < to) × (is_of_runner x.event.call ≡ true)) xs ys first second
+    All-append (λ (x : Noted Event). (from ≤ event_number x) × (event_number x < to) × (is_of_runner x.event.call ≡ true)) xs ys first second
 
 module _ {L : Type 0} {ledger : Ghosts L} where
   pub goes_on : (a b c : Desk L ledger) → AddsRunnerCalls a b → AddsRunnerCalls b c → AddsRunnerCalls a c
@@ -44,21 +44,21 @@ module _ {L : Type 0} {ledger : Ghosts L} where
     least = let p = first.least in let q = second.least in omega arith;
     more = first.more ++ second.more;
     subhistory = second.subhistory ∙ (ap (λ (l : List (Noted Event)). l ++ second.more) first.subhistory ∙ append_assoc (subhistory_of a) first.more second.more);
-    runners = both (least_of a) (least_of c) first.more second.more
-        (wider (least_of a) (least_of b) (least_of a) (least_of c) first.more (omega arith) second.least first.runners)
-        (wider (least_of b) (least_of c) (least_of a) (least_of c) second.more first.least (omega arith) second.runners);
+    runners = both (clock_of a) (clock_of c) first.more second.more
+        (wider (clock_of a) (clock_of b) (clock_of a) (clock_of c) first.more (omega arith) second.least first.runners)
+        (wider (clock_of b) (clock_of c) (clock_of a) (clock_of c) second.more first.least (omega arith) second.runners);
   }
 
   -- a call that is not an event adds nothing to the desk's calls, and the clock does not go back
-  is_none : (a b : Desk L ledger) (told : Reply) → IsNoEvent a told b → (subhistory_of b ≡ subhistory_of a) × (least_of a ≤ least_of b)
+  is_none : (a b : Desk L ledger) (told : Reply) → IsNoEvent a told b → (subhistory_of b ≡ subhistory_of a) × (clock_of a ≤ clock_of b)
   is_none a b told none = by_full (tells_full told) none
     where
-      by_full : (whole : Bool) → MatchBool whole (HasSeen a MAX_EVENTS b) (strand.IsSame a.strand b.strand) → (subhistory_of b ≡ subhistory_of a) × (least_of a ≤ least_of b)
+      by_full : (whole : Bool) → MatchBool whole (HasSeen a MAX_EVENTS b) (IsSameStrand a.strand b.strand) → (subhistory_of b ≡ subhistory_of a) × (clock_of a ≤ clock_of b)
       by_full true seen = (seen.1, seen.2)
       by_full false kept = let q = kept.2 in (kept.1, omega arith)
 
   -- a desk with the same calls has added none
-  stays : (a b : Desk L ledger) → parts_of b ≡ parts_of a → (subhistory_of b ≡ subhistory_of a) × (least_of a ≤ least_of b) → AddsRunnerCalls a b
+  stays : (a b : Desk L ledger) → parts_of b ≡ parts_of a → (subhistory_of b ≡ subhistory_of a) × (clock_of a ≤ clock_of b) → AddsRunnerCalls a b
   stays a b same kept = record {
     parts = same;
     least = kept.1;
@@ -81,7 +81,7 @@ module _ {L : Type 0} {ledger : Ghosts L} where
             least = let p = adds.1 in let q = adds.3 in omega arith;
             more = noted before (event call told) ∷ [];
             subhistory = adds.2;
-            runners = All-push (λ (x : Noted Event). (least_of a ≤ number_of x) × (number_of x < least_of b) × (is_of_runner x.event.call ≡ true)) [] (noted before (event call told)) (All-nil _)
+            runners = All-push (λ (x : Noted Event). (clock_of a ≤ event_number x) × (event_number x < clock_of b) × (is_of_runner x.event.call ≡ true)) [] (noted before (event call told)) (All-nil _)
                 (adds.1, omega (arith, adds.3), of_runner);
           }
       by_event false same none = stays a b same (is_none a b told none)
@@ -93,9 +93,9 @@ module _ {L : Type 0} {ledger : Ghosts L} where
 
   -- runners have called through both parts of a desk that was split, and the parts are gathered again
   pub gathers : (old kept given mine theirs new : Desk L ledger) → parts_of kept + 1 ≡ parts_of old → parts_of given ≡ 1
-      → subhistory_of kept ≡ subhistory_of old → subhistory_of given ≡ [] → least_of kept ≡ least_of old → least_of given ≡ least_of old
+      → subhistory_of kept ≡ subhistory_of old → subhistory_of given ≡ [] → clock_of kept ≡ clock_of old → clock_of given ≡ clock_of old
       → AddsRunnerCalls kept mine → AddsRunnerCalls given theirs
-      → parts_of new ≡ parts_of mine + parts_of theirs → subhistory_of new ≡ subhistory_of mine ++ subhistory_of theirs → least_of new ≡ max (least_of mine) (least_of theirs)
+      → parts_of new ≡ parts_of mine + parts_of theirs → subhistory_of new ≡ subhistory_of mine ++ subhistory_of theirs → clock_of new ≡ max (clock_of mine) (clock_of theirs)
       → AddsRunnerCalls old new
   gathers old kept given mine theirs new fewer one was free low least first second parts joined greater =
       let a = first.least in
@@ -108,9 +108,9 @@ module _ {L : Type 0} {ledger : Ghosts L} where
         subhistory = joined ∙ (ap (λ (l : List (Noted Event)). subhistory_of mine ++ l) behind
             ∙ (ap (λ (l : List (Noted Event)). l ++ second.more) (first.subhistory ∙ ap (λ (l : List (Noted Event)). l ++ first.more) was)
             ∙ append_assoc (subhistory_of old) first.more second.more));
-        runners = both (least_of old) (least_of new) first.more second.more
-            (wider (least_of kept) (least_of mine) (least_of old) (least_of new) first.more (omega arith) (omega arith) first.runners)
-            (wider (least_of given) (least_of theirs) (least_of old) (least_of new) second.more (omega arith) (omega arith) second.runners);
+        runners = both (clock_of old) (clock_of new) first.more second.more
+            (wider (clock_of kept) (clock_of mine) (clock_of old) (clock_of new) first.more (omega arith) (omega arith) first.runners)
+            (wider (clock_of given) (clock_of theirs) (clock_of old) (clock_of new) second.more (omega arith) (omega arith) second.runners);
       }
 
 -- the calls of two lists that found no job free
@@ -137,7 +137,7 @@ module _ {L : Type 0} {ledger : Ghosts L} where
   ended_none a b on = let rises = none_rises a b on in record { on = on; no_job = omega arith; full = λ e. absurd (cc e) }
 
   -- after a call that answers HistoryFull its desk has seen the whole history
-  pub full_seen : (Holds : BookState → Type 0) (a b : Desk L ledger) (call : Call) (fault : BookFault) → MakesOf Holds a call (Refused fault) b → fault ≡ HistoryFull → MAX_EVENTS ≤ least_of b
+  pub full_seen : (Holds : BookState → Type 0) (a b : Desk L ledger) (call : Call) (fault : BookFault) → MakesOf Holds a call (Refused fault) b → fault ≡ HistoryFull → MAX_EVENTS ≤ clock_of b
   full_seen Holds a b call HistoryFull made is = made.1.3
   full_seen Holds a b call Memory made is = absurd (cc is)
   full_seen Holds a b call Ended made is = absurd (cc is)
@@ -150,9 +150,9 @@ module _ {L : Type 0} {ledger : Ghosts L} where
   -- the ends of two runners, combined into one
   pub ended_both : (one others : ℕ) (first second told : Result (Unit {0}) RunFault) (old kept given mine theirs new : Desk L ledger)
       → parts_of kept + 1 ≡ parts_of old → parts_of given ≡ 1
-      → subhistory_of kept ≡ subhistory_of old → subhistory_of given ≡ [] → least_of kept ≡ least_of old → least_of given ≡ least_of old
+      → subhistory_of kept ≡ subhistory_of old → subhistory_of given ≡ [] → clock_of kept ≡ clock_of old → clock_of given ≡ clock_of old
       → HasEnded others second kept mine → HasEnded one first given theirs
-      → parts_of new ≡ parts_of mine + parts_of theirs → subhistory_of new ≡ subhistory_of mine ++ subhistory_of theirs → least_of new ≡ max (least_of mine) (least_of theirs)
+      → parts_of new ≡ parts_of mine + parts_of theirs → subhistory_of new ≡ subhistory_of mine ++ subhistory_of theirs → clock_of new ≡ max (clock_of mine) (clock_of theirs)
       → IsOk told ↔ (IsOk first × IsOk second) → (told ≡ Err run.HistoryFull) ↔ ((first ≡ Err run.HistoryFull) ⊎ (second ≡ Err run.HistoryFull))
       → HasEnded (one + others) told old new
   ended_both one others first second told old kept given mine theirs new fewer part was free low least second_end first_end parts joined greater fine full = record {

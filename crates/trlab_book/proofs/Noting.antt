@@ -1,23 +1,28 @@
 -- A desk notes the last event of the history.
 use denote.Struct.Props.{props}
 use Rattle.std.proofs.Math.Logic.{∥∥₁_elim}
-use Rattle.std.proofs.lemmas.Bool.{MatchBool-at_false, ltb-false, not-true}
-use Rattle.std.proofs.Common.{◌≡◌, ◌↔◌, ◌≤◌, length, arith, Bool, true, false, List, [], ◌∷◌, ◌++◌, refl, sym, ap, ◌∙◌, subst, MatchBool}
+use Rattle.std.specs.Prelude.{Result, Ok, Err}
+use Rattle.std.proofs.lemmas.Bool.{ltb-false, not-true}
+use Rattle.std.proofs.Common.{◌≡◌, ◌≤◌, ℕ, Option, Some, None, length, arith, Bool, true, false, List, [], ◌∷◌, ◌++◌, refl, sym, ap, ◌∙◌, subst, MatchBool}
 use Rattle.trlab_sequential_book.specs.declared.event.Call.{Call}
 use Rattle.trlab_sequential_book.specs.declared.event.Event.{Event}
 use Rattle.trlab_sequential_book.specs.declared.event.Reply.{Reply}
-use Rattle.trlab_sequential_book.specs.Answers.{is_event}
+use Rattle.trlab_step.specs.Progress.{Progress}
+use Rattle.trlab_sequential_book.specs.Answers.{done_reply, is_event, is_refused_as_full, lease_reply, number_reply, order_reply, seen_reply, tells_full}
+use Rattle.trlab_sequential_book.specs.Leases.{LeaseState}
 use Rattle.trlab_sequential_book.specs.Machine.{BookState, is_full}
+use Rattle.trlab_sequential_book.specs.declared.fault.BookFault.{BookFault}
 use Rattle.trlab_sequential_book.specs.declared.fault.BookFault.TheVariants.{HistoryFull}
+use Rattle.trlab_sequential_book.specs.declared.order.Order.{Order}
 use Rattle.trlab_sequential_book.specs.declared.event.Reply.TheVariants.{Refused}
 use Rattle.trlab_sequential_book.specs.declared.book.TheConstants.{MAX_EVENTS}
 use Rattle.trlab_sequential_book.specs.Replay.{Replays, event}
 use Rattle.trlab_strands.specs.declared.knowledge.Ledger.{Ghosts}
-use Rattle.trlab_strands.specs.Tokens as strand
+use Rattle.trlab_strands.specs.Tokens.{Adds, CatchesUp, IsSameStrand, strand_events}
 use Rattle.trlab_book.specs.declared.desk.Desk.{Desk}
 use Rattle.trlab_book.specs.declared.kept.Kept.{Kept}
-use Rattle.trlab_book.specs.Desks.{IsNoEvent, IsOneEvent, MakesOf, PutsDown, least_of, parts_of, tells_full}
-use Rattle.trlab_book.specs.Events.{Appends, HasCome, IsUnchanged, Makes, TellsFull}
+use Rattle.trlab_book.specs.Desks.{IsNoEvent, IsOneEvent, MakesOf, PutsDown, clock_of, parts_of}
+use Rattle.trlab_book.specs.Events.{Appends, HasCome, IsUnchanged, Records, TellsFull}
 
 appended : (old new : Kept) (call : Call) (told : Reply) (one : Bool) → MatchBool one (Appends old call told new) (IsUnchanged old new)
     → MatchBool one (new.history.items ≡ old.history.items ++ event call told ∷ []) (new.history.items ≡ old.history.items)
@@ -25,14 +30,31 @@ appended old new call told true made = made.history ∙ ap (λ r. old.history.it
 appended old new call told false made = made.history
 
 -- a call under the lock comes to the events that the keeper knows
-pub has_come : (old new : Kept) (call : Call) (told : Reply) (list : List Event) → Makes old call told new → TellsFull old told → old.history.items ≡ list
-    → HasCome list call told new
-has_come old new call told list made full was = record {
-  history = subst (λ (l : List Event). MatchBool (is_event told) (new.history.items ≡ l ++ event call told ∷ []) (new.history.items ≡ l)) was (appended old new call told (is_event told) made);
-  full = λ none.
-      let same : IsUnchanged old new = MatchBool-at_false (Appends old call told new) (IsUnchanged old new) none made in
-      subst (λ (b : BookState). (told ≡ Refused HistoryFull) ↔ (is_full b ≡ true)) (sym same.book) full;
-}
+pub has_come : (old new : Kept) (call : Call) (told : Reply) (list : List Event) → Records old call told new → old.history.items ≡ list → HasCome list call told new
+has_come old new call told list made was =
+    subst (λ (l : List Event). MatchBool (is_event told) (new.history.items ≡ l ++ event call told ∷ []) (new.history.items ≡ l)) was (appended old new call told (is_event told) made)
+
+-- the reply of each call says that the history is full if its answer says so
+pub full_number : (answer : Result ℕ BookFault) → tells_full (number_reply answer) ≡ is_refused_as_full answer
+full_number (Ok number) = refl
+full_number (Err fault) = refl
+
+pub full_done : (answer : Result (Unit {0}) BookFault) → tells_full (done_reply answer) ≡ is_refused_as_full answer
+full_done (Ok done) = refl
+full_done (Err fault) = refl
+
+pub full_order : (answer : Result Order BookFault) → tells_full (order_reply answer) ≡ is_refused_as_full answer
+full_order (Ok order) = refl
+full_order (Err fault) = refl
+
+pub full_seen_by : (answer : Result Progress BookFault) → tells_full (seen_reply answer) ≡ is_refused_as_full answer
+full_seen_by (Ok seen) = refl
+full_seen_by (Err fault) = refl
+
+pub full_lease : (answer : Result (Option LeaseState) BookFault) → tells_full (lease_reply answer) ≡ is_refused_as_full answer
+full_lease (Ok None) = refl
+full_lease (Ok (Some lease)) = refl
+full_lease (Err fault) = refl
 
 -- a full book has had MAX_EVENTS events
 history_is_full : (kept : Kept) → is_full kept.book ≡ true → MAX_EVENTS ≤ length kept.history.items
@@ -47,11 +69,11 @@ full_reply told is = absurd (cc is)
 module _ {L : Type 0} {ledger : Ghosts L} where
   -- a call that is not an event
   pub is_none : (old : Kept) (told : Reply) (list : List Event) (from to : Desk L ledger) → parts_of to ≡ parts_of from → old.history.items ≡ list → TellsFull old told
-      → MatchBool (tells_full told) (strand.HasSeen from.strand (length list) to.strand) (strand.IsSame from.strand to.strand) → IsNoEvent from told to
+      → MatchBool (tells_full told) (CatchesUp from.strand (length list) to.strand) (IsSameStrand from.strand to.strand) → IsNoEvent from told to
   is_none old told list from to parts was full down = by_full (tells_full told) refl down
     where
-      by_full : (whole : Bool) → tells_full told ≡ whole → MatchBool whole (strand.HasSeen from.strand (length list) to.strand) (strand.IsSame from.strand to.strand)
-          → MatchBool whole ((parts_of to ≡ parts_of from) × (strand.subhistory_of to.strand ≡ strand.subhistory_of from.strand) × (least_of from ≤ least_of to) × (MAX_EVENTS ≤ least_of to)) (strand.IsSame from.strand to.strand)
+      by_full : (whole : Bool) → tells_full told ≡ whole → MatchBool whole (CatchesUp from.strand (length list) to.strand) (IsSameStrand from.strand to.strand)
+          → MatchBool whole ((parts_of to ≡ parts_of from) × (strand_events to.strand ≡ strand_events from.strand) × (clock_of from ≤ clock_of to) × (MAX_EVENTS ≤ clock_of to)) (IsSameStrand from.strand to.strand)
       by_full true is seen =
           let most = history_is_full old (full.0 (full_reply told is)) in
           let long : length old.history.items ≡ length list = ap length was in
@@ -60,13 +82,13 @@ module _ {L : Type 0} {ledger : Ghosts L} where
 
   -- a call that is made under the lock, and put down at a desk, is one of this desk
   pub is_made : (Holds : BookState → Type 0) (old new : Kept) (call : Call) (told : Reply) (list : List Event) (from to : Desk L ledger)
-      → Makes old call told new → old.history.items ≡ list → (is_event told ≡ true → Holds old.book) → TellsFull old told
+      → Records old call told new → old.history.items ≡ list → (is_event told ≡ true → Holds old.book) → TellsFull old told
       → PutsDown from list call told to → MakesOf Holds from call told to
   is_made Holds old new call told list from to made was holds full noted =
       (noted.0, by_event (is_event told) refl made noted.1)
     where
       by_event : (one : Bool) → is_event told ≡ one → MatchBool one (Appends old call told new) (IsUnchanged old new)
-          → MatchBool one (strand.Adds from.strand list (event call told) to.strand) (MatchBool (tells_full told) (strand.HasSeen from.strand (length list) to.strand) (strand.IsSame from.strand to.strand))
+          → MatchBool one (Adds from.strand list (event call told) to.strand) (MatchBool (tells_full told) (CatchesUp from.strand (length list) to.strand) (IsSameStrand from.strand to.strand))
           → MatchBool one ((book : BookState) × IsOneEvent from call told to book × Holds book) (IsNoEvent from told to)
       by_event true is appends adds = (
         old.book,

@@ -17,13 +17,13 @@ use Rattle.trlab_sequential_book.specs.declared.fault.BookFault.TheVariants.{End
 use Rattle.trlab_sequential_book.specs.Answers.{LeadsAs, RepliesAs, is_event, is_memory}
 use Rattle.trlab_sequential_book.specs.Comparison.{IsSame, LeaseCall, OrderCall, offered}
 use Rattle.trlab_sequential_book.specs.Leases.{LeaseState, suits}
-use Rattle.trlab_sequential_book.specs.Machine.{JobState, Outcome, Served, BookState, after, cancelling, giving_back, is_free, is_full, is_own, leasing, new_job, next_after, on_free, on_job, ordering, reading, refused, replacing, reply_of, revoking, served, start, submitting}
+use Rattle.trlab_sequential_book.specs.Machine.{JobState, Outcome, Served, BookState, after, cancelling, giving_back, is_free, is_full, is_own, leasing, new_job, next_after, on_free, on_job, ordering, reading, refused, replacing, reply_of, revoking, served, empty_book, submitting}
 use Rattle.trlab_sequential_book.specs.Sheets.{begin_in_force, entered}
 use Rattle.trlab_sequential_book.specs.declared.seed.Seed.{Seed}
 use Rattle.trlab_rules.specs.Rules.{Programs}
 use Rattle.trlab_sequential_book.specs.Replay.{Replays, call_of, event, replies_from, state_from, told_by}
 use Rattle.trlab_book.specs.declared.kept.Kept.{Kept}
-use Rattle.trlab_book.specs.Events.{Appends, IsUnchanged, Makes, TellsFull}
+use Rattle.trlab_book.specs.Events.{Appends, IsUnchanged, Records, TellsFull}
 
 replies_more : (s : BookState) (cs : List Call) (c : Call)
     → replies_from s (cs ++ c ∷ []) ≡ replies_from s cs ++ reply_of (state_from s cs) c ∷ []
@@ -46,16 +46,16 @@ replays_more history s c r room =
     record {
       replies = map-append told_by history (event c (reply_of s c) ∷ [])
           ∙ ap (λ rs. rs ++ reply_of s c ∷ []) r.replies
-          ∙ ap (λ t. replies_from start (map call_of history) ++ reply_of t c ∷ []) r.state_is
-          ∙ sym (replies_more start (map call_of history) c)
-          ∙ sym (ap (replies_from start) calls);
-      state_is = ap (λ t. after t c) r.state_is ∙ sym (state_more start (map call_of history) c)
-          ∙ sym (ap (state_from start) calls);
+          ∙ ap (λ t. replies_from empty_book (map call_of history) ++ reply_of t c ∷ []) r.state_is
+          ∙ sym (replies_more empty_book (map call_of history) c)
+          ∙ sym (ap (replies_from empty_book) calls);
+      state_is = ap (λ t. after t c) r.state_is ∙ sym (state_more empty_book (map call_of history) c)
+          ∙ sym (ap (state_from empty_book) calls);
       count_is = omega (arith, count, len, r.count_is);
     }
 
 -- no event replays to the empty book
-pub replays_start : (items : List Event) (s : BookState) → items ≡ [] → s ≡ start → ∥ Replays items s ∥₁
+pub replays_start : (items : List Event) (s : BookState) → items ≡ [] → s ≡ empty_book → ∥ Replays items s ∥₁
 replays_start items s none begun = rw (none, begun) (∣ record { replies = refl; state_is = refl; count_is = refl } ∣₁)
 
 -- a history with a call and its reply after it replays to the state after the call
@@ -274,14 +274,14 @@ replays_put {s} {t} {call} {said} {history} {items} p replays = by (settled p)
 
 -- the effect of the call on the book and its history
 pub makes_put : (old ready new : Kept) (call : Call) (said : Reply) → IsUnchanged old ready
-    → IsPut ready.book new.book call said ready.history.items new.history.items → Makes old call said new
+    → IsPut ready.book new.book call said ready.history.items new.history.items → Records old call said new
 makes_put old ready new call said same p = by (settled p)
   where
     P : Bool → Type 0
     P one = MatchBool one (Appends old call said new) (IsUnchanged old new)
 
     by : Stays ready.book new.book said ready.history.items new.history.items ⊎ Grows ready.book new.book call said ready.history.items new.history.items
-        → Makes old call said new
+        → Records old call said new
     by (inl stays) = subst P (sym stays.none) (record {
       history = stays.items_are ∙ same.history;
       book = stays.state ∙ same.book;
@@ -318,8 +318,8 @@ one_answer false true P x y = absurd (false≢true (x.1 (y.0 refl)))
 -- a call that offers a lease, with any value of `same` that is right
 pub makes_offered : (call : Offered → Call) (old ready new : Kept) (lease : LeaseState) (same other : Bool) (said : Reply) → IsUnchanged old ready
     → IsTrue same ↔ IsSame ready.book.jobs lease → IsTrue other ↔ IsSame old.book.jobs lease
-    → IsPut ready.book new.book (call (offered lease same)) said ready.history.items new.history.items → Makes old (call (offered lease other)) said new
+    → IsPut ready.book new.book (call (offered lease same)) said ready.history.items new.history.items → Records old (call (offered lease other)) said new
 makes_offered call old ready new lease same other said unchanged is is_other p =
     let mine = subst (λ (b : BookState). IsTrue other ↔ IsSame b.jobs lease) (sym unchanged.book) is_other in
     let one = one_answer same other (IsSame ready.book.jobs lease) is mine in
-    subst (λ (s : Bool). Makes old (call (offered lease s)) said new) one (makes_put old ready new (call (offered lease same)) said unchanged p)
+    subst (λ (s : Bool). Records old (call (offered lease s)) said new) one (makes_put old ready new (call (offered lease same)) said unchanged p)

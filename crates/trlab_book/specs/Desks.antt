@@ -1,8 +1,7 @@
--- What callers see of a desk: the calls that were made through it, each with its predecessors in the history.
+-- Desks as callers see them: the calls made through a desk, each with its predecessors in the history.
 use Rattle.std.specs.Prelude.{◌≡◌, ◌↔◌, ℕ, ◌+◌, ◌<◌, ◌≤◌, Bool, true, false, ◌&&◌, IsTrue, Result, Err, Option, IfOk, OnOk, count_by, List, length, ◌++◌, All, MatchBool}
 use Rattle.trlab_step.specs.Progress.{Progress}
 use Rattle.trlab_sequential_book.specs.declared.fault.BookFault.{BookFault}
-use Rattle.trlab_sequential_book.specs.declared.fault.BookFault.TheVariants.{HistoryFull}
 use Rattle.trlab_sequential_book.specs.declared.book.TheConstants.{MAX_EVENTS}
 use Rattle.trlab_sequential_book.specs.declared.order.Order.{Order}
 use Rattle.trlab_sequential_book.specs.Leases.{LeaseState}
@@ -12,14 +11,14 @@ use Rattle.trlab_sequential_book.specs.declared.event.Call.{Call}
 use Rattle.trlab_sequential_book.specs.declared.event.Call.TheVariants as call
 use Rattle.trlab_sequential_book.specs.declared.event.Event.{Event}
 use Rattle.trlab_sequential_book.specs.declared.event.Reply.{Reply}
-use Rattle.trlab_sequential_book.specs.declared.event.Reply.TheVariants.{NoLease, Refused}
+use Rattle.trlab_sequential_book.specs.declared.event.Reply.TheVariants.{NoLease}
 use Rattle.trlab_sequential_book.specs.Machine.{BookState, reply_of}
-use Rattle.trlab_sequential_book.specs.Answers.{is_event}
+use Rattle.trlab_sequential_book.specs.Answers.{is_event, tells_full}
 use Rattle.trlab_sequential_book.specs.Replay.{Replays, event}
 use Rattle.trlab_strands.specs.declared.knowledge.Noted.{Noted}
-use Rattle.trlab_strands.specs.Knowledge.{number_of}
+use Rattle.trlab_strands.specs.Knowledge.{event_number}
 use Rattle.trlab_strands.specs.declared.knowledge.Ledger.{Ghosts}
-use Rattle.trlab_strands.specs.Tokens as strand
+use Rattle.trlab_strands.specs.Tokens.{Adds, CatchesUp, IsSameStrand, strand_clock, strand_events}
 use Rattle.trlab_book.specs.declared.desk.Desk.{Desk}
 use Rattle.trlab_book.specs.declared.desk.SharedBook.{SharedBook}
 use Rattle.trlab_book.specs.declared.running.RunFault.{RunFault}
@@ -35,44 +34,39 @@ parts_of d = d.parts
 
 -- the subhistory of a desk: the events that were made through it, each with its predecessors in the history
 abbrev pub subhistory_of : {L : Type 0} {ledger : Ghosts L} → Desk L ledger → List (Noted Event)
-subhistory_of d = strand.subhistory_of d.strand
+subhistory_of d = strand_events d.strand
 
 -- the clock of a desk: each event that is made through it from now on has at least this number
-abbrev pub least_of : {L : Type 0} {ledger : Ghosts L} → Desk L ledger → ℕ
-least_of d = strand.least_of d.strand
+abbrev pub clock_of : {L : Type 0} {ledger : Ghosts L} → Desk L ledger → ℕ
+clock_of d = strand_clock d.strand
 
 -- the desk has now seen at least this many events, and is otherwise unchanged
 abbrev pub HasSeen : {L : Type 0} {ledger : Ghosts L} → Desk L ledger → ℕ → Desk L ledger → Type 0
 HasSeen old count new =
     (parts_of new ≡ parts_of old) × (subhistory_of new ≡ subhistory_of old)
-    × (least_of old ≤ least_of new) × (count ≤ least_of new)
+    × (clock_of old ≤ clock_of new) × (count ≤ clock_of new)
 
 -- the desk lacks an event of the history: it has now seen more events than its own
 abbrev pub LacksSome : {L : Type 0} {ledger : Ghosts L} → Desk L ledger → Desk L ledger → Type 0
 LacksSome old new = HasSeen old (length (subhistory_of old) + 1) new
 
--- whether the reply says that the history is full
-abbrev pub tells_full : Reply → Bool
-tells_full (Refused HistoryFull) = true
-tells_full _ = false
-
 -- a call that is not an event does not change the desk, except that it has now seen a full history
 abbrev pub IsNoEvent : {L : Type 0} {ledger : Ghosts L} → Desk L ledger → Reply → Desk L ledger → Type 0
 IsNoEvent old told new =
-    MatchBool (tells_full told) (HasSeen old MAX_EVENTS new) (strand.IsSame old.strand new.strand)
+    MatchBool (tells_full told) (HasSeen old MAX_EVENTS new) (IsSameStrand old.strand new.strand)
 
--- a call is one event: the events before it replay to a book, which gave this reply, and the desk has noted the
--- event after them
+-- a call is one event: the events before it replay to a book, which gave this reply, and the desk has noted
+-- the event after them
 pub record IsOneEvent {L : Type 0} {ledger : Ghosts L} (old : Desk L ledger) (call : Call) (told : Reply)
     (new : Desk L ledger) (book : BookState) : Type 0 where
   pub before : List Event
   pub replays : ∥ Replays before book ∥₁
   pub reply : told ≡ reply_of book call
-  pub noted : strand.Adds old.strand before (event call told) new.strand
+  pub noted : Adds old.strand before (event call told) new.strand
 
--- the effect of a call on its desk. The desk keeps its parts. If the reply makes the call an event, the desk has
--- exactly this event more, of a book for which `Holds` is true. If not, nothing changes, except that the desk
--- has seen a full history
+-- the effect of a call on its desk. The desk keeps its parts. If the reply makes the call an event, the desk
+-- has exactly this event more, of a book for which `Holds` is true. If not, nothing changes, except that the
+-- desk has seen a full history
 abbrev pub MakesOf : {L : Type 0} {ledger : Ghosts L} → (BookState → Type 0)
     → Desk L ledger → Call → Reply → Desk L ledger → Type 0
 MakesOf Holds old call told new =
@@ -86,17 +80,17 @@ abbrev pub Makes : {L : Type 0} {ledger : Ghosts L}
     → Desk L ledger → Call → Reply → Desk L ledger → Type 0
 Makes old call told new = MakesOf (λ book. Unit {0}) old call told new
 
--- what is noted at a desk after the events `before`: the call, if its reply makes it an event, and otherwise
--- nothing; but if the reply says that the history is full, the desk has seen all of `before`
+-- a desk notes a call after the events `before`, if its reply makes it an event, and otherwise nothing; but
+-- if the reply says that the history is full, the desk has seen all of `before`
 abbrev pub PutsDown : {L : Type 0} {ledger : Ghosts L} → Desk L ledger → List Event → Call → Reply
     → Desk L ledger → Type 0
 PutsDown old before call told new =
     (parts_of new ≡ parts_of old)
     × MatchBool (is_event told)
-    (strand.Adds old.strand before (event call told) new.strand)
+    (Adds old.strand before (event call told) new.strand)
     (MatchBool (tells_full told)
-    (strand.HasSeen old.strand (length before) new.strand)
-    (strand.IsSame old.strand new.strand))
+    (CatchesUp old.strand (length before) new.strand)
+    (IsSameStrand old.strand new.strand))
 
 -- `same` says whether the lease runs its job's road
 abbrev pub TellsSame : LeaseState → Bool → BookState → Type 0
@@ -126,16 +120,17 @@ is_of_runner _ = false
 -- calls of runners, with numbers from `from` to below `to`
 abbrev pub AreOfRunners : ℕ → ℕ → List (Noted Event) → Type 0
 AreOfRunners from to calls =
-    All (λ n. (from ≤ number_of n) × (number_of n < to) × (is_of_runner n.event.call ≡ true)) calls
+    All (λ n. (from ≤ event_number n) × (event_number n < to) × (is_of_runner n.event.call ≡ true)) calls
 
--- a desk through which runners have called: the same parts, and after its events those of the runners, which are
--- in the history after all events that the desk had seen, and before all that are made through it from now on
+-- a desk through which runners have called: the same parts, and after its events those of the runners,
+-- which are in the history after all events that the desk had seen, and before all that are made
+-- through it from now on
 pub record AddsRunnerCalls {L : Type 0} {ledger : Ghosts L} (old new : Desk L ledger) : Type 0 where
   pub parts : parts_of new ≡ parts_of old
-  pub least : least_of old ≤ least_of new
+  pub least : clock_of old ≤ clock_of new
   pub more : List (Noted Event)
   pub subhistory : subhistory_of new ≡ subhistory_of old ++ more
-  pub runners : AreOfRunners (least_of old) (least_of new) more
+  pub runners : AreOfRunners (clock_of old) (clock_of new) more
 
 -- whether a call is `lease`, and whether a reply says that no job is free
 abbrev pub is_lease : Call → Bool
@@ -150,15 +145,15 @@ is_no_lease _ = false
 abbrev pub finds_no_job : Event → Bool
 finds_no_job e = is_lease e.call && is_no_lease e.reply
 
--- the number of these events that are lease calls which found no free job
+-- the number of lease calls among these events that found no free job
 abbrev pub no_job_count : List (Noted Event) → ℕ
 no_job_count events = count_by (λ n. finds_no_job n.event) events
 
--- runners have called through a desk and ended. If they succeeded, at least one lease call per runner found no
--- free job; if they ended because the history was full, the desk has seen all of it; if an allocation failed,
--- nothing more is known
+-- runners have called through a desk and ended. If they succeeded, at least one lease call per runner found
+-- no free job; if they ended because the history was full, the desk has seen all of it; if an allocation
+-- failed, nothing more is known
 pub record HasEnded {L : Type 0} {ledger : Ghosts L} (runners : ℕ) (ended : Result (Unit {0}) RunFault)
     (old new : Desk L ledger) : Type 0 where
   pub on : AddsRunnerCalls old new
   pub no_job : OnOk ended (no_job_count (subhistory_of old) + runners ≤ no_job_count (subhistory_of new))
-  pub full : ended ≡ Err run.HistoryFull → MAX_EVENTS ≤ least_of new
+  pub full : ended ≡ Err run.HistoryFull → MAX_EVENTS ≤ clock_of new

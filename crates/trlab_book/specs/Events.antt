@@ -1,5 +1,5 @@
 -- The effect of a call on a book with its history.
-use Rattle.std.specs.Prelude.{◌≡◌, ◌↔◌, true, false, List, ◌++◌, ◌∷◌, [], MatchBool}
+use Rattle.std.specs.Prelude.{◌≡◌, ◌↔◌, true, List, ◌++◌, ◌∷◌, [], MatchBool}
 use Rattle.trlab_sequential_book.specs.declared.fault.BookFault.TheVariants.{HistoryFull}
 use Rattle.trlab_sequential_book.specs.declared.event.Call.{Call}
 use Rattle.trlab_sequential_book.specs.declared.event.Event.{Event}
@@ -21,16 +21,15 @@ pub record IsUnchanged (old new : Kept) : Type 0 where
   pub history : new.history.items ≡ old.history.items
   pub book : new.book ≡ old.book
 
--- a call that is an event appends it; any other changes nothing
-abbrev pub Makes : Kept → Call → Reply → Kept → Type 0
-Makes old c told new = MatchBool (is_event told) (Appends old c told new) (IsUnchanged old new)
+-- a call that is an event is appended to the history; any other call changes nothing
+abbrev pub Records : Kept → Call → Reply → Kept → Type 0
+Records old c told new = MatchBool (is_event told) (Appends old c told new) (IsUnchanged old new)
 
--- a call with this reply was made when the events were `before`: if it is an event, the history now ends with it.
--- If not, the history is unchanged, and full exactly if the reply says so
-pub record HasCome (before : List Event) (c : Call) (told : Reply) (kept : Kept) : Type 0 where
-  pub history : MatchBool (is_event told)
-      (kept.history.items ≡ before ++ event c told ∷ []) (kept.history.items ≡ before)
-  pub full : is_event told ≡ false → (told ≡ Refused HistoryFull) ↔ (is_full kept.book ≡ true)
+-- a call with this reply was made when the events were `before`: if it is an event, the history now ends with
+-- it; if not, the history is unchanged
+abbrev pub HasCome : List Event → Call → Reply → Kept → Type 0
+HasCome before c told kept = MatchBool (is_event told)
+    (kept.history.items ≡ before ++ event c told ∷ []) (kept.history.items ≡ before)
 
 -- the answer says that the history is full exactly if it is
 abbrev pub TellsFull : Kept → Reply → Type 0

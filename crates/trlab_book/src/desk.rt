@@ -2,8 +2,10 @@
 
 ghost use Rattle.std.specs.Prelude.{◌≡◌, ◌+◌, ◌-◌, ◌<◌, ◌≤◌, ◌^◌, ◌++◌, [], Bool, false, max, min, length, IfOk, IfErr, IsOk};
 ghost use Rattle.trlab_strands.specs.Knowledge.{IsLinearization};
-ghost use Rattle.trlab_strands.specs.Tokens as tokens;
+ghost use Rattle.trlab_strands.specs.Tokens.{list_of, name_of, strand_events, strand_parts};
 ghost use Rattle.trlab_strands.specs.declared.knowledge.TheConstants.{ALL_PARTS};
+ghost use Rattle.trlab_sequential_book.specs.Answers.{back_reply, is_refused_as_full, tells_full};
+ghost use Rattle.trlab_sequential_book.specs.declared.event.Reply.TheVariants.{Refused};
 
 use crate::kept::{Kept, copied_replace, copied_submit};
 use std::alloc::Global;
@@ -12,13 +14,13 @@ use trlab_rules::Rule;
 use trlab_sequential_book::{Book, BookFault, Event, Lease, Order, Seed, Snapshot};
 use trlab_strands::{ALL_PARTS, Blank, Keeper, Ledger, Strand, Strands};
 
-/// What the lock of a shared book protects: the book with its history, and the keeper of the strands of its
+/// The value under the lock of a shared book: the book with its history, and the keeper of the strands of its
 /// events, who knows the same events.
 #[derive(Drop)]
 struct Locked<L: Ledger> {
     kept: Kept,
     keeper: Keeper<L, Event>,
-    ghost noted: { kept.history.items ≡ tokens.list_of keeper },
+    ghost noted: { kept.history.items ≡ list_of keeper },
 }
 
 /// A book that threads share. Each call takes its one lock once, is one event of the history, and is added to the
@@ -38,8 +40,8 @@ pub struct Desk<L: Ledger> {
     strand: Strand<L, Event>,
     ghost at_least_one: { 0 < parts },
     ghost at_most_all: { parts ≤ ALL_PARTS },
-    ghost parts_are: { tokens.parts_of strand ≡ parts },
-    ghost count_is: { count ≡ min (length (tokens.subhistory_of strand)) (2 ^ 64 - 1) },
+    ghost parts_are: { strand_parts strand ≡ parts },
+    ghost count_is: { count ≡ min (length (strand_events strand)) (2 ^ 64 - 1) },
 }
 
 impl<L: Ledger> Desk<L> {
@@ -56,7 +58,8 @@ impl<L: Ledger> Desk<L> {
     }
 
     /// Notes a call that has just been made, when the history had `before` events. If the history has grown, its new
-    /// event is added to the desk's subhistory. If not, and it is full, the desk has now seen all of it.
+    /// event is added to the desk's subhistory. If the call was refused because the history is full (`is_full`), the
+    /// desk has now seen all of it.
     ///
     /// A call breaks the invariant of `Locked` and this restores it, so it takes the parts of `Locked` one by one.
     fn note_event(
@@ -65,37 +68,38 @@ impl<L: Ledger> Desk<L> {
         strands: &Strands<L, Event>,
         kept: &Kept,
         before: usize,
+        is_full: bool,
     )
-        requires { before ≡ length (tokens.list_of keeper.old) }
-        ensures { (call : Call) (told : Reply) → HasCome (tokens.list_of keeper.old) call told kept.now
-            → (kept.now.history.items ≡ tokens.list_of keeper.new)
-            × PutsDown self.old (tokens.list_of keeper.old) call told self.new }
+        requires { before ≡ length (list_of keeper.old) }
+        ensures { (call : Call) (told : Reply) → HasCome (list_of keeper.old) call told kept.now
+            → tells_full told ≡ is_full
+            → (kept.now.history.items ≡ list_of keeper.new)
+            × PutsDown self.old (list_of keeper.old) call told self.new }
     {
         if let Some(event) = kept.history.get(before) {
             keeper.note(strands, &mut self.strand, event);
             self.count = self.count.saturating_add(1);
-        } else if kept.book.is_full() {
+        } else if is_full {
             keeper.look(strands, &mut self.strand);
         }
     }
 }
 
 impl<L: Ledger> SharedBook<L> {
-    ghost use Rattle.trlab_sequential_book.specs.Answers.{back_reply, done_reply, is_event, lease_reply};
+    ghost use Rattle.trlab_sequential_book.specs.Answers.{done_reply, is_event, lease_reply};
     ghost use Rattle.trlab_sequential_book.specs.Answers.{number_reply, order_reply, seen_reply};
     ghost use Rattle.trlab_sequential_book.specs.Comparison.{LeaseCall, OrderCall, offered};
     ghost use Rattle.trlab_sequential_book.specs.Replay.{Replays};
     ghost use Rattle.trlab_sequential_book.specs.declared.event.Call.TheVariants.{Cancel, GiveBack, Read};
     ghost use Rattle.trlab_sequential_book.specs.declared.event.Call.TheVariants.{Replace, Revoke, Submit};
-    ghost use Rattle.trlab_sequential_book.specs.declared.event.Reply.TheVariants.{Refused};
     ghost use Rattle.trlab_book.specs.Desks.{IsNoEvent, IsOfLease, IsOfOrder, IsOfRead, IsSameBook, LacksSome};
-    ghost use Rattle.trlab_book.specs.Desks.{Makes, MakesOf, TellsSame, least_of, parts_of, subhistory_of};
+    ghost use Rattle.trlab_book.specs.Desks.{Makes, MakesOf, TellsSame, clock_of, parts_of, subhistory_of};
 
     /// An empty book, and the desk with all 1024 parts. Only the blank takes memory.
     pub fn start(alloc: Global, blank: Blank<Event>) -> (SharedBook<L>, Desk<L>)
-        requires { tokens.name_of blank ≡ L.name }
+        requires { name_of blank ≡ L.name }
         ensures parts { parts_of result.1 ≡ ALL_PARTS }
-        ensures events { (subhistory_of result.1 ≡ []) × (least_of result.1 ≡ 0) }
+        ensures events { (subhistory_of result.1 ≡ []) × (clock_of result.1 ≡ 0) }
     {
         let (strands, keeper, strand) = blank.open::<L>();
         let lock = Mutex::new(Locked {
@@ -141,7 +145,7 @@ impl<L: Ledger> SharedBook<L> {
         requires { 1 < parts_of desk.old }
         ensures parts { (parts_of desk.new + 1 ≡ parts_of desk.old) × (parts_of result ≡ 1) }
         ensures events { (subhistory_of desk.new ≡ subhistory_of desk.old) × (subhistory_of result ≡ []) }
-        ensures least { (least_of desk.new ≡ least_of desk.old) × (least_of result ≡ least_of desk.old) }
+        ensures least { (clock_of desk.new ≡ clock_of desk.old) × (clock_of result ≡ clock_of desk.old) }
     {
         let strand = self.strands.split(&mut desk.strand);
         desk.parts -= 1;
@@ -156,7 +160,7 @@ impl<L: Ledger> SharedBook<L> {
     pub fn gather(&self, one: Desk<L>, other: Desk<L>) -> Desk<L>
         ensures parts { parts_of result ≡ parts_of one + parts_of other }
         ensures events { subhistory_of result ≡ subhistory_of one ++ subhistory_of other }
-        ensures least { least_of result ≡ max (least_of one) (least_of other) }
+        ensures least { clock_of result ≡ max (clock_of one) (clock_of other) }
     {
         let Desk {
             parts,
@@ -201,7 +205,8 @@ impl<L: Ledger> SharedBook<L> {
         let Locked { kept, keeper } = &mut *guard;
         let before = kept.history.len();
         let answer = kept.submit(alloc, boxed, rule, steps, call);
-        desk.note_event(keeper, &self.strands, kept, before);
+        let is_full = is_refused_as_full(&answer);
+        desk.note_event(keeper, &self.strands, kept, before, is_full);
         answer
     }
 
@@ -213,8 +218,10 @@ impl<L: Ledger> SharedBook<L> {
         let mut guard = self.lock.lock(rt);
         let Locked { kept, keeper } = &mut *guard;
         let before = kept.history.len();
-        desk.note_event(keeper, &self.strands, kept, before);
-        kept.fault_without_memory()
+        let fault = kept.fault_without_memory();
+        let is_full = is_history_full(fault);
+        desk.note_event(keeper, &self.strands, kept, before, is_full);
+        fault
     }
 
     /// Replaces a job's rule from the first step on that was never ordered. Returns this step. The rule is copied
@@ -240,7 +247,8 @@ impl<L: Ledger> SharedBook<L> {
         let Locked { kept, keeper } = &mut *guard;
         let before = kept.history.len();
         let answer = kept.replace(job, rule, call);
-        desk.note_event(keeper, &self.strands, kept, before);
+        let is_full = is_refused_as_full(&answer);
+        desk.note_event(keeper, &self.strands, kept, before, is_full);
         answer
     }
 
@@ -262,7 +270,8 @@ impl<L: Ledger> SharedBook<L> {
         let Locked { kept, keeper } = &mut *guard;
         let before = kept.history.len();
         let answer = kept.lease(alloc);
-        desk.note_event(keeper, &self.strands, kept, before);
+        let is_full = is_refused_as_full(&answer);
+        desk.note_event(keeper, &self.strands, kept, before, is_full);
         answer
     }
 
@@ -286,7 +295,8 @@ impl<L: Ledger> SharedBook<L> {
         let Locked { kept, keeper } = &mut *guard;
         let before = kept.history.len();
         let answer = kept.order(alloc, lease);
-        desk.note_event(keeper, &self.strands, kept, before);
+        let is_full = is_refused_as_full(&answer);
+        desk.note_event(keeper, &self.strands, kept, before, is_full);
         answer
     }
 
@@ -310,7 +320,8 @@ impl<L: Ledger> SharedBook<L> {
         let Locked { kept, keeper } = &mut *guard;
         let before = kept.history.len();
         let answer = kept.give_back(lease);
-        desk.note_event(keeper, &self.strands, kept, before);
+        let is_full = is_return_refused_as_full(&answer);
+        desk.note_event(keeper, &self.strands, kept, before, is_full);
         answer
     }
 
@@ -326,7 +337,8 @@ impl<L: Ledger> SharedBook<L> {
         let Locked { kept, keeper } = &mut *guard;
         let before = kept.history.len();
         let answer = kept.revoke(job);
-        desk.note_event(keeper, &self.strands, kept, before);
+        let is_full = is_refused_as_full(&answer);
+        desk.note_event(keeper, &self.strands, kept, before, is_full);
         answer
     }
 
@@ -342,7 +354,8 @@ impl<L: Ledger> SharedBook<L> {
         let Locked { kept, keeper } = &mut *guard;
         let before = kept.history.len();
         let answer = kept.cancel(job);
-        desk.note_event(keeper, &self.strands, kept, before);
+        let is_full = is_refused_as_full(&answer);
+        desk.note_event(keeper, &self.strands, kept, before, is_full);
         answer
     }
 
@@ -364,7 +377,35 @@ impl<L: Ledger> SharedBook<L> {
         let Locked { kept, keeper } = &mut *guard;
         let before = kept.history.len();
         let answer = kept.read(alloc, job);
-        desk.note_event(keeper, &self.strands, kept, before);
+        let is_full = is_refused_as_full(&answer);
+        desk.note_event(keeper, &self.strands, kept, before, is_full);
         answer
+    }
+}
+
+/// Whether a fault says that the history is full.
+fn is_history_full(fault: BookFault) -> bool
+    ensures { result ≡ tells_full (Refused fault) }
+{
+    matches!(fault, BookFault::HistoryFull)
+}
+
+/// Whether a call was refused because the history is full.
+fn is_refused_as_full<T>(answer: &Result<T, BookFault>) -> bool
+    ensures { result ≡ is_refused_as_full answer.now }
+{
+    match answer {
+        Ok(_) => false,
+        Err(fault) => is_history_full(*fault),
+    }
+}
+
+/// Whether a lease was not taken back because the history is full.
+fn is_return_refused_as_full(answer: &Result<(), (Lease, BookFault)>) -> bool
+    ensures { result ≡ tells_full (back_reply answer.now) }
+{
+    match answer {
+        Ok(()) => false,
+        Err((_, fault)) => is_history_full(*fault),
     }
 }

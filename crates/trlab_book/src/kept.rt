@@ -8,7 +8,7 @@ ghost use Rattle.trlab_sequential_book.specs.Answers.{back_reply, done_reply, is
 ghost use Rattle.trlab_sequential_book.specs.Answers.{number_reply, order_reply, seen_reply};
 ghost use Rattle.trlab_sequential_book.specs.Comparison.{IsLent, IsRuleAt, IsSame, IsSeen};
 ghost use Rattle.trlab_sequential_book.specs.Comparison.{LeaseCall, OrderCall, offered};
-ghost use Rattle.trlab_sequential_book.specs.Machine.{is_full, start};
+ghost use Rattle.trlab_sequential_book.specs.Machine.{is_full, empty_book};
 ghost use Rattle.trlab_sequential_book.specs.Replay.{Replays, event};
 ghost use Rattle.trlab_sequential_book.specs.declared.event.Call.TheVariants.{Cancel, GiveBack, Read};
 ghost use Rattle.trlab_sequential_book.specs.declared.event.Call.TheVariants.{Replace, Revoke, Submit};
@@ -31,11 +31,11 @@ pub struct Kept {
 }
 
 impl Kept {
-    ghost use Rattle.trlab_book.specs.Events.{IsUnchanged, Makes, TellsFull};
+    ghost use Rattle.trlab_book.specs.Events.{IsUnchanged, Records, TellsFull};
 
     /// An empty book with an empty history.
     pub fn new(alloc: Global) -> Kept
-        ensures { (result.history.items ≡ []) × (result.book ≡ start) }
+        ensures { (result.history.items ≡ []) × (result.book ≡ empty_book) }
     {
         let book = Book::new(alloc);
         Kept {
@@ -82,7 +82,7 @@ impl Kept {
         call: Call,
     ) -> Result<u32, BookFault>
         requires { call ≡ Submit seed rule steps }
-        ensures made { Makes self.old (Submit seed rule steps) (number_reply result) self.new }
+        ensures made { Records self.old (Submit seed rule steps) (number_reply result) self.new }
         ensures full { TellsFull self.old (number_reply result) }
     {
         self.make_room()?;
@@ -95,7 +95,7 @@ impl Kept {
     /// Replaces the rule of a job. The history keeps `call`, which `copied_replace` makes.
     pub(crate) fn replace(&mut self, job: u32, rule: Rule, call: Call) -> Result<u32, BookFault>
         requires { call ≡ Replace job rule }
-        ensures made { Makes self.old (Replace job rule) (number_reply result) self.new }
+        ensures made { Records self.old (Replace job rule) (number_reply result) self.new }
         ensures full { TellsFull self.old (number_reply result) }
     {
         self.make_room()?;
@@ -111,7 +111,7 @@ impl Kept {
     ///
     /// Those of `Book::lease`; `Memory` also if the history cannot grow.
     pub fn lease(&mut self, alloc: Global) -> Result<Option<Lease>, BookFault>
-        ensures made { Makes self.old LeaseCall (lease_reply result) self.new }
+        ensures made { Records self.old LeaseCall (lease_reply result) self.new }
         ensures lent { IfOk result (λ o. IsLent self.old.book.jobs self.old.book.next o) }
         ensures full { TellsFull self.old (lease_reply result) }
     {
@@ -129,12 +129,12 @@ impl Kept {
     /// Those of `Book::order`; `Memory` also if the history cannot grow.
     pub fn order(&mut self, _: Global, lease: &Lease) -> Result<Order, BookFault>
         ensures made { (same : Bool) → (IsTrue same ↔ IsSame self.old.book.jobs lease.now)
-            → Makes self.old (OrderCall (offered lease.now same)) (order_reply result) self.new }
+            → Records self.old (OrderCall (offered lease.now same)) (order_reply result) self.new }
         ensures rule { IfOk result (λ o. IsRuleAt self.old.book.jobs o) }
         ensures full { TellsFull self.old (order_reply result) }
         ensures noted { (same : Bool)
             × OnTrue (is_event (order_reply result)) (IsTrue same ↔ IsSame self.old.book.jobs lease.now)
-            × Makes self.old (OrderCall (offered lease.now same)) (order_reply result) self.new }
+            × Records self.old (OrderCall (offered lease.now same)) (order_reply result) self.new }
     {
         self.make_room()?;
         let same = self.book.is_same(lease);
@@ -152,12 +152,12 @@ impl Kept {
     /// Those of `Book::give_back`, or `Memory` if the history cannot grow, with the lease.
     pub fn give_back(&mut self, lease: Lease) -> Result<(), (Lease, BookFault)>
         ensures made { (same : Bool) → (IsTrue same ↔ IsSame self.old.book.jobs lease)
-            → Makes self.old (GiveBack (offered lease same)) (back_reply result) self.new }
+            → Records self.old (GiveBack (offered lease same)) (back_reply result) self.new }
         ensures err { IfErr result (λ e. e.0 ≡ lease) }
         ensures full { TellsFull self.old (back_reply result) }
         ensures noted { (same : Bool)
             × OnTrue (is_event (back_reply result)) (IsTrue same ↔ IsSame self.old.book.jobs lease)
-            × Makes self.old (GiveBack (offered lease same)) (back_reply result) self.new }
+            × Records self.old (GiveBack (offered lease same)) (back_reply result) self.new }
     {
         if let Err(fault) = self.make_room() {
             return Err((lease, fault));
@@ -176,7 +176,7 @@ impl Kept {
     ///
     /// Those of `Book::revoke`, or `Memory` if the history cannot grow.
     pub fn revoke(&mut self, job: u32) -> Result<(), BookFault>
-        ensures made { Makes self.old (Revoke job) (done_reply result) self.new }
+        ensures made { Records self.old (Revoke job) (done_reply result) self.new }
         ensures full { TellsFull self.old (done_reply result) }
     {
         self.make_room()?;
@@ -192,7 +192,7 @@ impl Kept {
     ///
     /// Those of `Book::cancel`, or `Memory` if the history cannot grow.
     pub fn cancel(&mut self, job: u32) -> Result<(), BookFault>
-        ensures made { Makes self.old (Cancel job) (done_reply result) self.new }
+        ensures made { Records self.old (Cancel job) (done_reply result) self.new }
         ensures full { TellsFull self.old (done_reply result) }
     {
         self.make_room()?;
@@ -208,7 +208,7 @@ impl Kept {
     ///
     /// Those of `Book::read`; `Memory` also if the history cannot grow.
     pub fn read(&mut self, alloc: Global, job: u32) -> Result<Snapshot, BookFault>
-        ensures made { Makes self.old (Read job) (seen_reply result) self.new }
+        ensures made { Records self.old (Read job) (seen_reply result) self.new }
         ensures seen { IfOk result (λ s. IsSeen self.old.book.jobs job s) }
         ensures full { TellsFull self.old (seen_reply result) }
     {
@@ -232,8 +232,8 @@ fn put_event(history: &mut Vec<Event>, call: Call, reply: Reply)
     }
 }
 
-/// What `submit` needs besides the book: the seed, shared by the job and the history, and the call that the history
-/// keeps, with a copy of the rule.
+/// The arguments of `submit`: the seed, which the job and the history share, and the call that the history keeps,
+/// with a copy of the rule.
 pub(crate) fn copied_submit(
     alloc: Global,
     seed: Seed,

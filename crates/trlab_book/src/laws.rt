@@ -1,4 +1,4 @@
-//! What the lock of a shared book protects, a book with its history; and how the results of two runners are joined.
+//! Laws of a book with its history, and of the joined results of two runners.
 
 pub use crate::kept::Kept;
 pub use crate::running::first_fault;

@@ -1,14 +1,11 @@
 //! A book of jobs that threads share, with the history of all its calls, and runners that run the jobs.
 //!
-//! Two runners run a job of 200 steps to its end:
+//! A book starts with one desk (`SharedBook::start`). Two runners run a job of 200 steps to its end:
 //!
-//! ```
-//! let blank = Blank::new(alloc).ok()?;
-//! let (book, mut desk) = SharedBook::<L>::start(alloc, blank);
-//! let job = book.submit(rt, alloc, &mut desk, seed, rule, 200).ok()?;
-//! let mut desk = run_jobs(rt, alloc, &book, desk, 2, 1, &OpenGate).ok()?;
-//! let snapshot = book.read(rt, alloc, &mut desk, job).ok()?;
-//! let (book, history) = book.close(desk).ok()?;
+//! ```text
+//! book.submit(rt, alloc, desk, seed, rule, STEPS)
+//! run_jobs(rt, alloc, book, desk, RUNNERS, WORKERS, &OpenGate)
+//! let seen = book.read(rt, alloc, desk, job).ok()?;
 //! ```
 //!
 //! Each thread calls the book through a [`Desk`] of its own, which knows its own events of the history. The crate

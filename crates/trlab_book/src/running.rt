@@ -5,7 +5,7 @@ ghost use Rattle.std.specs.Thread.{IsSend, IsSync};
 ghost use Rattle.trlab_bounds.specs.declared.runs.TheConstants.{MAX_RUNNERS, MAX_WORKERS};
 ghost use Rattle.trlab_sequential_book.specs.declared.book.TheConstants.{MAX_EVENTS};
 ghost use Rattle.trlab_sequential_book.specs.declared.fault.BookFault.TheVariants.{HistoryFull};
-ghost use Rattle.trlab_book.specs.Desks.{AddsRunnerCalls, HasEnded, least_of, parts_of};
+ghost use Rattle.trlab_book.specs.Desks.{AddsRunnerCalls, HasEnded, clock_of, parts_of};
 ghost use Rattle.trlab_book.specs.declared.running.RunFault.TheVariants as run;
 
 use crate::desk::{Desk, SharedBook};
@@ -100,7 +100,7 @@ fn run_all<L: Ledger + Send + Sync, R: Threads + Wait + Sync, G: Gate + Sync>(
     (book.gather(mine, theirs), first_fault(one, other))
 }
 
-/// The result of two runners: that of the first that failed, but `HistoryFull` before `Memory`.
+/// The result of two runners: the first fault, but `HistoryFull` before `Memory`.
 pub fn first_fault(one: Result<(), RunFault>, other: Result<(), RunFault>) -> Result<(), RunFault>
     ensures fine { IsOk result ↔ (IsOk one × IsOk other) }
     ensures full { (result ≡ Err run.HistoryFull) ↔ ((one ≡ Err run.HistoryFull) ⊎ (other ≡ Err run.HistoryFull)) }
@@ -197,7 +197,7 @@ impl<'a, L: Ledger, R: Threads + Wait + Sync, G: Gate + Sync> Runner<'a, L, R, G
     /// Orders steps and runs them. The lock is free while a step runs.
     fn run_steps(&self, desk: &mut Desk<L>, lease: &mut Lease) -> Result<(), BookFault>
         ensures on { AddsRunnerCalls desk.old desk.new }
-        ensures full { result ≡ Err HistoryFull → MAX_EVENTS ≤ least_of desk.new }
+        ensures full { result ≡ Err HistoryFull → MAX_EVENTS ≤ clock_of desk.new }
     {
         for _ in 0..STEPS_PER_TURN {
             if lease.step() >= lease.steps() {
@@ -218,7 +218,7 @@ impl<'a, L: Ledger, R: Threads + Wait + Sync, G: Gate + Sync> Runner<'a, L, R, G
     /// Drops a lease after a fault. If an allocation failed, the lease is revoked, so that others can take the job.
     /// If the book no longer accepts the lease, the runner goes on.
     fn end_lease(&self, desk: &mut Desk<L>, lease: Lease, fault: BookFault) -> Result<(), RunFault>
-        requires seen { fault ≡ HistoryFull → MAX_EVENTS ≤ least_of desk.old }
+        requires seen { fault ≡ HistoryFull → MAX_EVENTS ≤ clock_of desk.old }
         ensures { HasEnded 0 result desk.old desk.new }
     {
         let job = lease.job();

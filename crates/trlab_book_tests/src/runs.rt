@@ -139,7 +139,7 @@ fn are_right<L: Ledger, R: Wait>(
     true
 }
 
-/// Whether runners whose workers pass a gate bring the jobs of a new book to their ends, and their desk closes the book.
+/// Whether runners whose workers pass a gate finish the jobs of a new book, and their desk closes it.
 fn passes<L: Ledger + Send + Sync, R: AllocGlobal + Threads + Wait + Sync, G: Gate + Sync>(
     rt: &R,
     blank: Blank<Event>,

@@ -20,7 +20,7 @@ use Rattle.trlab_traffic.proofs.Moving.{run_goes_by_moving_cars, run_keeps_below
 use Rattle.trlab_traffic.proofs.RoomAhead.{taken_or_empty}
 use Rattle.trlab_campaign.specs.Capacity.{DiagramIsTriangle, IsBelowPeak, IsOnTriangle, IsUnderTriangle, AsksForTriangle}
 use Rattle.trlab_campaign.specs.Capacity.{PointGoesByMovingCars, SweepsGoByMovingCars, SweepsKeepBelowPeak, SweepsKeepToCapacity}
-use Rattle.trlab_campaign.specs.SweepOutput.{ArePoints, IsPoint, seed_of, sheet_of}
+use Rattle.trlab_campaign.specs.SweepOutput.{ArePoints, IsPoint, point_seed, sweep_sheet}
 use Rattle.trlab_campaign.proofs.Points.{some_cells}
 use Rattle.trlab_campaign.proofs.StatedRules.{stated_nasch}
 use Rattle.trlab_rules.specs.StandardRules.{IsNasch}
@@ -83,7 +83,7 @@ module _ (common : Setup) (counted : 1 ≤ common.span.measure) where
       let span = common.span in
       let start = is.start in
       let legal = even_legal shape.lanes shape.cells shape.limit count start fits is.even in
-      let within = run_keeps_to_capacity (seed_of common number start) (sheet_of common) (all_steps span) is.counted.0 is.tally legal is.counted.1 in
+      let within = run_keeps_to_capacity (point_seed common number start) (sweep_sheet common) (all_steps span) is.counted.0 is.tally legal is.counted.1 in
       let steps : span.warm + span.measure - span.warm ≡ span.measure = omega arith in
       let empty : empty_cells start ≡ shape.lanes * shape.cells - count = empty_at_start shape count start fits is.even in
       let most : start.limit * cars start ≡ shape.limit * count = at_limit shape count start fits is.even in
@@ -105,7 +105,7 @@ module _ (common : Setup) (counted : 1 ≤ common.span.measure) where
       let span = common.span in
       let start = is.start in
       let legal = even_legal shape.lanes shape.cells shape.limit count start fits is.even in
-      let below = run_keeps_below_peak (seed_of common number start) (sheet_of common) (all_steps span) is.counted.0 is.tally legal is.counted.1 in
+      let below = run_keeps_below_peak (point_seed common number start) (sweep_sheet common) (all_steps span) is.counted.0 is.tally legal is.counted.1 in
       let steps : span.warm + span.measure - span.warm ≡ span.measure = omega arith in
       let cells : cells_of_road start ≡ shape.lanes * shape.cells = even_cells shape.lanes shape.cells shape.limit count start is.even in
       let low : (shape.limit + 1) * is.tally.distance ≤ span.measure * (shape.limit * (shape.lanes * shape.cells)) = rw (← steps, ← cells, ← is.even.same_limit) below in
@@ -122,7 +122,7 @@ module _ (common : Setup) (counted : 1 ≤ common.span.measure) where
       let span = common.span in
       let start = is.start in
       let legal = even_legal shape.lanes shape.cells shape.limit count start fits is.even in
-      let moving = run_goes_by_moving_cars (seed_of common number start) (sheet_of common) (all_steps span) is.counted.0 is.tally legal is.counted.1 in
+      let moving = run_goes_by_moving_cars (point_seed common number start) (sweep_sheet common) (all_steps span) is.counted.0 is.tally legal is.counted.1 in
       let steps : span.warm + span.measure - span.warm ≡ span.measure = omega arith in
       let all : cars start ≡ count = all_cars shape count start fits is.even in
       let most : start.limit * cars start ≡ shape.limit * count = at_limit shape count start fits is.even in
@@ -165,7 +165,7 @@ module _ (text : List ℕ) (common : Setup) (counted : 1 ≤ common.span.measure
       let one = without.lanes in
       let alone = subst (λ lanes. CanSpread lanes shape.cells shape.limit count) one fits in
       let even = subst (λ lanes. IsEven lanes shape.cells shape.limit count is.start) one is.even in
-      let gone = even_cars_flow_at_capacity shape.cells shape.limit count common.rule (seed_of common number is.start) (all_steps span) is.counted.0 is.tally is_nasch alone even without.warm is.counted.1 in
+      let gone = even_cars_flow_at_capacity shape.cells shape.limit count common.rule (point_seed common number is.start) (all_steps span) is.counted.0 is.tally is_nasch alone even without.warm is.counted.1 in
       let steps : span.warm + span.measure - span.warm ≡ span.measure = omega arith in
       let empty = empty_at_start shape count is.start fits is.even in
       let most = at_limit shape count is.start fits is.even in

@@ -55,8 +55,8 @@ even_is_legal setup cars road fits even =
 drives_point : (setup : Setup) (number cars : ℕ) (point : Point) → IsRuleFor setup.shape.lanes setup.rule → Spreads setup.shape cars
     → IsPoint setup number cars point → IsDrivenPoint setup number cars point
 drives_point setup number cars point rule fits is =
-    let seed = sweep.seed_of setup number is.start in
-    let sheet = sweep.sheet_of setup in
+    let seed = sweep.point_seed setup number is.start in
+    let sheet = sweep.sweep_sheet setup in
     let legal = even_is_legal setup cars is.start fits is.even in
     let for_lanes = suits (length is.start.lanes) setup (subst (λ (lanes : ℕ). IsRuleFor lanes setup.rule) (sym is.even.same_lanes) rule) in
     let at = λ (step : ℕ). run_comes_to_road seed sheet step legal for_lanes in

@@ -13,15 +13,15 @@ use Rattle.trlab_jobs.specs.Shapes.{all_steps}
 use Rattle.trlab_jobs.specs.Sweep.{Setup, Sweep}
 use Rattle.trlab_jobs.proofs.OneSweep.{one_thing}
 use Rattle.trlab_campaign.specs.Refusal.{OutputFor}
-use Rattle.trlab_campaign.specs.SweepOutput.{IsPoint, ArePoints, SweepOutput, point_of, seed_of, sheet_of, IsSweepOutput}
+use Rattle.trlab_campaign.specs.SweepOutput.{IsPoint, ArePoints, SweepOutput, point_of, point_seed, sweep_sheet, IsSweepOutput}
 use Rattle.trlab_campaign.specs.Laws.{HasOneOutput}
 
 -- a sweep has one point with a number and a count of cars
 point_one : (common : Setup) (number cars : ℕ) (point other : Point) → IsPoint common number cars point → IsPoint common number cars other → point ≡ other
 point_one common number cars point other p q =
     let start = one_even common.shape.lanes common.shape.cells common.shape.limit cars p.start q.start p.even q.even in
-    let counted = subst (λ (road : Cells). IsTallyAt (seed_of common number road) (sheet_of common) (all_steps common.span) p.tally) start p.counted in
-    let same = road_is_one (seed_of common number q.start) (sheet_of common) (all_steps common.span) counted.0 q.counted.0 p.tally q.tally counted.1 q.counted.1 in
+    let counted = subst (λ (road : Cells). IsTallyAt (point_seed common number road) (sweep_sheet common) (all_steps common.span) p.tally) start p.counted in
+    let same = road_is_one (point_seed common number q.start) (sweep_sheet common) (all_steps common.span) counted.0 q.counted.0 p.tally q.tally counted.1 q.counted.1 in
     p.told ∙ (ap (point_of common cars) same.1 ∙ sym q.told)
 
 points_one : (sweep : Sweep) (points others : List Point) → ArePoints sweep points → ArePoints sweep others → points ≡ others

@@ -2,21 +2,21 @@
 use Rattle.std.proofs.Common.{◌≡◌, ℕ, List, [], ◌++◌, length, take, drop, refl, append_assoc, append-nil, sym, ◌∙◌, ap, subst}
 use Rattle.std.proofs.Math.Seq.{take-append_seam}
 use Rattle.std.proofs.lemmas.List.{take-append-drop}
-use Rattle.trlab_campaign.specs.Writers.{Adds, AddsPrefix, SinkBytes}
+use Rattle.trlab_campaign.specs.Writers.{HasWritten, AddsPrefix, SinkBytes}
 use Rattle.trlab_campaign.proofs.WrittenBytes.{adds_none, adds_more}
 
 -- of a whole text some was written, and the rest is owed
 pub record Owes (whole rest : List ℕ) (old now : SinkBytes) : Type 0 where
   pub done : List ℕ
   pub parts : whole ≡ done ++ rest
-  pub wrote : Adds old now done
+  pub wrote : HasWritten old now done
 
 -- before the first piece
 pub owes_all : (whole : List ℕ) (old : SinkBytes) → Owes whole whole old old
 owes_all whole old = record { done = []; parts = refl; wrote = adds_none old }
 
 -- after a piece
-pub owes_less : (whole next rest : List ℕ) (old a b : SinkBytes) → Owes whole (next ++ rest) old a → Adds a b next → Owes whole rest old b
+pub owes_less : (whole next rest : List ℕ) (old a b : SinkBytes) → Owes whole (next ++ rest) old a → HasWritten a b next → Owes whole rest old b
 owes_less whole next rest old a b owes wrote = record {
   done = owes.done ++ next;
   parts = owes.parts ∙ sym (append_assoc owes.done next rest);
@@ -26,7 +26,7 @@ owes_less whole next rest old a b owes wrote = record {
 -- where it stops, a prefix was written
 owes_stop : (whole rest : List ℕ) (old a : SinkBytes) → Owes whole rest old a → AddsPrefix old a whole
 owes_stop whole rest old a owes =
-    record { count = length owes.done; prefix = subst (λ (t : List ℕ). Adds old a t) (sym (ap (take (length owes.done)) owes.parts ∙ take-append_seam owes.done rest)) owes.wrote }
+    record { count = length owes.done; prefix = subst (λ (t : List ℕ). HasWritten old a t) (sym (ap (take (length owes.done)) owes.parts ∙ take-append_seam owes.done rest)) owes.wrote }
 
 -- where it stops within a piece
 pub owes_prefix : (whole next rest : List ℕ) (old a b : SinkBytes) → Owes whole (next ++ rest) old a → AddsPrefix a b next → AddsPrefix old b whole
@@ -38,5 +38,5 @@ owes_prefix whole next rest old a b owes prefix =
     })
 
 -- where nothing is owed, all was written
-pub owes_none : (whole : List ℕ) (old a : SinkBytes) → Owes whole [] old a → Adds old a whole
-owes_none whole old a owes = subst (λ (t : List ℕ). Adds old a t) (sym (owes.parts ∙ append-nil owes.done)) owes.wrote
+pub owes_none : (whole : List ℕ) (old a : SinkBytes) → Owes whole [] old a → HasWritten old a whole
+owes_none whole old a owes = subst (λ (t : List ℕ). HasWritten old a t) (sym (owes.parts ∙ append-nil owes.done)) owes.wrote

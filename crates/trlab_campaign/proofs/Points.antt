@@ -7,10 +7,10 @@ use Rattle.trlab_diagram.specs.Flow.{IsMeasured}
 use Rattle.trlab_step.specs.Laws.{IsRuleFor, IsSheetFor}
 use Rattle.trlab_step.proofs.Sheets.{with_is_sheet, with_all}
 use Rattle.trlab_jobs.specs.Sweep.{Setup, Sweep}
-use Rattle.trlab_campaign.specs.SweepOutput.{AreFirstPoints, ArePoints, IsPoint, sheet_of}
+use Rattle.trlab_campaign.specs.SweepOutput.{AreFirstPoints, ArePoints, IsPoint, sweep_sheet}
 
 -- the sheet of a sweep is one for the lanes of its roads
-pub suits : (lanes : ℕ) (common : Setup) → IsRuleFor lanes common.rule → IsSheetFor lanes (sheet_of common)
+pub suits : (lanes : ℕ) (common : Setup) → IsRuleFor lanes common.rule → IsSheetFor lanes (sweep_sheet common)
 suits lanes common rule = record {
   is_sheet = with_is_sheet common.rule [] tt;
   rules = with_all (IsRuleFor lanes) common.rule [] rule (λ k d inside. absurd (omega arith));

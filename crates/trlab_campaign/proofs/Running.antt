@@ -10,7 +10,7 @@ use Rattle.trlab_jobs.specs.Job.{Job, seed_of, sheet_of}
 use Rattle.trlab_jobs.specs.Stored.{IsStoredJob}
 use Rattle.trlab_campaign.specs.Output.{JobOutput, shown_text, steps_text}
 use Rattle.trlab_campaign.specs.Ending.{WroteAll, WroteBy, WrotePrefix}
-use Rattle.trlab_campaign.specs.Writers.{Adds, AddsBy, AddsPrefix, SinkBytes}
+use Rattle.trlab_campaign.specs.Writers.{HasWritten, AddsBy, AddsPrefix, SinkBytes}
 use Rattle.trlab_campaign.proofs.Sheets.{plain_sheet}
 use Rattle.trlab_campaign.proofs.Owed.{Owes, owes_all, owes_less, owes_prefix, owes_none}
 
@@ -98,7 +98,7 @@ here job roads step road each at = road_at_is_one (seed_of job) (sheet_of job) s
 
 -- the text of a step is written
 wrote : (shown : ℕ → Bool) (job : Job) (step left : ℕ) (road : Cells) (old a b : SinkBytes) → Underway shown job step left old a
-    → IsRoadAt (seed_of job) (sheet_of job) step road → Adds a b (shown_text shown step road) → Written shown job step left old b
+    → IsRoadAt (seed_of job) (sheet_of job) step road → HasWritten a b (shown_text shown step road) → Written shown job step left old b
 wrote shown job step left road old a b u at text = record {
   roads = u.roads;
   each = u.each;
@@ -139,7 +139,7 @@ no_text shown roads step (suc count) none =
 
 -- the text of the last step that is shown is written
 all_written : (shown : ℕ → Bool) (job : Job) (step left : ℕ) (road : Cells) (old a b : SinkBytes) → Underway shown job step left old a
-    → IsRoadAt (seed_of job) (sheet_of job) step road → Adds a b (shown_text shown step road) → ((s : ℕ) → step < s → s ≤ job.steps → shown s ≡ false)
+    → IsRoadAt (seed_of job) (sheet_of job) step road → HasWritten a b (shown_text shown step road) → ((s : ℕ) → step < s → s ≤ job.steps → shown s ≡ false)
     → WroteAll (JobOutput shown job) false old b
 all_written shown job step left road old a b u at text none =
     let w = wrote shown job step left road old a b u at text in
@@ -149,7 +149,7 @@ all_written shown job step left road old a b u at text none =
 
 -- the text of a step is written, and the run takes this step
 pub step_on : (shown : ℕ → Bool) (steps step left : ℕ) (start run next : Progress) (old a b : SinkBytes) → Writes shown steps start step (left + 1) run old a
-    → IsRoadAt run.seed run.sheet run.step run.road → Adds a b (shown_text shown step run.road) → IsOneStepOn run next → Writes shown steps start (step + 1) left next old b
+    → IsRoadAt run.seed run.sheet run.step run.road → HasWritten a b (shown_text shown step run.road) → IsOneStepOn run next → Writes shown steps start (step + 1) left next old b
 step_on shown steps step left start run next old a b writes road text on job begins =
     let here = writes job begins in
     let at = driven_road job step run run.road here.1 road in

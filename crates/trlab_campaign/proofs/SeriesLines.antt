@@ -11,7 +11,7 @@ use Rattle.trlab_jobs.specs.Job.{Job, seed_of, sheet_of}
 use Rattle.trlab_jobs.specs.Stored.{IsStoredJob}
 use Rattle.trlab_campaign.specs.Ending.{WroteBy, WrotePrefix}
 use Rattle.trlab_campaign.specs.SeriesOutput.{IsCourse, IsSeries, SeriesOutput, first_windows, nth_window, window_of}
-use Rattle.trlab_campaign.specs.Writers.{Adds, AddsBy, AddsPrefix, SinkBytes}
+use Rattle.trlab_campaign.specs.Writers.{HasWritten, AddsBy, AddsPrefix, SinkBytes}
 use Rattle.trlab_campaign.proofs.Courses.{course_of}
 use Rattle.trlab_campaign.proofs.WrittenBytes.{adds_more}
 use Rattle.trlab_campaign.proofs.Sheets.{plain_sheet}
@@ -28,7 +28,7 @@ next_line roads tallies every from k left = rw (add-one left) refl
 
 -- one line is written
 pub line_on : (roads : ℕ → Cells) (tallies : ℕ → StepTally) (every from k left step : ℕ) (whole : List ℕ) (old a b : SinkBytes) → step ≡ from + k * every
-    → Owes whole (lines_from roads tallies every from k (left + 1)) old a → Adds a b (window_text (window_of roads tallies step every))
+    → Owes whole (lines_from roads tallies every from k (left + 1)) old a → HasWritten a b (window_text (window_of roads tallies step every))
     → Owes whole (lines_from roads tallies every from (k + 1) left) old b
 line_on roads tallies every from k left step whole old a b is owes text =
     owes_less whole (window_text (nth_window roads tallies every from k)) (lines_from roads tallies every from (k + 1) left) old a b
@@ -50,7 +50,7 @@ pub prefix_of_first : (first rest : List ℕ) (old new : SinkBytes) → AddsPref
 prefix_of_first first rest old new prefix = owes_prefix (first ++ rest) first rest old old new (owes_all (first ++ rest) old) prefix
 
 -- a text was written, and then another one, or a prefix of that
-pub then_wrote : {A E : Type 0} (r : Result A E) (first rest : List ℕ) (old mid new : SinkBytes) → Adds old mid first → AddsBy r mid new rest
+pub then_wrote : {A E : Type 0} (r : Result A E) (first rest : List ℕ) (old mid new : SinkBytes) → HasWritten old mid first → AddsBy r mid new rest
     → AddsBy r old new (first ++ rest)
 then_wrote (Ok x) first rest old mid new a b = adds_more old mid new first rest a b
 then_wrote (Err e) first rest old mid new a b =

@@ -18,7 +18,7 @@ use Rattle.trlab_jobs.specs.Sweep.{Setup, Sweep}
 use Rattle.trlab_jobs.specs.Stored.{Spreads, IsStoredSweep}
 use Rattle.trlab_jobs.proofs.OneSweep.{says_stored}
 use Rattle.trlab_campaign.specs.Refusal.{OutputFor, fault_line}
-use Rattle.trlab_campaign.specs.SweepOutput.{IsPoint, ArePoints, SweepOutput, point_of, seed_of, sheet_of, IsSweepOutput}
+use Rattle.trlab_campaign.specs.SweepOutput.{IsPoint, ArePoints, SweepOutput, point_of, point_seed, sweep_sheet, IsSweepOutput}
 use Rattle.trlab_campaign.specs.Laws.{HasSomeOutput}
 use Rattle.trlab_campaign.proofs.Points.{suits}
 
@@ -35,7 +35,7 @@ point_some : (common : Setup) (number cars : ℕ) → IsRuleFor common.shape.lan
 point_some common number cars rule fits =
     let start = even_some common.shape.lanes common.shape.cells common.shape.limit cars fits in
     let sheet = suits (length start.0.lanes) common (rw start.1.0.same_lanes rule) in
-    let run = run_comes_to_road (seed_of common number start.0) (sheet_of common) (all_steps common.span) start.1.1 sheet in
+    let run = run_comes_to_road (point_seed common number start.0) (sweep_sheet common) (all_steps common.span) start.1.1 sheet in
     (point_of common cars run.1, record { start = start.0; tally = run.1; even = start.1.0; counted = (run.0, run.2); told = refl })
 
 -- points from a number on

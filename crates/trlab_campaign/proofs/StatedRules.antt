@@ -9,7 +9,7 @@ use Rattle.trlab_rules.specs.StandardRules.{IsNasch}
 use Rattle.trlab_rules.proofs.NaschRuns.{nasch_moves}
 use Rattle.trlab_bounds.specs.declared.texts.TheConstants.{TEXT_LIMIT}
 use Rattle.trlab_texts.specs.declared.fault.Cause.{Cause}
-use Rattle.trlab_texts.specs.Lines.{Rest, start}
+use Rattle.trlab_texts.specs.Lines.{Rest, all_lines}
 use Rattle.trlab_texts.specs.Reading.{Fault, Continues, LineSays, Reading, SizedTextSays, at_line, before, exactly, line_with_rest, line, say, ◌>>=◌}
 use Rattle.trlab_jobs.specs.declared.rule_line.RuleLine.{RuleLine}
 use Rattle.trlab_jobs.specs.declared.rule_line.RuleLine.TheVariants.{Nasch}
@@ -137,9 +137,9 @@ lines_are p text sweep stated says = of_found says.0 says.1.0 says.1.1
     of_counts common (Ok cars) is out = let same : sweep ≡ record { setup = common; cars = cars } = cc out in subst (λ (s : Sweep). IsNasch p s.setup.rule) (sym same) is
     of_counts common (Err fault) is out = absurd (cc out)
 
-    of_found : (found : Result (Setup × Rest) Fault) → setup (start text) found → Ok sweep ≡ with_counts found → IsNasch p sweep.setup.rule
+    of_found : (found : Result (Setup × Rest) Fault) → setup (all_lines text) found → Ok sweep ≡ with_counts found → IsNasch p sweep.setup.rule
     of_found (Ok found) told out =
-        of_counts found.0 (counts (cell_count found.0.shape) (all_steps found.0.span) found.1.number found.1.left) (setup_is p (start text) found.1 found.0 stated told) out
+        of_counts found.0 (counts (cell_count found.0.shape) (all_steps found.0.span) found.1.number found.1.left) (setup_is p (all_lines text) found.1 found.0 stated told) out
     of_found (Err fault) told out = absurd (cc out)
 
 pub stated_nasch : (p : ℕ) (text : List ℕ) (sweep : Sweep) → rule_stated text ≡ Ok (Nasch p) → SweepText text (Ok sweep) → IsNasch p sweep.setup.rule

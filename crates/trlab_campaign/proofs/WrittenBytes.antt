@@ -3,7 +3,7 @@ use Rattle.std.proofs.Common.{◌≡◌, ℕ, ◌+◌, ◌≤◌, List, [], ◌+
 use Rattle.std.proofs.Math.Seq.{take-length}
 use Rattle.std.specs.Prelude.{Option, None, Some}
 use Rattle.std.specs.Io.KnownBytes.{Appends, Keeps}
-use Rattle.trlab_campaign.specs.Writers.{SinkBytes, Adds, AddsNone, AddsPrefix}
+use Rattle.trlab_campaign.specs.Writers.{SinkBytes, HasWritten, AddsNone, AddsPrefix}
 
 -- of the bytes that a writer tells
 told_none : (a : Option (List ℕ)) → Appends a a []
@@ -27,7 +27,7 @@ told_kept (Some x) (Some y) None xs p q = absurd q
 told_kept (Some x) (Some y) (Some z) xs p q = q ∙ p
 
 -- a writer that was not called
-pub adds_none : (a : SinkBytes) → Adds a a []
+pub adds_none : (a : SinkBytes) → HasWritten a a []
 adds_none a = record { accepted = sym (append-nil a.accepted); told = told_none a.told }
 
 pub kept : (a : SinkBytes) → AddsNone a a
@@ -37,29 +37,29 @@ kept a = record { accepted = refl; told = told_same a.told }
 pub nothing_taken : (a b : SinkBytes) → b.accepted ≡ a.accepted ++ [] → Keeps a.told b.told → AddsNone a b
 nothing_taken a b p q = record { accepted = p ∙ append-nil a.accepted; told = q }
 
-pub adds_more : (a b c : SinkBytes) (xs ys : List ℕ) → Adds a b xs → Adds b c ys → Adds a c (xs ++ ys)
+pub adds_more : (a b c : SinkBytes) (xs ys : List ℕ) → HasWritten a b xs → HasWritten b c ys → HasWritten a c (xs ++ ys)
 adds_more a b c xs ys p q = record {
   accepted = q.accepted ∙ (ap (λ t. t ++ ys) p.accepted ∙ append_assoc a.accepted xs ys);
   told = told_more a.told b.told c.told xs ys p.told q.told;
 }
 
-pub adds_kept : (a b c : SinkBytes) (xs : List ℕ) → Adds a b xs → AddsNone b c → Adds a c xs
+pub adds_kept : (a b c : SinkBytes) (xs : List ℕ) → HasWritten a b xs → AddsNone b c → HasWritten a c xs
 adds_kept a b c xs p q = record { accepted = q.accepted ∙ p.accepted; told = told_kept a.told b.told c.told xs p.told q.told }
 
 -- of a text whose first `done` bytes are there, `count` more
-pub adds_part : (a b c : SinkBytes) (text : List ℕ) (done count : ℕ) → Adds a b (take done text) → Adds b c (take count (drop done text)) → Adds a c (take (done + count) text)
+pub adds_part : (a b c : SinkBytes) (text : List ℕ) (done count : ℕ) → HasWritten a b (take done text) → HasWritten b c (take count (drop done text)) → HasWritten a c (take (done + count) text)
 adds_part a b c text done count p q =
-    subst (λ (t : List ℕ). Adds a c t) (sym (take-add done count text)) (adds_more a b c (take done text) (take count (drop done text)) p q)
+    subst (λ (t : List ℕ). HasWritten a c t) (sym (take-add done count text)) (adds_more a b c (take done text) (take count (drop done text)) p q)
 
 -- of a text all bytes are there
-pub adds_whole : (a b : SinkBytes) (text : List ℕ) (done : ℕ) → done ≤ length text → length text ≤ done → Adds a b (take done text) → Adds a b text
+pub adds_whole : (a b : SinkBytes) (text : List ℕ) (done : ℕ) → done ≤ length text → length text ≤ done → HasWritten a b (take done text) → HasWritten a b text
 adds_whole a b text done inside all p =
     let here : done ≡ length text = omega arith in
-    subst (λ (t : List ℕ). Adds a b t) (ap (λ (n : ℕ). take n text) here ∙ take-length text) p
+    subst (λ (t : List ℕ). HasWritten a b t) (ap (λ (n : ℕ). take n text) here ∙ take-length text) p
 
 -- a whole text is a prefix of it
-pub prefix_whole : (a b : SinkBytes) (text : List ℕ) → Adds a b text → AddsPrefix a b text
-prefix_whole a b text p = record { count = length text; prefix = subst (λ (t : List ℕ). Adds a b t) (sym (take-length text)) p }
+pub prefix_whole : (a b : SinkBytes) (text : List ℕ) → HasWritten a b text → AddsPrefix a b text
+prefix_whole a b text p = record { count = length text; prefix = subst (λ (t : List ℕ). HasWritten a b t) (sym (take-length text)) p }
 
-pub prefix_kept : (a b c : SinkBytes) (text : List ℕ) → Adds a b text → AddsNone b c → AddsPrefix a c text
+pub prefix_kept : (a b c : SinkBytes) (text : List ℕ) → HasWritten a b text → AddsNone b c → AddsPrefix a c text
 prefix_kept a b c text p q = prefix_whole a c text (adds_kept a b c text p q)

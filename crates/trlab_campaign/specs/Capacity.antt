@@ -14,8 +14,8 @@ use Rattle.trlab_campaign.specs.SweepOutput.{ArePoints}
 abbrev pub empty_cells_at : Point → ℕ
 empty_cells_at point = point.cells - point.cars
 
--- the capacity at a point, which is the largest distance of a step: each car moves at the limit, or a car passes
--- each empty cell
+-- the capacity at a point, which is the largest distance of a step: each car moves at the limit, or a car
+-- passes each empty cell
 abbrev pub capacity_at : ℕ → Point → ℕ
 capacity_at limit point = min (limit * point.cars) (empty_cells_at point)
 
@@ -24,8 +24,8 @@ abbrev pub steady_flow : Point → ℕ → ℕ
 steady_flow point distance = distance * 1000000 / point.cells
 
 -- a point under the triangle: as a mean over its steps, the cars went over no more cells than the road has
--- empty cells, and each no further than the limit; so the flow is at most 1 minus the density, and at most the
--- limit times the density
+-- empty cells, and each no further than the limit; so the flow is at most 1 minus the density, and at most
+-- the limit times the density
 pub record IsUnderTriangle (limit : ℕ) (point : Point) : Type 0 where
   pub room : point.cars ≤ point.cells
   pub by_empty_cells : point.distance ≤ point.steps * empty_cells_at point
@@ -57,7 +57,7 @@ pub record PointGoesByMovingCars (limit : ℕ) (point : Point) : Type 0 where
   pub cell_each : point.steps * point.cars ≤ point.distance + point.stopped
   pub limit_each : point.distance + limit * point.stopped ≤ point.steps * (limit * point.cars)
 
--- the same for each point of a table, under any rule that a sweep text may state
+-- the moving cars of each point of a table went these distances, under any rule that a sweep text may state
 abbrev pub SweepsGoByMovingCars : Type 0
 SweepsGoByMovingCars =
     (text : List ℕ) (sweep : Sweep) (points : List Point)
@@ -73,8 +73,8 @@ pub record IsOnTriangle (limit : ℕ) (point : Point) : Type 0 where
 abbrev pub rule_stated : List ℕ → Result (RuleLine ℕ) Cause
 rule_stated text = rule_line (slice_index_or (lines_of text) 5 [])
 
--- a sweep text asks for the triangle: it states the rule of 1992 without randomization, by the line `rule nasch 0`,
--- has one lane, and counts no step before cars could reach the limit
+-- a sweep text asks for the triangle: it states the rule of 1992 without randomization, by the line `rule
+-- nasch 0`, has one lane, and counts no step before cars could reach the limit
 pub record AsksForTriangle (text : List ℕ) (common : Setup) : Type 0 where
   pub rule : rule_stated text ≡ Ok (Nasch 0)
   pub lanes : common.shape.lanes ≡ 1

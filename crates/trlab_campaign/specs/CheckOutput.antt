@@ -1,4 +1,4 @@
--- What is written for a check text.
+-- The output for a check text.
 use Rattle.std.specs.Prelude.{◌≡◌, ℕ, true, false, List, [], ◌∷◌, ◌++◌, decimal, codes}
 use Rattle.trlab_code.specs.Program.{Program}
 use Rattle.trlab_asm.specs.Canonical.{text_of}
@@ -10,21 +10,21 @@ use Rattle.trlab_jobs.specs.Check.{Check, CheckText}
 use Rattle.trlab_campaign.specs.NoteLines.{notes_text}
 use Rattle.trlab_campaign.specs.Refusal.{Outputs, OutputOfText}
 
--- what is written for an accepted program: its budget, and its canonical text
+-- the text of an accepted program: its budget, and its canonical text
 abbrev pub accepted_text : ℕ → Program → List ℕ
 accepted_text budget program = codes "accepted budget " ++ (decimal budget ++ (10 ∷ text_of program.instrs))
 
--- what is written for an accepted program, by the question of the check
+-- the output for an accepted program, by the question of the check
 abbrev pub answer_text : Question → ℕ → Program → List ℕ
 answer_text Verdict budget program = accepted_text budget program
 answer_text Notes budget program = accepted_text budget program ++ notes_text program
 
--- what is written for a refused program: the instruction and the reason
+-- the output for a refused program: the instruction and the reason
 abbrev pub refused_line : ℕ → ℕ → List ℕ
 refused_line at reason =
     codes "refused at " ++ (decimal at ++ (codes " reason " ++ (decimal reason ++ (10 ∷ []))))
 
--- what is written for a check, by the verdict on its program as a program of its own kind
+-- the output for a check, by the verdict on its program as a program of its own kind
 abbrev pub VerdictOutput : Check → Outputs
 VerdictOutput check false out = IsAccepted check.program.kind check.program × ((budget : ℕ)
     × (IsLongest check.program.instrs 0 budget × (out ≡ answer_text check.question budget check.program)))

@@ -1,4 +1,4 @@
--- The bytes that calls of readers and writers transfer, and what is read of an input.
+-- The bytes that calls of readers and writers transfer, and the part of an input that is read.
 use Rattle.std.specs.Prelude.{◌≡◌, ◌⊎◌, ℕ, ◌<◌, ◌≤◌, List, [], ◌++◌, length, take, Option, Result, Ok, Err}
 use Rattle.std.specs.Io.KnownBytes.{Consumes}
 use Rattle.trlab_bounds.specs.declared.texts.TheConstants.{TEXT_LIMIT}
@@ -16,6 +16,6 @@ Gave Holds before after = (bytes : List ℕ) × ((after ≡ before ++ bytes) × 
 abbrev pub ConsumesUpTo : ℕ → Option (List ℕ) → Option (List ℕ) → Type 0
 ConsumesUpTo most old new = (read : List ℕ) × (length read ≤ most) × Consumes old new read
 
--- what was read of an input: all of it, or enough to know that it is too long
+-- the bytes that were read of an input: all of it, or enough to know that it is too long
 abbrev pub IsReadOf : List ℕ → List ℕ → Type 0
 IsReadOf text input = (text ≡ input) ⊎ ((TEXT_LIMIT < length text) × (TEXT_LIMIT < length input))

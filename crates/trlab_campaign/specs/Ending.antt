@@ -1,4 +1,4 @@
--- How an engine ends: what it has written, whether that was flushed, and what its reader gave.
+-- How an engine ends: the bytes that it has written, whether they were flushed, and the bytes of its reader.
 use Rattle.std.specs.Prelude.{◌≡◌, ◌+◌, ◌≤◌, ◌||◌, ◌⊎◌, ◌↔◌, ℕ, Bool, true, false}
 use Rattle.std.specs.Prelude.{List, length, IfSome, Result, Ok, Err, IfErr, OnOk}
 use Rattle.trlab_bounds.specs.declared.texts.TheConstants.{TEXT_LIMIT}
@@ -12,11 +12,11 @@ use Rattle.trlab_campaign.specs.declared.end.Failure.TheVariants.{Device}
 use Rattle.trlab_campaign.specs.Device.{ConsumesUpTo, Gave}
 use Rattle.trlab_campaign.specs.Flushes.{AtMostOnce, HandedOnce}
 use Rattle.trlab_campaign.specs.Refusal.{Outputs}
-use Rattle.trlab_campaign.specs.Writers.{Adds, AddsNone, AddsPrefix, SinkBytes, bytes_of}
+use Rattle.trlab_campaign.specs.Writers.{HasWritten, AddsNone, AddsPrefix, SinkBytes, bytes_of}
 
 -- a whole output was written, which is a refusal or not
 abbrev pub WroteAll : Outputs → Bool → SinkBytes → SinkBytes → Type 0
-WroteAll IsWhole refused old new = (out : List ℕ) × (IsWhole refused out × Adds old new out)
+WroteAll IsWhole refused old new = (out : List ℕ) × (IsWhole refused out × HasWritten old new out)
 
 -- nothing was written, or a prefix of a whole output
 abbrev pub WrotePrefix : Outputs → SinkBytes → SinkBytes → Type 0
@@ -30,8 +30,8 @@ abbrev pub WroteBy : {A E : Type 0} → Outputs → Result A E
 WroteBy IsWhole (Ok done) old new = WroteAll IsWhole false old new
 WroteBy IsWhole (Err fault) old new = WrotePrefix IsWhole old new
 
--- what an engine has written, by its end: the output for a text with a fault, or for a refused program, is a
--- refusal
+-- the bytes that an engine has written, by its end: the output for a text with a fault, or for a refused
+-- program, is a refusal
 abbrev pub EndsSo : Outputs → End → SinkBytes → SinkBytes → Type 0
 EndsSo IsWhole Done old new = WroteAll IsWhole false old new
 EndsSo IsWhole Refused old new = WroteAll IsWhole true old new
@@ -46,23 +46,23 @@ HandsOn Refused handed_on old new = HandedOnce handed_on old new
 HandsOn Memory handed_on old new = new ≡ old
 HandsOn DeviceFault handed_on old new = AtMostOnce old new
 
--- what was written of one whole output, by the end
+-- the bytes that were written of one whole output, by the end
 abbrev pub OutputEnds : Bool → List ℕ → End → SinkBytes → SinkBytes → Type 0
-OutputEnds refused out Done old new = (refused ≡ false) × Adds old new out
-OutputEnds refused out Refused old new = (refused ≡ true) × Adds old new out
+OutputEnds refused out Done old new = (refused ≡ false) × HasWritten old new out
+OutputEnds refused out Refused old new = (refused ≡ true) × HasWritten old new out
 OutputEnds refused out Memory old new = AddsNone old new
 OutputEnds refused out DeviceFault old new = AddsPrefix old new out
 
--- the writer after a call that does not flush it: it works if everything was written, and it has failed exactly
--- if that is the failure
+-- the writer after a call that does not flush it: it works if everything was written, and it has failed
+-- exactly if that is the failure
 pub record WritesOn {A K : Type 0} (sink : Sink.Ghosts K) (result : Result A Failure)
     (old new : K) : Type 0 where
   pub works : OnOk result (sink.failed new ≡ false)
   pub fails : IfErr result (λ fault. (fault ≡ Device) ↔ (sink.failed new ≡ true))
   pub flushed : sink.flushes new ≡ sink.flushes old
 
--- the writer after a call that flushes it: `Wrote` says what was written by this end, a whole output was
--- flushed once, and the end is a device fault exactly if the writer has failed
+-- the writer after a call that flushes it: `Wrote` holds of the written bytes and this end, a whole output
+-- was flushed once, and the end is a device fault exactly if the writer has failed
 pub record LeavesWriter {K : Type 0} (sink : Sink.Ghosts K)
     (Wrote : End → SinkBytes → SinkBytes → Type 0)
     (end : End) (old new : K) : Type 0 where
@@ -78,7 +78,7 @@ pub record EngineEnds {S K : Type 0} (source : Source.Ghosts S) (sink : Sink.Gho
   -- reader gave, or the prefix of it that the end allows
   pub exact : Gave (λ text. EndsSo (outputs text) end (bytes_of sink old) (bytes_of sink new))
       (source.given before) (source.given after)
-  -- the same for all bytes that were left to read, if they are known
+  -- the output is also that for all bytes that were left to read, if they are known
   pub answer : IfSome (source.left before)
       (λ text. EndsSo (outputs text) end (bytes_of sink old) (bytes_of sink new))
   -- nothing was written if the input was not read

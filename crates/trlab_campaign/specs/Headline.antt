@@ -36,9 +36,9 @@ pub record IsDrivenPoint (setup : Setup) (number cars : ℕ) (point : Point) : T
   pub tally : StepTally
   pub roads : ℕ → Cells
   pub even : IsEven setup.shape.lanes setup.shape.cells setup.shape.limit cars start
-  pub driven : IsDriven (sweep.seed_of setup number start) (sweep.sheet_of setup)
+  pub driven : IsDriven (sweep.point_seed setup number start) (sweep.sweep_sheet setup)
       (all_steps setup.span) roads
-  pub counted : IsTallyAt (sweep.seed_of setup number start) (sweep.sheet_of setup)
+  pub counted : IsTallyAt (sweep.point_seed setup number start) (sweep.sweep_sheet setup)
       (all_steps setup.span) tally
   pub told : point ≡ point_of setup cars tally
 

@@ -3,7 +3,7 @@ pub mod Flushes
 pub mod Device
 pub mod Writers
 pub mod Watched
--- what is written
+-- outputs
 pub mod Refusal
 pub mod Output
 pub mod NoteLines

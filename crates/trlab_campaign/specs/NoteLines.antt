@@ -12,12 +12,12 @@ use Rattle.trlab_notes.specs.declared.note.AbstractValue.TheVariants.{Nothing, B
 use Rattle.trlab_notes.specs.Notes.{Note, with_side}
 use Rattle.trlab_verify.specs.Incoming.{note_at}
 
--- the name of a register and what it holds, each after a space
+-- the name of a register and its content, each after a space
 abbrev pub register_entry : Register → List ℕ → List ℕ
 register_entry register held = 32 ∷ (register_text register ++ (32 ∷ held))
 
--- the text for a register: nothing if it may be unset, the smallest and the largest number, or `flag`, which is
--- `side` if a true flag implies that the side cell is empty
+-- the text for a register: nothing if it may be unset, the smallest and the largest number, or `flag`, which
+-- is `side` if a true flag implies that the side cell is empty
 abbrev pub said_text : Register → AbstractValue → List ℕ
 said_text register Nothing = []
 said_text register (Between lo hi) = register_entry register (decimal lo ++ (32 ∷ decimal hi))
@@ -42,7 +42,7 @@ abbrev pub note_line : ℕ → Note → List ℕ
 note_line pc note =
     codes "note " ++ (decimal pc ++ (registers_text note ++ (side_text note.side ++ (10 ∷ []))))
 
--- the line of the note at pc, if there is one
+-- the line of the note at pc, if the instruction has a note
 abbrev pub maybe_note_line : ℕ → Option Note → List ℕ
 maybe_note_line pc None = []
 maybe_note_line pc (Some note) = note_line pc note

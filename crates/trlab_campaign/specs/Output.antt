@@ -1,4 +1,4 @@
--- What is written for a job text.
+-- The output for a job text.
 use Rattle.std.specs.Prelude.{◌≡◌, ℕ, ◌+◌, ◌-◌, ◌%◌, ◌≤◌, ◌&&◌, Bool, true, false, nat_eq, nat_le, if◌then◌else◌}
 use Rattle.std.specs.Prelude.{List, [], ◌∷◌, ◌++◌, flat_map, decimal, codes}
 use Rattle.std.specs.List.{range_with_len}
@@ -17,7 +17,7 @@ abbrev pub step_text : ℕ → Cells → List ℕ
 step_text step road =
     codes "step " ++ (decimal step ++ (10 ∷ flat_map (λ lane. picture_line (picture lane)) road.lanes))
 
--- the steps that are shown: each one, or `from`, `from + every`, `from + 2 * every` and so on
+-- the steps that are shown: each step, or `from`, `from + every`, `from + 2 * every` and so on
 abbrev pub each_step : ℕ → Bool
 each_step step = true
 
@@ -38,12 +38,12 @@ pub record IsRunText (job : Job) (shown : ℕ → Bool) (roads : ℕ → Cells) 
       → IsRoadAt (seed_of job) (sheet_of job) step (roads step)
   pub pictures : out ≡ steps_text shown roads (job.steps + 1)
 
--- what is written for a job, which is not a refusal
+-- the whole output for a job, which is not a refusal
 abbrev pub JobOutput : (ℕ → Bool) → Job → Outputs
 JobOutput shown job refused out =
     (refused ≡ false) × ((roads : ℕ → Cells) × IsRunText job shown roads out)
 
--- the whole output for a job text, by what is written for a job, and whether it is a refusal
+-- the whole output for a job text, from the output for a job, and whether it is a refusal
 abbrev pub IsOutputOf : (Job → Outputs) → List ℕ → Outputs
 IsOutputOf Output text refused out = OutputOfText JobText Output text refused out
 
@@ -51,6 +51,6 @@ IsOutputOf Output text refused out = OutputOfText JobText Output text refused ou
 abbrev pub IsShownOutput : (ℕ → Bool) → List ℕ → Outputs
 IsShownOutput shown text refused out = IsOutputOf (JobOutput shown) text refused out
 
--- the same with each step shown
+-- the whole output for a text with each step shown, and whether it is a refusal
 abbrev pub IsOutput : List ℕ → Outputs
 IsOutput text refused out = IsShownOutput each_step text refused out

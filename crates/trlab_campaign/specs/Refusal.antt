@@ -1,4 +1,4 @@
--- Outputs, and those of texts that are refused.
+-- Outputs, and the output for a text that is refused.
 use Rattle.std.specs.Prelude.{◌≡◌, ℕ, Bool, true, List, [], ◌∷◌, ◌++◌, decimal, codes, Result, Ok, Err}
 use Rattle.trlab_texts.specs.Causes.{cause_number}
 use Rattle.trlab_texts.specs.Reading.{Fault}
@@ -13,12 +13,12 @@ fault_line fault =
 abbrev pub Outputs : Type 1
 Outputs = Bool → List ℕ → Type 0
 
--- what is written by what a text says: the line of the fault if it has one
+-- the output by the result for a text: the line of the fault if the text has one
 abbrev pub OutputFor : {A : Type 0} → (A → Outputs) → Result A Fault → Outputs
 OutputFor Output (Ok x) refused out = Output x refused out
 OutputFor Output (Err fault) refused out = (refused ≡ true) × (out ≡ fault_line fault)
 
--- the whole output for a text, by what the text says and what is written for that
+-- the whole output for a text, by the result for the text and the output for this result
 abbrev pub OutputOfText : {A : Type 0} → (List ℕ → Result A Fault → Type 0) → (A → Outputs) → List ℕ → Outputs
 OutputOfText {A} Says Output text refused out =
     (says : Result A Fault) × (Says text says × OutputFor Output says refused out)

@@ -5,14 +5,14 @@ use Rattle.trlab_jobs.specs.Job.{Job, JobText}
 use Rattle.trlab_campaign.specs.Laws.{HasOneOutput, HasSomeOutput}
 use Rattle.trlab_campaign.specs.SeriesOutput.{IsSeries, IsSeriesOutput}
 
--- the counts of the lanes of a window add up to the counts of the road: the cars once per step, the cells that
--- they went, and the stopped cars
+-- the counts of the lanes of a window add up to the counts of the road: the cars once per step, the cells
+-- that they went, and the stopped cars
 pub record LanesAddUp (window : Window) : Type 0 where
   pub cars : window.lane0.cars + window.lane1.cars ≡ window.point.steps * window.point.cars
   pub distance : window.lane0.distance + window.lane1.distance ≡ window.point.distance
   pub stopped : window.lane0.stopped + window.lane1.stopped ≡ window.point.stopped
 
--- they do in each window of the series of a job text
+-- the counts of the lanes add up in each window of the series of a job text
 abbrev pub LanesOfSeriesAddUp : Type 0
 LanesOfSeriesAddUp =
     (text : List ℕ) (job : Job) (every from : ℕ) (windows : List Window)
@@ -22,6 +22,6 @@ LanesOfSeriesAddUp =
 abbrev pub SeriesHasSomeOutput : Type 0
 SeriesHasSomeOutput = (every from : ℕ) → 1 ≤ every → HasSomeOutput (IsSeriesOutput every from)
 
--- and at most one
+-- each job text has at most one series or refusal
 abbrev pub SeriesHasOneOutput : Type 0
 SeriesHasOneOutput = (every from : ℕ) → HasOneOutput (IsSeriesOutput every from)

@@ -1,4 +1,4 @@
--- What is written for a job text as a series: the table of the windows of its run.
+-- The output for a job text as a series: the table of the windows of its run.
 use Rattle.std.specs.Prelude.{◌≡◌, ◌↔◌, ℕ, ◌+◌, ◌*◌, ◌<◌, ◌≤◌, ◌&&◌, Bool, false, cond, Some}
 use Rattle.std.specs.Prelude.{List, map, length, sum_by, count_by, nat_eq}
 use Rattle.std.specs.List.{range_with_len}
@@ -94,7 +94,8 @@ abbrev pub first_windows : (ℕ → Cells) → (ℕ → StepTally) → ℕ → �
 first_windows roads tallies every from count =
     map (nth_window roads tallies every from) (range_with_len 0 count)
 
--- a run of `steps` steps completes `count` windows: window k is one of them exactly if the run reaches its end
+-- a run of `steps` steps completes `count` windows: window k is one of them exactly if the
+-- run reaches its end
 abbrev pub HasWindows : ℕ → ℕ → ℕ → ℕ → Type 0
 HasWindows every from steps count = (k : ℕ) → (k < count) ↔ (from + (k + 1) * every ≤ steps)
 
@@ -107,7 +108,7 @@ pub record IsSeries (job : Job) (every from : ℕ) (windows : List Window) : Typ
   pub whole : HasWindows every from job.steps count
   pub told : windows ≡ first_windows roads tallies every from count
 
--- what is written for a job, which is not a refusal
+-- the whole output for a job, which is not a refusal
 abbrev pub SeriesOutput : ℕ → ℕ → Job → Outputs
 SeriesOutput every from job refused out =
     (refused ≡ false)

@@ -9,7 +9,7 @@ EverySoManyAreShown =
     (every from step : ℕ)
     → (every_from every from step ≡ true) ↔ ((k : ℕ) × (step ≡ from + k * every))
 
--- with every step from step 0 on the output is the one that shows each step
+-- if every step from step 0 on is shown, the output is that of a run without a choice of steps
 abbrev pub EveryStepFromStartIsEach : Type 0
 EveryStepFromStartIsEach =
     (text : List ℕ) (refused : Bool) (out : List ℕ)
@@ -19,6 +19,6 @@ EveryStepFromStartIsEach =
 abbrev pub ShownHasSomeOutput : Type 0
 ShownHasSomeOutput = (shown : ℕ → Bool) → HasSomeOutput (IsShownOutput shown)
 
--- and at most one
+-- whichever steps are shown, any job text has at most one output
 abbrev pub ShownHasOneOutput : Type 0
 ShownHasOneOutput = (shown : ℕ → Bool) → HasOneOutput (IsShownOutput shown)

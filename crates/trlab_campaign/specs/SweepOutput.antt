@@ -1,4 +1,4 @@
--- What is written for a sweep text: the table of its points.
+-- The output for a sweep text: the table of its points.
 use Rattle.std.specs.Prelude.{◌≡◌, ℕ, ◌<◌, ◌≤◌, false, List, [], ◌∷◌, All, length, slice_index_or}
 use Rattle.std.specs.Prelude.{Result, IfOk, Vec}
 use Rattle.std.specs.Borrow.{Bor}
@@ -13,14 +13,14 @@ use Rattle.trlab_jobs.specs.Shapes.{cell_count, all_steps}
 use Rattle.trlab_jobs.specs.Sweep.{Setup, Sweep, SweepText}
 use Rattle.trlab_campaign.specs.Refusal.{Outputs, OutputOfText}
 
--- where the run of a point starts, whose road has this number: the first `warm` steps are not counted
-abbrev pub seed_of : Setup → ℕ → Cells → Seed
-seed_of setup number road =
+-- the start of the run of a point whose road has this number; the first `warm` steps are not counted
+abbrev pub point_seed : Setup → ℕ → Cells → Seed
+point_seed setup number road =
     record { road = road; key = setup.key; number = number; warm = setup.span.warm }
 
 -- the sheet of a sweep: one rule, in force from step 0 on
-abbrev pub sheet_of : Setup → Sheet
-sheet_of setup = (0, setup.rule) ∷ []
+abbrev pub sweep_sheet : Setup → Sheet
+sweep_sheet setup = (0, setup.rule) ∷ []
 
 -- the point of the diagram with these cars and this sum of tallies
 abbrev pub point_of : Setup → ℕ → StepTally → Point
@@ -39,7 +39,7 @@ pub record IsPoint (setup : Setup) (number cars : ℕ) (point : Point) : Type 0 
   pub start : Cells
   pub tally : StepTally
   pub even : IsEven setup.shape.lanes setup.shape.cells setup.shape.limit cars start
-  pub counted : IsTallyAt (seed_of setup number start) (sheet_of setup) (all_steps setup.span) tally
+  pub counted : IsTallyAt (point_seed setup number start) (sweep_sheet setup) (all_steps setup.span) tally
   pub told : point ≡ point_of setup cars tally
 
 -- the points of a sweep, in the order of its numbers of cars; roads are numbered in this order, from 0
@@ -55,7 +55,7 @@ pub record AreFirstPoints (sweep : Sweep) (points : List Point) : Type 0 where
       → IsPoint sweep.setup i (slice_index_or sweep.cars i cars) (slice_index_or points i point)
   pub measured : All IsMeasured points
 
--- what is written for a sweep, which is not a refusal
+-- the whole output for a sweep, which is not a refusal
 abbrev pub SweepOutput : Sweep → Outputs
 SweepOutput sweep refused out =
     (refused ≡ false) × ((points : List Point) × (ArePoints sweep points × (out ≡ points_text points)))

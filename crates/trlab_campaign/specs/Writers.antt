@@ -1,9 +1,9 @@
--- The bytes that were written: those that the calls of a writer took, and those that it makes known.
+-- The bytes that were written: the bytes that the calls of a writer took, and the bytes that it makes known.
 use Rattle.std.specs.Prelude.{◌≡◌, ℕ, List, ◌++◌, take, Option, Result, Ok, Err}
 use Rattle.std.specs.Io.KnownBytes.{Appends, Keeps}
 use Rattle.trlab_campaign.specs.declared.device.Sink as Sink
 
--- the bytes of a writer: all that its calls have taken, and those that it makes known, if it does
+-- the bytes of a writer: all that its calls have taken, and the bytes that it makes known, if it does
 pub record SinkBytes : Type 0 where
   pub accepted : List ℕ
   pub told : Option (List ℕ)
@@ -12,7 +12,7 @@ abbrev pub bytes_of : {K : Type 0} → Sink.Ghosts K → K → SinkBytes
 bytes_of sink writer = record { accepted = sink.accepted writer; told = sink.written writer }
 
 -- exactly these bytes were written
-pub record Adds (old new : SinkBytes) (bytes : List ℕ) : Type 0 where
+pub record HasWritten (old new : SinkBytes) (bytes : List ℕ) : Type 0 where
   pub accepted : new.accepted ≡ old.accepted ++ bytes
   pub told : Appends old.told new.told bytes
 
@@ -24,9 +24,9 @@ pub record AddsNone (old new : SinkBytes) : Type 0 where
 -- some prefix of a text was written
 pub record AddsPrefix (old new : SinkBytes) (text : List ℕ) : Type 0 where
   pub count : ℕ
-  pub prefix : Adds old new (take count text)
+  pub prefix : HasWritten old new (take count text)
 
 -- by its result, a call wrote a text or a prefix of it
 abbrev pub AddsBy : {A E : Type 0} → Result A E → SinkBytes → SinkBytes → List ℕ → Type 0
-AddsBy (Ok done) old new text = Adds old new text
+AddsBy (Ok done) old new text = HasWritten old new text
 AddsBy (Err fault) old new text = AddsPrefix old new text

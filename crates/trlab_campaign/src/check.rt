@@ -146,9 +146,9 @@ impl Engine for CheckEngine {
     }
 }
 
-/// Reads a check text, and writes the verdict on its program: the budget and the canonical text of an accepted one
-/// (with its notes if the text asks for them), or where and why it is refused. If the text has a fault, the line of
-/// its first fault is written instead.
+/// Reads a check text, and writes the verdict on its program: the budget and the canonical text of an accepted program
+/// (with its notes if the text asks for them), or the instruction and the reason of the refusal. If the text has a
+/// fault, the line of its first fault is written instead.
 ///
 /// The whole text is read and checked before a byte is written. If an allocation fails, nothing is written; if
 /// a call of the reader or writer fails, a prefix of the whole output.

@@ -16,7 +16,6 @@ use trlab_diagram::{LaneCount, Point, Window};
 use trlab_road::{LaneCar, Road};
 use trlab_step::{Executor, Run, StepTally};
 
-/// The count of no cars.
 fn no_cars() -> LaneCount
     ensures { result ≡ record { cars = 0; distance = 0; stopped = 0 } }
 {

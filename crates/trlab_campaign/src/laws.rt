@@ -1,5 +1,5 @@
-//! Laws of outputs, whichever code writes them: one worker drives the roads, a text has one output, and what is
-//! true of the tables of sweeps and series.
+//! Laws of outputs, whichever code writes them: one worker drives the roads, a text has one output, and the
+//! counts in the tables of sweeps and series are consistent.
 //!
 //! Each law is the contract of a function with an empty body.
 

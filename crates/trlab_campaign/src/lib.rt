@@ -2,6 +2,11 @@
 //! the line of the input's first fault (`engine`). The engine of each command is in the file of its name: `run`
 //! (pictures of a road), `series` (a table of windows), `sweep` (a table of points) and `check` (the verdict on
 //! a program). `run` and `series` share `pooled`, which runs a job.
+//!
+//! ```text
+//! let shown = ShownSteps::new(every, from);
+//! run_shown_text(rt, reader, writer, workers, &shown, progress)
+//! ```
 #![tactic(auto)]
 
 mod check;
@@ -27,7 +32,7 @@ pub use progress::{Milestone, NoProgress, ProgressObserver};
 pub use run::{ShownSteps, run_job_text, run_shown_text};
 pub use series::{Windows, run_series_text};
 pub use sweep::{run_sweep_text, run_sweep_with_progress};
-// For callers of the engines: the bounds of their arguments, and what texts say.
+// For callers of the engines: the bounds of their arguments, and the readers of texts.
 pub use trlab_bounds::runs::{MAX_RUNNERS, MAX_WORKERS};
 pub use trlab_bounds::texts::TEXT_LIMIT;
 pub use trlab_jobs::{Job, Sweep, read_job, read_sweep};

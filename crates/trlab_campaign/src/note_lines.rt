@@ -15,7 +15,7 @@ use trlab_asm::{REGISTERS, register_text};
 use trlab_code::{Code, Register};
 use trlab_verify::{Mark, Note, NotesFault, notes};
 
-/// Adds a space, the name of a register, a space and what the register holds.
+/// Adds a space, the name of a register, a space and the content of the register.
 fn push_entry(out: &mut Vec<u8>, register: Register, held: &[u8]) -> Result<(), AllocError>
     ensures { OnOk result (out.new.items ≡ out.old.items ++ register_entry register held.now) }
 {
@@ -25,7 +25,7 @@ fn push_entry(out: &mut Vec<u8>, register: Register, held: &[u8]) -> Result<(), 
     out.extend_from_slice(held)
 }
 
-/// Adds what a mark says of a register. `side` is whether the side cell is known to be empty.
+/// Adds the text of a register with this mark. `side` is whether the side cell is known to be empty.
 fn push_mark(
     alloc: Global,
     out: &mut Vec<u8>,
@@ -49,7 +49,7 @@ fn push_mark(
     }
 }
 
-/// Adds what a note says of the registers.
+/// Adds the text of the registers of a note.
 fn push_registers(alloc: Global, out: &mut Vec<u8>, note: &Note) -> Result<(), AllocError>
     ensures { (kind : Kind) → OnOk result
         (out.new.items ≡ out.old.items ++ registers_text (meaning kind note.now)) }

@@ -1,5 +1,5 @@
 //! The engine of job texts, which runs and series share: a pool of workers asks the cars of the job's run, and
-//! progress is reported. What is written meanwhile is the account.
+//! progress is reported. The output that is written meanwhile is the account.
 
 ghost use Rattle.std.specs.Thread.{IsSync};
 ghost use Rattle.std.specs.Prelude.{◌≡◌, ◌<◌, ◌≤◌, false, IfSome, IsSome};

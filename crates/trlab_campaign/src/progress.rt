@@ -10,7 +10,7 @@ use trlab_road::Road;
 use trlab_step::{Executor, StepObserver};
 use trlab_verify::{Change, Motion};
 
-/// Observes how far a command's work is. Contracts say nothing of what it does with that.
+/// Observes how far a command's work is. No contract depends on an observer.
 pub trait ProgressObserver {
     /// Whether it observes the work. If not, nothing is counted.
     fn is_watching(&self) -> bool;

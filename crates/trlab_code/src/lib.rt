@@ -1,7 +1,7 @@
 //! Driver programs: their instructions, their bytes, and the views of cars.
 //!
 //! ```text
-//! let instrs = vec![in alloc; Instr::Get(R0, Input::Gap), Instr::Go(R0)]?;
+//! let instrs = vec![in alloc; Instr::Get(Register::R0, Input::Gap), Instr::Go(Register::R0)].ok()?;
 //! let code = Code::new(Kind::Motion, instrs)?;
 //! let bytes = encode(alloc, &code).ok()?; // 8 for the header, and 8 for each instruction
 //! let same = decode(alloc, &bytes).ok()?;

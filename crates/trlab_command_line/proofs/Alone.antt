@@ -12,7 +12,7 @@ use Rattle.clap.proofs.OnLiterals.{clap_on_literals}
 use Rattle.trlab_command_line.specs.CommandLine.{command_line}
 use Rattle.trlab_command_line.specs.Explains.{explained_in}
 use Rattle.trlab_command_line.specs.Numbers.{GivesFlag, GivesNumber}
-use Rattle.trlab_command_line.specs.Requests.{Asks, name_of}
+use Rattle.trlab_command_line.specs.Requests.{Asks, command_name}
 use Rattle.trlab_command_line.specs.declared.arguments.explain.Explaining.{Explaining}
 use Rattle.trlab_command_line.specs.declared.arguments.explain.Explaining.TheVariants.{Text as OfText}
 use Rattle.trlab_explain.specs.declared.explain.Form.TheVariants.{Text as Lines}
@@ -21,7 +21,7 @@ use Rattle.trlab_command_line.specs.declared.arguments.Request.TheVariants.{Chec
 use Rattle.trlab_command_line.proofs.Rows.{some_same}
 
 -- what is asked for has the name of the command that was entered
-pub asks_its_name : (name : Text) (rows : List Row) (request : Request) → Asks (Some (name, rows)) request → name ≡ name_of request
+pub asks_its_name : (name : Text) (rows : List Row) (request : Request) → Asks (Some (name, rows)) request → name ≡ command_name request
 asks_its_name name rows request a = ap (λ t. t.0) (some_same _ _ a.1)
 
 -- no command has another name too
@@ -63,7 +63,7 @@ run_has = refl
 pub run_alone : (request : Request) → Asks (subcommand_of command_line (codes "run" ∷ [])) request → request ≡ Run 1 1 0 false
 run_alone request a = go request a (ap (λ t. t.0) (some_same _ _ (sym run_has ∙ ap (option_map of_numbers) a.1)))
   where
-    go : (request : Request) → Asks (subcommand_of command_line (codes "run" ∷ [])) request → codes "run" ≡ name_of request → request ≡ Run 1 1 0 false
+    go : (request : Request) → Asks (subcommand_of command_line (codes "run" ∷ [])) request → codes "run" ≡ command_name request → request ≡ Run 1 1 0 false
     go Check a is = absurd (differ (codes "run") (codes "check") refl is)
     go (Sweep runners workers progress) a is = absurd (differ (codes "run") (codes "sweep") refl is)
     go (Series workers every from progress) a is = absurd (differ (codes "run") (codes "series") refl is)
@@ -88,7 +88,7 @@ sweep_has = refl
 pub sweep_alone : (request : Request) → Asks (subcommand_of command_line (codes "sweep" ∷ [])) request → request ≡ Sweep 1 1 false
 sweep_alone request a = go request a (ap (λ t. t.0) (some_same _ _ (sym sweep_has ∙ ap (option_map of_sweep) a.1)))
   where
-    go : (request : Request) → Asks (subcommand_of command_line (codes "sweep" ∷ [])) request → codes "sweep" ≡ name_of request → request ≡ Sweep 1 1 false
+    go : (request : Request) → Asks (subcommand_of command_line (codes "sweep" ∷ [])) request → codes "sweep" ≡ command_name request → request ≡ Sweep 1 1 false
     go Check a is = absurd (differ (codes "sweep") (codes "check") refl is)
     go (Run workers every from progress) a is = absurd (differ (codes "sweep") (codes "run") refl is)
     go (Series workers every from progress) a is = absurd (differ (codes "sweep") (codes "series") refl is)
@@ -110,7 +110,7 @@ series_has = refl
 pub series_alone : (request : Request) → Asks (subcommand_of command_line (codes "series" ∷ [])) request → request ≡ Series 1 1 0 false
 series_alone request a = go request a (ap (λ t. t.0) (some_same _ _ (sym series_has ∙ ap (option_map of_numbers) a.1)))
   where
-    go : (request : Request) → Asks (subcommand_of command_line (codes "series" ∷ [])) request → codes "series" ≡ name_of request → request ≡ Series 1 1 0 false
+    go : (request : Request) → Asks (subcommand_of command_line (codes "series" ∷ [])) request → codes "series" ≡ command_name request → request ≡ Series 1 1 0 false
     go Check a is = absurd (differ (codes "series") (codes "check") refl is)
     go (Run workers every from progress) a is = absurd (differ (codes "series") (codes "run") refl is)
     go (Sweep runners workers progress) a is = absurd (differ (codes "series") (codes "sweep") refl is)
@@ -135,7 +135,7 @@ explain_has = refl
 pub explain_alone : (request : Request) → Asks (subcommand_of command_line (codes "explain" ∷ [])) request → request ≡ Explain (OfText None Lines)
 explain_alone request a = go request a (ap (λ t. t.0) (some_same _ _ (sym explain_has ∙ ap (option_map of_explain) a.1)))
   where
-    go : (request : Request) → Asks (subcommand_of command_line (codes "explain" ∷ [])) request → codes "explain" ≡ name_of request → request ≡ Explain (OfText None Lines)
+    go : (request : Request) → Asks (subcommand_of command_line (codes "explain" ∷ [])) request → codes "explain" ≡ command_name request → request ≡ Explain (OfText None Lines)
     go Check a is = absurd (differ (codes "explain") (codes "check") refl is)
     go (Run workers every from progress) a is = absurd (differ (codes "explain") (codes "run") refl is)
     go (Sweep runners workers progress) a is = absurd (differ (codes "explain") (codes "sweep") refl is)

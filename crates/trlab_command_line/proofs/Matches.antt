@@ -19,7 +19,7 @@ use Rattle.clap.specs.declared.parser.matches.ArgMatches.{ArgMatches}
 use Rattle.clap.specs.declared.parser.matches.ArgMatches.TheViews.{out-ArgMatches, out-SubCommand}
 use Rattle.clap.specs.declared.parser.matches.SubCommand.{SubCommand}
 use Rattle.clap.proofs.CallerReads.{signed_reads}
-use Rattle.trlab_command_line.specs.Numbers.{GivesFlag, GivesNumber, HasFlag, HasValueFrom, MayHaveNumber, flag_text, number_in, numeral_value, says_given}
+use Rattle.trlab_command_line.specs.Numbers.{GivesFlag, GivesNumber, HasFlag, HasValueFrom, MayHaveNumber, flag_text, argument_number, numeral_value, says_given}
 use Rattle.trlab_command_line.specs.CommandLine.{command_line}
 use Rattle.trlab_command_line.specs.Explains.{explained, explained_in}
 use Rattle.trlab_command_line.specs.declared.arguments.explain.Explaining.{Explaining}
@@ -121,7 +121,7 @@ module _ (E : Type 0) (G : List ℕ → Result ℕ E → Type 0) (only : (u : Li
 module _ (E : Type 0) (G : List ℕ → Result ℕ E → Type 0) (only : (u : List ℕ) (x : Result ℕ E) → G u x → ParsesUnsigned 32 10 u x)
     (argument : Text) (rows : List Row) (r : Option ℕ) (unread : one_of argument rows ≡ None → r ≡ None)
     (read : (t : List ℕ) → one_of argument rows ≡ Some t → ReadsOne G t r) where
-  pub the_number_in : MayHaveNumber argument rows → r ≡ number_in argument rows
+  pub the_number_in : MayHaveNumber argument rows → r ≡ argument_number argument rows
   the_number_in (inl none) = unread none ∙ sym (ap (option_map numeral_value) none)
   the_number_in (inr given) =
       let here = bounds E G only argument rows 0 4294967295 (omega arith) given r read in
@@ -152,8 +152,8 @@ flag_says false = refl
 
 -- what they ask for, by what was found of each
 pub explained_same : (rows : List Row) (asked : Result Explaining ErrorKind) (what : Option Text) (number : Option ℕ) (json : Bool)
-    → asked ≡ explained what number json → what ≡ first_of (codes "what") rows → number ≡ number_in (codes "number") rows → GivesFlag (codes "json") rows json
+    → asked ≡ explained what number json → what ≡ first_of (codes "what") rows → number ≡ argument_number (codes "number") rows → GivesFlag (codes "json") rows json
     → asked ≡ explained_in rows
 explained_same rows asked what number json is first second flag =
     is ∙ ap₂ (λ w n. explained w n json) first second
-    ∙ ap (explained (first_of (codes "what") rows) (number_in (codes "number") rows)) (sym (ap says_given flag ∙ flag_says json))
+    ∙ ap (explained (first_of (codes "what") rows) (argument_number (codes "number") rows)) (sym (ap says_given flag ∙ flag_says json))

@@ -6,7 +6,7 @@ use Rattle.clap.specs.declared.builder.action.ArgAction.TheVariants.{SetTrue}
 use Rattle.clap.specs.declared.builder.value_parser.ValueParser.TheVariants.{Signed}
 use Rattle.trlab_bounds.specs.declared.runs.TheConstants.{MAX_RUNNERS, MAX_STEPS, MAX_WORKERS}
 
--- the option `--name n`: an integer from a least to a greatest one, and its value if none is given
+-- the option `--name n`: an integer in a range, and its value if none is given
 abbrev pub number_option : Text → ℕ → ℕ → Text → Rule
 number_option name least most default = record (new_rule name) {
   long = Some name;
@@ -15,7 +15,7 @@ number_option name least most default = record (new_rule name) {
   defaults = default ∷ [];
 }
 
--- the option `--name n`: an integer from 1 to a greatest one, and 1 if none is given
+-- the option `--name n`: an integer from 1 to a maximum, and 1 if none is given
 abbrev pub count_option : Text → ℕ → Rule
 count_option name most = number_option name 1 most (codes "1")
 

@@ -10,13 +10,13 @@ use Rattle.trlab_explain.specs.declared.explain.Form.{Form}
 use Rattle.trlab_explain.specs.declared.explain.Form.TheVariants.{Json, Text as Lines}
 use Rattle.trlab_explain.specs.declared.topics.Topic.{Topic}
 use Rattle.trlab_explain.specs.declared.topics.Topic.TheVariants.{Cause, Reason}
-use Rattle.trlab_command_line.specs.Numbers.{is_given, number_in}
+use Rattle.trlab_command_line.specs.Numbers.{is_given, argument_number}
 use Rattle.trlab_command_line.specs.declared.arguments.explain.Explaining.{Explaining}
 use Rattle.trlab_command_line.specs.declared.arguments.explain.Explaining.TheVariants.{Text, Number}
 
 -- the kind of text that the command of this name reads
-abbrev pub subject_named : List ℕ → Option Subject
-subject_named name =
+abbrev pub subject_of_command : List ℕ → Option Subject
+subject_of_command name =
     if bytes_eq name (codes "run") then Some Job
     else if bytes_eq name (codes "sweep") then Some Sweep
     else if bytes_eq name (codes "check") then Some Check else None
@@ -33,7 +33,7 @@ form_by false = Lines
 form_by true = Json
 
 -- the request, by the name in the first argument, a command or a topic, by the second, a number, and by
--- whether `--json` is given, or why that is refused
+-- whether `--json` is given, or why the arguments are refused
 abbrev pub asked_by : Option Subject → Option Topic → Option ℕ → Bool → Result Explaining ErrorKind
 asked_by (Some subject) topic None json = Ok (Text (Some subject) (form_by json))
 asked_by (Some subject) topic (Some number) json = Err UnknownArgument
@@ -45,19 +45,21 @@ asked_by None None number json = Err InvalidValue
 -- the request of the two arguments of `explain`, if they are given, and of whether `--json` is given
 abbrev pub explained : Option Word → Option ℕ → Bool → Result Explaining ErrorKind
 explained None number json = Ok (Text None (form_by json))
-explained (Some name) number json = asked_by (subject_named name) (topic_named name) number json
+explained (Some name) number json = asked_by (subject_of_command name) (topic_named name) number json
 
--- the same by the matches of `explain`
+-- the request of `explain`, by its matches
 abbrev pub explained_in : List Row → Result Explaining ErrorKind
 explained_in rows =
-    explained (first_of (codes "what") rows) (number_in (codes "number") rows) (is_given (codes "json") rows)
+    explained (first_of (codes "what") rows) (argument_number (codes "number") rows)
+    (is_given (codes "json") rows)
 
 -- the kinds of error that an answer has
-abbrev pub kinds_of : Result Explaining ErrorKind → Kinds
-kinds_of (Ok asked) = []
-kinds_of (Err kind) = kind ∷ []
+abbrev pub error_kinds : Result Explaining ErrorKind → Kinds
+error_kinds (Ok asked) = []
+error_kinds (Err kind) = kind ∷ []
 
--- the kinds of error of a command that was entered, whose arguments have no other: they do not go together
+-- the kinds of error of the command that was entered: arguments of `explain` that do not go together
 abbrev pub pair_fault : Option (Word × List Row) → Kinds
 pair_fault None = []
-pair_fault (Some (name, rows)) = if bytes_eq name (codes "explain") then kinds_of (explained_in rows) else []
+pair_fault (Some (name, rows)) =
+    if bytes_eq name (codes "explain") then error_kinds (explained_in rows) else []

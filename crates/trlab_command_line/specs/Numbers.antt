@@ -22,8 +22,8 @@ HasValueFrom option least most rows v =
     (one_of option rows ≡ Some (without_minus v)) × IsSignedIn (pos least) (pos most) v
 
 -- the number of an argument among the matches of a command, if it is given
-abbrev pub number_in : Text → List Row → Option ℕ
-number_in argument rows = option_map numeral_value (one_of argument rows)
+abbrev pub argument_number : Text → List Row → Option ℕ
+argument_number argument rows = option_map numeral_value (one_of argument rows)
 
 -- among the matches of a command, the argument is not given, or has a value that its parser took: a number
 -- of 32 bits

@@ -12,7 +12,7 @@ use Rattle.trlab_command_line.specs.declared.arguments.Request.TheVariants.{Chec
 
 -- the whole output of a command for a text, and whether it is a refusal: `check` writes a verdict on a
 -- program, `run` the pictures of a job at the steps that are shown, `sweep` the table of a sweep and `series`
--- that of a job's windows, for any number of workers and of runners, and `explain` the explanation of the
+-- the table of a job's windows, for any number of workers and runners, and `explain` the explanation of the
 -- text, or of a number
 abbrev pub output_of : Request → List ℕ → Outputs
 output_of Check text = IsCheckOutput text

@@ -13,12 +13,12 @@ use Rattle.trlab_command_line.specs.declared.arguments.Request.TheVariants.{Chec
 use Rattle.trlab_bounds.specs.declared.runs.TheConstants.{MAX_RUNNERS, MAX_STEPS, MAX_WORKERS}
 
 -- the name of the command of a request
-abbrev pub name_of : Request → Text
-name_of Check = codes "check"
-name_of (Run workers every from progress) = codes "run"
-name_of (Sweep runners workers progress) = codes "sweep"
-name_of (Series workers every from progress) = codes "series"
-name_of (Explain explained) = codes "explain"
+abbrev pub command_name : Request → Text
+command_name Check = codes "check"
+command_name (Run workers every from progress) = codes "run"
+command_name (Sweep runners workers progress) = codes "sweep"
+command_name (Series workers every from progress) = codes "series"
+command_name (Explain explained) = codes "explain"
 
 -- the matches of a command give a request: the numbers of its options, and whether progress is reported
 abbrev pub Give : List Row → Request → Type 0
@@ -36,26 +36,27 @@ Give rows (Explain explained) = explained_in rows ≡ Ok explained
 
 -- the request of a command that was entered: the command of that name, with the values of its matches
 abbrev pub Asks : Option (Text × List Row) → Request → Type 0
-Asks entered request = (rows : List Row) × (entered ≡ Some (name_of request, rows)) × Give rows request
+Asks entered request = (rows : List Row) × (entered ≡ Some (command_name request, rows)) × Give rows request
 
 -- the numbers of runners, workers and steps are in the ranges of the engines
-abbrev pub HasCounts : Request → Type 0
-HasCounts Check = ⊤
-HasCounts (Run workers every from progress) =
+abbrev pub FitsEngines : Request → Type 0
+FitsEngines Check = ⊤
+FitsEngines (Run workers every from progress) =
     ((1 ≤ workers) × (workers ≤ MAX_WORKERS))
     × ((1 ≤ every) × (every ≤ MAX_STEPS)) × (from ≤ MAX_STEPS)
-HasCounts (Sweep runners workers progress) =
+FitsEngines (Sweep runners workers progress) =
     ((1 ≤ runners) × (runners ≤ MAX_RUNNERS)) × ((1 ≤ workers) × (workers ≤ MAX_WORKERS))
-HasCounts (Series workers every from progress) =
+FitsEngines (Series workers every from progress) =
     ((1 ≤ workers) × (workers ≤ MAX_WORKERS))
     × ((1 ≤ every) × (every ≤ MAX_STEPS)) × (from ≤ MAX_STEPS)
-HasCounts (Explain explained) = ⊤
+FitsEngines (Explain explained) = ⊤
 
 -- the first argument is the name of the command
 abbrev pub IsNamedFirst : List Text → Request → Type 0
-IsNamedFirst arguments request = (rest : List Text) × (arguments ≡ name_of request ∷ rest)
+IsNamedFirst arguments request = (rest : List Text) × (arguments ≡ command_name request ∷ rest)
 
--- the kinds of error that the arguments have: those of `clap`, or that those of `explain` do not go together
+-- the kinds of error that the arguments have: those of `clap`, or that the arguments of `explain` do not go
+-- together
 abbrev pub arguments_fault : List Text → Kinds
 arguments_fault arguments =
     or_else (fault_of command_line arguments) (pair_fault (subcommand_of command_line arguments))

@@ -18,7 +18,8 @@ asks_for_help DisplayHelp = true
 asks_for_help DisplayVersion = true
 asks_for_help _ = false
 
--- the exit status by the answer of `clap`: 0 for help, 3 if an allocation fails, or 2, the arguments are refused
+-- the exit status by the answer of `clap`: 0 for help, 3 if an allocation fails, or 2, the
+-- arguments are refused
 abbrev pub status_of_error : ErrorKind → ℕ
 status_of_error DisplayHelp = 0
 status_of_error DisplayVersion = 0

@@ -9,7 +9,7 @@ ghost use Rattle.std.specs.Prelude.{◌≡◌, ◌∷◌, [], IfOk, None, Some, 
 ghost use Rattle.clap.specs.Words.{FailsBy, found_of, rows_of, subcommand_of};
 ghost use Rattle.trlab_command_line.specs.CommandLine.{command_line};
 ghost use Rattle.trlab_command_line.specs.Explains.{pair_fault};
-ghost use Rattle.trlab_command_line.specs.Requests.{Asks, HasCounts, IsEntered, IsNamedFirst, arguments_fault};
+ghost use Rattle.trlab_command_line.specs.Requests.{Asks, FitsEngines, IsEntered, IsNamedFirst, arguments_fault};
 ghost use Rattle.trlab_command_line.specs.declared.arguments.explain.Explaining.TheVariants.{Text};
 ghost use Rattle.trlab_explain.specs.declared.explain.Form.TheVariants.{Text as Lines};
 
@@ -65,7 +65,7 @@ fn request_of(alloc: Global, name: &str, matches: &ArgMatches) -> Result<Request
     requires { IsEntered name.now (rows_of (found_of matches.now)) }
     ensures answer { IfOk result (Asks (Some (name.now, rows_of (found_of matches.now)))) }
     ensures fault { FailsBy (pair_fault (Some (name.now, rows_of (found_of matches.now)))) result }
-    ensures counts { IfOk result HasCounts }
+    ensures counts { IfOk result FitsEngines }
 {
     match name {
         "check" => Ok(Request::Check),
@@ -98,12 +98,12 @@ fn request_of(alloc: Global, name: &str, matches: &ArgMatches) -> Result<Request
 ///
 /// # Errors
 ///
-/// The error of `clap` if the arguments ask for help or are rejected, also if those of `explain` do not go together,
-/// or if an allocation fails.
+/// The error of `clap` if the arguments ask for help or are rejected, also if the arguments of `explain` do not go
+/// together, or if an allocation fails.
 pub fn read_words(alloc: Global, arguments: &[String]) -> Result<Request, Error>
     ensures answer { IfOk result (Asks (subcommand_of command_line (map string_bytes arguments.now))) }
     ensures fault { FailsBy (arguments_fault (map string_bytes arguments.now)) result }
-    ensures counts { IfOk result HasCounts }
+    ensures counts { IfOk result FitsEngines }
     ensures named { IfOk result (IsNamedFirst (map string_bytes arguments.now)) }
     ensures run_alone { map string_bytes arguments.now ≡ codes "run" ∷ []
         → IfOk result (λ request. request ≡ Request.Run 1 1 0 false) }

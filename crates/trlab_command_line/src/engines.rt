@@ -6,7 +6,7 @@ ghost use Rattle.trlab_campaign.specs.Ending.{EndsSo, HandsOn};
 ghost use Rattle.trlab_campaign.specs.Writers.{AddsNone, bytes_of};
 ghost use Rattle.trlab_campaign.specs.declared.end.End.TheVariants.{DeviceFault};
 ghost use Rattle.trlab_bounds.specs.declared.texts.TheConstants.{TEXT_LIMIT};
-ghost use Rattle.trlab_command_line.specs.Requests.{HasCounts};
+ghost use Rattle.trlab_command_line.specs.Requests.{FitsEngines};
 ghost use Rattle.trlab_command_line.specs.Outputs.{output_of};
 
 use crate::{Explaining, Request};
@@ -27,7 +27,7 @@ pub fn execute<
     K: Sink,
     O: ProgressObserver + Sync,
 >(rt: &R, request: Request, reader: &mut S, writer: &mut K, progress: &O) -> End
-    requires counts { HasCounts request }
+    requires counts { FitsEngines request }
     requires reader_works { S.failed reader.old ≡ false }
     requires writer_works { K.failed writer.old ≡ false }
     // Whatever bytes the calls of the reader gave, the writer's calls took the output for exactly these.

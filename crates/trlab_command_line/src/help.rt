@@ -6,7 +6,7 @@ pub const ABOUT: &str =
 
 /// The program's version, and on a second line the logic in which it is proved. Several kits of the toolchain
 /// share one logic.
-pub const VERSION: &str = "0.5.0
+pub const VERSION: &str = "0.5.1
 proved in logic dac8208d650f15bf";
 
 /// Below the list of commands: examples, exit statuses, and further reading.
@@ -30,7 +30,6 @@ Exit statuses:
 
 File formats: docs/FILES.md. Error numbers: `trlab explain cause K`.";
 
-/// The help of a command.
 #[derive(Clone, Copy)]
 pub struct Help {
     /// One line, also shown in the list of commands.
@@ -40,7 +39,6 @@ pub struct Help {
     pub after: &'static str,
 }
 
-/// The help of `trlab check`.
 pub const CHECK: Help = Help {
     about: "Check whether the verifier accepts a driver program",
     usage: "trlab check < FILE",
@@ -56,13 +54,12 @@ Standard output:
   program in canonical form; `refused at PC reason R` if the verifier rejects
   the program; or `fault line N cause K` if the input is malformed.
   `trlab explain check < FILE` explains the problem. Reasons and causes:
-  docs/PROGRAMS.md and docs/FILES.md.
+  docs/ERRORS.md.
 
 Example:
   printf 'motion\\nget r0, speed\\nget r1, gap\\nmin r0, r0, r1\\ngo r0\\n' | trlab check",
 };
 
-/// The help of `trlab run`.
 pub const RUN: Help = Help {
     about: "Run a job and print the road at every step, or at every n-th",
     usage: "trlab run [OPTIONS] < FILE",
@@ -76,13 +73,12 @@ Standard output:
   any other character is a car and its speed: 0 to 9, then a (10) to z (35).
   With `--every n` and `--from s` only the steps s, s + n, s + 2n and so on.
   Or `fault line N cause K` if the input is rejected: `trlab explain run < FILE`
-  explains the problem. File format and causes: docs/FILES.md.
+  explains the problem. File format: docs/FILES.md; causes: docs/ERRORS.md.
 
 Example:
   trlab run < examples/two_cars.job",
 };
 
-/// The help of `trlab sweep`.
 pub const SWEEP: Help = Help {
     about: "Measure the flow at many densities, for a fundamental diagram",
     usage: "trlab sweep [OPTIONS] < FILE",
@@ -96,8 +92,8 @@ Standard output:
   CSV, one row per road. Columns: cars, cells, steps (measured), distance
   (total cells travelled), stopped (car-steps at speed 0), changes (lane
   changes), flow (cars passing a cell per step, in millionths). Or `fault line
-  N cause K` if the input is rejected. File format and causes: docs/FILES.md;
-  whole studies: docs/STUDIES.md.
+  N cause K` if the input is rejected. File format: docs/FILES.md; causes:
+  docs/ERRORS.md; whole studies: docs/STUDIES.md.
 
 Example:
   trlab sweep < examples/fundamental_diagram.sweep > flow.csv
@@ -116,7 +112,6 @@ A small sweep to start from (three roads of 100 cells):
   cars 50",
 };
 
-/// The help of `trlab series`.
 pub const SERIES: Help = Help {
     about: "Run a job and count its traffic in windows of steps",
     usage: "trlab series [OPTIONS] < FILE",
@@ -148,14 +143,12 @@ pub const EVERY_HELP: &str = "Steps per window, 1 to 500000";
 /// The option `--from` of `series`.
 pub const FROM_HELP: &str = "Step at which the first window starts, 0 to 500000";
 
-/// The option `--workers`.
 pub const WORKERS_HELP: &str = "Threads per road, 1 to 16; does not change the output";
 
 /// The option `--runners` of `sweep`.
 pub const RUNNERS_HELP: &str =
     "Roads computed at the same time, 1 to 16; does not change the output";
 
-/// The option `--progress`.
 pub const PROGRESS_HELP: &str = "Report progress on standard error";
 
 /// The first argument of `explain`.
@@ -168,7 +161,6 @@ pub const NUMBER_HELP: &str = "Error number, for cause or reason";
 /// The flag `--json` of `explain`.
 pub const JSON_HELP: &str = "Print one JSON object, for other programs";
 
-/// The help of `trlab explain`.
 pub const EXPLAIN: Help = Help {
     about: "Explain the error in an input and how to fix it, or the work of a valid one",
     usage: "\

@@ -1,5 +1,9 @@
 //! The command line of `trlab`: the request of its arguments, as `clap` reads them, its execution, and the exit
 //! statuses.
+//!
+//! ```text
+//! let request = read_words(rt.alloc(), &arguments);
+//! ```
 #![tactic(auto)]
 
 mod arguments;

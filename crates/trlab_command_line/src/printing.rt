@@ -50,7 +50,7 @@ fn file_name(arguments: &[String]) -> Option<&str> {
     None
 }
 
-/// Says on standard error how to read a file, if the arguments name one.
+/// Prints on standard error how to read a file, if the arguments name a file.
 fn suggest_redirection<R: AllocGlobal + Eprint>(rt: &R, arguments: &[String]) {
     if let Some(command) = arguments.first() {
         if is_among(&READING, command.as_bytes()) {

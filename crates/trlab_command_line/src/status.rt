@@ -1,4 +1,4 @@
-//! The exit statuses: those of `End`, and 2 for arguments that are refused.
+//! The exit statuses: the numbers of `End`, and 2 for arguments that are refused.
 
 ghost use Rattle.std.specs.Prelude.{◌≡◌};
 ghost use Rattle.clap.specs.Words.{kind_of};

@@ -8,6 +8,7 @@ mod program;
 ghost use Rattle.std.specs.Prelude.{IfOk, IfSome};
 ghost use Rattle.trlab_diagnosis.specs.Repairs.{Helps};
 
+use crate::Result;
 use crate::candidates::bytes::{
     cell_candidate, hex_candidates, lanes_candidate, version_candidate,
 };
@@ -16,9 +17,8 @@ use crate::candidates::number::number_candidates;
 use crate::candidates::program::{label_candidate, operand_candidates, word_candidates};
 use crate::fault::Fault;
 use crate::names::line_after;
-use crate::repair::{MAX_TRIED, Repair, first_that_helps};
-use crate::replacement::{Candidate, Replacement};
-use std::alloc::{AllocError, Global};
+use crate::repair::{Change, Edit, MAX_TRIED, Repair, first_that_helps};
+use std::alloc::Global;
 use trlab_asm::Why;
 use trlab_code::CodeFault;
 use trlab_road::RoadFault;
@@ -38,112 +38,91 @@ const ENDLESS: &str = "the program has no line `end`.";
 
 const LATE: &str = "this line belongs elsewhere, or is a duplicate.";
 
+const WINDOWS: &str =
+    "the line ends with a carriage return (Windows line ending): use LF only, in all lines.";
+
 /// The candidates for a fault, as many as are tried at most.
-#[derive(Clone, Copy)]
+#[derive(Drop)]
 pub struct Candidates<'a> {
     pub alloc: Global,
     pub fault: Fault<'a>,
     /// The line at fault, empty if the input has ended.
     pub line: &'a [u8],
-    candidates: [Option<Candidate>; MAX_TRIED],
-    count: usize,
+    repairs: Vec<Repair>,
 }
 
 impl<'a> Candidates<'a> {
     fn new(alloc: Global, fault: Fault<'a>) -> Candidates<'a> {
-        let candidates: [Option<Candidate>; MAX_TRIED] = [None; MAX_TRIED];
         Candidates {
             alloc,
             fault,
             line: fault.line(),
-            candidates,
-            count: 0,
+            repairs: Vec::new(alloc),
         }
     }
 
-    /// Adds a change of the input.
-    pub fn edit(
-        &mut self,
-        mistake: &'static str,
-        at: usize,
-        removed: usize,
-        replacement: Replacement,
-    ) {
-        if self.count < MAX_TRIED {
-            self.candidates[self.count] = Some(Candidate {
-                mistake,
-                at,
-                removed,
-                replacement,
-            });
-            self.count += 1;
+    /// Adds a change, and why it may help.
+    pub fn change(&mut self, mistake: &'static str, change: Change) -> Result<()> {
+        if self.repairs.len() < MAX_TRIED {
+            self.repairs.push(Repair { mistake, change })?;
         }
+        Ok(())
     }
 
-    /// Adds a change of the line at fault, after `at` of its bytes.
+    /// Adds that bytes of the input after position `at` are replaced.
+    pub fn edit(&mut self, why: &'static str, at: usize, removed: usize, put: &[u8]) -> Result<()> {
+        let mut inserted = Vec::new(self.alloc);
+        inserted.extend_from_slice(put)?;
+        let edit = Edit {
+            at,
+            removed,
+            inserted,
+        };
+        self.change(why, Change::Edited(edit))
+    }
+
+    /// Adds that bytes of the line at fault after position `at` are replaced.
     pub fn in_line(
         &mut self,
-        mistake: &'static str,
+        why: &'static str,
         at: usize,
         removed: usize,
-        replacement: Replacement,
-    ) {
-        self.edit(
-            mistake,
-            self.fault.place.start.saturating_add(at),
-            removed,
-            replacement,
-        );
+        put: &[u8],
+    ) -> Result<()> {
+        let start = self.fault.place.start;
+        self.edit(why, start.saturating_add(at), removed, put)
     }
 
-    /// Adds a change of the whole line at fault.
-    pub fn whole_line(&mut self, mistake: &'static str, replacement: Replacement) {
-        self.in_line(mistake, 0, self.line.len(), replacement);
+    /// Adds that the whole line at fault is replaced.
+    pub fn whole_line(&mut self, why: &'static str, line: &[u8]) -> Result<()> {
+        self.in_line(why, 0, self.line.len(), line)
     }
 
     /// Adds a new line above the one at fault, or at the end of the input.
-    pub fn above(&mut self, mistake: &'static str, line: LineName) {
+    pub fn above(&mut self, why: &'static str, line: LineName) -> Result<()> {
         let inserted = line_after(self.fault.place.above(), line);
-        self.edit(
-            mistake,
-            self.fault.place.start,
-            0,
-            Replacement::Bytes(inserted),
-        );
+        self.in_line(why, 0, 0, inserted)
     }
 
     /// Adds that the line at fault is deleted.
-    pub fn without_line(&mut self, mistake: &'static str) {
-        let removed = self.line.len().saturating_add(1);
-        let left = self
-            .fault
-            .place
-            .text
-            .len()
-            .saturating_sub(self.fault.place.start);
-        self.edit(
-            mistake,
-            self.fault.place.start,
-            removed.min(left),
-            Replacement::Bytes(b""),
-        );
+    pub fn without_line(&mut self, why: &'static str) -> Result<()> {
+        let place = self.fault.place;
+        let left = place.text.len().saturating_sub(place.start);
+        let removed = self.line.len().saturating_add(1).min(left);
+        self.in_line(why, 0, removed, b"")
     }
 
-    /// Adds that the carriage return at the end of the line is deleted.
-    fn without_return(&mut self) {
-        if let Some(front) = self.line.strip_suffix(b"\r") {
-            self.in_line(
-                "the line ends with a carriage return (Windows line ending): use LF only, in all lines.",
-                front.len(),
-                1,
-                Replacement::Bytes(b""),
-            );
+    /// Adds that a word of the line at fault after position `at` is replaced by the name that was meant, if any.
+    pub fn misspelled(&mut self, at: usize, word: &[u8], meant: Option<&[u8]>) -> Result<()> {
+        match meant {
+            Some(meant) => self.in_line(MISSPELLED, at, word.len(), meant),
+            None => Ok(()),
         }
     }
 }
 
 /// Adds the candidates for a fault of a program's lines.
-fn program_candidates(list: &mut Candidates<'_>, why: Why) -> Result<(), AllocError> {
+fn program_candidates(list: &mut Candidates<'_>, why: Why) -> Result<()> {
     match why {
         Why::Word => word_candidates(list),
         Why::Operand | Why::Number => operand_candidates(list, why),
@@ -153,21 +132,22 @@ fn program_candidates(list: &mut Candidates<'_>, why: Why) -> Result<(), AllocEr
 }
 
 /// Adds the candidates for a fault.
-fn add_candidates(list: &mut Candidates<'_>) -> Result<(), AllocError> {
-    list.without_return();
+fn add_candidates(list: &mut Candidates<'_>) -> Result<()> {
+    if let Some(front) = list.line.strip_suffix(b"\r") {
+        list.in_line(WINDOWS, front.len(), 1, b"")?;
+    }
     match list.fault.cause {
-        Cause::Line => return line_candidates(list),
-        Cause::Program(why) => return program_candidates(list, why),
+        Cause::Line => line_candidates(list),
+        Cause::Program(why) => program_candidates(list, why),
         Cause::Number => number_candidates(list),
         Cause::Key | Cause::Hex => hex_candidates(list),
         Cause::OneLane => lanes_candidate(list),
         Cause::Code(CodeFault::NeedlessVersion) => version_candidate(list),
         Cause::Road(RoadFault::Character { place, .. }) => cell_candidate(list, place),
-        Cause::Code(_) | Cause::Road(_) => {}
-        Cause::Order | Cause::TooMany | Cause::Work | Cause::TooBig => {}
-        Cause::StandardRefused | Cause::Verdict(_) => {}
+        Cause::Code(_) | Cause::Road(_) => Ok(()),
+        Cause::Order | Cause::TooMany | Cause::Work | Cause::TooBig => Ok(()),
+        Cause::StandardRefused | Cause::Verdict(_) => Ok(()),
     }
-    Ok(())
 }
 
 /// The most likely repair of the first fault of an input that helps: with it, the input is valid or its first fault
@@ -176,12 +156,12 @@ fn add_candidates(list: &mut Candidates<'_>) -> Result<(), AllocError> {
 /// # Errors
 ///
 /// If an allocation fails.
-pub fn likely_repair(alloc: Global, fault: Fault<'_>) -> Result<Option<Repair>, AllocError>
+pub fn likely_repair(alloc: Global, fault: Fault<'_>) -> Result<Option<Repair>>
     ensures { IfOk result (λ found. IfSome found
         (λ repair. Helps fault.entry.subject fault.entry.place.text.now fault.entry.place.number repair.change)) }
 {
     let mut list = Candidates::new(alloc, fault);
     add_candidates(&mut list)?;
-    let Fault { subject, place, .. } = fault;
-    first_that_helps(alloc, subject, place.text, place.number, &list.candidates)
+    let Candidates { repairs, .. } = list;
+    first_that_helps(alloc, fault, repairs)
 }

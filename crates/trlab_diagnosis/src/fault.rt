@@ -76,11 +76,6 @@ impl<'a> Place<'a> {
         let (_, below) = self.text.split_at(end.min(self.text.len()));
         below
     }
-
-    /// The line above it with a number.
-    pub fn line_above(&self, number: u32) -> Place<'a> {
-        Place::at(self.above(), number)
-    }
 }
 
 /// The first fault of an input.
@@ -112,10 +107,7 @@ impl<'a> Fault<'a> {
 
     /// Whether a line of this name would be valid instead of the one at fault.
     pub fn wants(&self, name: LineName) -> bool {
-        match self.wanted {
-            Wanted::Lines(names) => names.has(name),
-            _ => false,
-        }
+        matches!(self.wanted, Wanted::Lines(names) if names.has(name))
     }
 
     /// The word at fault, if its reader names one: the number of bytes before it, and its length.

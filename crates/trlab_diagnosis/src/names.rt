@@ -1,8 +1,8 @@
 //! The names of lines and of rules, and the samples of lines that repairs insert.
 
-use crate::alike::{is_among, is_named_among};
-use crate::subject::Subject;
-use std::alloc::{AllocError, Global};
+use crate::Result;
+use crate::subject::{Subject, is_named};
+use std::alloc::Global;
 use trlab_lines::cut;
 use trlab_texts::{LineName, LineNames};
 
@@ -10,7 +10,7 @@ use trlab_texts::{LineName, LineNames};
 pub const CHECK_NAMES: [&[u8]; 4] = [b"motion", b"change", b"code", b"notes"];
 
 /// The names in a set, in the order of the lines.
-pub fn listed(alloc: Global, names: LineNames) -> Result<Vec<LineName>, AllocError> {
+pub fn listed(alloc: Global, names: LineNames) -> Result<Vec<LineName>> {
     let mut list = Vec::new(alloc);
     for name in &LineName::ALL {
         if names.has(*name) {
@@ -22,12 +22,8 @@ pub fn listed(alloc: Global, names: LineNames) -> Result<Vec<LineName>, AllocErr
 
 /// The line that begins with this word, if it is not `end`.
 pub fn named(word: &[u8]) -> Option<LineName> {
-    for name in &LineName::ALL {
-        if name.word() == word && *name != LineName::End {
-            return Some(*name);
-        }
-    }
-    None
+    let mut names = LineName::ALL.iter().copied();
+    names.find(|name| name.word() == word && *name != LineName::End)
 }
 
 /// Whether lines of this name belong in an input of this kind.
@@ -48,14 +44,6 @@ pub fn is_of(name: LineName, subject: Subject) -> bool {
         ),
         Subject::Check => matches!(name, LineName::Motion | LineName::Change),
     }
-}
-
-/// Whether the line is never left out, and no program follows it.
-pub fn is_lone(name: LineName) -> bool {
-    !matches!(
-        name,
-        LineName::Motion | LineName::Change | LineName::At | LineName::End
-    )
 }
 
 /// An example of the line, with its LF and that of the line before.
@@ -90,44 +78,16 @@ pub fn line_after(text: &[u8], line: LineName) -> &'static [u8] {
     sample.strip_prefix(b"\n").unwrap_or(sample)
 }
 
-/// Whether a line of a job or sweep begins with this word.
-pub fn is_name(word: &[u8]) -> bool {
-    is_among(&LineName::ALL, word) || word == b"code".as_slice()
-}
-
 /// Whether a line of any input begins with this word, in any case.
 pub fn is_name_of_line(word: &[u8]) -> bool {
-    is_named_among(&LineName::ALL, word) || is_named_among(&CHECK_NAMES, word)
+    let mut names = LineName::ALL.iter();
+    names.any(|name| is_named(word, name.word()))
+        || is_named(word, b"code")
+        || is_named(word, b"notes")
 }
 
-/// A standard rule, or `own`.
-#[derive(Clone, Copy)]
-pub struct RuleForm {
-    /// Its name, after the word `rule`.
-    pub name: &'static [u8],
-    /// The number of probabilities after the name.
-    pub chances: u64,
-}
-
-/// All rules.
-pub const RULES: [RuleForm; 4] = [
-    RuleForm {
-        name: b"nasch",
-        chances: 1,
-    },
-    RuleForm {
-        name: b"vdr",
-        chances: 2,
-    },
-    RuleForm {
-        name: b"rickert",
-        chances: 2,
-    },
-    RuleForm {
-        name: b"own",
-        chances: 0,
-    },
-];
+/// The standard rules and `own`: the word after `rule`, and the number of probabilities after it.
+pub const RULES: [(&[u8], usize); 4] = [(b"nasch", 1), (b"vdr", 2), (b"rickert", 2), (b"own", 0)];
 
 /// The rest of a line after the word `rule`, if that is one of its first three words.
 pub fn after_rule(line: &[u8]) -> Option<&[u8]> {
@@ -138,16 +98,6 @@ pub fn after_rule(line: &[u8]) -> Option<&[u8]> {
             return Some(rest);
         }
         left = rest;
-    }
-    None
-}
-
-/// The rule with a name.
-pub fn rule_named(name: &[u8]) -> Option<RuleForm> {
-    for rule in &RULES {
-        if rule.name == name {
-            return Some(*rule);
-        }
     }
     None
 }

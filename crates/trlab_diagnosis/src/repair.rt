@@ -5,8 +5,8 @@ ghost use Rattle.trlab_diagnosis.specs.Edits.{edited, GetsFurther, HasFirst, IsA
 ghost use Rattle.trlab_diagnosis.specs.Repairs.{Helps};
 ghost use Rattle.trlab_lines.specs.Lines.{lines_of};
 
-use crate::fault::count_lines;
-use crate::replacement::Candidate;
+use crate::Result;
+use crate::fault::{Fault, count_lines};
 use crate::subject::Subject;
 use std::alloc::{AllocError, Global};
 use trlab_jobs::{read_check, read_job, read_sweep};
@@ -24,13 +24,7 @@ pub struct Edit {
 }
 
 /// The text after a change.
-pub fn edited(
-    alloc: Global,
-    text: &[u8],
-    at: usize,
-    gone: usize,
-    put: &[u8],
-) -> Result<Vec<u8>, AllocError>
+fn edited(alloc: Global, text: &[u8], at: usize, gone: usize, put: &[u8]) -> Result<Vec<u8>>
     requires { at + gone ≤ length text.now }
     ensures { IfOk result (λ mended. mended.items ≡ edited at gone put.now text.now) }
 {
@@ -60,59 +54,8 @@ pub struct Repair {
     pub change: Change,
 }
 
-/// Whether a text with its first fault at line `number` gets further by an edit.
-fn edit_helps(
-    alloc: Global,
-    subject: Subject,
-    text: &[u8],
-    number: u32,
-    edit: &Edit,
-) -> Result<bool, AllocError>
-    ensures { IfOk result (λ is_so. is_so ≡ true → Helps subject text.now number (Change.Edited edit.now)) }
-{
-    if edit.at > text.len() || edit.removed > text.len() - edit.at {
-        return Ok(false);
-    }
-    let mended = edited(alloc, text, edit.at, edit.removed, &edit.inserted)?;
-    gets_further(alloc, text, number, subject, &mended)
-}
-
-/// Whether a text with its first fault at line `number` gets further by a change.
-fn helps(
-    alloc: Global,
-    subject: Subject,
-    text: &[u8],
-    number: u32,
-    change: &Change,
-) -> Result<bool, AllocError>
-    ensures { IfOk result (λ is_so. is_so ≡ true → Helps subject text.now number change.now) }
-{
-    match change {
-        Change::Edited(edit) => edit_helps(alloc, subject, text, number, edit),
-        Change::ReadAs(other) => gets_further(alloc, text, number, *other, text),
-    }
-}
-
-/// A repair, if it helps a text with its first fault at line `number`.
-pub fn where_it_helps(
-    alloc: Global,
-    subject: Subject,
-    text: &[u8],
-    number: u32,
-    repair: Repair,
-) -> Result<Option<Repair>, AllocError>
-    ensures { IfOk result (λ found. IfSome found (λ repair. Helps subject text.now number repair.change)) }
-{
-    let is_help = helps(alloc, subject, text, number, &repair.change)?;
-    Ok(if is_help { Some(repair) } else { None })
-}
-
 /// The first fault of a text that is read as `subject`, if it has one: its line and its cause.
-fn first_fault(
-    alloc: Global,
-    subject: Subject,
-    text: &[u8],
-) -> Result<Option<(u32, Cause)>, AllocError>
+fn first_fault(alloc: Global, subject: Subject, text: &[u8]) -> Result<Option<(u32, Cause)>>
     ensures { IfOk result (λ fault. HasFirst subject text.now fault) }
 {
     match subject {
@@ -148,18 +91,31 @@ fn is_after(text: &[u8], number: u32, mended: &[u8], fault: Option<(u32, Cause)>
     }
 }
 
-/// Whether a text, read as `subject`, gets further than `text`, which has its first fault at line `number`.
-pub fn gets_further(
-    alloc: Global,
-    text: &[u8],
-    number: u32,
-    subject: Subject,
-    mended: &[u8],
-) -> Result<bool, AllocError>
-    ensures { IfOk result (λ is_so. is_so ≡ true → GetsFurther text.now number subject mended.now) }
+/// Whether a text, read as `subject`, gets further than one with its first fault at this place.
+fn gets_further(alloc: Global, fault: Fault<'_>, subject: Subject, mended: &[u8]) -> Result<bool>
+    ensures { IfOk result (λ is_so. is_so ≡ true
+        → GetsFurther fault.entry.place.text.now fault.entry.place.number subject mended.now) }
 {
-    let fault = first_fault(alloc, subject, mended)?;
-    Ok(is_after(text, number, mended, fault))
+    let found = first_fault(alloc, subject, mended)?;
+    Ok(is_after(fault.place.text, fault.place.number, mended, found))
+}
+
+/// Whether an input gets further than its first fault by a change.
+fn helps(alloc: Global, fault: Fault<'_>, change: &Change) -> Result<bool>
+    ensures { IfOk result (λ is_so. is_so ≡ true
+        → Helps fault.entry.subject fault.entry.place.text.now fault.entry.place.number change.now) }
+{
+    let text = fault.place.text;
+    match change {
+        Change::Edited(edit) => {
+            if edit.at > text.len() || edit.removed > text.len() - edit.at {
+                return Ok(false);
+            }
+            let mended = edited(alloc, text, edit.at, edit.removed, &edit.inserted)?;
+            gets_further(alloc, fault, fault.subject, &mended)
+        }
+        Change::ReadAs(other) => gets_further(alloc, fault, *other, text),
+    }
 }
 
 /// The maximum length of a text that is read several times, so that no explanation takes long.
@@ -168,34 +124,21 @@ const LONGEST_REREAD: usize = 524288;
 /// The maximum number of repairs that are tried. Each one is a reading of the whole text.
 pub const MAX_TRIED: usize = 5;
 
-/// The maximum number of repairs that are tried for a text.
-fn max_tried(text: &[u8]) -> usize {
-    if text.len() > LONGEST_REREAD {
-        1
-    } else {
-        MAX_TRIED
-    }
-}
-
-/// The first candidate that helps a text with its first fault at line `number`.
+/// The first of these repairs that helps an input, or only the first one if the input is long.
 pub fn first_that_helps(
     alloc: Global,
-    subject: Subject,
-    text: &[u8],
-    number: u32,
-    candidates: &[Option<Candidate>],
-) -> Result<Option<Repair>, AllocError>
-    ensures { IfOk result (λ found. IfSome found (λ repair. Helps subject text.now number repair.change)) }
+    fault: Fault<'_>,
+    repairs: Vec<Repair>,
+) -> Result<Option<Repair>>
+    ensures { IfOk result (λ found. IfSome found (λ repair.
+        Helps fault.entry.subject fault.entry.place.text.now fault.entry.place.number repair.change)) }
 {
-    let (tried, _) = candidates.split_at(max_tried(text).min(candidates.len()));
-    for candidate in tried {
-        let Some(candidate) = candidate else {
+    for repair in repairs {
+        if helps(alloc, fault, &repair.change)? {
+            return Ok(Some(repair));
+        }
+        if fault.place.text.len() > LONGEST_REREAD {
             break;
-        };
-        let repair = candidate.repair(alloc, text)?;
-        let found = where_it_helps(alloc, subject, text, number, repair)?;
-        if found.is_some() {
-            return Ok(found);
         }
     }
     Ok(None)

@@ -5,7 +5,8 @@ ghost use Rattle.trlab_lines.specs.Lines.{lines_of};
 ghost use Rattle.trlab_texts.specs.Words.{head_word};
 ghost use Rattle.trlab_diagnosis.specs.Subjects.{IsMeant, IsNearly, MayBe, is_named, subject_named};
 
-use std::alloc::{AllocError, Global};
+use crate::Result;
+use std::alloc::Global;
 use strsim::generic_damerau_levenshtein;
 use trlab_lines::next_line;
 use trlab_texts::word::head_word;
@@ -53,7 +54,7 @@ const LONGEST_WORD: usize = 16;
 
 /// Whether at most one edit leads from a word to this name: a letter inserted, deleted or replaced, or two neighbours
 /// exchanged.
-fn is_nearly(alloc: Global, word: &[u8], name: &[u8]) -> Result<bool, AllocError>
+fn is_nearly(alloc: Global, word: &[u8], name: &[u8]) -> Result<bool>
     requires { name.now ≢ [] }
     ensures { IfOk result (λ is_so. is_so ≡ true → IsNearly word.now name.now) }
 {
@@ -65,7 +66,7 @@ fn is_nearly(alloc: Global, word: &[u8], name: &[u8]) -> Result<bool, AllocError
 }
 
 /// The kind of an input whose first word is unknown.
-fn misspelled_subject(alloc: Global, word: &[u8]) -> Result<Subject, AllocError>
+fn misspelled_subject(alloc: Global, word: &[u8]) -> Result<Subject>
     ensures { IfOk result (MayBe word.now) }
 {
     if is_nearly(alloc, word, b"road")? {
@@ -82,7 +83,7 @@ fn misspelled_subject(alloc: Global, word: &[u8]) -> Result<Subject, AllocError>
 /// # Errors
 ///
 /// If an allocation fails.
-pub fn subject_of(alloc: Global, text: &[u8]) -> Result<Subject, AllocError>
+pub fn subject_of(alloc: Global, text: &[u8]) -> Result<Subject>
     ensures { IfOk result (IsMeant (lines_of text.now)) }
 {
     let Some((line, _)) = next_line(text) else {

@@ -1,19 +1,19 @@
 //! The engine of explanations.
 
-ghost use Rattle.std.specs.Prelude.{◌≡◌, ◌↔◌, [], true, false, All, IfOk, MatchResult};
+ghost use Rattle.std.specs.Prelude.{◌≡◌, ◌↔◌, ◌++◌, [], true, false, All, IfOk, MatchResult, OnOk, option_map};
 ghost use Rattle.trlab_campaign.specs.Ending.{EngineEnds, HandsOn, OutputEnds};
 ghost use Rattle.trlab_campaign.specs.Writers.{AddsNone, bytes_of};
 ghost use Rattle.trlab_campaign.specs.declared.end.End.TheVariants.{DeviceFault, Memory};
 ghost use Rattle.trlab_lines.specs.Plain.{IsPlain};
 ghost use Rattle.trlab_verify.specs.Faults.{IsFaultOf};
 ghost use Rattle.trlab_jobs.specs.Check.{Check as CheckSaid};
+ghost use Rattle.trlab_explain.specs.Quotes.{quote_line};
 ghost use Rattle.trlab_explain.specs.Explanations.{Explains, HasHead, Tells, TellsAs, TellsFault, TellsProgram};
 
 use crate::explanation::{Body, Explanation};
 use crate::fault::add_fault;
 use crate::job::add_job;
 use crate::json_form::json_form;
-use crate::lines::push_quote;
 use crate::program::{ProgramVerdict, add_checked};
 use crate::sweep::add_sweep;
 use crate::text::text_form;
@@ -22,7 +22,7 @@ use trlab_campaign::{
     Cause, End, Engine, Sink, Source, push_fault_line, push_refused_line, run_engine, write_output,
 };
 use trlab_code::{Code, Kind};
-use trlab_diagnosis::{Fault, Place, Subject, subject_of};
+use trlab_diagnosis::{Fault, Place, Result, Subject, subject_of};
 use trlab_jobs::{Check, parse_check, parse_job, parse_sweep};
 use trlab_lines::Page;
 use trlab_texts::{TextFault, Wanted};
@@ -37,6 +37,21 @@ pub enum Form {
     Json,
 }
 
+/// Adds a line of the input with its number, if there is such a line.
+fn push_quote(page: &mut Page, number: u32, line: Option<&[u8]>) -> Result<()>
+    ensures { OnOk result
+        (page.new ≡ page.old ++ quote_line number (option_map (λ line. line.now) line.entry)) }
+{
+    let Some(line) = line else {
+        return Ok(());
+    };
+    page.say("line ")?;
+    page.number(u64::from(number))?;
+    page.say(": ")?;
+    page.quote(line)?;
+    page.end_line()
+}
+
 /// The explanation of a rejected input, by its first fault. `wanted` comes with the end of the line in which its
 /// places are counted.
 fn explain_fault<'a>(
@@ -45,18 +60,18 @@ fn explain_fault<'a>(
     text: &'a [u8],
     line: u32,
     cause: Cause,
-    wanted: (&Wanted, &[u8]),
-) -> Result<Explanation<'a>, AllocError>
+    wanted: (&[u8], Wanted),
+) -> Result<Explanation<'a>>
     ensures { IfOk result (λ told. TellsFault text.now (record { line = line; cause = cause })
         told.refused told.answer told.quote) }
 {
     let place = Place::at(text, line);
-    let (wanted, within) = wanted;
+    let (within, wanted) = wanted;
     let fault = Fault {
         subject,
         place,
         cause,
-        wanted,
+        wanted: &wanted,
         within,
     };
     let mut answer = Page::new(alloc);
@@ -64,7 +79,7 @@ fn explain_fault<'a>(
     let mut quote = Page::new(alloc);
     push_quote(&mut quote, line, place.line)?;
     let mut body = Body::new(alloc, subject);
-    add_fault(alloc, &mut body, place, &fault)?;
+    add_fault(&mut body, place, &fault)?;
     Ok(Explanation {
         refused: true,
         answer,
@@ -74,58 +89,52 @@ fn explain_fault<'a>(
 }
 
 /// The explanation of an input that is not rejected, with the line that its command prints.
-fn explain_valid<'a>(alloc: Global, body: Body<'a>, answer: Page) -> Explanation<'a>
+fn explain_valid<'a>(body: Body<'a>, answer: Page) -> Explanation<'a>
     ensures { result.refused ≡ false }
 {
     Explanation {
         refused: false,
         answer,
-        quote: Page::new(alloc),
+        quote: Page::new(body.alloc),
         body,
     }
 }
 
 /// The explanation of an input that is read as a job.
-fn explain_job(alloc: Global, text: &[u8]) -> Result<Explanation<'_>, AllocError>
+fn explain_job(alloc: Global, text: &[u8]) -> Result<Explanation<'_>>
     ensures { IfOk result (λ told. TellsAs Subject.Job text.now told.refused told.answer told.quote) }
 {
     match parse_job(alloc, text) {
         Ok(job) => {
             let mut body = Body::new(alloc, Subject::Job);
-            add_job(alloc, &mut body, text, &job)?;
-            Ok(explain_valid(alloc, body, Page::new(alloc)))
+            add_job(&mut body, text, &job)?;
+            Ok(explain_valid(body, Page::new(alloc)))
         }
-        Err(refusal) => {
-            let (fault, within, wanted) = refusal.into_parts();
-            match fault {
-                TextFault::At { line, cause } => {
-                    explain_fault(alloc, Subject::Job, text, line, cause, (&wanted, within))
-                }
-                TextFault::Memory => Err(AllocError),
+        Err(refusal) => match refusal.into_parts() {
+            (TextFault::At { line, cause }, within, wanted) => {
+                explain_fault(alloc, Subject::Job, text, line, cause, (within, wanted))
             }
-        }
+            (TextFault::Memory, ..) => Err(AllocError),
+        },
     }
 }
 
 /// The explanation of an input that is read as a sweep.
-fn explain_sweep(alloc: Global, text: &[u8]) -> Result<Explanation<'_>, AllocError>
+fn explain_sweep(alloc: Global, text: &[u8]) -> Result<Explanation<'_>>
     ensures { IfOk result (λ told. TellsAs Subject.Sweep text.now told.refused told.answer told.quote) }
 {
     match parse_sweep(alloc, text) {
         Ok(sweep) => {
             let mut body = Body::new(alloc, Subject::Sweep);
-            add_sweep(alloc, &mut body, text, &sweep)?;
-            Ok(explain_valid(alloc, body, Page::new(alloc)))
+            add_sweep(&mut body, text, &sweep)?;
+            Ok(explain_valid(body, Page::new(alloc)))
         }
-        Err(refusal) => {
-            let (fault, within, wanted) = refusal.into_parts();
-            match fault {
-                TextFault::At { line, cause } => {
-                    explain_fault(alloc, Subject::Sweep, text, line, cause, (&wanted, within))
-                }
-                TextFault::Memory => Err(AllocError),
+        Err(refusal) => match refusal.into_parts() {
+            (TextFault::At { line, cause }, within, wanted) => {
+                explain_fault(alloc, Subject::Sweep, text, line, cause, (within, wanted))
             }
-        }
+            (TextFault::Memory, ..) => Err(AllocError),
+        },
     }
 }
 
@@ -135,7 +144,7 @@ fn explain_accepted<'a>(
     text: &'a [u8],
     code: &Code,
     budget: u32,
-) -> Result<Explanation<'a>, AllocError>
+) -> Result<Explanation<'a>>
     ensures { IfOk result (λ told. told.refused ≡ false) }
 {
     let mut answer = Page::new(alloc);
@@ -143,14 +152,8 @@ fn explain_accepted<'a>(
     answer.number(u64::from(budget))?;
     answer.end_line()?;
     let mut body = Body::new(alloc, Subject::Check);
-    add_checked(
-        alloc,
-        &mut body,
-        text,
-        code,
-        ProgramVerdict::Accepted(budget),
-    )?;
-    Ok(explain_valid(alloc, body, answer))
+    add_checked(&mut body, text, code, ProgramVerdict::Accepted(budget))?;
+    Ok(explain_valid(body, answer))
 }
 
 /// The explanation of a program that the verifier does not accept.
@@ -159,7 +162,7 @@ fn explain_refusal<'a>(
     text: &'a [u8],
     code: &Code,
     fault: VerifyFault,
-) -> Result<Explanation<'a>, AllocError>
+) -> Result<Explanation<'a>>
     ensures { (check : CheckSaid) → IsFaultOf check.program.kind check.program fault
         → IfOk result (λ told. TellsProgram check told.refused told.answer told.quote) }
 {
@@ -169,8 +172,7 @@ fn explain_refusal<'a>(
     let mut answer = Page::new(alloc);
     push_refused_line(&mut answer, at, reason)?;
     let mut body = Body::new(alloc, Subject::Check);
-    let verdict = ProgramVerdict::Rejected(at, reason);
-    add_checked(alloc, &mut body, text, code, verdict)?;
+    add_checked(&mut body, text, code, ProgramVerdict::Rejected(at, reason))?;
     Ok(Explanation {
         refused: true,
         answer,
@@ -180,11 +182,7 @@ fn explain_refusal<'a>(
 }
 
 /// The explanation of the program of a check.
-fn explain_program<'a>(
-    alloc: Global,
-    text: &'a [u8],
-    check: Check,
-) -> Result<Explanation<'a>, AllocError>
+fn explain_program<'a>(alloc: Global, text: &'a [u8], check: Check) -> Result<Explanation<'a>>
     ensures { IfOk result (λ told. TellsProgram check told.refused told.answer told.quote) }
 {
     let Check { code, .. } = check;
@@ -201,25 +199,22 @@ fn explain_program<'a>(
 }
 
 /// The explanation of an input that is read as a check.
-fn explain_check(alloc: Global, text: &[u8]) -> Result<Explanation<'_>, AllocError>
+fn explain_check(alloc: Global, text: &[u8]) -> Result<Explanation<'_>>
     ensures { IfOk result (λ told. TellsAs Subject.Check text.now told.refused told.answer told.quote) }
 {
     match parse_check(alloc, text) {
         Ok(check) => explain_program(alloc, text, check),
-        Err(refusal) => {
-            let (fault, within, wanted) = refusal.into_parts();
-            match fault {
-                TextFault::At { line, cause } => {
-                    explain_fault(alloc, Subject::Check, text, line, cause, (&wanted, within))
-                }
-                TextFault::Memory => Err(AllocError),
+        Err(refusal) => match refusal.into_parts() {
+            (TextFault::At { line, cause }, within, wanted) => {
+                explain_fault(alloc, Subject::Check, text, line, cause, (within, wanted))
             }
-        }
+            (TextFault::Memory, ..) => Err(AllocError),
+        },
     }
 }
 
 /// The explanation of an input that is read as this.
-fn explain_as(alloc: Global, subject: Subject, text: &[u8]) -> Result<Explanation<'_>, AllocError>
+fn explain_as(alloc: Global, subject: Subject, text: &[u8]) -> Result<Explanation<'_>>
     ensures { IfOk result (λ told. TellsAs subject text.now told.refused told.answer told.quote) }
 {
     match subject {
@@ -230,11 +225,7 @@ fn explain_as(alloc: Global, subject: Subject, text: &[u8]) -> Result<Explanatio
 }
 
 /// The explanation of an input, read as what is wanted, or else as what it is meant to be.
-fn explain_meant(
-    alloc: Global,
-    wanted: Option<Subject>,
-    text: &[u8],
-) -> Result<Explanation<'_>, AllocError>
+fn explain_meant(alloc: Global, wanted: Option<Subject>, text: &[u8]) -> Result<Explanation<'_>>
     ensures { IfOk result (λ told. Tells wanted text.now told.refused told.answer told.quote) }
 {
     let subject = match wanted {
@@ -245,7 +236,7 @@ fn explain_meant(
 }
 
 /// Plain text as bytes.
-pub fn plain_bytes(alloc: Global, page: &Page) -> Result<Vec<u8>, AllocError>
+pub fn plain_bytes(alloc: Global, page: &Page) -> Result<Vec<u8>>
     ensures text { IfOk result (λ bytes. bytes.items ≡ page.now) }
     ensures plain { IfOk result (λ bytes. All IsPlain bytes.items) }
 {
@@ -255,7 +246,7 @@ pub fn plain_bytes(alloc: Global, page: &Page) -> Result<Vec<u8>, AllocError>
 }
 
 /// A form of an explanation, and whether it is a rejection.
-fn form_of(alloc: Global, form: Form, explanation: &Explanation<'_>) -> Result<Vec<u8>, AllocError>
+fn form_of(alloc: Global, form: Form, explanation: &Explanation<'_>) -> Result<Vec<u8>>
     ensures head { IfOk result (λ bytes. HasHead form explanation.now.refused
         explanation.now.answer explanation.now.quote bytes.items) }
     ensures plain { IfOk result (λ bytes. All IsPlain bytes.items) }
@@ -272,7 +263,7 @@ fn explained(
     form: Form,
     wanted: Option<Subject>,
     text: &[u8],
-) -> Result<(bool, Vec<u8>), AllocError>
+) -> Result<(bool, Vec<u8>)>
     ensures { IfOk result (λ told. Explains form wanted text.now told.0 told.1.items) }
 {
     let explanation = explain_meant(alloc, wanted, text)?;
@@ -281,7 +272,7 @@ fn explained(
 }
 
 /// Writes a whole output, which is a rejection or not, and passes it on.
-pub fn write_told<K: Sink>(told: Result<(bool, Vec<u8>), AllocError>, writer: &mut K) -> End
+pub fn write_told<K: Sink>(told: Result<(bool, Vec<u8>)>, writer: &mut K) -> End
     requires { K.failed writer.old ≡ false }
     ensures answer { MatchResult told
         (λ told. OutputEnds told.0 told.1.items result (bytes_of K.Sink writer.old) (bytes_of K.Sink writer.new))

@@ -1,15 +1,48 @@
 //! Explanations as values, of which both the text and the JSON object are written.
 
 use std::alloc::Global;
+use std::fmt;
 use trlab_diagnosis::{Place, Repair, Subject};
 use trlab_lines::Page;
 use trlab_texts::Cause;
 
-/// An amount: a whole number, or a part of a whole as a decimal fraction.
+/// A part of a whole, which is 1 for whole numbers: written with at most this many decimals, rounded down.
 #[derive(Clone, Copy)]
-pub enum Amount {
-    Count(u64),
-    Ratio { part: u64, whole: u64 },
+pub struct Amount {
+    part: u64,
+    whole: u64,
+    decimals: u32,
+}
+
+impl Amount {
+    pub fn of(part: u64, whole: u64, decimals: u32) -> Amount {
+        Amount {
+            part,
+            whole,
+            decimals,
+        }
+    }
+}
+
+impl fmt::Display for Amount {
+    fn fmt<W: fmt::Write>(&self, f: &mut fmt::Formatter<W>) -> fmt::Result {
+        let whole = self.whole.max(1);
+        let number = self.part / whole;
+        let mut rest = self.part % whole;
+        write!(f, "{number}")?;
+        if rest != 0 {
+            write!(f, ".")?;
+        }
+        for _ in 0..self.decimals {
+            if rest != 0 {
+                let tenths = rest.saturating_mul(10);
+                let digit = tenths / whole;
+                write!(f, "{digit}")?;
+                rest = tenths % whole;
+            }
+        }
+        Ok(())
+    }
 }
 
 /// A number that a valid input determines. The text form puts it between two phrases, on a line of its own. A
@@ -27,7 +60,7 @@ pub fn count(key: &'static str, front: &'static str, count: u64, after: &'static
     Number {
         key,
         front,
-        amount: Amount::Count(count),
+        amount: Amount::of(count, 1, 0),
         after,
     }
 }
@@ -36,17 +69,15 @@ pub fn count(key: &'static str, front: &'static str, count: u64, after: &'static
 #[derive(Drop)]
 pub struct Problem<'a> {
     pub cause: Cause,
-    pub meaning: &'static str,
     /// The number of the line, and the line itself unless the input has ended.
     pub line: u32,
     pub text: Option<&'a [u8]>,
     /// The bytes at fault: how many come before them in the line, and their number. `None` means the whole line.
     pub span: Option<(usize, usize)>,
-    /// The forms that would be valid, and the word between two of them.
+    /// The forms that would be valid.
     pub expected: Vec<&'static str>,
-    pub between: &'static str,
     /// The problem in words; empty if there is no more to say than the cause does.
-    pub found: Page,
+    pub found: String,
     /// Where to look if nothing was found and no repair helps; else empty.
     pub check: &'static str,
 }
@@ -59,8 +90,8 @@ pub struct Rejection {
     /// The number of its line; 1 for a program in bytes.
     pub line: u32,
     /// The instruction as it is written, and as a line of the text form.
-    pub text: Page,
-    pub instruction: Page,
+    pub text: String,
+    pub instruction: String,
     pub reason: u32,
     pub meaning: &'static str,
     pub advice: &'static str,
@@ -71,22 +102,23 @@ pub struct Rejection {
 pub struct Known {
     /// The number of its line; 0 for a program in bytes.
     pub line: u32,
-    pub instruction: Page,
-    pub facts: Vec<Page>,
+    pub instruction: String,
+    pub facts: Vec<String>,
 }
 
 /// An explanation below its head.
 #[derive(Drop)]
 pub struct Body<'a> {
+    pub alloc: Global,
     /// What the input is read as, and the first line of the text form; it may be empty.
     pub subject: Subject,
     pub intro: &'static str,
     pub problem: Option<Problem<'a>>,
     pub rejection: Option<Rejection>,
     /// The facts known before the rejected instruction, one per line.
-    pub known: Vec<Page>,
+    pub known: Vec<String>,
     /// The paths to the rejected instruction, or the rules of a valid input, one per line.
-    pub facts: Vec<Page>,
+    pub facts: Vec<String>,
     pub table: Vec<Known>,
     /// The numbers of a valid input, and how many of them come above the facts in the text form.
     pub numbers: Vec<Number>,
@@ -99,6 +131,7 @@ impl<'a> Body<'a> {
     /// Without any part yet.
     pub fn new(alloc: Global, subject: Subject) -> Body<'a> {
         Body {
+            alloc,
             subject,
             intro: "",
             problem: None,
@@ -113,7 +146,6 @@ impl<'a> Body<'a> {
     }
 }
 
-/// An explanation.
 #[derive(Drop)]
 pub struct Explanation<'a> {
     /// Whether the input or its program is rejected.

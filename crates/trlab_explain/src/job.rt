@@ -1,9 +1,9 @@
 //! The work of a valid job.
 
 use crate::explanation::{Amount, Body, Number, count};
-use crate::lines::{add_rules, count_digits, megabytes};
-use std::alloc::{AllocError, Global};
+use crate::rules::{add_rules, count_digits, megabytes};
 use trlab_bounds::runs::MAX_LATER;
+use trlab_diagnosis::Result;
 use trlab_jobs::Job;
 use trlab_road::Road;
 
@@ -19,89 +19,54 @@ fn output_bytes(road: &Road, steps: u32) -> u64 {
 }
 
 /// An upper bound on the bytes of memory of a run with one worker, fitted to measurements.
-fn memory_bytes(text: &[u8], cars: u32) -> u64 {
+fn memory_bytes(text: &[u8], cars: u64) -> u64 {
     (text.len() as u64)
         .saturating_mul(9)
-        .saturating_add(u64::from(cars).saturating_mul(20))
+        .saturating_add(cars.saturating_mul(20))
         .saturating_add(3_000_000)
 }
 
 /// The numbers of the road of a job.
 fn road_numbers(road: &Road) -> [Number; 5] {
-    let cells = u64::from(road.lanes()).saturating_mul(u64::from(road.length()));
-    let cars = u64::from(road.cars());
+    let (lanes, length) = (u64::from(road.lanes()), u64::from(road.length()));
+    let (cars, limit) = (u64::from(road.cars()), u64::from(road.limit()));
+    let cells = lanes.saturating_mul(length);
     [
-        count("lanes", "Lanes: ", u64::from(road.lanes()), "."),
-        count("cells", "Cells per lane: ", u64::from(road.length()), "."),
+        count("lanes", "Lanes: ", lanes, "."),
+        count("cells", "Cells per lane: ", length, "."),
         count("cars", "Cars: ", cars, "."),
         Number {
             key: "density",
             front: "Density: ",
-            amount: Amount::Ratio {
-                part: cars,
-                whole: cells,
-            },
+            amount: Amount::of(cars, cells, 4),
             after: " cars per cell.",
         },
-        count(
-            "limit",
-            "Maximum speed: ",
-            u64::from(road.limit()),
-            " cells per step.",
-        ),
+        count("limit", "Maximum speed: ", limit, " cells per step."),
     ]
 }
 
 /// The numbers of the run of a job.
 fn run_numbers(text: &[u8], job: &Job) -> [Number; 4] {
-    let steps = u64::from(job.steps);
-    let work = u64::from(job.road.cars()).saturating_mul(steps);
-    let memory = megabytes(memory_bytes(text, job.road.cars()));
+    let (steps, cars) = (u64::from(job.steps), u64::from(job.road.cars()));
+    let output = output_bytes(&job.road, job.steps);
+    let memory = megabytes(memory_bytes(text, cars));
+    let measured = " MB with one worker (measured, not proved).";
     [
         count("steps", "Steps: ", steps, "."),
-        count("work", "Work: ", work, " car-steps."),
-        count(
-            "output_bytes",
-            "Output: ",
-            output_bytes(&job.road, job.steps),
-            " bytes.",
-        ),
-        count(
-            "memory_mb",
-            "Memory: about ",
-            memory,
-            " MB with one worker (measured, not proved).",
-        ),
+        count("work", "Work: ", cars.saturating_mul(steps), " car-steps."),
+        count("output_bytes", "Output: ", output, " bytes."),
+        count("memory_mb", "Memory: about ", memory, measured),
     ]
 }
 
 /// Adds the road, the rules and the work of a valid job.
-pub fn add_job(
-    alloc: Global,
-    body: &mut Body<'_>,
-    text: &[u8],
-    job: &Job,
-) -> Result<(), AllocError> {
+pub fn add_job(body: &mut Body<'_>, text: &[u8], job: &Job) -> Result<()> {
     body.intro = "This is a valid job: `trlab run` runs it.";
     body.numbers.extend_from_slice(&road_numbers(&job.road))?;
     body.numbers_above = body.numbers.len();
-    add_rules(
-        alloc,
-        &mut body.facts,
-        "The rule from the start:",
-        text,
-        b"rule",
-        1,
-    )?;
+    add_rules(body, "The rule from the start:", text, b"rule", 1)?;
     if !job.later.is_empty() {
-        add_rules(
-            alloc,
-            &mut body.facts,
-            "Later rules:",
-            text,
-            b"at",
-            MAX_LATER,
-        )?;
+        add_rules(body, "Later rules:", text, b"at", MAX_LATER)?;
     }
     body.numbers.extend_from_slice(&run_numbers(text, job))
 }

@@ -1,6 +1,10 @@
 //! Explanations: why an input is rejected and how to repair it, or the work of a valid one, in plain words or as a
 //! JSON object. No contract says which words these are, except how an explanation begins or ends, how a line of the
 //! input is quoted, and which inputs are rejected.
+//!
+//! ```text
+//! explain_text(rt, form, subject, reader, writer)
+//! ```
 #![tactic(auto)]
 
 mod causes;
@@ -11,11 +15,11 @@ mod forms;
 mod job;
 mod json_form;
 pub mod laws;
-mod lines;
 mod object;
 mod program;
 mod reasons;
 mod repairs;
+mod rules;
 mod sweep;
 mod text;
 mod topics;

@@ -3,17 +3,35 @@
 ghost use Rattle.std.specs.Prelude.{◌≡◌, ◌++◌, ◌∷◌, [], All, IfOk, OnOk};
 ghost use Rattle.json.specs.Print.{IsPrintable, print};
 ghost use Rattle.json.specs.Reads.{token_of};
-ghost use Rattle.json.specs.Token.{end_object, key, null, number};
+ghost use Rattle.json.specs.Token.{key, number};
 ghost use Rattle.std.specs.Fmt.{decimal};
 ghost use Rattle.trlab_lines.specs.Plain.{IsPlain, all_shown};
 ghost use Rattle.trlab_explain.specs.Json.{HasPlainText, answer_token, object_end};
 
 use crate::explanation::Amount;
-use crate::lines::{push_amount, words};
 use json::{Token, Writer, is_number};
-use std::alloc::{AllocError, Global};
+use std::alloc::Global;
 use std::marker::Model;
+use trlab_diagnosis::{Quoted, Result, Shown, page_of};
 use trlab_lines::Page;
+
+/// The value of a member.
+#[derive(Clone, Copy)]
+pub enum Member<'a> {
+    Null,
+    Count(u64),
+    CountOrNull(Option<u64>),
+    Amount(Amount),
+    /// Words, or null if they are empty.
+    Words(&'static str),
+    Text(&'a str),
+    TextOrNull(&'a str),
+    /// Bytes, with the ends of their lines.
+    Bytes(&'a [u8]),
+    Forms(&'a [&'static str]),
+    Lines(&'a [String]),
+    NoLines,
+}
 
 /// A JSON text of plain characters, while it is written.
 #[derive(Drop)]
@@ -59,7 +77,7 @@ impl Object {
     }
 
     /// Adds a token of plain text.
-    fn put(&mut self, token: Token<'_>) -> Result<(), AllocError>
+    pub fn put(&mut self, token: Token<'_>) -> Result<()>
         requires plain { HasPlainText (token_of token) }
         requires printable { IsPrintable (token_of token) }
         ensures { OnOk result (self.new ≡ self.old ++ token_of token.entry ∷ []) }
@@ -70,8 +88,7 @@ impl Object {
         }
     }
 
-    /// Adds a whole number.
-    fn number(&mut self, n: u64) -> Result<(), AllocError>
+    fn number(&mut self, n: u64) -> Result<()>
         ensures { OnOk result (self.new ≡ self.old ++ number (decimal n) ∷ []) }
     {
         match self.out.u64(n) {
@@ -80,100 +97,25 @@ impl Object {
         }
     }
 
-    /// Begins an object.
-    pub fn begin_object(&mut self) -> Result<(), AllocError> {
-        self.put(Token::BeginObject)
-    }
-
-    /// Ends an object.
-    pub fn end_object(&mut self) -> Result<(), AllocError>
-        ensures { OnOk result (self.new ≡ self.old ++ end_object ∷ []) }
-    {
-        self.put(Token::EndObject)
-    }
-
-    /// Begins an array.
-    pub fn begin_array(&mut self) -> Result<(), AllocError> {
-        self.put(Token::BeginArray)
-    }
-
-    /// Ends an array.
-    pub fn end_array(&mut self) -> Result<(), AllocError> {
-        self.put(Token::EndArray)
-    }
-
-    /// Adds null.
-    pub fn null(&mut self) -> Result<(), AllocError>
-        ensures { OnOk result (self.new ≡ self.old ++ null ∷ []) }
-    {
-        self.put(Token::Null)
-    }
-
     /// Adds the name of a member.
-    pub fn key(&mut self, name: &str) -> Result<(), AllocError>
+    pub fn key(&mut self, name: &str) -> Result<()>
         ensures { OnOk result (self.new ≡ self.old ++ key (all_shown name.now) ∷ []) }
     {
-        let name = words(self.alloc, name)?;
-        self.put(Token::Key(plain_str(name.text())))
+        let mut page = Page::new(self.alloc);
+        page.say(name)?;
+        self.put(Token::Key(plain_str(page.text())))
     }
 
-    /// Adds a page as a string.
-    pub fn page(&mut self, page: &Page) -> Result<(), AllocError> {
+    /// Adds a text as a string.
+    fn text(&mut self, text: &str) -> Result<()> {
+        let page = page_of(self.alloc, text)?;
         self.put(Token::String(plain_str(page.text())))
     }
 
-    /// Adds words as a string.
-    pub fn words(&mut self, text: &str) -> Result<(), AllocError> {
-        let page = words(self.alloc, text)?;
-        self.page(&page)
-    }
-
-    /// Adds a line of the input as a string: its first bytes, as the text form quotes it.
-    pub fn quote(&mut self, line: &[u8]) -> Result<(), AllocError> {
-        let mut page = Page::new(self.alloc);
-        page.quote(line)?;
-        self.page(&page)
-    }
-
-    /// Adds bytes as a string, with the ends of their lines.
-    pub fn lines(&mut self, bytes: &[u8]) -> Result<(), AllocError> {
-        let mut page = Page::new(self.alloc);
-        for byte in bytes {
-            if *byte == b'\n' {
-                page.end_line()?;
-            } else {
-                page.show_all(&[*byte])?;
-            }
-        }
-        self.page(&page)
-    }
-
-    /// Adds a member with words.
-    pub fn member(&mut self, name: &str, text: &str) -> Result<(), AllocError> {
-        self.key(name)?;
-        self.words(text)
-    }
-
-    /// Adds a member with a whole number.
-    pub fn count(&mut self, name: &str, count: u64) -> Result<(), AllocError> {
-        self.key(name)?;
-        self.number(count)
-    }
-
-    /// Adds a member with a whole number or null.
-    pub fn count_or_null(&mut self, name: &str, count: Option<u64>) -> Result<(), AllocError> {
-        self.key(name)?;
-        match count {
-            Some(count) => self.number(count),
-            None => self.null(),
-        }
-    }
-
-    /// Adds a member with an amount: a ratio is rounded down to at most this many decimals.
-    pub fn amount(&mut self, name: &str, amount: Amount, decimals: u32) -> Result<(), AllocError> {
-        let mut page = Page::new(self.alloc);
-        push_amount(&mut page, amount, decimals)?;
-        self.key(name)?;
+    /// Adds an amount: as a number unless its digits are not one.
+    fn amount(&mut self, amount: Amount) -> Result<()> {
+        let text = format!(in self.alloc; "{amount}")?;
+        let page = page_of(self.alloc, &text)?;
         let numeral = plain_str(page.text());
         if is_number(numeral) {
             self.put(Token::Number(numeral))
@@ -182,31 +124,102 @@ impl Object {
         }
     }
 
+    /// Adds the strings of an array.
+    pub fn lines(&mut self, lines: &[String]) -> Result<()> {
+        for line in lines {
+            self.text(line)?;
+        }
+        Ok(())
+    }
+
+    /// Adds forms as an array.
+    fn forms(&mut self, forms: &[&'static str]) -> Result<()> {
+        self.put(Token::BeginArray)?;
+        for form in forms {
+            self.text(*form)?;
+        }
+        self.put(Token::EndArray)
+    }
+
+    /// Adds text, or null if it is empty.
+    fn text_or_null(&mut self, text: &str) -> Result<()> {
+        if text.is_empty() {
+            self.put(Token::Null)
+        } else {
+            self.text(text)
+        }
+    }
+
+    /// Adds a line of the input as the text form quotes it, or null if there is none.
+    pub fn quote(&mut self, line: Option<&[u8]>) -> Result<()> {
+        let Some(line) = line else {
+            return self.put(Token::Null);
+        };
+        let line = Quoted(line);
+        let text = format!(in self.alloc; "{line}")?;
+        self.text(&text)
+    }
+
+    fn value(&mut self, value: Member<'_>) -> Result<()> {
+        match value {
+            Member::Count(count) | Member::CountOrNull(Some(count)) => self.number(count),
+            Member::Null | Member::CountOrNull(None) => self.put(Token::Null),
+            Member::Amount(amount) => self.amount(amount),
+            Member::Words(words) => self.text_or_null(words),
+            Member::Text(text) => self.text(text),
+            Member::TextOrNull(text) => self.text_or_null(text),
+            Member::Bytes(bytes) => {
+                let bytes = Shown(bytes);
+                let text = format!(in self.alloc; "{bytes}")?;
+                self.text(&text)
+            }
+            Member::Forms(forms) => self.forms(forms),
+            Member::Lines(lines) => {
+                self.put(Token::BeginArray)?;
+                self.lines(lines)?;
+                self.put(Token::EndArray)
+            }
+            Member::NoLines => self.forms(&[]),
+        }
+    }
+
+    pub fn member(&mut self, name: &str, value: Member<'_>) -> Result<()> {
+        self.key(name)?;
+        self.value(value)
+    }
+
+    pub fn members(&mut self, members: &[(&'static str, Member<'_>)]) -> Result<()> {
+        for (name, value) in members {
+            self.member(*name, *value)?;
+        }
+        Ok(())
+    }
+
     /// Ends the object with the exit status and the line that the command prints, if it prints one.
-    pub fn end(&mut self, refused: bool, answer: &Page) -> Result<(), AllocError>
+    pub fn end(&mut self, refused: bool, answer: &Page) -> Result<()>
         ensures { OnOk result (self.new ≡ self.old ++ object_end refused answer.now) }
     {
         self.key("status")?;
         self.number(u64::from(refused))?;
         self.key("answer")?;
         self.answer(answer)?;
-        self.end_object()
+        self.put(Token::EndObject)
     }
 
     /// Adds the line that the command prints, without its end.
-    fn answer(&mut self, answer: &Page) -> Result<(), AllocError>
+    fn answer(&mut self, answer: &Page) -> Result<()>
         ensures { OnOk result (self.new ≡ self.old ++ answer_token answer.now ∷ []) }
     {
         let line = answer.text();
         if line.is_empty() {
-            return self.null();
+            return self.put(Token::Null);
         }
         let (line, _) = line.split_at(line.len() - 1);
         self.put(Token::String(plain_str(line)))
     }
 
     /// The text, as one line.
-    pub fn into_line(self) -> Result<Vec<u8>, AllocError>
+    pub fn into_line(self) -> Result<Vec<u8>>
         ensures plain { IfOk result (λ text. All IsPlain text.items) }
         ensures text { IfOk result (λ text. text.items ≡ print self ++ 10 ∷ []) }
     {

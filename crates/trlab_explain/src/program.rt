@@ -4,14 +4,13 @@ mod marks;
 mod rejection;
 
 use crate::explanation::{Body, Known, count};
-use crate::lines::{numbered_line, words};
-use crate::program::marks::known_line;
+use crate::program::marks::known_fact;
 use crate::program::rejection::add_rejection;
 use std::alloc::{AllocError, Global};
 use trlab_asm::{REGISTERS, disassemble};
 use trlab_code::Code;
-use trlab_diagnosis::{Fault, name_and_operands};
-use trlab_lines::{Page, next_line};
+use trlab_diagnosis::{Fault, Quoted, Result, name_and_operands};
+use trlab_lines::next_line;
 use trlab_notes::Reason;
 use trlab_texts::Wanted;
 use trlab_texts::word::without_prefix;
@@ -26,19 +25,12 @@ pub enum ProgramVerdict {
     Rejected(u32, u32),
 }
 
-/// A line with an instruction, and its number in the whole input.
-#[derive(Clone, Copy)]
-struct InstructionLine<'a> {
-    number: u32,
-    line: &'a [u8],
-}
-
-/// A program with the lines of its instructions. A program in bytes is listed: it has the lines of its canonical
-/// form.
+/// A program with the lines of its instructions, each with its number in the whole input. A program in bytes is
+/// listed: it has the lines of its canonical form.
 #[derive(Clone, Copy)]
 pub struct Listing<'a> {
     code: &'a Code,
-    lines: &'a [InstructionLine<'a>],
+    lines: &'a [(u32, &'a [u8])],
     is_listed: bool,
 }
 
@@ -46,26 +38,29 @@ impl Listing<'_> {
     /// The number of an instruction's line: `listed` for a program in bytes.
     fn line_number(&self, pc: u32, listed: u32) -> u32 {
         match self.lines.get(pc as usize) {
-            Some(found) if !self.is_listed => found.number,
+            Some((number, _)) if !self.is_listed => *number,
             _ => listed,
         }
     }
 
     /// An instruction as it is written, quoted.
-    fn text(&self, alloc: Global, pc: u32) -> Result<Page, AllocError> {
-        let mut page = Page::new(alloc);
-        if let Some(found) = self.lines.get(pc as usize) {
-            page.quote(found.line)?;
+    fn text(&self, alloc: Global, pc: u32) -> Result<String> {
+        match self.lines.get(pc as usize) {
+            Some((_, line)) => format!(in alloc; "{}", Quoted(*line)),
+            None => Ok(String::new(alloc)),
         }
-        Ok(page)
     }
 
     /// The line of an instruction with its number, or that of the instruction for a program in bytes.
-    fn instruction(&self, alloc: Global, pc: u32) -> Result<Page, AllocError> {
-        match self.lines.get(pc as usize) {
-            Some(found) if self.is_listed => numbered_line(alloc, "instruction ", pc, found.line),
-            Some(found) => numbered_line(alloc, "line ", found.number, found.line),
-            None => Ok(Page::new(alloc)),
+    fn instruction(&self, alloc: Global, pc: u32) -> Result<String> {
+        let Some((number, line)) = self.lines.get(pc as usize) else {
+            return Ok(String::new(alloc));
+        };
+        let line = Quoted(*line);
+        if self.is_listed {
+            format!(in alloc; "instruction {pc}: {line}")
+        } else {
+            format!(in alloc; "line {number}: {line}")
         }
     }
 }
@@ -76,7 +71,7 @@ fn instruction_lines<'a>(
     above: u32,
     text: &'a [u8],
     count: usize,
-) -> Result<Vec<InstructionLine<'a>>, AllocError> {
+) -> Result<Vec<(u32, &'a [u8])>> {
     let mut lines = Vec::new(alloc);
     let mut left = text;
     let mut number = above;
@@ -86,7 +81,7 @@ fn instruction_lines<'a>(
         };
         number = number.saturating_add(1);
         if lines.len() < count && !name_and_operands(line).0.is_empty() {
-            lines.push(InstructionLine { number, line })?;
+            lines.push((number, line))?;
         }
         left = rest;
     }
@@ -94,32 +89,25 @@ fn instruction_lines<'a>(
 }
 
 /// The facts that a note has of each register that is set, and of the side cell.
-fn facts_of(alloc: Global, note: &Note) -> Result<Vec<Page>, AllocError> {
+fn facts_of(alloc: Global, note: &Note) -> Result<Vec<String>> {
     let mut facts = Vec::new(alloc);
     for i in 0..REGISTERS.len() {
         if note.regs[i] != Mark::Unset {
-            facts.push(known_line(alloc, note, REGISTERS[i])?)?;
+            facts.push(known_fact(alloc, note, REGISTERS[i])?)?;
         }
     }
     if note.side {
-        facts.push(words(alloc, "the side cell is empty")?)?;
+        facts.push(format!(in alloc; "the side cell is empty")?)?;
     }
     Ok(facts)
 }
 
 /// Adds the budget of an accepted program, and the facts known before each instruction.
-fn add_accepted(
-    alloc: Global,
-    body: &mut Body<'_>,
-    program: Listing<'_>,
-    budget: u32,
-) -> Result<(), AllocError> {
-    body.numbers.push(count(
-        "budget",
-        "Accepted: a car runs at most ",
-        u64::from(budget),
-        " instructions per step.",
-    ))?;
+fn add_accepted(body: &mut Body<'_>, program: Listing<'_>, budget: u32) -> Result<()> {
+    let alloc = body.alloc;
+    let runs = "Accepted: a car runs at most ";
+    let number = count("budget", runs, u64::from(budget), " instructions per step.");
+    body.numbers.push(number)?;
     body.numbers_above = 1;
     let table = match notes(alloc, program.code) {
         Ok(table) => table,
@@ -140,64 +128,51 @@ fn add_accepted(
 
 /// Adds the verdict on a program that begins at a line of the input, whose other lines are below it.
 fn add_verdict(
-    alloc: Global,
     body: &mut Body<'_>,
     code: &Code,
     place: (u32, &[u8], &[u8]),
     verdict: ProgramVerdict,
-) -> Result<(), AllocError> {
+) -> Result<()> {
     let (number, line, below) = place;
     let line = without_prefix(b"notes ", line).unwrap_or(line);
     let is_listed = without_prefix(b"code ", line).is_some();
-    let listing = disassemble(alloc, code)?;
+    let listing = disassemble(body.alloc, code)?;
     let (above, text) = if is_listed {
         (0, listing.as_slice())
     } else {
         (number, below)
     };
-    let lines = instruction_lines(alloc, above, text, code.instrs().len())?;
+    let lines = instruction_lines(body.alloc, above, text, code.instrs().len())?;
     let program = Listing {
         code,
         lines: &lines,
         is_listed,
     };
     match verdict {
-        ProgramVerdict::Accepted(budget) => add_accepted(alloc, body, program, budget),
+        ProgramVerdict::Accepted(budget) => add_accepted(body, program, budget),
         ProgramVerdict::Rejected(at, reason) => match Reason::from_number(reason) {
-            Some(reason) => add_rejection(alloc, body, program, at, reason),
+            Some(reason) => add_rejection(body, program, at, reason),
             None => Ok(()),
         },
     }
 }
 
 /// Adds why the verifier rejects a program of a job or sweep, which begins at the fault.
-pub fn add_rejected_part(
-    alloc: Global,
-    body: &mut Body<'_>,
-    fault: &Fault<'_>,
-    reason: u32,
-) -> Result<(), AllocError> {
+pub fn add_rejected_part(body: &mut Body<'_>, fault: &Fault<'_>, reason: u32) -> Result<()> {
     let Wanted::Program { code, at } = fault.wanted else {
         return Ok(());
     };
     let place = (fault.place.number, fault.line(), fault.place.below());
-    add_verdict(
-        alloc,
-        body,
-        code,
-        place,
-        ProgramVerdict::Rejected(*at, reason),
-    )
+    add_verdict(body, code, place, ProgramVerdict::Rejected(*at, reason))
 }
 
 /// Adds the verdict on the program of a check.
 pub fn add_checked(
-    alloc: Global,
     body: &mut Body<'_>,
     text: &[u8],
     code: &Code,
     verdict: ProgramVerdict,
-) -> Result<(), AllocError> {
+) -> Result<()> {
     let (line, below) = next_line(text).unwrap_or((b"", b""));
-    add_verdict(alloc, body, code, (1, line, below), verdict)
+    add_verdict(body, code, (1, line, below), verdict)
 }

@@ -1,8 +1,8 @@
 //! The work of a valid sweep.
 
 use crate::explanation::{Body, count};
-use crate::lines::{add_rules, count_digits, megabytes};
-use std::alloc::{AllocError, Global};
+use crate::rules::{add_rules, count_digits, megabytes};
+use trlab_diagnosis::Result;
 use trlab_jobs::Sweep;
 
 /// The fewest and the most cars of a point, and all cars of all points.
@@ -32,20 +32,11 @@ fn cars_of_first_lane(cells: u64, cars: u32) -> u64 {
 }
 
 /// Adds how many of some cars start on lane 0.
-fn add_start(
-    body: &mut Body<'_>,
-    key: &'static str,
-    cells: u64,
-    cars: u32,
-) -> Result<(), AllocError> {
+fn add_start(body: &mut Body<'_>, key: &'static str, cells: u64, cars: u32) -> Result<()> {
+    let first = cars_of_first_lane(cells, cars);
     body.numbers.extend_from_slice(&[
         count("", "With ", u64::from(cars), " cars, "),
-        count(
-            key,
-            "",
-            cars_of_first_lane(cells, cars),
-            " start on lane 0.",
-        ),
+        count(key, "", first, " start on lane 0."),
     ])
 }
 
@@ -57,16 +48,16 @@ const ROW_BYTES: u64 = 15;
 /// The maximum number of bytes of the table of a sweep.
 fn output_bytes(sweep: &Sweep) -> u64 {
     let cells = u64::from(sweep.lanes).saturating_mul(u64::from(sweep.length));
+    let measure = u64::from(sweep.measure);
     let mut bytes = HEADING_BYTES;
     for count in &sweep.cars {
         let cars = u64::from(*count);
-        let times = cars.saturating_mul(u64::from(sweep.measure));
-        let row = count_digits(cars)
-            .saturating_add(count_digits(cells))
-            .saturating_add(count_digits(u64::from(sweep.measure)))
-            .saturating_add(count_digits(times.saturating_mul(u64::from(sweep.limit))))
-            .saturating_add(count_digits(times).saturating_mul(2));
-        bytes = bytes.saturating_add(row).saturating_add(ROW_BYTES);
+        let times = cars.saturating_mul(measure);
+        let moves = times.saturating_mul(u64::from(sweep.limit));
+        for number in &[cars, cells, measure, moves, times, times] {
+            bytes = bytes.saturating_add(count_digits(*number));
+        }
+        bytes = bytes.saturating_add(ROW_BYTES);
     }
     bytes
 }
@@ -86,18 +77,15 @@ fn memory_bytes(text: &[u8], all: u64, most: u32, steps: u64) -> u64 {
 }
 
 /// Adds the roads of a sweep, and how their cars start if they have two lanes.
-fn add_roads(body: &mut Body<'_>, sweep: &Sweep) -> Result<(), AllocError> {
-    let cells = u64::from(sweep.lanes).saturating_mul(u64::from(sweep.length));
+fn add_roads(body: &mut Body<'_>, sweep: &Sweep) -> Result<()> {
+    let (lanes, length) = (u64::from(sweep.lanes), u64::from(sweep.length));
+    let cells = lanes.saturating_mul(length);
+    let limit = u64::from(sweep.limit);
     let (fewest, most, _) = span_of(&sweep.cars);
     body.numbers.extend_from_slice(&[
-        count("lanes", "Lanes: ", u64::from(sweep.lanes), "."),
-        count("cells", "Cells per lane: ", u64::from(sweep.length), "."),
-        count(
-            "limit",
-            "Maximum speed: ",
-            u64::from(sweep.limit),
-            " cells per step.",
-        ),
+        count("lanes", "Lanes: ", lanes, "."),
+        count("cells", "Cells per lane: ", length, "."),
+        count("limit", "Maximum speed: ", limit, " cells per step."),
         count("road_cells", "Cells per road: ", cells, "."),
         count("fewest_cars", "Fewest cars: ", u64::from(fewest), "."),
         count("most_cars", "Most cars: ", u64::from(most), "."),
@@ -113,49 +101,37 @@ fn add_roads(body: &mut Body<'_>, sweep: &Sweep) -> Result<(), AllocError> {
 }
 
 /// Adds the points of a sweep, and their work.
-fn add_points(body: &mut Body<'_>, text: &[u8], sweep: &Sweep) -> Result<(), AllocError> {
+fn add_points(body: &mut Body<'_>, text: &[u8], sweep: &Sweep) -> Result<()> {
     let (_, most, all) = span_of(&sweep.cars);
     let points = sweep.cars.len() as u64;
-    let warm = u64::from(sweep.warm);
-    let measure = u64::from(sweep.measure);
+    let (warm, measure) = (u64::from(sweep.warm), u64::from(sweep.measure));
     let steps = warm.saturating_add(measure);
     let total = points.saturating_mul(steps);
+    let work = all.saturating_mul(steps);
+    let memory = megabytes(memory_bytes(text, all, most, total));
+    let maximum = " steps in total (maximum 500000).";
+    let measured = " MB with one runner (measured, not proved).";
     body.numbers.extend_from_slice(&[
         count("points", "Points: ", points, ", one row of the table each."),
         count("warm", "Warm-up steps per point: ", warm, "."),
         count("measure", "Measured steps per point: ", measure, "."),
-        count(
-            "steps",
-            "Work: ",
-            total,
-            " steps in total (maximum 500000).",
-        ),
-        count("work", "Work: ", all.saturating_mul(steps), " car-steps."),
+        count("steps", "Work: ", total, maximum),
+        count("work", "Work: ", work, " car-steps."),
         count(
             "output_bytes",
             "Output: at most ",
             output_bytes(sweep),
             " bytes.",
         ),
-        count(
-            "memory_mb",
-            "Memory: about ",
-            megabytes(memory_bytes(text, all, most, total)),
-            " MB with one runner (measured, not proved).",
-        ),
+        count("memory_mb", "Memory: about ", memory, measured),
     ])
 }
 
 /// Adds the roads, the rule and the work of a valid sweep.
-pub fn add_sweep(
-    alloc: Global,
-    body: &mut Body<'_>,
-    text: &[u8],
-    sweep: &Sweep,
-) -> Result<(), AllocError> {
+pub fn add_sweep(body: &mut Body<'_>, text: &[u8], sweep: &Sweep) -> Result<()> {
     body.intro = "This is a valid sweep: `trlab sweep` runs it.";
     add_roads(body, sweep)?;
     body.numbers_above = body.numbers.len();
-    add_rules(alloc, &mut body.facts, "The rule:", text, b"rule", 1)?;
+    add_rules(body, "The rule:", text, b"rule", 1)?;
     add_points(body, text, sweep)
 }

@@ -3,155 +3,132 @@
 ghost use Rattle.std.specs.Prelude.{IfOk};
 ghost use Rattle.trlab_explain.specs.Explanations.{BeginsWith, text_front};
 
-use crate::explanation::{Body, Explanation, Known, Number, Problem, Rejection};
-use crate::lines::{push_amount, push_both, push_meaning};
+use crate::causes::cause_meaning;
+use crate::explanation::{Body, Explanation, Known, Number, Problem};
 use crate::repairs::push_repair;
-use std::alloc::{AllocError, Global};
+use std::alloc::Global;
 use trlab_code::CodeFault;
+use trlab_diagnosis::{Result, page_of};
 use trlab_lines::Page;
 use trlab_road::RoadFault;
 use trlab_texts::Cause;
 
-/// The maximum number of decimals of a density.
-pub const DENSITY_DECIMALS: u32 = 4;
-
-/// Adds lines.
-fn push_lines(page: &mut Page, lines: &[Page]) -> Result<(), AllocError> {
+fn push_lines(text: &mut String, lines: &[String]) -> Result<()> {
     for line in lines {
-        page.add(line)?;
-        page.end_line()?;
+        writeln!(text, "{line}")?;
     }
     Ok(())
 }
 
-/// Adds the instruction of a program in bytes, or the cell of a lane, at which a fault is.
-fn push_place(page: &mut Page, cause: Cause) -> Result<(), AllocError> {
-    let (words, place) = match cause {
-        Cause::Code(CodeFault::Opcode(pc) | CodeFault::Field(pc)) => ("Instruction ", pc),
-        Cause::Road(
-            RoadFault::Character { place, .. } | RoadFault::SpeedAboveLimit { place, .. },
-        ) => { ("Cell ", place) }
-        _ => return Ok(()),
-    };
-    page.say(words)?;
-    page.number(u64::from(place))?;
-    page.line(", counted from 0.")
-}
-
-/// Adds the cause of an error, and what was expected.
-fn push_problem(page: &mut Page, problem: &Problem<'_>) -> Result<(), AllocError> {
-    push_meaning(page, "Cause ", problem.cause.number(), problem.meaning)?;
+/// Adds the cause of an error, what was expected, and the instruction of a program in bytes or the cell of a lane.
+fn push_problem(text: &mut String, problem: &Problem<'_>) -> Result<()> {
+    let number = problem.cause.number();
+    let meaning = cause_meaning(problem.cause);
+    writeln!(text, "Cause {number}: {meaning}")?;
     let mut front = "Expected: ";
     for form in &problem.expected {
-        push_both(page, front, form)?;
-        front = problem.between;
+        writeln!(text, "{front}{form}")?;
+        front = match problem.cause {
+            Cause::Program(_) => "",
+            _ => "or ",
+        };
     }
-    push_place(page, problem.cause)
-}
-
-/// Adds a rejected instruction, and the reason.
-fn push_rejection(page: &mut Page, rejection: &Rejection) -> Result<(), AllocError> {
-    page.add(&rejection.instruction)?;
-    page.end_line()?;
-    push_meaning(
-        page,
-        "Reason ",
-        u64::from(rejection.reason),
-        rejection.meaning,
-    )
-}
-
-/// Adds numbers.
-fn push_numbers(page: &mut Page, numbers: &[Number]) -> Result<(), AllocError> {
-    for number in numbers {
-        page.say(number.front)?;
-        push_amount(page, number.amount, DENSITY_DECIMALS)?;
-        page.say(number.after)?;
-        if !number.key.is_empty() {
-            page.end_line()?;
+    match problem.cause {
+        Cause::Code(CodeFault::Opcode(pc) | CodeFault::Field(pc)) => {
+            writeln!(text, "Instruction {pc}, counted from 0.")
         }
+        Cause::Road(
+            RoadFault::Character { place, .. } | RoadFault::SpeedAboveLimit { place, .. },
+        ) => writeln!(text, "Cell {place}, counted from 0."),
+        _ => Ok(()),
+    }
+}
+
+fn push_numbers(text: &mut String, numbers: &[Number]) -> Result<()> {
+    for number in numbers {
+        let end = if number.key.is_empty() { "" } else { "\n" };
+        write!(
+            text,
+            "{}{}{}{end}",
+            number.front, number.amount, number.after
+        )?;
     }
     Ok(())
 }
 
 /// Adds the facts known before each instruction. An empty line comes first, because they do not follow from the
 /// instruction above if this one is the target of a jump.
-fn push_table(page: &mut Page, table: &[Known]) -> Result<(), AllocError> {
+fn push_table(text: &mut String, table: &[Known]) -> Result<()> {
     for known in table {
-        page.end_line()?;
+        writeln!(text)?;
         for fact in &known.facts {
-            page.say("    ")?;
-            page.add(fact)?;
-            page.end_line()?;
+            writeln!(text, "    {fact}")?;
         }
-        page.add(&known.instruction)?;
-        page.end_line()?;
+        writeln!(text, "{}", known.instruction)?;
     }
     Ok(())
 }
 
-/// Adds all known facts.
-fn push_facts(page: &mut Page, body: &Body<'_>) -> Result<(), AllocError> {
+fn push_facts(text: &mut String, body: &Body<'_>) -> Result<()> {
     if !body.known.is_empty() {
-        page.line("Known before it:")?;
-        push_lines(page, &body.known)?;
+        writeln!(text, "Known before it:")?;
+        push_lines(text, &body.known)?;
     }
-    push_lines(page, &body.facts)?;
-    if body.table.is_empty() {
-        return Ok(());
+    push_lines(text, &body.facts)?;
+    if !body.table.is_empty() {
+        writeln!(text, "What the verifier knows before each instruction:")?;
+        push_table(text, &body.table)?;
     }
-    page.line("What the verifier knows before each instruction:")?;
-    push_table(page, &body.table)
+    Ok(())
 }
 
 /// Adds advice, the problem that was found, and a repair or where to look.
-fn push_help(page: &mut Page, body: &Body<'_>) -> Result<(), AllocError> {
+fn push_help(text: &mut String, body: &Body<'_>) -> Result<()> {
     if let Some(rejection) = &body.rejection {
-        push_both(page, "Advice: ", rejection.advice)?;
+        writeln!(text, "Advice: {}", rejection.advice)?;
     }
     if let Some(problem) = &body.problem {
-        if !problem.found.text().is_empty() {
-            page.say("Found: ")?;
-            page.add(&problem.found)?;
-            page.end_line()?;
+        if !problem.found.is_empty() {
+            writeln!(text, "Found: {}", problem.found)?;
         }
         if !problem.check.is_empty() {
-            push_both(page, "Check: ", problem.check)?;
+            writeln!(text, "Check: {}", problem.check)?;
         }
     }
     match &body.repair {
-        Some((place, repair)) => push_repair(page, place, repair),
+        Some((place, repair)) => push_repair(text, place, repair),
         None => Ok(()),
     }
 }
 
-/// An explanation below its head.
-fn body_page(alloc: Global, body: &Body<'_>) -> Result<Page, AllocError> {
-    let mut page = Page::new(alloc);
+/// Adds an explanation below its head.
+fn push_body(text: &mut String, body: &Body<'_>) -> Result<()> {
     if !body.intro.is_empty() {
-        page.line(body.intro)?;
+        writeln!(text, "{}", body.intro)?;
     }
     if let Some(problem) = &body.problem {
-        push_problem(&mut page, problem)?;
+        push_problem(text, problem)?;
     }
     if let Some(rejection) = &body.rejection {
-        push_rejection(&mut page, rejection)?;
+        writeln!(text, "{}", rejection.instruction)?;
+        writeln!(text, "Reason {}: {}", rejection.reason, rejection.meaning)?;
     }
     let numbers = body.numbers.as_slice();
     let (above, below) = numbers.split_at(body.numbers_above.min(numbers.len()));
-    push_numbers(&mut page, above)?;
-    push_facts(&mut page, body)?;
-    push_numbers(&mut page, below)?;
-    push_help(&mut page, body)?;
-    Ok(page)
+    push_numbers(text, above)?;
+    push_facts(text, body)?;
+    push_numbers(text, below)?;
+    push_help(text, body)
 }
 
 /// The text form of an explanation.
-pub fn text_form(alloc: Global, explanation: &Explanation<'_>) -> Result<Page, AllocError>
+pub fn text_form(alloc: Global, explanation: &Explanation<'_>) -> Result<Page>
     ensures { IfOk result (BeginsWith
         (text_front explanation.now.refused explanation.now.answer explanation.now.quote)) }
 {
-    let body = body_page(alloc, &explanation.body)?;
+    let mut text = String::new(alloc);
+    push_body(&mut text, &explanation.body)?;
+    let body = page_of(alloc, &text)?;
     let mut page = Page::new(alloc);
     if explanation.refused {
         page.add(&explanation.answer)?;

@@ -5,13 +5,13 @@ ghost use Rattle.trlab_campaign.specs.Ending.{EndsSo, LeavesWriter};
 ghost use Rattle.trlab_explain.specs.Explanations.{BeginsWith, TellsNumber, topic_front};
 ghost use Rattle.trlab_explain.specs.Numbers.{is_known};
 
-use crate::causes::{cause_numbered, cause_words, reason_of};
+use crate::causes::{cause_check, cause_meaning, cause_numbered, reason_of};
 use crate::explain::{plain_bytes, write_told};
-use crate::lines::push_both;
-use crate::reasons::reason_words;
-use std::alloc::{AllocError, AllocGlobal, Global};
+use crate::reasons::{advice, reason_meaning};
+use std::alloc::{AllocGlobal, Global};
 use trlab_campaign::{End, Sink};
 use trlab_code::Kind;
+use trlab_diagnosis::{Result, page_of};
 use trlab_lines::Page;
 use trlab_notes::Reason;
 use trlab_texts::Cause;
@@ -25,66 +25,68 @@ pub enum Topic {
     Reason,
 }
 
-/// Adds the advice for a reason.
-fn push_advice(page: &mut Page, reason: Reason) -> Result<(), AllocError> {
-    let motion = reason_words(reason, Kind::Motion).advice;
-    let change = reason_words(reason, Kind::Change).advice;
+fn push_advice(text: &mut String, reason: Reason) -> Result<()> {
+    let motion = advice(reason, Kind::Motion);
+    let change = advice(reason, Kind::Change);
     if motion == change {
-        return push_both(page, "Advice: ", motion);
+        return writeln!(text, "Advice: {motion}");
     }
-    push_both(page, "Advice for a motion program: ", motion)?;
-    push_both(page, "Advice for a change program: ", change)
+    writeln!(text, "Advice for a motion program: {motion}")?;
+    writeln!(text, "Advice for a change program: {change}")
 }
 
-/// Adds the words for a cause.
-fn push_cause(page: &mut Page, cause: Cause) -> Result<(), AllocError> {
-    let words = cause_words(cause);
-    page.line(words.meaning)?;
+fn push_cause(text: &mut String, cause: Cause) -> Result<()> {
+    writeln!(text, "{}", cause_meaning(cause))?;
     if let Some(reason) = reason_of(cause) {
-        let meaning = reason_words(reason, Kind::Motion).meaning;
-        push_both(page, "The reason: ", meaning)?;
-        push_advice(page, reason)?;
+        writeln!(text, "The reason: {}", reason_meaning(reason))?;
+        push_advice(text, reason)?;
     }
-    if !words.check.is_empty() {
-        push_both(page, "Check: ", words.check)?;
+    let check = cause_check(cause);
+    if !check.is_empty() {
+        writeln!(text, "Check: {check}")?;
     }
-    page.line("To find it in your file: `trlab explain < FILE`. All causes: docs/ERRORS.md.")
+    writeln!(
+        text,
+        "To find it in your file: `trlab explain < FILE`. All causes: docs/ERRORS.md."
+    )
 }
 
-/// Adds the words for a reason.
-fn push_reason(page: &mut Page, reason: Reason) -> Result<(), AllocError> {
-    page.line(reason_words(reason, Kind::Motion).meaning)?;
-    push_advice(page, reason)?;
-    page.line("To find it in your file: `trlab explain < FILE`. All reasons: docs/ERRORS.md.")
+fn push_reason(text: &mut String, reason: Reason) -> Result<()> {
+    writeln!(text, "{}", reason_meaning(reason))?;
+    push_advice(text, reason)?;
+    writeln!(
+        text,
+        "To find it in your file: `trlab explain < FILE`. All reasons: docs/ERRORS.md."
+    )
 }
 
 /// Adds that there is no such number, and returns true.
-fn push_none(page: &mut Page) -> Result<bool, AllocError>
+fn push_none(text: &mut String) -> Result<bool>
     ensures { IfOk result (λ is_none. is_none ≡ true) }
 {
-    page.line("no such number.")?;
+    writeln!(text, "no such number.")?;
     Ok(true)
 }
 
 /// Adds the words for a number, and returns whether there is no such number.
-fn push_number(page: &mut Page, topic: Topic, number: u32) -> Result<bool, AllocError>
+fn push_number(text: &mut String, topic: Topic, number: u32) -> Result<bool>
     ensures { IfOk result (λ is_none. is_none ≡ not (is_known topic number)) }
 {
     match topic {
         Topic::Cause => match cause_numbered(number) {
-            Some(cause) => push_cause(page, cause)?,
-            None => return push_none(page),
+            Some(cause) => push_cause(text, cause)?,
+            None => return push_none(text),
         },
         Topic::Reason => match Reason::from_number(number) {
-            Some(reason) => push_reason(page, reason)?,
-            None => return push_none(page),
+            Some(reason) => push_reason(text, reason)?,
+            None => return push_none(text),
         },
     }
     Ok(false)
 }
 
 /// Adds the number itself.
-fn push_topic(page: &mut Page, topic: Topic, number: u32) -> Result<(), AllocError>
+fn push_topic(page: &mut Page, topic: Topic, number: u32) -> Result<()>
     ensures { OnOk result (page.new ≡ page.old ++ topic_front topic number) }
 {
     match topic {
@@ -96,11 +98,12 @@ fn push_topic(page: &mut Page, topic: Topic, number: u32) -> Result<(), AllocErr
 }
 
 /// Whether there is no such number, and the page on it.
-fn number_page(alloc: Global, topic: Topic, number: u32) -> Result<(bool, Vec<u8>), AllocError>
+fn number_page(alloc: Global, topic: Topic, number: u32) -> Result<(bool, Vec<u8>)>
     ensures { IfOk result (λ told. TellsNumber topic number told.0 told.1.items) }
 {
-    let mut body = Page::new(alloc);
-    let is_none = push_number(&mut body, topic, number)?;
+    let mut text = String::new(alloc);
+    let is_none = push_number(&mut text, topic, number)?;
+    let body = page_of(alloc, &text)?;
     let mut page = Page::new(alloc);
     push_topic(&mut page, topic, number)?;
     page.add(&body)?;

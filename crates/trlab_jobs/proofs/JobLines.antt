@@ -6,7 +6,7 @@ use Rattle.trlab_rules.specs.Rules.{Programs}
 use Rattle.trlab_step.specs.Run.{Sheet}
 use Rattle.trlab_texts.specs.declared.fault.TextFault.{TextFault}
 use Rattle.trlab_texts.specs.declared.fault.TextFault.TheVariants.{At, Memory}
-use Rattle.trlab_texts.specs.Lines.{Rest, start}
+use Rattle.trlab_texts.specs.Lines.{Rest, all_lines}
 use Rattle.trlab_texts.specs.Reading.{Reading, ◌>>=◌, ◌>>◌, say, line, exactly, Reports}
 use Rattle.trlab_jobs.specs.Lanes.{lanes}
 use Rattle.trlab_jobs.specs.RuleParts.{rule}
@@ -63,11 +63,11 @@ pub behind_all : (key : List ℕ) (road : Cells) (first : Programs) (steps : ℕ
 behind_all key road first steps later at after says = (Ok (later, after), (says, refl))
 
 -- what the lines of a text say, from the place before the first of them on
-pub lines_say : (text : List ℕ) (begin after : Rest) (x : Job) → begin ≡ start text → whole begin (Ok (x, after)) → LinesSay text (Ok x)
+pub lines_say : (text : List ℕ) (begin after : Rest) (x : Job) → begin ≡ all_lines text → whole begin (Ok (x, after)) → LinesSay text (Ok x)
 unfolding job
 lines_say text begin after x e says = (after, subst (λ (p : Rest). whole p (Ok (x, after))) e says)
 
-pub lines_fail : (text : List ℕ) (begin : Rest) (fault : TextFault) → begin ≡ start text
+pub lines_fail : (text : List ℕ) (begin : Rest) (fault : TextFault) → begin ≡ all_lines text
     → Reports {A = Job × Rest} (whole begin) (Err fault) → Reports {A = Job} (LinesSay text) (Err fault)
 unfolding job
 lines_fail text begin (At line cause) e says = subst (λ (p : Rest). whole p (Err (record { line = line; cause = cause }))) e says
@@ -79,7 +79,7 @@ ends_in_fault reading place (At line cause) says = says
 ends_in_fault reading place Memory says = tt
 
 -- what the lines of a text say, where those from a place on were read up to the end
-pub lines_end : (text : List ℕ) (begin place : Rest) (reading : Reading Job) (says : Result Job TextFault) → begin ≡ start text → Reports (UpToTheEnd reading place) says
+pub lines_end : (text : List ℕ) (begin place : Rest) (reading : Reading Job) (says : Result Job TextFault) → begin ≡ all_lines text → Reports (UpToTheEnd reading place) says
     → ((out : Result (Job × Rest) TextFault) → Reports (reading place) out → Reports (whole begin) out) → Reports (LinesSay text) says
 lines_end text begin place reading (Ok x) e (after, told) behind = lines_say text begin after x e (behind (Ok (x, after)) told)
 lines_end text begin place reading (Err (At line cause)) e told behind = lines_fail text begin (At line cause) e (behind (Err (At line cause)) told)

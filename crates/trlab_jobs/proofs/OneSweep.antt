@@ -6,7 +6,7 @@ use Rattle.trlab_bounds.specs.declared.runs.TheConstants.{MAX_STEPS}
 use Rattle.trlab_asm.specs.Results.{map_ok}
 use Rattle.trlab_road.specs.Legal.{LanesFit, LengthFits, LimitFits}
 use Rattle.trlab_step.specs.Laws.{IsRuleFor}
-use Rattle.trlab_texts.specs.Lines.{Rest, start}
+use Rattle.trlab_texts.specs.Lines.{Rest, all_lines}
 use Rattle.trlab_texts.specs.Reading.{Fault, line, exactly}
 use Rattle.trlab_texts.proofs.Fine.{Anything, FineText, numbered}
 use Rattle.trlab_texts.proofs.OneAnswer.{OneText, OneReading, agree, said, fails, values, made, exact_line, then_one, said_one, text_one}
@@ -108,7 +108,7 @@ said_stored common cars at after says counted =
     (subst (λ (r : Result (List ℕ) Fault). FineText (AllHaveRoom (cell_count common.shape) (all_steps common.span)) r) (sym counted) all)
 
 sweep_text : (text : List ℕ) → OneText IsStoredSweep (SweepText text)
-sweep_text text = text_one SweepLinesSay text (made with_counts (setup_one (start text)).one with_counts_fine)
+sweep_text text = text_one SweepLinesSay text (made with_counts (setup_one (all_lines text)).one with_counts_fine)
 
 -- it says something, and what it says can be run
 pub says_stored : (text : List ℕ) → (says : Result Sweep Fault) × (SweepText text says × IfOk says IsStoredSweep)

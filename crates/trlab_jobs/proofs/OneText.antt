@@ -5,7 +5,7 @@ use Rattle.trlab_bounds.specs.declared.roads.TheConstants.{MAX_LIMIT}
 use Rattle.trlab_bounds.specs.declared.runs.TheConstants.{MAX_STEPS}
 use Rattle.trlab_road.specs.Cells.{Cells}
 use Rattle.trlab_road.specs.Legal.{IsLegal}
-use Rattle.trlab_texts.specs.Lines.{Rest, start}
+use Rattle.trlab_texts.specs.Lines.{Rest, all_lines}
 use Rattle.trlab_texts.specs.Reading.{Fault, Reading, line, exactly}
 use Rattle.trlab_texts.proofs.Fine.{Anything, FineText, InRange, numbered}
 use Rattle.trlab_texts.proofs.OneAnswer.{OnePart, OneText, OneReading, agree, said, fails, exact_line, then_one, said_one, text_one}
@@ -74,7 +74,7 @@ to_the_end {A} {P} reading place part =
     }
 
 pub job_text : (text : List ℕ) → OneText IsStoredJob (JobText text)
-job_text text = text_one LinesSay text (to_the_end job (start text) (job_one (start text)))
+job_text text = text_one LinesSay text (to_the_end job (all_lines text) (job_one (all_lines text)))
 
 -- it says something, and what it says can be run
 pub says_plain : (text : List ℕ) → (says : Result Job Fault) × (JobText text says × IfOk says IsStoredJob)

@@ -4,14 +4,14 @@ use Rattle.std.specs.Prelude.{Ok, Err}
 use Rattle.trlab_asm.specs.Results.{map_ok}
 use Rattle.trlab_texts.specs.declared.fault.TextFault.{TextFault}
 use Rattle.trlab_texts.specs.declared.fault.TextFault.TheVariants.{At, Memory}
-use Rattle.trlab_texts.specs.Lines.{Rest, start}
+use Rattle.trlab_texts.specs.Lines.{Rest, all_lines}
 use Rattle.trlab_texts.specs.Reading.{Reports}
 use Rattle.trlab_jobs.specs.Shapes.{cell_count, all_steps}
 use Rattle.trlab_jobs.specs.Counts.{counts}
 use Rattle.trlab_jobs.specs.Sweep.{Setup, Sweep, setup, SweepLinesSay}
 
 -- the first fault of the points is that of the text
-pub counts_fail : (common : Setup) (text : List ℕ) (at after : Rest) (fault : TextFault) → at ≡ start text → setup at (Ok (common, after))
+pub counts_fail : (common : Setup) (text : List ℕ) (at after : Rest) (fault : TextFault) → at ≡ all_lines text → setup at (Ok (common, after))
     → Reports {A = List ℕ} (λ says. says ≡ counts (cell_count common.shape) (all_steps common.span) after.number after.left) (Err fault)
     → Reports {A = Sweep} (SweepLinesSay text) (Err fault)
 counts_fail common text at after (At line cause) begins says told =
@@ -19,7 +19,7 @@ counts_fail common text at after (At line cause) begins says told =
 counts_fail common text at after Memory begins says told = tt
 
 -- the counts of the points make a sweep of what they have in common
-pub counts_said : (common : Setup) (cars : List ℕ) (text : List ℕ) (at after : Rest) → at ≡ start text → setup at (Ok (common, after))
+pub counts_said : (common : Setup) (cars : List ℕ) (text : List ℕ) (at after : Rest) → at ≡ all_lines text → setup at (Ok (common, after))
     → Ok cars ≡ counts (cell_count common.shape) (all_steps common.span) after.number after.left
     → SweepLinesSay text (Ok (record { setup = common; cars = cars }))
 counts_said common cars text at after begins says counted =

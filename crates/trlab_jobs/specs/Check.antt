@@ -19,7 +19,7 @@ abbrev pub question_after : List ℕ → Option (List ℕ) → Question × List 
 question_after text None = (Verdict, text)
 question_after text (Some rest) = (Notes, rest)
 
--- what the first line of a check text asks, and that line without it
+-- the question on the first line of a check text, and the line without the prefix
 abbrev pub question_of : List ℕ → Question × List ℕ
 question_of text = question_after text (without_prefix (codes "notes ") text)
 
@@ -30,12 +30,12 @@ heading_kind text =
     else if bytes_eq text (heading_line Change) then Some Change
     else None
 
--- a program on the first line of a text, which must be the last
+-- a program on the first line of a text, if no line follows
 abbrev pub no_more_after : List (List ℕ) → Program → Result Program Fault
 no_more_after [] program = Ok program
 no_more_after (text ∷ left) program = Err (record { line = 2; cause = Line })
 
--- what is said of a program on the first line of a text; its own faults come first
+-- the result for a program on the first line of a text; its own faults come first
 abbrev pub lone_program : List (List ℕ) → Result Program Cause → Result Program Fault
 lone_program left (Err cause) = Err (record { line = 1; cause = cause })
 lone_program left (Ok program) = no_more_after left program
@@ -50,7 +50,7 @@ abbrev pub HeadedLinesSay : Option Kind → List ℕ → List (List ℕ) → Res
 HeadedLinesSay (Some kind) text left says = says ≡ program_after kind 1 left
 HeadedLinesSay None text left says = LoneCodeSays text left says
 
--- what a line that begins a program and the lines after it say
+-- the result for a program, from its first line and the lines after it
 abbrev pub ProgramSays : List ℕ → List (List ℕ) → Result Program Fault → Type 0
 ProgramSays text left says = HeadedLinesSay (heading_kind text) text left says
 
@@ -59,22 +59,22 @@ pub record Check : Type 0 where
   pub question : Question
   pub program : Program
 
--- the same, from its parts
+-- a check from its parts
 abbrev pub check_of : Question → Program → Check
 check_of question program = record { question = question; program = program }
 
--- what a check text says, by its question and the line that begins its program
+-- the result for a check text, from its question and the line that begins its program
 abbrev pub QuestionSays : Question × List ℕ → List (List ℕ) → Result Check Fault → Type 0
 QuestionSays first left says =
     (program : Result Program Fault)
     × (ProgramSays first.1 left program × (says ≡ map_ok (check_of first.0) program))
 
--- what the lines of a check text say
+-- the result for the lines of a check text
 abbrev pub CheckLinesSay : List (List ℕ) → Result Check Fault → Type 0
 CheckLinesSay [] says = says ≡ Err (record { line = 1; cause = Line })
 CheckLinesSay (text ∷ left) says = QuestionSays (question_of text) left says
 
--- what a check text says: a question about a program, or its first fault; the only fault of a text that is
--- too long is its length
+-- the result for a check text: a question about a program, or its first fault; a text that is too long has
+-- no other fault
 abbrev pub CheckText : List ℕ → Result Check Fault → Type 0
 CheckText text says = TextSays (λ lines. CheckLinesSay (lines_of lines)) text says

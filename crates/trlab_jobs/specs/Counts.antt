@@ -17,7 +17,7 @@ admit_cars cells steps point count =
     else if nat_lt MAX_WORK (point * steps) then Err Work
     else Ok count
 
--- the line `cars n` of that point
+-- the line `cars n` of a point
 abbrev pub cars_line : ℕ → ℕ → ℕ → List ℕ → Result ℕ Cause
 cars_line cells steps point text =
     number_within 0 MAX_CARS (word_after (codes "cars ") text) >>= admit_cars cells steps point
@@ -30,7 +30,7 @@ counts_from cells steps point number (text ∷ left) =
     counts_from cells steps (point + 1) (number + 1) left >>= λ counts.
     Ok (count ∷ counts)
 
--- the numbers of cars of all points, on all lines that are left, of which there must be one at least
+-- the numbers of cars of all points, on all lines that are left; there must be at least one line
 abbrev pub counts : ℕ → ℕ → ℕ → List (List ℕ) → Result (List ℕ) Fault
 counts cells steps number [] = Err (record { line = number; cause = Line })
 counts cells steps number (text ∷ left) = counts_from cells steps 1 number (text ∷ left)

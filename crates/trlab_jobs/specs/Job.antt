@@ -10,14 +10,14 @@ use Rattle.trlab_step.specs.Run.{Seed, Sheet, sheet_with}
 use Rattle.trlab_texts.specs.declared.fault.Cause.{Cause}
 use Rattle.trlab_texts.specs.declared.fault.Cause.TheVariants.{Line, Key}
 use Rattle.trlab_bounds.specs.declared.runs.TheConstants.{MAX_STEPS}
-use Rattle.trlab_texts.specs.Lines.{start, Rest}
+use Rattle.trlab_texts.specs.Lines.{all_lines, Rest}
 use Rattle.trlab_texts.specs.Words.{word_after, number_within}
 use Rattle.trlab_texts.specs.Reading.{Fault, Reading, say, ◌>>=◌, ◌>>◌, line, exactly, TextSays}
 use Rattle.trlab_jobs.specs.Lanes.{lanes}
 use Rattle.trlab_jobs.specs.RuleParts.{rule}
 use Rattle.trlab_jobs.specs.Later.{later_rules}
 
--- what a job text says
+-- the job of a job text
 pub record Job : Type 0 where
   pub key : List ℕ
   pub road : Cells
@@ -68,16 +68,16 @@ job = do
   road ← lanes limit
   job_after key road
 
--- what the lines from a place on say; the last ones may stay unread
+-- the result for the lines from a place on; the last lines may stay unread
 abbrev pub UpToTheEnd : {A : Type 0} → Reading A → Rest → Result A Fault → Type 0
 UpToTheEnd reading place (Ok say) = (rest : Rest) × reading place (Ok (say, rest))
 UpToTheEnd reading place (Err fault) = reading place (Err fault)
 
--- what the lines of a text say
+-- the result for the lines of a job text
 abbrev pub LinesSay : List ℕ → Result Job Fault → Type 0
-LinesSay text = UpToTheEnd job (start text)
+LinesSay text = UpToTheEnd job (all_lines text)
 
--- what a text says: a job, or its first fault; the only fault of a text that is too long is its length
+-- the result for a job text: a job, or its first fault; a text that is too long has no other fault
 abbrev pub JobText : List ℕ → Result Job Fault → Type 0
 JobText text says = TextSays LinesSay text says
 

@@ -27,7 +27,7 @@ last_line first (Some second) = first + 1
 abbrev pub line_of_lane : ℕ → ℕ → ℕ → ℕ
 line_of_lane first last lane = if lane == 0 then first else last
 
--- the line of a fault: that of its lane, or the last one if it is not about one lane
+-- the line of a fault: its lane's line, or the last line if it is not about one lane
 abbrev pub line_of_fault : ℕ → ℕ → RoadFault → ℕ
 line_of_fault first last Lanes = last
 line_of_fault first last Length = last
@@ -37,20 +37,20 @@ line_of_fault first last (SpeedAboveLimit lane place) = line_of_lane first last 
 line_of_fault first last Memory = last
 line_of_fault first last TooManyCars = last
 
--- what the pictures of lanes say under a limit, from the line `first` to the line `last`: the legal
--- road that they show, or their first fault
+-- the result for the pictures of lanes under a limit, on the lines from `first` to `last`: the legal road
+-- that they show, or their first fault
 abbrev pub LanesSay : ℕ → ℕ → ℕ → List (List ℕ) → Result Cells Fault → Type 0
 LanesSay first last limit pictures (Ok road) = IsLegal road × Shows limit pictures road
 LanesSay first last limit pictures (Err fault) =
     (wrong : RoadFault) × (IsFirstFault limit pictures wrong × ((wrong ≢ Memory)
     × (fault ≡ record { line = line_of_fault first last wrong; cause = Road wrong })))
 
--- what one or two pictures say, of which the first is on the line `first`
+-- the result for one or two pictures, from the line `first` on
 abbrev pub PicturesSay : ℕ → ℕ → List ℕ → Option (List ℕ) → Result Cells Fault → Type 0
 PicturesSay first limit picture second says =
     LanesSay first (last_line first second) limit (picture ∷ option_to_list second) says
 
--- the road, once its pictures were read
+-- the road, from its pictures
 abbrev pub road_of : ℕ → ℕ → List ℕ → Option (List ℕ) → Reading Cells
 road_of first limit picture second rest out =
     (says : Result Cells Fault) × (PicturesSay first limit picture second says × (out ≡ before rest says))

@@ -13,12 +13,12 @@ later_rule room lanes steps least rest out =
     (line (exactly (later_line room steps least)) >>= λ at.
     rule_from lanes rest.number at.1 >>= λ rule. say (at.0, rule)) rest out
 
--- a reading of all lines that are left, if there are any
+-- reads the rules on the lines that are left; without lines there are no rules
 abbrev pub to_the_end : List (List ℕ) → Reading Sheet → Reading Sheet
 to_the_end [] reading = say []
 to_the_end (text ∷ left) reading = reading
 
--- the later rules up to the end of a text, at most `room`; each step is above the one before, and the first
+-- the later rules up to the end of a text, at most `room`; each step is above the step before, and the first
 -- is at least `least`
 unfoldable pub later_from : ℕ → ℕ → ℕ → ℕ → Reading Sheet
 later_from zero lanes steps least = λ rest out.

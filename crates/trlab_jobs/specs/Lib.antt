@@ -10,6 +10,6 @@ pub mod Check
 pub mod Counts
 pub mod Shapes
 pub mod Sweep
--- of all of them
+-- all texts
 pub mod Stored
 pub mod Laws

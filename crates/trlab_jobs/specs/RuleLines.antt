@@ -15,22 +15,22 @@ use Rattle.trlab_asm.specs.Results.{◌>>=◌}
 abbrev pub own_words : List ℕ → Option (RuleLine (List ℕ))
 own_words text = if bytes_eq text (codes "rule own") then Some Own else None
 
--- the words of `rule rickert t c`, if its name comes first, or else the others
+-- the words of `rule rickert t c`, if the line begins with its name, and otherwise `others`
 abbrev pub rickert_words : Option (List ℕ) → Option (RuleLine (List ℕ)) → Option (RuleLine (List ℕ))
 rickert_words None others = others
 rickert_words (Some words) others = option_map (λ two. Rickert two.0 two.1) (two_words words)
 
--- the words of `rule vdr t t0`, if its name comes first, or else the others
+-- the words of `rule vdr t t0`, if the line begins with its name, and otherwise `others`
 abbrev pub vdr_words : Option (List ℕ) → Option (RuleLine (List ℕ)) → Option (RuleLine (List ℕ))
 vdr_words None others = others
 vdr_words (Some words) others = option_map (λ two. Vdr two.0 two.1) (two_words words)
 
--- the words of `rule nasch t`, if its name comes first, or else the others
+-- the words of `rule nasch t`, if the line begins with its name, and otherwise `others`
 abbrev pub nasch_words : Option (List ℕ) → Option (RuleLine (List ℕ)) → Option (RuleLine (List ℕ))
 nasch_words None others = others
 nasch_words (Some words) others = option_map Nasch (as_word words)
 
--- the words of a rule line, if it is one of the four
+-- the words of a line that states one of the four rules
 abbrev pub rule_words : List ℕ → Option (RuleLine (List ℕ))
 rule_words text =
     nasch_words (without_prefix (codes "rule nasch ") text)

@@ -24,51 +24,51 @@ abbrev pub Accepts : Kind → Program → CheckedProgram → Type 0
 Accepts kind program checked =
     (checked.program ≡ program) × (IsAccepted kind program × IsChecked kind checked)
 
--- what a rule line with this standard motion program says: always the rule, because the verifier accepts the
--- program
+-- the result for a rule line with this standard motion program: always the rule, because the verifier accepts
+-- the program
 abbrev pub MotionSays : Program → Result Programs Cause → Type 0
 MotionSays motion (Ok rule) = Accepts Motion motion rule.motion × (rule.change ≡ None)
 MotionSays motion (Err cause) = ⊥
 
--- the same for a motion and a change program, both of which the verifier accepts
+-- the result for a rule line with these standard programs: always the rule, because the verifier accepts both
 abbrev pub BothSay : Program → Program → Result Programs Cause → Type 0
 BothSay motion change (Ok rule) =
     Accepts Motion motion rule.motion × MatchOption rule.change ⊥ (Accepts Change change)
 BothSay motion change (Err cause) = ⊥
 
--- the same on a road with one lane, where it is a fault, or with two
+-- the result for these programs on a road with one lane, which is a fault, and with two lanes
 abbrev pub ExchangeSays : Bool → Program → Program → Result Programs Cause → Type 0
 ExchangeSays true motion change says = says ≡ Err OneLane
 ExchangeSays false motion change says = BothSay motion change says
 
--- what is wrong with the digits of a change program on a road of one lane
+-- the cause for the digits of a change program on a road with one lane
 abbrev pub digits_misplacement : Result (List ℕ) FromHexError → Cause
 digits_misplacement (Ok bytes) = OneLane
 digits_misplacement (Err fault) = Hex
 
--- what is wrong with the line `code X` of one
+-- the cause for the line `code X` of a change program on a road with one lane
 abbrev pub code_misplacement : Result (List ℕ) Cause → Cause
 code_misplacement (Ok digits) = digits_misplacement (decode_of digits)
 code_misplacement (Err cause) = cause
 
--- what is wrong with a block of one that begins on the line `first`
+-- the fault of a change program's block on a road with one lane, if it begins on the line `first`
 abbrev pub block_misplacement : ℕ → List (List ℕ) → Option Part → Fault
 block_misplacement first left None = record { line = first + 1 + length left; cause = Line }
 block_misplacement first left (Some parts) = record { line = first; cause = OneLane }
 
--- the same, if it is a block, and if it is not
+-- the fault of a change program on a road with one lane, if it is a block, and if it is not
 abbrev pub part_misplacement : Bool → ℕ → List ℕ → List (List ℕ) → Fault
 part_misplacement true first text left = block_misplacement first left (part_of left)
 part_misplacement false first text left =
     record { line = first; cause = code_misplacement (word_after (codes "code ") text) }
 
--- what is wrong with a change part on a road of one lane, from a line on: its words or the lack of
--- its `end`, else that its digits are not hexadecimal, and else the one lane
+-- the fault of a change part on a road with one lane, from a line on: its words or a missing line `end`, then
+-- digits that are not hexadecimal, then the one lane
 abbrev pub misplacement : ℕ → List (List ℕ) → Fault
 misplacement first [] = record { line = first; cause = Line }
 misplacement first (text ∷ left) = part_misplacement (bytes_eq text (heading_line Change)) first text left
 
--- a change part, which is a fault on a road of one lane
+-- a change part, which is a fault on a road with one lane
 abbrev pub change_by : Bool → Reading CheckedProgram
 change_by true rest out = out ≡ Err (misplacement rest.number rest.left)
 change_by false rest out = part Change rest out
@@ -77,7 +77,7 @@ change_by false rest out = part Change rest out
 abbrev pub next_is_change : List (List ℕ) → Bool
 next_is_change left = next_word_is (codes "change") left || next_word_is (codes "code") left
 
--- a change part, if there is one, on a road with `lanes` lanes
+-- a change part, if it begins on the next line, on a road with `lanes` lanes
 abbrev pub change_part : ℕ → Reading (Option CheckedProgram)
 change_part lanes rest out = perhaps (next_is_change rest.left) (change_by (nat_eq lanes 1)) rest out
 

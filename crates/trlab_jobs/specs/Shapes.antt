@@ -1,4 +1,4 @@
--- What the points of a sweep have in common: the shape of their roads, and how long each takes.
+-- The common part of a sweep's points: the shape of their roads, and the steps of each point.
 use Rattle.std.specs.Prelude.{ℕ, ◌+◌, ◌*◌, List, codes, Result}
 use Rattle.trlab_bounds.specs.declared.roads.TheConstants.{MAX_LENGTH, MAX_LANES}
 use Rattle.trlab_bounds.specs.declared.runs.TheConstants.{MAX_STEPS}

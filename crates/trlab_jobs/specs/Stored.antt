@@ -1,4 +1,4 @@
--- What the code guarantees of a job and of a sweep.
+-- The guarantees of the code about jobs and sweeps.
 use Rattle.std.specs.Prelude.{ℕ, ◌+◌, ◌<◌, ◌≤◌, [], ◌∷◌, All, length}
 use Rattle.trlab_road.specs.Legal.{IsLegal}
 use Rattle.trlab_step.specs.Laws.{IsRuleFor}

@@ -1,10 +1,10 @@
--- Sweep texts: what the points of a sweep have in common, and the number of cars of each.
+-- Sweep texts: the common part of a sweep's points, and the number of cars of each point.
 use Rattle.std.specs.Prelude.{◌≡◌, ℕ, List, codes, Result, Ok, Err, if◌then◌else◌}
 use Rattle.std.specs.Str.{bytes_eq}
 use Rattle.trlab_rules.specs.Rules.{Programs}
 use Rattle.trlab_texts.specs.declared.fault.Cause.{Cause}
 use Rattle.trlab_texts.specs.declared.fault.Cause.TheVariants.{Line}
-use Rattle.trlab_texts.specs.Lines.{start, Rest}
+use Rattle.trlab_texts.specs.Lines.{all_lines, Rest}
 use Rattle.trlab_texts.specs.Reading.{Fault, Reading, say, ◌>>=◌, ◌>>◌, line, exactly, TextSays}
 use Rattle.trlab_asm.specs.Results.{map_ok}
 use Rattle.trlab_jobs.specs.declared.sweep.Shape.{Shape}
@@ -14,14 +14,14 @@ use Rattle.trlab_jobs.specs.RuleParts.{rule}
 use Rattle.trlab_jobs.specs.Shapes.{shape, span, cell_count, all_steps}
 use Rattle.trlab_jobs.specs.Counts.{counts}
 
--- what the points of a sweep have in common
+-- the common part of a sweep's points
 pub record Setup : Type 0 where
   pub key : List ℕ
   pub shape : Shape
   pub rule : Programs
   pub span : Span
 
--- what a sweep text says: what its points have in common, and the number of cars of each
+-- the sweep of a sweep text: the common part of its points, and the number of cars of each point
 pub record Sweep : Type 0 where
   pub setup : Setup
   pub cars : List ℕ
@@ -50,18 +50,18 @@ setup = do
   steps ← span
   say (record { key = key; shape = roads; rule = rule; span = steps })
 
--- the sweep, from what its points have in common and from the lines that are left
+-- the sweep, from the common part of its points and from the lines that are left
 abbrev pub with_counts : Result (Setup × Rest) Fault → Result Sweep Fault
 with_counts (Err fault) = Err fault
 with_counts (Ok found) =
     map_ok (λ cars. record { setup = found.0; cars = cars })
     (counts (cell_count found.0.shape) (all_steps found.0.span) found.1.number found.1.left)
 
--- what the lines of a text say
+-- the result for the lines of a sweep text
 abbrev pub SweepLinesSay : List ℕ → Result Sweep Fault → Type 0
 SweepLinesSay text says =
-    (found : Result (Setup × Rest) Fault) × (setup (start text) found × (says ≡ with_counts found))
+    (found : Result (Setup × Rest) Fault) × (setup (all_lines text) found × (says ≡ with_counts found))
 
--- what a text says: a sweep, or its first fault; the only fault of a text that is too long is its length
+-- the result for a sweep text: a sweep, or its first fault; a text that is too long has no other fault
 abbrev pub SweepText : List ℕ → Result Sweep Fault → Type 0
 SweepText text says = TextSays SweepLinesSay text says

@@ -20,7 +20,7 @@ use trlab_texts::{Cause, LineName, LineNames, Refusal, TextFault};
 pub enum Question {
     /// Whether the verifier accepts it.
     Verdict,
-    /// The verdict, and the notes of the verifier: what it knows before each instruction.
+    /// The verdict, and the notes of the verifier: its knowledge before each instruction.
     Notes,
 }
 
@@ -113,7 +113,7 @@ fn read_lines(alloc: Global, text: &[u8]) -> Result<Check, Refusal<'_>>
     }
 }
 
-/// Reads a check text. A refusal says what was wanted.
+/// Reads a check text. A refusal has the wanted input.
 ///
 /// # Errors
 ///

@@ -128,7 +128,7 @@ fn read_lines(alloc: Global, text: &[u8]) -> Result<Job, Refusal<'_>>
     read_rules(alloc, key, road, rest)
 }
 
-/// Reads a job text. A refusal says what was wanted.
+/// Reads a job text. A refusal has the wanted input.
 ///
 /// # Errors
 ///

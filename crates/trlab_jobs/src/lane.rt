@@ -56,7 +56,7 @@ fn line_of_fault(first: u32, last: u32, fault: RoadFault) -> u32
     }
 }
 
-/// What is wanted instead of lanes with this fault; the first lane has `first` cells.
+/// The input that is wanted instead of lanes with this fault; the first lane has `first` cells.
 fn wanted_by(limit: u32, cells: usize, fault: RoadFault) -> Wanted
     ensures { IsWantedIn [] (Cause.Road fault) result }
 {
@@ -94,7 +94,7 @@ fn lanes_refusal<'a>(
     Refusal::new(told, b"", wanted_by(limit, cells, fault))
 }
 
-/// The road that pictures on the lines from `first` to `last` show; the first one has `cells` cells.
+/// The road that pictures on the lines from `first` to `last` show; the first picture has `cells` cells.
 fn shown<'a>(
     alloc: Global,
     first: u32,

@@ -7,19 +7,19 @@ ghost use Rattle.trlab_jobs.specs.Job.{JobText};
 ghost use Rattle.trlab_jobs.specs.Laws.{LongTextsSayTheSame, NeverRefusesStandardRules, SaysOneThing, SaysSomething};
 ghost use Rattle.trlab_jobs.specs.Sweep.{SweepText};
 
-/// Any job text says exactly one thing: a job, or its first fault.
+/// Any job text has exactly one result: a job, or its first fault.
 pub fn text_says_one_thing()
     ensures something { SaysSomething JobText }
     ensures one_thing { SaysOneThing JobText }
 {}
 
-/// Any check text says exactly one thing: a program and a question, or its first fault.
+/// Any check text has exactly one result: a program and a question, or its first fault.
 pub fn check_says_one_thing()
     ensures something { SaysSomething CheckText }
     ensures one_thing { SaysOneThing CheckText }
 {}
 
-/// Any sweep text says exactly one thing: a sweep, or its first fault.
+/// Any sweep text has exactly one result: a sweep, or its first fault.
 pub fn sweep_says_one_thing()
     ensures something { SaysSomething SweepText }
     ensures one_thing { SaysOneThing SweepText }
@@ -32,8 +32,8 @@ pub fn standard_rules_are_never_refused()
     ensures check { NeverRefusesStandardRules CheckText }
 {}
 
-/// All texts longer than `TEXT_LIMIT` say the same: their only fault is their length. So the first `TEXT_LIMIT
-/// + 1` bytes of a longer text say what the whole text says.
+/// All texts longer than `TEXT_LIMIT` have the same result: their only fault is their length. So the first
+/// `TEXT_LIMIT + 1` bytes of a longer text have the result of the whole text.
 pub fn long_texts_say_the_same()
     ensures job { LongTextsSayTheSame JobText }
     ensures sweep { LongTextsSayTheSame SweepText }

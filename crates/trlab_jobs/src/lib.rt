@@ -1,4 +1,9 @@
 //! Reads job texts, sweep texts and check texts.
+//!
+//! ```text
+//! let job = read_job(alloc, text).ok()?;
+//! let (steps, cars) = (job.steps, job.road.cars()); // 20, and 2 cars
+//! ```
 #![tactic(auto)]
 
 mod check;

@@ -139,7 +139,7 @@ fn next_is_change(rest: &Rest<'_>) -> bool
     rest.next_word_is(b"change") || rest.next_word_is(b"code")
 }
 
-/// Reads a change program, if there is one.
+/// Reads a change program, if it begins on the next line.
 fn change_part(
     alloc: Global,
     lanes: Lanes,

@@ -19,7 +19,7 @@ pub enum RuleLine<T> {
     Own,
 }
 
-/// The words of a line `rule ..`, if they are those of a rule.
+/// The words of a line `rule ..`, if they state a rule.
 fn rule_words<'a>(line: &Excerpt<'a>) -> Option<RuleLine<Excerpt<'a>>>
     ensures { result ≡ rule_words line.now }
 {
@@ -90,7 +90,7 @@ pub fn rule_line(line: &[u8]) -> Result<RuleLine<Chance>, Objection<'_>>
     }
 }
 
-/// The words of a line `at s rule ..`: the step, and those of the rule.
+/// The words of a line `at s rule ..`: the step, and the words of the rule.
 fn later_words<'a>(line: &Excerpt<'a>) -> Option<(Excerpt<'a>, RuleLine<Excerpt<'a>>)>
     ensures { result ≡ later_words line.now }
 {

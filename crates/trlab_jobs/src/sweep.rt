@@ -1,4 +1,4 @@
-//! Sweep texts: what the points of a sweep have in common, and the number of cars of each.
+//! Sweep texts: the common part of a sweep's points, and the number of cars of each point.
 
 ghost use Rattle.std.specs.Prelude.{◌≡◌, ◌≢◌, ◌<◌, ◌≤◌, [], Err, IfOk, OnOk, length};
 ghost use Rattle.trlab_bounds.specs.declared.roads.TheConstants.{MAX_LENGTH, MAX_LANES};
@@ -224,7 +224,7 @@ fn counts_to_end(
     Ok(counts)
 }
 
-/// Reads the numbers of cars up to the end of the text, of which there must be one at least. A road has `cells`
+/// Reads the numbers of cars up to the end of the text; there must be at least one. A road has `cells`
 /// cells in all, and a point takes `steps` steps.
 pub fn counts(
     alloc: Global,
@@ -313,7 +313,7 @@ fn read_lines(alloc: Global, text: &[u8]) -> Result<Sweep, Refusal<'_>>
     })
 }
 
-/// Reads a sweep text. A refusal says what was wanted.
+/// Reads a sweep text. A refusal has the wanted input.
 ///
 /// # Errors
 ///

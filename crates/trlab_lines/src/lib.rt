@@ -1,4 +1,9 @@
 //! Lines of a text with their words and numbers, and pages of printable ASCII, which may quote any bytes.
+//!
+//! ```text
+//! let (line, rest) = next_line(b"road 1\nlanes 2\n")?; // "road 1" and "lanes 2\n"
+//! let (name, number) = cut(line, b' ')?; // "road" and "1"
+//! ```
 #![tactic(auto)]
 
 pub mod laws;

@@ -1,10 +1,11 @@
 //! Runs accepted driver programs, for one car or for a block of cars at once; and the laws of these runs.
 //!
 //! ```text
-//! let motion: Motion = verify_motion(alloc, code).ok()?;
+//! let (speed, limit, gap, headspeed) = (2, 5, 3, 0);
 //! let view = MotionView::new(speed, limit, gap, headspeed)?;
-//! let moved = run_motion(&motion, view, &words(&key, road, car, step));
-//! let (speed, steps) = (moved.speed, moved.steps); // steps is at most motion.budget()
+//! let (road, car, step) = (0, 0, 0);
+//! let moved = run_motion(motion, view, &words(&Key([0; 32]), road, car, step));
+//! let (speed, steps) = (moved.speed, moved.steps); // 3, and 4 instructions
 //! ```
 #![tactic(auto)]
 

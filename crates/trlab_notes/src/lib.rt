@@ -2,6 +2,11 @@
 //! instruction at a time. A note is the knowledge of the values before an instruction; here are the order of
 //! notes and their joins, the transfer of each instruction, and the reasons to reject it. docs/PROGRAMS.md
 //! explains all this in words.
+//!
+//! ```text
+//! let (slow, fast) = (AbstractValue::Between(0, 2), AbstractValue::Between(3, 5));
+//! let level = level_between(slow, fast, false, 0); // 2: the slow value is below the fast one
+//! ```
 #![tactic(auto)]
 
 pub mod laws;

@@ -2,7 +2,7 @@
 #![tactic(auto)]
 
 ghost use Rattle.std.specs.Prelude.{◌≡◌, ◌↔◌, ◌||◌, true, false, IfOk};
-ghost use Rattle.trlab_command_line.specs.Requests.{HasCounts};
+ghost use Rattle.trlab_command_line.specs.Requests.{FitsEngines};
 
 use clap::Error;
 use std::alloc::Global;
@@ -115,7 +115,7 @@ fn act<R: AllocGlobal + Threads + Wait + Sync + Eprint, S: Source, K: Sink>(
     reader: &mut S,
     writer: &mut K,
 ) -> u8
-    requires counts { IfOk request HasCounts }
+    requires counts { IfOk request FitsEngines }
     requires reader_works { S.failed reader.old ≡ false }
     requires writer_works { K.failed writer.old ≡ false }
     // 4 exactly if a device has failed, whatever the arguments.

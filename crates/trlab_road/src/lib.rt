@@ -5,8 +5,9 @@
 //!
 //! ```text
 //! let road = Road::parse(alloc, 5, &[b"0.0......."]).ok()?;
-//! let gap = road.gap(0); // 1
-//! let picture = road.picture(alloc, 0).ok()?; // "0.0......."
+//! for lane in 0..road.lanes() {
+//!     let picture = road.picture(alloc, lane).ok()?; // "0.0......."
+//! }
 //! let even = Road::even(alloc, 2, 500, 5, 100).ok()?; // 100 cars on two lanes of 500 cells
 //! ```
 #![tactic(auto)]

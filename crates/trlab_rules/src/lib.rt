@@ -1,10 +1,9 @@
 //! Rules: accepted programs that drive the cars of a road, and the published rules among them.
 //!
 //! ```text
-//! let p = Chance::new(CERTAIN / 4)?; // probability 1/4
-//! let slow_to_start = vdr(alloc, p, Chance::new(CERTAIN / 2)?).ok()?;
-//! let two_lanes = rickert(alloc, p, Chance::new(CERTAIN)?).ok()?;
-//! let own = Rule::new(motion, None); // of a motion program that the verifier accepted
+//! nasch(alloc, Chance::new(p)?) // p, p0 and c are probabilities times 2^31
+//! vdr(alloc, Chance::new(p)?, Chance::new(p0)?)
+//! rickert(alloc, Chance::new(p)?, Chance::new(c)?)
 //! ```
 #![tactic(auto)]
 

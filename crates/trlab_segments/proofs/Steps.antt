@@ -13,7 +13,7 @@ use Rattle.trlab_strands.proofs.Seats.{total_set, each_set, each_snoc, alone, ti
 use Rattle.trlab_segments.specs.declared.ticket_rule.Plan.{Plan}
 use Rattle.trlab_segments.specs.declared.ticket_rule.TicketKnowledge.{TicketKnowledge}
 use Rattle.trlab_strands.specs.Knowledge.{once_below}
-use Rattle.trlab_segments.specs.Knowledge.{times, IsWhole, no_knowledge, with_ticket, at_end, less_a_pass, one_pass, both_drawers, passes_at_end}
+use Rattle.trlab_segments.specs.Knowledge.{occurrences, IsWhole, no_knowledge, with_ticket, at_end, less_a_pass, one_pass, both_drawers, passes_at_end}
 use Rattle.trlab_segments.specs.Rule.{IsSoundDrawer, AreSoundDrawers, KeepsTickets, DrawsTicket, ReadsCounter, LearnsCounter}
 
 total_le : (f g : TicketKnowledge → ℕ) → ((v : TicketKnowledge) → f v ≤ g v) → (views : List TicketKnowledge) → sum_by f views ≤ sum_by g views
@@ -44,7 +44,7 @@ takes : (plan : Plan) (counter : ℕ) (views : List TicketKnowledge) (id : ℕ) 
     → AreSoundDrawers plan counter views → AreSoundDrawers plan (counter + 1) (set views id (with_ticket v counter))
 takes plan counter views id v at unended some_pass less r = let w = with_ticket v counter in let mine = r.each id v at in record {
   passes = let t = total_set (λ u. u.passes) views id v w at in let p = r.passes in omega arith;
-  once = λ x. let t = total_set (λ u. times x u.tickets) views id v w at in let p = r.once x in let q = times_push (λ n. n) x v.tickets counter in let n = once_next x counter plan.count less in omega arith;
+  once = λ x. let t = total_set (λ u. occurrences x u.tickets) views id v w at in let p = r.once x in let q = times_push (λ n. n) x v.tickets counter in let n = once_next x counter plan.count less in omega arith;
   counter_is = omega arith;
   each = each_later plan counter (counter + 1) views id w (omega arith) (record { idle = λ z. absurd (omega arith); same_plan = mine.same_plan; late = λ e. absurd (true≢false (sym e ∙ unended)); rises = le_refl (counter + 1) }) r.each;
 }
@@ -54,7 +54,7 @@ stops : (plan : Plan) (counter : ℕ) (views : List TicketKnowledge) (id : ℕ) 
     → AreSoundDrawers plan counter views → AreSoundDrawers plan (counter + 1) (set views id (at_end v))
 stops plan counter views id v at unended some_pass more r = let w = at_end v in let mine = r.each id v at in record {
   passes = let t = total_set (λ u. u.passes) views id v w at in let p = r.passes in omega arith;
-  once = λ x. let t = total_set (λ u. times x u.tickets) views id v w at in let p = r.once x in let n : once_below x (min plan.count (counter + 1)) ≡ once_below x (min plan.count counter) = ap (once_below x) (omega arith) in omega arith;
+  once = λ x. let t = total_set (λ u. occurrences x u.tickets) views id v w at in let p = r.once x in let n : once_below x (min plan.count (counter + 1)) ≡ once_below x (min plan.count counter) = ap (once_below x) (omega arith) in omega arith;
   counter_is = let t = total_set passes_at_end views id v w at in let z : passes_at_end v ≡ 0 = ap (λ b. cond b v.passes 0) unended in let p = r.counter_is in omega arith;
   each = each_later plan counter (counter + 1) views id w (omega arith) (record { idle = λ z. absurd (omega arith); same_plan = mine.same_plan; late = λ e. omega arith; rises = le_trans mine.rises (omega arith) }) r.each;
 }
@@ -109,7 +109,7 @@ splits plan id v two s r at =
       drawers = r.drawers;
       known = record {
         passes = let t = total_set (λ u. u.passes) s.views id v l at in let e = last (λ u. u.passes) in let p = k.passes in omega arith;
-        once = λ x. let t = total_set (λ u. times x u.tickets) s.views id v l at in let e = last (λ u. times x u.tickets) in let p = k.once x in omega arith;
+        once = λ x. let t = total_set (λ u. occurrences x u.tickets) s.views id v l at in let e = last (λ u. occurrences x u.tickets) in let p = k.once x in omega arith;
         counter_is = let t = total_set passes_at_end s.views id v l at in let e = last passes_at_end in let p = k.counter_is in let q = shares v.passes two v.ended in omega arith;
         each = each_snoc (IsSoundDrawer plan counter) views o
             (record { idle = λ z. absurd (omega arith); same_plan = λ _. mine.same_plan (omega arith); late = mine.late; rises = zero-le })
@@ -149,7 +149,7 @@ joins plan id v other w some_v some_w s r at apart there =
       drawers = r.drawers;
       known = record {
         passes = let t = total_set (λ u. u.passes) s.views id v b at in let e = total_set (λ u. u.passes) views other w no_knowledge there in let p = k.passes in omega arith;
-        once = λ x. let t = total_set (λ u. times x u.tickets) s.views id v b at in let e = total_set (λ u. times x u.tickets) views other w no_knowledge there in let p = k.once x in let q = times_append (λ n. n) x v.tickets w.tickets in omega arith;
+        once = λ x. let t = total_set (λ u. occurrences x u.tickets) s.views id v b at in let e = total_set (λ u. occurrences x u.tickets) views other w no_knowledge there in let p = k.once x in let q = times_append (λ n. n) x v.tickets w.tickets in omega arith;
         counter_is = let t = total_set passes_at_end s.views id v b at in let e = total_set passes_at_end views other w no_knowledge there in let p = k.counter_is in let q = ended_both v.ended w.ended v.passes w.passes in omega arith;
         each = each_later plan counter counter views other no_knowledge (omega arith) (record { idle = λ _. refl; same_plan = λ z. absurd (omega arith); late = λ e. absurd (true≢false (sym e)); rises = zero-le })
             (each_later plan counter counter s.views id b (omega arith) (record { idle = λ z. absurd (omega arith); same_plan = λ _. mine.same_plan some_v; late = late; rises = zero-le }) k.each);
@@ -171,7 +171,7 @@ learns plan id mine same some_pass s r at =
     let h : P plan = (
       passes_le plan counter s.views id mine at r.known,
       r.drawers,
-      (λ every x. sym (every_pass (λ u. times x u.tickets) refl plan counter s.views id mine at every r.known) ∙ r.known.once x),
+      (λ every x. sym (every_pass (λ u. occurrences x u.tickets) refl plan counter s.views id mine at every r.known) ∙ r.known.once x),
       (r.known.each id mine at).late,
     ) in
     let q = subst P (sym same) h in
@@ -204,7 +204,7 @@ not_whole xs counter count less some_of_them whole =
     here n = grind (arith, nat_tests)
 
 -- a whole list has each number below the count
-pub whole_has : (xs : List ℕ) (n k : ℕ) → IsWhole xs n → k < n → 0 < times k xs
+pub whole_has : (xs : List ℕ) (n k : ℕ) → IsWhole xs n → k < n → 0 < occurrences k xs
 whole_has xs n k whole less = let w = whole k in let o = once_at k n less in omega arith
 
 -- the counter is bounded
@@ -216,7 +216,7 @@ pub all_tickets : (plan : Plan) (s : State ℕ TicketKnowledge) (seat : ℕ) (mi
     → IsWhole mine.tickets plan.count ↔ (plan.count ≤ slice_index s.words 0)
 all_tickets plan s seat mine r at every =
     let counter = slice_index s.words 0 in
-    let drawn : IsWhole mine.tickets (min plan.count counter) = λ x. sym (every_pass (λ u. times x u.tickets) refl plan counter s.views seat mine at every r.known) ∙ r.known.once x in (
+    let drawn : IsWhole mine.tickets (min plan.count counter) = λ x. sym (every_pass (λ u. occurrences x u.tickets) refl plan counter s.views seat mine at every r.known) ∙ r.known.once x in (
       (λ whole. elim (dec_le plan.count counter) [
         | yes more ↦ more
         | no not_more ↦ absurd (not_whole mine.tickets counter plan.count (Rattle.std.proofs.Common.lt_of_not-le not_more) drawn whole)

@@ -33,7 +33,7 @@ AnswersSegment answers program dice road count p =
     let first = first_car (cars road) count in
     answers program dice road (first p.number) (first (p.number + 1)) p.answers.items
 
--- the same in a phase
+-- a part has the answers of a phase's program to the cars of its segment
 abbrev pub IsPart : {P A : Type 0} → (P → Dice → Cells → ℕ → ℕ → List A → Type 0)
     → Phase P → ℕ → Part A → Type 0
 IsPart answers phase = AnswersSegment answers phase.program.now phase.dice.now phase.road.now
@@ -52,8 +52,8 @@ HasWorked Fits tickets d told =
     × IfOk told.1 (λ parts. HasParts Fits told.0 parts.items)
 
 -- the part at this index has this number
-abbrev pub HasNumber : {A : Type 0} → List (Part A) → ℕ → ℕ → Type 0
-HasNumber parts place number =
+abbrev pub IsPlaceOf : {A : Type 0} → List (Part A) → ℕ → ℕ → Type 0
+IsPlaceOf parts place number =
     (place < length parts) × ((other : Part _) → ticket_of (slice_index_or parts place other) ≡ number)
 
 -- a call on any road returns the speeds of all its cars, unless an allocation fails

@@ -33,8 +33,8 @@ abbrev pub IsFrom : Tickets → Drawer → Type 0
 IsFrom t d = (d.seat.table_id ≡ t.table.shared.table_id) × (d.seat.me.0.plan ≡ t.plan)
 
 -- the drawer has drawn nothing yet
-abbrev pub IsFresh : Drawer → Type 0
-IsFresh d = (tickets_of d ≡ []) × (is_ended d ≡ false)
+abbrev pub IsUnused : Drawer → Type 0
+IsUnused d = (tickets_of d ≡ []) × (is_ended d ≡ false)
 
 -- a drawer of these tickets that drew nothing
 abbrev pub IsNew : Tickets → Drawer → Type 0
@@ -45,8 +45,8 @@ abbrev pub HasAll : Tickets → Drawer → Type 0
 HasAll t d = passes_of d ≡ drawers_of t
 
 -- a drawer has drawn one more ticket, which is below the count and above its earlier ones
-abbrev pub Draws : Tickets → Drawer → ℕ → Drawer → Type 0
-Draws t old i new =
+abbrev pub HasDrawn : Tickets → Drawer → ℕ → Drawer → Type 0
+HasDrawn t old i new =
     (i < count_of t) × (least_of old ≤ i)
     × (tickets_of new ≡ tickets_of old ++ i ∷ []) × (least_of new ≡ i + 1) × (is_ended new ≡ false)
 
@@ -56,12 +56,12 @@ IsSameDrawer d e =
     (d.seat.table_id ≡ e.seat.table_id) × (d.seat.me ≡ e.seat.me)
     × (d.passes ≡ e.passes) × (d.ended ≡ e.ended)
 
--- a drawer has the tickets of one, and then those of another
+-- a drawer has the tickets of two drawers, one after the other
 pub record Joins (t : Tickets) (one other all : Drawer) : Type 0 where
   pub from : IsFrom t all
   pub tickets : tickets_of all ≡ tickets_of one ++ tickets_of other
   pub ended : is_ended all ≡ (is_ended one || is_ended other)
 
--- a drawer has the tickets of an earlier one, if there is one, and then those of a second
+-- a drawer has the tickets of an earlier drawer, if there is one, and then those of a second
 abbrev pub IsJoined : Tickets → Option Drawer → Drawer → Drawer → Type 0
 IsJoined tickets before d all = MatchOption before (all ≡ d) (λ b. Joins tickets b d all)

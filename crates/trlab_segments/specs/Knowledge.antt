@@ -7,12 +7,12 @@ use Rattle.trlab_segments.specs.declared.ticket_rule.Plan.{Plan}
 use Rattle.trlab_segments.specs.declared.ticket_rule.TicketKnowledge.{TicketKnowledge}
 
 -- how often a number occurs in a list
-abbrev pub times : ℕ → List ℕ → ℕ
-times x tickets = count_by (λ y. eqb y x) tickets
+abbrev pub occurrences : ℕ → List ℕ → ℕ
+occurrences x tickets = count_by (λ y. eqb y x) tickets
 
 -- the list has each number below the count exactly once, and nothing else
 abbrev pub IsWhole : List ℕ → ℕ → Type 0
-IsWhole tickets count = (x : ℕ) → times x tickets ≡ once_below x count
+IsWhole tickets count = (x : ℕ) → occurrences x tickets ≡ once_below x count
 
 -- the knowledge of a drawer, by its parts; no ticket that it draws from now on is below the least
 abbrev pub ticket_knowledge : Plan → ℕ → List ℕ → ℕ → Bool → TicketKnowledge

@@ -4,7 +4,6 @@ pub mod Drawers
 pub mod Segments
 pub mod Laws
 pub mod Answered
-pub mod Joined
 pub mod KeyedLocks
 pub mod Results
 pub mod Workers

@@ -28,13 +28,13 @@ abbrev pub HasDone : {P A : Type 0} → (P → Dice → Cells → ℕ → ℕ �
     → Brief P → Drawer → List (Part A) → Type 0
 HasDone answers b d parts = IsFrom b.tickets d × HasParts (IsRight answers b) d parts
 
--- the same, unless an allocation failed
+-- a drawer and its parts are those of the brief, unless an allocation failed
 abbrev pub TellsDone : {P A B E : Type 0} → (P → Dice → Cells → ℕ → ℕ → List A → Type 0)
     → Brief P → Drawer → Result (Vec (Part A) B) E → Type 0
 TellsDone answers b d told =
     IsFrom b.tickets d × IfOk told (λ parts. HasParts (IsRight answers b) d parts.items)
 
--- the deposit, if there is one
+-- the deposit, if a helper has made one
 abbrev pub IsDeposited : {P A : Type 0} → (P → Dice → Cells → ℕ → ℕ → List A → Type 0)
     → Brief P → Option Drawer → List (Part A) → Type 0
 IsDeposited answers b deposited parts = MatchOption deposited (parts ≡ []) (λ d. HasDone answers b d parts)

@@ -8,7 +8,7 @@ use Rattle.trlab_bounds.specs.declared.runs.TheConstants.{MAX_WORKERS}
 use Rattle.trlab_segments.specs.declared.ticket_rule.Plan.{Plan}
 use Rattle.trlab_segments.specs.declared.ticket_rule.TicketKnowledge.{TicketKnowledge}
 use Rattle.trlab_strands.specs.Knowledge.{once_below}
-use Rattle.trlab_segments.specs.Knowledge.{times, IsWhole, no_knowledge, with_ticket, at_end}
+use Rattle.trlab_segments.specs.Knowledge.{occurrences, IsWhole, no_knowledge, with_ticket, at_end}
 use Rattle.trlab_segments.specs.Knowledge.{passes_at_end}
 
 -- the counter, the word that drawers share: no ticket below it is left
@@ -26,7 +26,7 @@ pub record IsSoundDrawer (plan : Plan) (counter : ℕ) (k : TicketKnowledge) : T
 -- passes add up to the drawers, and beyond the count the counter rises only by passes that have ended
 pub record AreSoundDrawers (plan : Plan) (counter : ℕ) (known : List TicketKnowledge) : Type 0 where
   pub passes : sum_by (λ k. k.passes) known ≡ plan.drawers
-  pub once : (x : ℕ) → sum_by (λ k. times x k.tickets) known ≡ once_below x (min plan.count counter)
+  pub once : (x : ℕ) → sum_by (λ k. occurrences x k.tickets) known ≡ once_below x (min plan.count counter)
   pub counter_is : counter ≤ plan.count + sum_by passes_at_end known
   pub each : (seat : ℕ) (k : TicketKnowledge) → get_elem? known seat ≡ some k → IsSoundDrawer plan counter k
 

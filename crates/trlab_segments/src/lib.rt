@@ -4,6 +4,11 @@
 //! A crew takes one step, by threads that end with each phase of it (`step_shared`). A pool asks the cars in
 //! all steps of a run, by threads that live as long as the run. Both draw tickets, ask the cars of a segment
 //! and line up the answers of all segments in the same way.
+//!
+//! ```text
+//! let key = Key([7; 32]);
+//! step_shared(rt, rt.alloc(), road, rule, &key, 3, 5, others + 1, &OpenGate) // step 5 of road 3
+//! ```
 #![tactic(auto)]
 
 mod crew;

@@ -1,11 +1,11 @@
-//! The answers of segments: each worker asks the cars of those that it draws, and then the answers of all segments
-//! become one list, whichever worker computed them.
+//! The answers of segments: each worker asks the cars of the segments that it draws, and then the answers of all
+//! segments become one list, whichever worker computed them.
 
 ghost use Rattle.std.specs.Prelude.{◌≡◌, ◌<◌, ◌++◌, [], ◌∷◌, All, IfOk, IsOkAnd, OnOk, map};
 ghost use Rattle.trlab_road.specs.Cells.{cars};
-ghost use Rattle.trlab_segments.specs.Answered.{HasNumber, HasParts, IsPart, ticket_of};
+ghost use Rattle.trlab_segments.specs.Answered.{IsPlaceOf, HasParts, IsPart, ticket_of};
 ghost use Rattle.trlab_segments.specs.Drawers.{IsFrom, count_of, passes_of, tickets_of};
-ghost use Rattle.trlab_segments.specs.Knowledge.{IsWhole, times};
+ghost use Rattle.trlab_segments.specs.Knowledge.{IsWhole, occurrences};
 ghost use Rattle.trlab_segments.specs.Segments.{first_car};
 
 use crate::phase::{Asked, Phase};
@@ -98,8 +98,8 @@ pub fn joined<A: Drop>(
 
 /// The index of the part with this number.
 fn place_of<A>(parts: &[Part<A>], number: u32) -> usize
-    requires { 0 < times number (map ticket_of parts.now) }
-    ensures { HasNumber parts.now result number }
+    requires { 0 < occurrences number (map ticket_of parts.now) }
+    ensures { IsPlaceOf parts.now result number }
 {
     for place in 0..parts.len() {
         if parts[place].number == number {

@@ -5,7 +5,7 @@ ghost use Rattle.std.specs.Prelude.{◌≡◌, ◌≤◌, ◌++◌, [], ℕ, IfO
 ghost use Rattle.trlab_machine.specs.declared.dice.Dice.{Dice as TheDice};
 ghost use Rattle.trlab_road.specs.Cells.{Cells, cars};
 ghost use Rattle.trlab_segments.specs.Answered.{HasTwoLanes, HasLanes};
-ghost use Rattle.trlab_segments.specs.Joined.{crosses_begin, crosses_join, speeds_begin, speeds_join};
+ghost use Rattle.trlab_step.proofs.Joined.{crosses_begin, crosses_join, speeds_begin, speeds_join};
 ghost use Rattle.trlab_step.specs.Answers.{IsCrossesPart, IsSpeedsPart};
 
 use crate::segment::Segment;
@@ -57,7 +57,7 @@ pub trait Asked<A>: Sized {
     // For no cars, the empty list is the answer.
     ghost begins: { (program : Self) (dice : TheDice) (road : Cells) → answers program dice road 0 0 [] };
 
-    // The answers of a part and then those of the part after it are the answers of both.
+    // The answers of two adjacent parts, one after the other, are the answers of both.
     ghost joins: { (program : Self) (dice : TheDice) (road : Cells)
         → (from middle to : ℕ) (first second : List A)
         → answers program dice road from middle first → answers program dice road middle to second

@@ -59,12 +59,12 @@ impl<'a, R: Threads + Wait + Sync, G: Gate + Sync> Pool<'a, R, G> {
         ensures used { pool_workers result ≤ max 1 (cars / CARS_PER_WORKER) }
     {
         let most = within_processors(self.rt, self.workers);
-        let busy = busy_workers(cars);
+        let busy = (cars / CARS_PER_WORKER).max(1);
         Pool {
             rt: self.rt,
             gate: self.gate,
             rendezvous: Rendezvous::watchful(),
-            workers: if busy < most { busy } else { most },
+            workers: busy.min(most),
         }
     }
 
@@ -112,13 +112,4 @@ fn within_processors<R: Threads>(rt: &R, workers: u32) -> u32
     } else {
         workers
     }
-}
-
-/// The number of workers that a road with `cars` cars keeps busy, at least one.
-fn busy_workers(cars: u32) -> u32
-    ensures some { 0 < result }
-    ensures used { result ≤ max 1 (cars / CARS_PER_WORKER) }
-{
-    let share = cars / CARS_PER_WORKER;
-    if share == 0 { 1 } else { share }
 }

@@ -36,7 +36,7 @@ pub struct Drawer {
 
 impl Tickets {
     ghost use Rattle.trlab_bounds.specs.declared.runs.TheConstants.{MAX_WORKERS};
-    ghost use Rattle.trlab_segments.specs.Drawers.{IsFrom, IsFresh, HasAll, Draws, IsSameDrawer};
+    ghost use Rattle.trlab_segments.specs.Drawers.{IsFrom, IsUnused, HasAll, HasDrawn, IsSameDrawer};
     ghost use Rattle.trlab_segments.specs.Drawers.{count_of, drawers_of, passes_of, tickets_of, is_ended};
     ghost use Rattle.trlab_segments.specs.Knowledge.{IsWhole};
 
@@ -51,7 +51,7 @@ impl Tickets {
         ensures from { IfOk result (λ r. IsFrom r.0 r.1) }
         ensures count { IfOk result (λ r. count_of r.0 ≡ count) }
         ensures drawers { IfOk result (λ r. (drawers_of r.0 ≡ drawers) × (passes_of r.1 ≡ drawers)) }
-        ensures fresh { IfOk result (λ r. IsFresh r.1) }
+        ensures fresh { IfOk result (λ r. IsUnused r.1) }
     {
         let plan = Plan { count, drawers };
         let (table, seat) = Table::of_words(alloc, &[0], &plan)?;
@@ -70,7 +70,7 @@ impl Tickets {
         requires { IsFrom self.now drawer.old }
         ensures from { IsFrom self.now drawer.new }
         ensures passes { passes_of drawer.new ≡ passes_of drawer.old }
-        ensures some { IfSome result (λ i. Draws self.now drawer.old i drawer.new) }
+        ensures some { IfSome result (λ i. HasDrawn self.now drawer.old i drawer.new) }
         ensures none { IfNone result (
             (tickets_of drawer.new ≡ tickets_of drawer.old) × (is_ended drawer.new ≡ true)) }
         ensures ended { is_ended drawer.old ≡ true → (result ≡ None) × (is_ended drawer.new ≡ true) }

@@ -13,7 +13,7 @@ use Rattle.trlab_sequential_book.specs.declared.event.Offered.{Offered}
 use Rattle.trlab_sequential_book.specs.Answers.{back_reply, done_reply, number_reply, order_reply, seen_reply}
 use Rattle.trlab_sequential_book.specs.declared.lease.ExecutedStep.{ExecutedStep}
 use Rattle.trlab_step.proofs.RunLaws.{road_at_is_one}
-use Rattle.trlab_sequential_book.specs.Jobs.{run_of, start_of}
+use Rattle.trlab_sequential_book.specs.Jobs.{run_of, run_start}
 use Rattle.trlab_sequential_book.specs.Sheets.{AreInForce}
 use Rattle.trlab_sequential_book.specs.Leases.{LeaseState}
 use Rattle.trlab_sequential_book.specs.declared.fault.BookFault.{BookFault}
@@ -149,7 +149,7 @@ pub fresh_run : (job : JobState) (lease : LeaseState) (road : Cells) (sum : Step
 fresh_run job lease road sum run key number base none = record {
   key = key;
   number = number;
-  base = subst (λ (r : Cells). IsRoadAt (start_of job.seed) job.sheet job.done r) (sym base) (sum, run.comes);
+  base = subst (λ (r : Cells). IsRoadAt (run_start job.seed) job.sheet job.done r) (sym base) (sum, run.comes);
   rules = λ k ran at. absurd (no_run k ran (subst (λ (xs : List ExecutedStep). slice_get xs k ≡ Some ran) none at));
 }
   where
@@ -174,7 +174,7 @@ pub runs_where : (job now : JobState) (lease : LeaseState) (road : Cells) (sum :
     → lease.key ≡ job.seed.key → lease.road_number ≡ job.seed.number → lease.base.road ≡ road
     → IsTrue b ↔ AreInForce job.sheet lease.base.step lease.applied → IsTrue b ↔ IsOwnRun now lease
 runs_where job now lease road sum b view run key number base same =
-    let B : Cells → Type 0 = λ r. IsRoadAt (start_of job.seed) job.sheet job.done r in
+    let B : Cells → Type 0 = λ r. IsRoadAt (run_start job.seed) job.sheet job.done r in
     let mine = of_job job now road sum view run in
     subst (λ (s : JobState). IsTrue b ↔ IsOwnRun s lease) view
     (λ h. record { key = key; number = number; base = subst B (sym base) (sum, mine.comes); rules = same.0 h }, λ own. same.1 own.rules)
@@ -183,7 +183,7 @@ runs_where job now lease road sum b view run key number base same =
 pub runs_not : (job now : JobState) (lease : LeaseState) (road : Cells) (sum : StepTally) → job ≡ now → IsUnderway (run_of now.seed now.sheet now.done road sum)
     → (lease.base.road ≡ road → ⊥) → IsOwnRun now lease → ⊥
 runs_not job now lease road sum view run other own =
-    other (road_at_is_one (start_of now.seed) now.sheet now.done lease.base.road road own.base (sum, run.comes))
+    other (road_at_is_one (run_start now.seed) now.sheet now.done lease.base.road road own.base (sum, run.comes))
 
 -- a lease that is given back is refused if it is not the one that is out, and accepted if it is
 pub back_refused : (lease : Offered) (job : JobState) → is_own lease job ≡ false → giving_back lease job ≡ refused StrangerLease job

@@ -18,7 +18,7 @@ use Rattle.trlab_sequential_book.specs.declared.lease.ExecutedStep.{ExecutedStep
 use Rattle.trlab_sequential_book.specs.Sheets.{AreInForce}
 use Rattle.trlab_sequential_book.specs.Leases.{LeadsTo, LeaseState, IsLease, one_more}
 use Rattle.trlab_sequential_book.specs.Comparison.{IsOwnRun}
-use Rattle.trlab_sequential_book.specs.Jobs.{start_of, run_of}
+use Rattle.trlab_sequential_book.specs.Jobs.{run_start, run_of}
 use Rattle.trlab_sequential_book.specs.Machine.{JobState}
 
 -- one more step
@@ -68,9 +68,9 @@ go_on seed sheet step sum ran more last way =
 
 -- a lease of a job's road, from the job's step on
 pub way_of_lease : (job : JobState) (lease : LeaseState) (road : Cells) (sum : StepTally) → IsUnderway (run_of job.seed job.sheet job.done road sum) → IsLease lease → IsOwnRun job lease → lease.base.step ≡ job.done
-    → WayOn (start_of job.seed) job.sheet job.done sum lease.applied lease.road
+    → WayOn (run_start job.seed) job.sheet job.done sum lease.applied lease.road
 way_of_lease job lease road sum run is own base =
-    let same : lease.base.road ≡ road = road_at_is_one (start_of job.seed) job.sheet job.done lease.base.road road own.base (sum, run.comes) in
+    let same : lease.base.road ≡ road = road_at_is_one (run_start job.seed) job.sheet job.done lease.base.road road own.base (sum, run.comes) in
     let K : Key → Type 0 = λ k. LeadsTo k.0 lease.road_number lease.base.step lease.base.road lease.applied lease.road in
     let N : ℕ → Type 0 = λ n. LeadsTo job.seed.key.0 n lease.base.step lease.base.road lease.applied lease.road in
     let S : ℕ → Type 0 = λ s. LeadsTo job.seed.key.0 job.seed.number s lease.base.road lease.applied lease.road in
@@ -84,9 +84,9 @@ way_of_lease job lease road sum run is own base =
 
 -- the same for a job that is seen through its model
 pub way_begins : (state now : JobState) (lease : LeaseState) (road : Cells) (sum : StepTally) → state ≡ now → IsUnderway (run_of state.seed state.sheet state.done road sum) → IsLease lease
-    → IsOwnRun now lease → lease.base.step ≡ now.done → WayOn (start_of now.seed) now.sheet state.done sum lease.applied lease.road
+    → IsOwnRun now lease → lease.base.step ≡ now.done → WayOn (run_start now.seed) now.sheet state.done sum lease.applied lease.road
 way_begins state now lease road sum view run is own base =
-    let P : JobState → Type 0 = λ s. IsOwnRun s lease → lease.base.step ≡ s.done → WayOn (start_of s.seed) s.sheet state.done sum lease.applied lease.road in
+    let P : JobState → Type 0 = λ s. IsOwnRun s lease → lease.base.step ≡ s.done → WayOn (run_start s.seed) s.sheet state.done sum lease.applied lease.road in
     subst P view (λ mine at. way_of_lease state lease road sum run is mine at) own base
 
 -- one step of a list of them

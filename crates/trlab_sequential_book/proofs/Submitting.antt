@@ -17,7 +17,7 @@ use Rattle.trlab_sequential_book.specs.declared.event.Reply.TheVariants as reply
 use Rattle.trlab_sequential_book.specs.declared.fault.BookFault.TheVariants as fault
 use Rattle.trlab_sequential_book.specs.Comparison.{IsSnapshotOf}
 use Rattle.trlab_sequential_book.specs.Leases.{suits}
-use Rattle.trlab_sequential_book.specs.Machine.{JobState, Outcome, Served, BookState, after, cancelling, giving_back, is_free, is_full, is_own, leasing, new_job, next_after, on_free, on_job, ordering, reading, replacing, reply_of, revoking, served, start}
+use Rattle.trlab_sequential_book.specs.Machine.{JobState, Outcome, Served, BookState, after, cancelling, giving_back, is_free, is_full, is_own, leasing, new_job, next_after, on_free, on_job, ordering, reading, replacing, reply_of, revoking, served, empty_book}
 use Rattle.trlab_sequential_book.specs.Replay.{Replays, call_of, event, replies_from, state_from, told_by}
 use Rattle.trlab_sequential_book.specs.Sheets.{entered}
 use Rattle.trlab_sequential_book.specs.Submits.{IsSubmitted, JobsAreSubmitted, SnapshotsAreOfSubmits, SubmitsHaveTheirNumbers}
@@ -235,8 +235,8 @@ event_at (first ∷ history) (suc k) asked told a b = event_at history k asked t
 pub jobs_are_submitted : JobsAreSubmitted
 jobs_are_submitted history book number job replays at =
     let calls = map call_of history in
-    let state : (state_from start calls).jobs ≡ book.jobs = ap (λ (s : BookState). s.jobs) (sym replays.state_is) in
-    elim (from_calls calls start number job (ap (λ (jobs : List JobState). slice_get jobs number) state ∙ at)) [
+    let state : (state_from empty_book calls).jobs ≡ book.jobs = ap (λ (s : BookState). s.jobs) (sym replays.state_is) in
+    elim (from_calls calls empty_book number job (ap (λ (jobs : List JobState). slice_get jobs number) state ∙ at)) [
       | inl was ↦ absurd (none-some was.old was.there)
       | inr one ↦ record { k = one.k; rule = one.rule; submit = event_at history one.k _ _ one.asked (ap (λ (replies : List Reply). slice_get replies one.k) replays.replies ∙ one.told) }
     ]
@@ -291,5 +291,5 @@ submits_have_their_numbers history book j k number seed other rule another steps
     let first = call_at history j _ _ a in
     let second = call_at history k _ _ b in
     let calls = map call_of history in
-    apart calls start j k number seed other rule another steps more first.0 (ap (λ (replies : List Reply). slice_get replies j) (sym replays.replies) ∙ first.1)
+    apart calls empty_book j k number seed other rule another steps more first.0 (ap (λ (replies : List Reply). slice_get replies j) (sym replays.replies) ∙ first.1)
     second.0 (ap (λ (replies : List Reply). slice_get replies k) (sym replays.replies) ∙ second.1)

@@ -15,32 +15,32 @@ abbrev pub is_memory : {A : Type 0} → Result A BookFault → Bool
 is_memory (Err Memory) = true
 is_memory _ = false
 
--- of `submit` and `replace`
+-- the reply of `submit` and `replace`
 abbrev pub number_reply : Result ℕ BookFault → Reply
 number_reply (Ok number) = Number number
 number_reply (Err fault) = Refused fault
 
--- of `revoke` and `cancel`
+-- the reply of `revoke` and `cancel`
 abbrev pub done_reply : Result (Unit {0}) BookFault → Reply
 done_reply (Ok done) = Done
 done_reply (Err fault) = Refused fault
 
--- of `order`
+-- the reply of `order`
 abbrev pub order_reply : Result Order BookFault → Reply
 order_reply (Ok order) = Ordered order.job order.lease order.step order.from
 order_reply (Err fault) = Refused fault
 
--- of `give_back`, whose error contains the lease
+-- the reply of `give_back`, whose error contains the lease
 abbrev pub back_reply : Result (Unit {0}) (LeaseState × BookFault) → Reply
 back_reply (Ok done) = Done
 back_reply (Err handed) = Refused handed.1
 
--- of `read`
+-- the reply of `read`
 abbrev pub seen_reply : Result Progress BookFault → Reply
 seen_reply (Ok seen) = Seen seen.step (length seen.sheet)
 seen_reply (Err fault) = Refused fault
 
--- of `lease`
+-- the reply of `lease`
 abbrev pub lease_reply : Result (Option LeaseState) BookFault → Reply
 lease_reply (Ok None) = NoLease
 lease_reply (Ok (Some lease)) = Leased lease.job lease.number lease.step lease.steps
@@ -51,6 +51,16 @@ abbrev pub is_event : Reply → Bool
 is_event (Refused Memory) = false
 is_event (Refused HistoryFull) = false
 is_event _ = true
+
+-- whether a reply says that the history is full
+abbrev pub tells_full : Reply → Bool
+tells_full (Refused HistoryFull) = true
+tells_full _ = false
+
+-- the call was refused because the history is full
+abbrev pub is_refused_as_full : {A : Type 0} → Result A BookFault → Bool
+is_refused_as_full (Ok answer) = false
+is_refused_as_full (Err fault) = tells_full (Refused fault)
 
 -- a call has the reply of the machine, unless an allocation failed
 abbrev pub RepliesAs : Bool → Reply → BookState → Call → Type 0

@@ -8,7 +8,7 @@ use Rattle.trlab_sequential_book.specs.declared.event.Call.TheVariants as call
 use Rattle.trlab_sequential_book.specs.declared.order.Order.{Order}
 use Rattle.trlab_sequential_book.specs.Leases.{LeaseState}
 use Rattle.trlab_sequential_book.specs.Machine.{JobState}
-use Rattle.trlab_sequential_book.specs.Jobs.{start_of}
+use Rattle.trlab_sequential_book.specs.Jobs.{run_start}
 use Rattle.trlab_sequential_book.specs.Sheets.{AreInForce}
 
 -- the parts of a lease that the machine sees
@@ -21,12 +21,12 @@ offered lease same = record {
   same = same;
 }
 
--- the lease runs the job's road: it has the key and the number of the job, it began at the job's road, and its
--- steps were run under the rules in force
+-- the lease runs the job's road: it has the key and the number of the job, it began at the job's road, and
+-- its steps were run under the rules in force
 pub record IsOwnRun (job : JobState) (lease : LeaseState) : Type 0 where
   pub key : lease.key ≡ job.seed.key
   pub number : lease.road_number ≡ job.seed.number
-  pub base : IsRoadAt (start_of job.seed) job.sheet job.done lease.base.road
+  pub base : IsRoadAt (run_start job.seed) job.sheet job.done lease.base.road
   pub rules : AreInForce job.sheet lease.base.step lease.applied
 
 -- the meaning of `same` in an offered lease: its job exists, and the lease runs the job's road
@@ -40,7 +40,7 @@ IsRuleAt jobs order =
 
 -- a snapshot of this job; the type of snapshots guarantees its road and its tally
 pub record IsSnapshotOf (job : JobState) (seen : Progress) : Type 0 where
-  pub seed : seen.seed ≡ start_of job.seed
+  pub seed : seen.seed ≡ run_start job.seed
   pub sheet : seen.sheet ≡ job.sheet
   pub step : seen.step ≡ job.done
 
@@ -65,6 +65,6 @@ IsLent jobs number (Some lease) = MatchOption (slice_get jobs lease.job) ⊥ (λ
 abbrev pub LeaseCall : Call
 LeaseCall = call.Lease
 
--- the call `order`, likewise
+-- the call `order`, under another name than the type of its result
 abbrev pub OrderCall : Offered → Call
 OrderCall lease = call.Order lease

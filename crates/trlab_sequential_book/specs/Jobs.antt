@@ -9,15 +9,16 @@ use Rattle.trlab_sequential_book.specs.Machine.{JobState}
 use Rattle.trlab_sequential_book.specs.Sheets.{BeginBy}
 
 -- the initial state of a run from this seed
-abbrev pub start_of : Seed → Start
-start_of seed = record { road = seed.road; key = seed.key.0; number = seed.number; warm = seed.warm }
+abbrev pub run_start : Seed → Start
+run_start seed = record { road = seed.road; key = seed.key.0; number = seed.number; warm = seed.warm }
 
 -- a run from a seed under a sheet, at a step, with the road there and the sum of the tallies
 abbrev pub run_of : Seed → Sheet → ℕ → Cells → StepTally → Progress
 run_of seed sheet step road sum =
-    record { seed = start_of seed; sheet = sheet; step = step; road = road; sum = sum }
+    record { seed = run_start seed; sheet = sheet; step = step; road = road; sum = sum }
 
--- road and sum are those of the job's run at the steps done, and each of its rules begins at `high` or before
+-- the job's run has this road and this sum at the steps done, and each of its rules begins at `high` or
+-- before
 pub record IsJob (job : JobState) (road : Cells) (sum : StepTally) : Type 0 where
   pub ordered : job.done ≤ job.high
   pub within : job.high ≤ job.steps

@@ -16,13 +16,13 @@ LeadsTo key number step road (ran ∷ more) last =
     (next : Cells) × IsNext ran.rule (dice_of key number step) road next ran.tally
     × LeadsTo key number (step + 1) next more last
 
--- where a lease began: a step of its job, and the road there
+-- the base of a lease: the step of its job at which it went out, and the road there
 pub record Base : Type 0 where
   pub step : ℕ
   pub road : Cells
 
 -- a lease: the job, the number of the lease, the steps of the job, the key and the number that determine the
--- random numbers, where it began, its next step and the road before it, and the steps that were run
+-- random numbers, its base, its next step and the road before it, and the steps that were run
 pub record LeaseState : Type 0 where
   pub job : ℕ
   pub number : ℕ

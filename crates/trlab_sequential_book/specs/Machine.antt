@@ -1,5 +1,5 @@
--- The book of jobs as a machine: the reply to each call, and the state after it. Its only roads are those of the
--- seeds.
+-- The book of jobs as a machine: the reply to each call, and the state after it. Its only roads are
+-- the roads of seeds.
 use Rattle.std.specs.Prelude.{ℕ, ◌+◌, ◌==◌, max, Bool, true, false, ◌&&◌, ◌||◌, not, ltb, List, [], ◌∷◌, ◌++◌, length, slice_get, slice_set, Option, Some, None, is_some, if◌then◌else◌}
 use Rattle.std.specs.List.{position}
 use Rattle.trlab_rules.specs.Rules.{Programs}
@@ -45,8 +45,8 @@ pub record BookState : Type 0 where
   pub jobs : List JobState
 
 -- an empty book
-abbrev pub start : BookState
-start = record { count = 0; next = 0; jobs = [] }
+abbrev pub empty_book : BookState
+empty_book = record { count = 0; next = 0; jobs = [] }
 
 -- the reply to a call on one job, and the job after it
 pub record Outcome : Type 0 where
@@ -159,7 +159,7 @@ served book (call.Revoke job) = on_job book.jobs job revoking
 served book (call.Cancel job) = on_job book.jobs job cancelling
 served book (call.Read job) = on_job book.jobs job reading
 
--- the number of the next lease rises if one went out
+-- the number of the next lease rises if a lease went out
 abbrev pub next_after : ℕ → Reply → ℕ
 next_after next (reply.Leased job number step steps) = next + 1
 next_after next _ = next

@@ -1,9 +1,9 @@
--- Histories, and the state to which replaying one leads.
+-- Histories, and the state to which replaying a history leads.
 use Rattle.std.specs.Prelude.{◌≡◌, List, [], ◌∷◌, map, length}
 use Rattle.trlab_sequential_book.specs.declared.event.Call.{Call}
 use Rattle.trlab_sequential_book.specs.declared.event.Reply.{Reply}
 use Rattle.trlab_sequential_book.specs.declared.event.Event.{Event}
-use Rattle.trlab_sequential_book.specs.Machine.{BookState, start, reply_of, after}
+use Rattle.trlab_sequential_book.specs.Machine.{BookState, empty_book, reply_of, after}
 
 -- the machine's replies to calls, one after another
 abbrev pub replies_from : BookState → List Call → List Reply
@@ -27,9 +27,9 @@ told_by event = event.reply
 abbrev pub event : Call → Reply → Event
 event call reply = record { call = call; reply = reply }
 
--- each reply in the history is that of the machine, and the calls lead to this state, whose count is the
+-- each reply in the history is the machine's, and the calls lead to this state, whose count is the
 -- length of the history
 pub record Replays (history : List Event) (book : BookState) : Type 0 where
-  pub replies : map told_by history ≡ replies_from start (map call_of history)
-  pub state_is : book ≡ state_from start (map call_of history)
+  pub replies : map told_by history ≡ replies_from empty_book (map call_of history)
+  pub state_is : book ≡ state_from empty_book (map call_of history)
   pub count_is : book.count ≡ length history

@@ -6,7 +6,7 @@ use Rattle.trlab_sequential_book.specs.declared.lease.ExecutedStep.{ExecutedStep
 use Rattle.trlab_sequential_book.specs.declared.fault.BookFault.{BookFault}
 use Rattle.trlab_sequential_book.specs.declared.fault.BookFault.TheVariants.{Memory, SheetFull}
 
--- the entry in force at a step: the last one that begins there or before
+-- the entry in force at a step: the last entry that begins there or before
 abbrev pub entry_in_force : Sheet → ℕ → Option (ℕ × Programs)
 entry_in_force [] step = None
 entry_in_force (entry ∷ sheet) step =

@@ -44,9 +44,9 @@ SnapshotsAreOfSubmits =
     → IsSeen book.jobs number seen
     → (job : JobState) × IsSubmitted history number job × IsSnapshotOf job seen
 
--- the result of a read: the road of one worker who runs the steps done from the seed of the job's submit, under
--- the job's sheet
-pub record IsReadOf (history : List Event) (number : ℕ) (seen : Progress) : Type 0 where
+-- the result of a read: the road of one worker who runs the steps done from the seed of the job's submit,
+-- under the job's sheet
+pub record IsDrivenRead (history : List Event) (number : ℕ) (seen : Progress) : Type 0 where
   pub job : JobState
   pub submitted : IsSubmitted history number job
   pub snapshot : IsSnapshotOf job seen
@@ -54,8 +54,8 @@ pub record IsReadOf (history : List Event) (number : ℕ) (seen : Progress) : Ty
   pub driven : IsDriven seen.seed seen.sheet seen.step roads
   pub road : roads seen.step ≡ seen.road
 
--- this is so for each snapshot of a job
+-- each snapshot of a job is the result of a read
 abbrev pub ReadsAreDriven : Type 0
 ReadsAreDriven =
     (history : List Event) (book : BookState) (number : ℕ) (seen : Progress) → Replays history book
-    → IsSeen book.jobs number seen → IsUnderway seen → IsReadOf history number seen
+    → IsSeen book.jobs number seen → IsUnderway seen → IsDrivenRead history number seen

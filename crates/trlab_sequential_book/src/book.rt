@@ -1,13 +1,13 @@
 //! The book of jobs of one thread.
 
-ghost use Rattle.std.specs.Prelude.{◌≡◌, ◌↔◌, ◌+◌, ◌<◌, ◌≤◌, ℕ, Bool, true, IsTrue, IfOk, IfErr, IfSome, MatchBool, length, ltb, not, vec_len, vec_capacity};
+ghost use Rattle.std.specs.Prelude.{◌≡◌, ◌↔◌, ◌+◌, ◌<◌, ◌≤◌, ℕ, Bool, true, false, IsTrue, IfOk, IfErr, IfSome, MatchBool, length, ltb, not, vec_len, vec_capacity};
 ghost use Rattle.std.specs.List.{position};
 ghost use Rattle.trlab_road.specs.Legal.{IsLegal};
 ghost use Rattle.trlab_step.specs.Laws.{IsRuleFor};
 ghost use Rattle.trlab_sequential_book.specs.Answers.{LeadsAs, RepliesAs, back_reply, done_reply, is_memory, lease_reply, number_reply, order_reply, seen_reply};
 ghost use Rattle.trlab_sequential_book.specs.Comparison.{IsLent, IsRuleAt, IsSame, IsSeen, LeaseCall, OrderCall, offered};
 ghost use Rattle.trlab_sequential_book.specs.Leases.{suits};
-ghost use Rattle.trlab_sequential_book.specs.Machine.{after, cancelling, giving_back, is_free, is_full, on_job, ordering, reading, replacing, reply_of, revoking, start, submitting};
+ghost use Rattle.trlab_sequential_book.specs.Machine.{after, cancelling, giving_back, is_free, is_full, on_job, ordering, reading, replacing, reply_of, revoking, empty_book, submitting};
 ghost use Rattle.trlab_sequential_book.specs.declared.event.Call.TheVariants.{Cancel, GiveBack, Read, Replace, Revoke, Submit};
 ghost use Rattle.trlab_sequential_book.specs.declared.event.Reply.TheVariants.{Refused};
 ghost use Rattle.trlab_sequential_book.specs.declared.fault.BookFault.TheVariants.{HistoryFull};
@@ -57,7 +57,7 @@ impl Model for Book {
 impl Book {
     /// A book without jobs and events. It takes no memory.
     pub fn new(alloc: Global) -> Book
-        ensures { result ≡ start }
+        ensures { result ≡ empty_book }
     {
         Book {
             count: 0,
@@ -94,7 +94,7 @@ impl Book {
             return Err(BookFault::HistoryFull);
         }
         let boxed = BoxedSeed::new(alloc, seed)?;
-        self.submit_boxed(alloc, boxed, rule, steps)
+        self.add_job(alloc, boxed, rule, steps)
     }
 
     /// `submit`, for a seed that has other owners, such as a history.
@@ -116,6 +116,21 @@ impl Book {
         if self.is_full() {
             return Err(BookFault::HistoryFull);
         }
+        self.add_job(alloc, seed, rule, steps)
+    }
+
+    /// Adds a job to a book whose history is not full.
+    fn add_job(
+        &mut self,
+        alloc: Global,
+        seed: BoxedSeed,
+        rule: Rule,
+        steps: u32,
+    ) -> Result<u32, BookFault>
+        requires { is_full self.old ≡ false }
+        ensures reply { RepliesAs (is_memory result) (number_reply result) self.old (Submit seed rule steps) }
+        ensures state { LeadsAs (is_memory result) self.old (Submit seed rule steps) self.new }
+    {
         let answer = submit_in(&mut self.jobs, alloc, seed, rule, steps);
         self.count = count_after(self.count, &answer);
         answer
@@ -170,7 +185,10 @@ impl Book {
     pub fn is_same(&self, lease: &Lease) -> bool
         ensures { IsTrue result ↔ IsSame self.now.jobs lease.now }
     {
-        is_same_in(&self.jobs, lease)
+        let Some(found) = self.jobs.get(lease.job() as usize) else {
+            return false;
+        };
+        found.runs(lease)
     }
 
     /// Orders a lease's next step, and returns the rule in force there. The order shares it with the job's
@@ -310,7 +328,8 @@ fn count_after<T>(count: u32, answer: &Result<T, BookFault>) -> u32
     }
 }
 
-/// Adds a job.
+// The calls on the list of jobs. They know nothing of the count of events.
+
 fn submit_in(
     jobs: &mut Vec<JobRecord>,
     alloc: Global,
@@ -359,7 +378,6 @@ fn has_all_jobs(jobs: usize) -> bool
     jobs >= MAX_JOBS
 }
 
-/// Replaces the rule of a job.
 fn replace_in(jobs: &mut Vec<JobRecord>, index: u32, rule: Rule) -> Result<u32, BookFault>
     ensures reply { MatchBool (is_memory result) (Unit {0})
         (number_reply result ≡ (on_job jobs.old.items index (replacing rule)).reply) }
@@ -374,7 +392,6 @@ fn replace_in(jobs: &mut Vec<JobRecord>, index: u32, rule: Rule) -> Result<u32, 
     found.replace(rule)
 }
 
-/// Ends the lease of a job.
 fn revoke_in(jobs: &mut Vec<JobRecord>, index: u32) -> Result<(), BookFault>
     ensures reply { done_reply result ≡ (on_job jobs.old.items index revoking).reply }
     ensures jobs { jobs.new.items ≡ (on_job jobs.old.items index revoking).jobs }
@@ -386,7 +403,6 @@ fn revoke_in(jobs: &mut Vec<JobRecord>, index: u32) -> Result<(), BookFault>
     found.revoke()
 }
 
-/// Ends a job and its lease.
 fn cancel_in(jobs: &mut Vec<JobRecord>, index: u32) -> Result<(), BookFault>
     ensures reply { done_reply result ≡ (on_job jobs.old.items index cancelling).reply }
     ensures jobs { jobs.new.items ≡ (on_job jobs.old.items index cancelling).jobs }
@@ -406,17 +422,6 @@ fn free_in(jobs: &[JobRecord]) -> Option<usize>
     jobs.iter().position(|job| job.is_free())
 }
 
-/// Whether a lease runs the road of its job.
-fn is_same_in(jobs: &[JobRecord], lease: &Lease) -> bool
-    ensures { IsTrue result ↔ IsSame jobs.now lease.now }
-{
-    let Some(found) = jobs.get(lease.job() as usize) else {
-        return false;
-    };
-    found.runs(lease)
-}
-
-/// Orders the next step of a lease.
 fn order_in(jobs: &mut Vec<JobRecord>, lease: &Lease, same: bool) -> Result<Order, BookFault>
     ensures reply { MatchBool (is_memory result) (Unit {0})
         (order_reply result
@@ -434,7 +439,6 @@ fn order_in(jobs: &mut Vec<JobRecord>, lease: &Lease, same: bool) -> Result<Orde
     found.order(lease, same)
 }
 
-/// Gives a job the road and the step of its lease.
 fn give_back_in(
     jobs: &mut Vec<JobRecord>,
     lease: Lease,
@@ -455,7 +459,6 @@ fn give_back_in(
     found.give_back(lease, same)
 }
 
-/// The state of a job at its steps done.
 fn read_in(jobs: &[JobRecord], alloc: Global, index: u32) -> Result<Snapshot, BookFault>
     ensures reply { MatchBool (is_memory result) (Unit {0})
         (seen_reply result ≡ (on_job jobs.now index reading).reply) }

@@ -4,7 +4,7 @@ use crate::fault::BookFault;
 use crate::rule::BoxedRule;
 use crate::seed::BoxedSeed;
 
-/// The parts of a lease that events keep: its job, its number, the step where it began, its next step, and
+/// The parts of a lease that events keep: its job, its number, the step at which it began, its next step, and
 /// whether it runs the road of its job.
 #[derive(Clone, Copy, PartialEq, Eq)]
 pub struct Offered {
@@ -43,7 +43,7 @@ pub enum Reply {
     },
     /// No job is free.
     NoLease,
-    /// A step was ordered: the job, the number of the lease, the step, and the one from which its rule is in force.
+    /// A step was ordered: the job, the number of the lease, the step, and the step from which its rule is in force.
     Ordered {
         job: u32,
         number: u32,

@@ -143,7 +143,7 @@ impl JobRecord {
         self.out.is_none() && !self.cancelled && self.done < self.steps
     }
 
-    /// Leases the job, whose number is `index`. `number` is that of the lease.
+    /// Leases the job, whose number is `index`; `number` is the lease's number.
     pub fn lend(&mut self, alloc: Global, index: u32, number: u32) -> Result<Lease, AllocError>
         ensures lease { IfOk result (λ lease. (lease.job ≡ index) × IsFresh self.old number lease) }
         ensures job { IfOk result (λ _. self.new ≡ (leasing index number self.old).job) }
@@ -232,7 +232,7 @@ impl JobRecord {
         })
     }
 
-    /// The job's tally with that of the steps of a lease.
+    /// The job's tally, with the tallies of a lease's steps added.
     fn tally_with(&self, lease: &Lease) -> StepTally
         requires base { lease.now.base.step ≡ self.now.done }
         requires own { IsOwnRun self.now lease.now }

@@ -3,8 +3,7 @@
 //!
 //! A job is submitted, leased, and run step by step as the book orders. Then the lease is given back:
 //!
-//! ```
-//! let mut book = Book::new(alloc);
+//! ```text
 //! let job = book.submit(alloc, seed, rule, 200).ok()?;
 //! if let Some(mut lease) = book.lease(alloc).ok()? {
 //!     while lease.step() < lease.steps() {

@@ -1,4 +1,4 @@
-//! Orders: which rule a lease has to run next.
+//! Orders: the rule that a lease has to run next.
 
 ghost use Rattle.std.specs.Prelude.{◌≡◌, ◌+◌, ◌<◌, ◌^◌};
 

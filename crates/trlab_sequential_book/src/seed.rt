@@ -105,7 +105,7 @@ impl Model for BoxedRoad {
 }
 
 impl BoxedRoad {
-    /// The road at step 0, which is that of the seed.
+    /// The road at step 0: the seed's road.
     pub(crate) fn of_seed(seed: BoxedSeed) -> BoxedRoad
         ensures { result ≡ seed.road }
     {
@@ -137,7 +137,7 @@ impl BoxedRoad {
         }
     }
 
-    /// Replaces the road by that of a later step.
+    /// Replaces the road by the road at a later step.
     pub(crate) fn come_to(&mut self, road: Arc<Road, Global>)
         ensures { self.new ≡ arc_value road }
     {

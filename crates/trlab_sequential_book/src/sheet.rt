@@ -16,7 +16,7 @@ use trlab_rules::Rule;
 /// The maximum number of entries of a sheet.
 pub const MAX_ENTRIES: usize = 1024;
 
-/// The rules of a job. Each entry is in force from its step to that of the next; the first begins at step 0.
+/// The rules of a job. Each entry is in force from its step up to the next entry's; the first begins at step 0.
 #[derive(Drop)]
 pub struct Sheet {
     entries: Vec<(u32, BoxedRule)>,

@@ -4,7 +4,7 @@ ghost use Rattle.std.specs.Prelude.{◌≡◌, length};
 ghost use Rattle.trlab_road.specs.Legal.{IsLegal};
 ghost use Rattle.trlab_step.specs.Laws.{IsLegalLike, IsSheetFor};
 ghost use Rattle.trlab_step.specs.Run.{IsRoadAt, IsTallyAt};
-ghost use Rattle.trlab_sequential_book.specs.Jobs.{start_of};
+ghost use Rattle.trlab_sequential_book.specs.Jobs.{run_start};
 
 use crate::seed::{BoxedRoad, BoxedSeed, Seed};
 use crate::sheet::Sheet;
@@ -37,7 +37,7 @@ impl Model for Snapshot {
 impl Snapshot {
     /// The initial state of the job.
     pub fn seed(&self) -> &Seed
-        ensures value { start_of result.now ≡ self.now.seed }
+        ensures value { run_start result.now ≡ self.now.seed }
         ensures legal { IsLegal result.now.road }
     {
         self.seed.get()

@@ -9,6 +9,7 @@ pub mod SumsOverCars
 pub mod Parts
 pub mod Stepped
 pub mod PartLaws
+pub mod Joined
 pub mod Blocks
 pub mod AskedCars
 pub mod BlockAnswers

@@ -5,11 +5,12 @@
 //!
 //! ```text
 //! let rule = nasch(alloc, Chance::new(0)?).ok()?;
-//! let road = Road::parse(alloc, 5, &[b"0.0......."]).ok()?;
+//! let road = Road::parse(alloc, LIMIT, &LANES).ok()?;
 //! let schedule = Schedule::new(rule, Vec::new(alloc));
-//! let mut run = Run::new(alloc, Key([0; 32]), 0, 0, road, schedule);
-//! run.advance(&Caller, alloc).ok()?;
-//! let picture = run.road().picture(alloc, 0).ok()?; // ".1.1......"
+//! let (key, number, warm) = (Key([0; 32]), 0, 0);
+//! Run::new(alloc, key, number, warm, road, schedule)
+//!     // then, for each step
+//!     run.advance(&Caller, alloc).ok()?;
 //! ```
 #![tactic(auto)]
 

@@ -13,7 +13,7 @@ use Rattle.atomic_table.proofs.Lists.{at_set, set_again, set_else}
 use Rattle.trlab_strands.proofs.Seats.{total_set, each_set, each_snoc, alone, times_push, times_append}
 use Rattle.trlab_strands.specs.declared.knowledge.Noted.{Noted}
 use Rattle.trlab_strands.specs.declared.knowledge.StrandKnowledge.{StrandKnowledge}
-use Rattle.trlab_strands.specs.Knowledge.{noted, number_of, times, once_below, StandsIn, StandIn, strand_knowledge, nothing, without_list, list_alone, less_a_part, one_part, both_seats, up_to_date, with_event}
+use Rattle.trlab_strands.specs.Knowledge.{noted, event_number, times, once_below, StandsIn, StandIn, strand_knowledge, nothing, without_list, list_alone, less_a_part, one_part, both_seats, up_to_date, with_event}
 use Rattle.trlab_strands.specs.Rule.{IsSoundStrand, AreSoundStrands, KeepsStrands, NotesEvent, LearnsList, Looks, Sees}
 
 off : false ≡ true → ⊥
@@ -75,7 +75,7 @@ module _ {E : Type 0} where
         once = λ k.
             let t = total_set (λ u. times k u.own) views id v w at in
             let p = r.once k in
-            let q = times_push number_of k v.own (noted v.all e) in
+            let q = times_push event_number k v.own (noted v.all e) in
             let n : once_below k (length (events ++ e ∷ [])) ≡ once_below k (length v.all) + cond (eqb (length v.all) k) 1 0 = ap (once_below k) (longer ∙ ap (λ (x : ℕ). x + 1) (sym long)) ∙ once_next k (length v.all) in
             let m : once_below k (length v.all) ≡ once_below k (length events) = ap (once_below k) long in
             omega arith;
@@ -166,7 +166,7 @@ module _ {E : Type 0} where
           parts = let t = total_set (λ u. u.parts) s.views id v b at in let n = total_set (λ u. u.parts) views other w nothing there in let p = k.parts in omega arith;
           keepers = let t = total_set (λ u. cond u.keeps 1 0) s.views id v b at in let n = total_set (λ u. cond u.keeps 1 0) views other w nothing there in let p = k.keepers in omega arith;
           count = let t = total_set (λ u. length u.own) s.views id v b at in let n = total_set (λ u. length u.own) views other w nothing there in let p = k.count in let q = length-append v.own w.own in omega arith;
-          once = λ x. let t = total_set (λ u. times x u.own) s.views id v b at in let n = total_set (λ u. times x u.own) views other w nothing there in let p = k.once x in let q = times_append number_of x v.own w.own in omega arith;
+          once = λ x. let t = total_set (λ u. times x u.own) s.views id v b at in let n = total_set (λ u. times x u.own) views other w nothing there in let p = k.once x in let q = times_append event_number x v.own w.own in omega arith;
           each = each_set (IsSoundStrand events) views other nothing (record { idle = λ _. refl; rises = zero-le; stand = All-nil _; list = λ e. absurd (off e) })
               (λ j u _ here. each_set (IsSoundStrand events) s.views id b
               (record { idle = λ z. absurd (omega arith); rises = let p = mine.rises in let q = theirs.rises in omega arith; stand = All-append (StandsIn events) v.own w.own mine.stand theirs.stand; list = theirs.list })

@@ -15,12 +15,12 @@ abbrev pub noted : {E : Type 0} → List E → E → Noted E
 noted before event = record { before = before; event = event }
 
 -- its number in the list: the number of earlier events
-abbrev pub number_of : {E : Type 0} → Noted E → ℕ
-number_of n = length n.before
+abbrev pub event_number : {E : Type 0} → Noted E → ℕ
+event_number n = length n.before
 
 -- how often this number is among theirs
 abbrev pub times : {E : Type 0} → ℕ → List (Noted E) → ℕ
-times k own = count_by (λ n. eqb (number_of n) k) own
+times k own = count_by (λ n. eqb (event_number n) k) own
 
 -- the list begins with the events before this one, and continues with it
 abbrev pub StandsIn : {E : Type 0} → List E → Noted E → Type 0

@@ -3,6 +3,11 @@
 //!
 //! So the owner of all strands knows of a whole history which thread added which event, and in which order.
 //! Strands need no memory but one word, which all of them share and no thread reads.
+//!
+//! ```text
+//! let (strands, mut keeper, mut strand) = blank.open::<L>();
+//! keeper.note(&strands, &mut strand, &7); // event 0 of the list, and an event of this strand
+//! ```
 #![tactic(auto)]
 
 mod knowledge;

@@ -53,7 +53,7 @@ pub struct Strand<L: Ledger, E> {
 }
 
 impl<E: Drop> Blank<E> {
-    ghost use Rattle.trlab_strands.specs.Tokens.{subhistory_of, least_of, list_of, name_of, parts_of};
+    ghost use Rattle.trlab_strands.specs.Tokens.{strand_events, strand_clock, list_of, name_of, strand_parts};
 
     /// The strands of an empty list.
     ///
@@ -69,8 +69,8 @@ impl<E: Drop> Blank<E> {
     pub fn open<L: Ledger>(self) -> (Strands<L, E>, Keeper<L, E>, Strand<L, E>)
         requires { name_of self ≡ L.name }
         ensures list { list_of result.1 ≡ [] }
-        ensures parts { parts_of result.2 ≡ ALL_PARTS }
-        ensures events { (subhistory_of result.2 ≡ []) × (least_of result.2 ≡ 0) }
+        ensures parts { strand_parts result.2 ≡ ALL_PARTS }
+        ensures events { (strand_events result.2 ≡ []) × (strand_clock result.2 ≡ 0) }
     {
         let Blank { table, mut seat } = self;
         let list = table.shared.split_seat::<Apart>(&mut seat);
@@ -92,7 +92,7 @@ impl<E: Drop> Blank<E> {
 }
 
 impl<L: Ledger, E: Drop> Keeper<L, E> {
-    ghost use Rattle.trlab_strands.specs.Tokens.{Adds, HasSeen, IsSame, subhistory_of, list_of, parts_of};
+    ghost use Rattle.trlab_strands.specs.Tokens.{Adds, CatchesUp, IsSameStrand, strand_events, list_of, strand_parts};
 
     /// Adds an event after the list, as one of this strand.
     pub fn note(&mut self, strands: &Strands<L, E>, strand: &mut Strand<L, E>, event: &E)
@@ -109,7 +109,7 @@ impl<L: Ledger, E: Drop> Keeper<L, E> {
     /// Lets a strand see the whole list: its clock rises to the length of the list. Nothing else changes.
     pub fn look(&mut self, strands: &Strands<L, E>, strand: &mut Strand<L, E>)
         ensures list { list_of self.new ≡ list_of self.old }
-        ensures strand { HasSeen strand.old (length (list_of self.old)) strand.new }
+        ensures strand { CatchesUp strand.old (length (list_of self.old)) strand.new }
     {
         let shared = &strands.table.shared;
         let list = shared.split_seat::<Apart>(&mut self.seat);
@@ -122,14 +122,14 @@ impl<L: Ledger, E: Drop> Keeper<L, E> {
     /// earlier events. The strand has at most as many events as the list, and exactly as many if it has all parts; the
     /// list is then a linearization of them.
     pub fn audit(&mut self, strands: &Strands<L, E>, strand: &mut Strand<L, E>)
-        ensures same { (list_of self.new ≡ list_of self.old) × IsSame strand.old strand.new }
-        ensures few { parts_of strand.old ≤ ALL_PARTS }
-        ensures stand { StandIn (list_of self.old) (subhistory_of strand.old) }
-        ensures most { length (subhistory_of strand.old) ≤ length (list_of self.old) }
-        ensures whole { parts_of strand.old ≡ ALL_PARTS
-            → length (subhistory_of strand.old) ≡ length (list_of self.old) }
-        ensures all { length (subhistory_of strand.old) ≡ length (list_of self.old)
-            → IsLinearization (list_of self.old) (subhistory_of strand.old) }
+        ensures same { (list_of self.new ≡ list_of self.old) × IsSameStrand strand.old strand.new }
+        ensures few { strand_parts strand.old ≤ ALL_PARTS }
+        ensures stand { StandIn (list_of self.old) (strand_events strand.old) }
+        ensures most { length (strand_events strand.old) ≤ length (list_of self.old) }
+        ensures whole { strand_parts strand.old ≡ ALL_PARTS
+            → length (strand_events strand.old) ≡ length (list_of self.old) }
+        ensures all { length (strand_events strand.old) ≡ length (list_of self.old)
+            → IsLinearization (list_of self.old) (strand_events strand.old) }
     {
         let shared = &strands.table.shared;
         let list = shared.split_seat::<Apart>(&mut self.seat);
@@ -140,16 +140,16 @@ impl<L: Ledger, E: Drop> Keeper<L, E> {
 }
 
 impl<L: Ledger, E: Drop> Strands<L, E> {
-    ghost use Rattle.trlab_strands.specs.Tokens.{subhistory_of, least_of, parts_of};
+    ghost use Rattle.trlab_strands.specs.Tokens.{strand_events, strand_clock, strand_parts};
 
     /// Takes one part from a strand that has two or more, and returns a strand with it and without events. The first
     /// keeps its events.
     pub fn split(&self, strand: &mut Strand<L, E>) -> Strand<L, E>
-        requires { 1 < parts_of strand.old }
-        ensures parts { (parts_of strand.new + 1 ≡ parts_of strand.old) × (parts_of result ≡ 1) }
-        ensures events { (subhistory_of strand.new ≡ subhistory_of strand.old) × (subhistory_of result ≡ []) }
-        ensures least { (least_of strand.new ≡ least_of strand.old)
-            × (least_of result ≡ least_of strand.old) }
+        requires { 1 < strand_parts strand.old }
+        ensures parts { (strand_parts strand.new + 1 ≡ strand_parts strand.old) × (strand_parts result ≡ 1) }
+        ensures events { (strand_events strand.new ≡ strand_events strand.old) × (strand_events result ≡ []) }
+        ensures least { (strand_clock strand.new ≡ strand_clock strand.old)
+            × (strand_clock result ≡ strand_clock strand.old) }
     {
         let seat = self.table.shared.split_seat::<OnePart>(&mut strand.seat);
         Strand {
@@ -160,9 +160,10 @@ impl<L: Ledger, E: Drop> Strands<L, E> {
 
     /// One strand with the parts and the events of both.
     pub fn gather(&self, one: Strand<L, E>, other: Strand<L, E>) -> Strand<L, E>
-        ensures parts { (parts_of result ≡ parts_of one + parts_of other) × (parts_of result ≤ ALL_PARTS) }
-        ensures events { subhistory_of result ≡ subhistory_of one ++ subhistory_of other }
-        ensures least { least_of result ≡ max (least_of one) (least_of other) }
+        ensures parts { (strand_parts result ≡ strand_parts one + strand_parts other)
+            × (strand_parts result ≤ ALL_PARTS) }
+        ensures events { strand_events result ≡ strand_events one ++ strand_events other }
+        ensures least { strand_clock result ≡ max (strand_clock one) (strand_clock other) }
     {
         let shared = &self.table.shared;
         let Strand { mut seat, .. } = one;

@@ -48,7 +48,7 @@ road_fault_number (SpeedAboveLimit lane place) = 5
 road_fault_number RoadMemory = 6
 road_fault_number TooManyCars = 7
 
--- the number of a cause that no other text has, of its words and lines
+-- the number of a cause in the words or the lines of a job or a sweep
 abbrev pub own_cause_number : Cause → ℕ
 own_cause_number Line = 1
 own_cause_number Number = 2
@@ -71,6 +71,6 @@ cause_number StandardRefused = 40
 cause_number (Verdict reason) = 40 + reason
 cause_number cause = own_cause_number cause
 
--- a cause with another number than that of a standard rule whose program is rejected
+-- a cause whose number is not that for a standard rule with a rejected program
 abbrev pub IsOtherCause : Cause → Type 0
 IsOtherCause cause = cause_number cause ≢ cause_number StandardRefused

@@ -22,6 +22,6 @@ name_word Measure = codes "measure"
 name_word Cars = codes "cars"
 name_word End = codes "end"
 
--- the same, and a space after it
+-- the first word of a line, and a space after it
 abbrev pub name_and_space : LineName → List ℕ
 name_and_space name = name_word name ++ codes " "

@@ -1,4 +1,4 @@
--- What is left of a text while it is read line by line.
+-- The rest of a text that is read line by line.
 use Rattle.std.specs.Prelude.{◌≡◌, ℕ, ◌+◌, List, ◌∷◌}
 use Rattle.trlab_lines.specs.Lines.{lines_of}
 
@@ -8,8 +8,8 @@ pub record Rest : Type 0 where
   pub left : List (List ℕ)
 
 -- all lines of a text
-abbrev pub start : List ℕ → Rest
-start text = record { number = 1; left = lines_of text }
+abbrev pub all_lines : List ℕ → Rest
+all_lines text = record { number = 1; left = lines_of text }
 
 -- the next line of a rest, and the rest after it
 abbrev pub IsNextLine : Rest → List ℕ → Rest → Type 0

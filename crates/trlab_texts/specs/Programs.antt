@@ -23,18 +23,18 @@ use Rattle.trlab_texts.specs.Reading.{Fault, Rule, Reading, ◌>>=◌, LineSays,
 abbrev pub Spell : List ℕ → Program → Type 0
 Spell bytes program = IsProgram program × (bytes ≡ encoding program)
 
--- what the bytes of a program say: the program that they encode, or their first fault
+-- the result for bytes: the program that they encode, or their first fault
 abbrev pub BytesSay : List ℕ → Result Program Cause → Type 0
 BytesSay bytes (Ok program) = Spell bytes program
 BytesSay bytes (Err (Code fault)) = FirstCodeFault bytes fault × (fault ≢ CodeMemory)
 BytesSay bytes (Err cause) = ⊥
 
--- what hexadecimal digits of either case say
+-- the result for hexadecimal digits of either case
 abbrev pub DigitsSay : Result (List ℕ) FromHexError → Result Program Cause → Type 0
 DigitsSay (Err fault) says = says ≡ Err Hex
 DigitsSay (Ok bytes) says = BytesSay bytes says
 
--- what the word of the line `code X` says
+-- the result for the word of the line `code X`
 abbrev pub CodeSays : Result (List ℕ) Cause → Result Program Cause → Type 0
 CodeSays (Err cause) says = says ≡ Err cause
 CodeSays (Ok digits) says = DigitsSay (decode_of digits) says
@@ -43,14 +43,14 @@ CodeSays (Ok digits) says = DigitsSay (decode_of digits) says
 abbrev pub code_line : Rule Program
 code_line text says = CodeSays (word_after (codes "code ") text) says
 
--- a program if one of a kind is needed: a program of the other kind is a fault of its code
+-- a program, if it is of the kind that is needed; a program of the other kind is a fault of its code
 abbrev pub as_kind : Kind → Kind → Program → Result Program Cause
 as_kind Motion Motion program = Ok program
 as_kind Motion Change program = Err (Code OtherKind)
 as_kind Change Motion program = Err (Code OtherKind)
 as_kind Change Change program = Ok program
 
--- the same, if there is a program
+-- a result, if its program has to be of a kind
 abbrev pub of_kind : Kind → Result Program Cause → Result Program Cause
 of_kind kind (Err cause) = Err cause
 of_kind kind (Ok program) = as_kind kind program.kind program
@@ -60,13 +60,13 @@ abbrev pub code_line_of : Kind → Rule Program
 code_line_of kind text says =
     (any : Result Program Cause) × (code_line text any × (says ≡ of_kind kind any))
 
--- what an assembler says of the lines after the line `first`, with line numbers of the whole text; a fault of
--- no line, as in a program without instructions, is at the line `first`
+-- the assembler's result for the lines after the line `first`, with line numbers of the whole text; a fault
+-- without a line, as in a program without instructions, is at the line `first`
 abbrev pub after_line : ℕ → Result Program AsmFault → Result Program Fault
 after_line first (Ok program) = Ok program
 after_line first (Err fault) = Err (record { line = first + fault.line; cause = InProgram fault.why })
 
--- what the lines of a program of a kind say, after the line `first`
+-- the result for the lines of a program of a kind, which follow the line `first`
 abbrev pub program_after : Kind → ℕ → List (List ℕ) → Result Program Fault
 program_after kind first lines = after_line first (code_of kind lines)
 
@@ -74,7 +74,7 @@ program_after kind first lines = after_line first (code_of kind lines)
 abbrev pub Part : Type 0
 Part = List (List ℕ) × List (List ℕ)
 
--- a line before those of a part, if there is one
+-- a part with one more line in front, if there is a part
 abbrev pub with_first : List ℕ → Option Part → Option Part
 with_first text None = None
 with_first text (Some found) = Some (text ∷ found.0, found.1)
@@ -95,7 +95,7 @@ abbrev pub heading_line : Kind → List ℕ
 heading_line Motion = codes "motion"
 heading_line Change = codes "change"
 
--- the program of a block that begins on the line `first`: the lines before `end`; if that is missing, the
+-- the program of a block that begins on the line `first`: the lines before `end`; without a line `end` the
 -- text ends too early
 abbrev pub block : Kind → ℕ → List (List ℕ) → Option Part → Result (Program × Rest) Fault
 block kind first left None = Err (record { line = first + 1 + length left; cause = Line })
@@ -103,13 +103,13 @@ block kind first left (Some parts) =
     before (record { number = first + length parts.0 + 2; left = parts.1 })
     (program_after kind first parts.0)
 
--- a program, if its first line begins a block, and if it does not
+-- the result for a program, if its first line begins a block, and if it does not
 abbrev pub HeadingSays : Kind → Bool → ℕ → List ℕ → List (List ℕ)
     → Result (Program × Rest) Fault → Type 0
 HeadingSays kind true number text left out = out ≡ block kind number left (part_of left)
 HeadingSays kind false number text left out = LineSays (code_line_of kind) number (text ∷ left) out
 
--- a program by the lines from a number on
+-- the result for a program, from the line with this number on
 abbrev pub PartSays : Kind → ℕ → List (List ℕ) → Result (Program × Rest) Fault → Type 0
 PartSays kind number [] out = out ≡ Err (record { line = number; cause = Line })
 PartSays kind number (text ∷ left) out =
@@ -119,7 +119,7 @@ PartSays kind number (text ∷ left) out =
 abbrev pub program_part : Kind → Reading Program
 program_part kind rest out = PartSays kind rest.number rest.left out
 
--- what the verifier says of a program of a kind whose first line is `first`: that it is accepted, with its
+-- the verifier's verdict on a program of a kind whose first line is `first`: the accepted program with its
 -- budget, or why it is rejected
 abbrev pub VerdictSays : Kind → ℕ → Program → Result CheckedProgram Fault → Type 0
 VerdictSays kind first program (Ok checked) =
@@ -127,7 +127,7 @@ VerdictSays kind first program (Ok checked) =
 VerdictSays kind first program (Err fault) = (at reason : ℕ)
     × (IsRefused kind program at reason × (fault ≡ record { line = first; cause = Verdict reason }))
 
--- the verdict, once the lines of a program were read
+-- the verdict on a program whose lines were read
 abbrev pub verdict : Kind → ℕ → Program → Reading CheckedProgram
 verdict kind first program rest out =
     (says : Result CheckedProgram Fault)

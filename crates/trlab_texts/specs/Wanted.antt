@@ -1,4 +1,4 @@
--- What a reader wanted when it rejected a file.
+-- The input that a reader wanted when it rejected a file.
 use Rattle.std.specs.Prelude.{◌≡◌, ℕ, ◌≤◌, List, length, Err}
 use Rattle.trlab_code.specs.declared.kind.Kind.{Kind}
 use Rattle.trlab_road.specs.declared.fault.RoadFault.TheVariants.{Length, SpeedAboveLimit}
@@ -19,7 +19,7 @@ abbrev pub IsNoNumberAt : List ℕ → ℕ → ℕ → ℕ → ℕ → Type 0
 IsNoNumberAt line at size least most = (word : List ℕ)
     × (HasBytesAt line at word × ((length word ≡ size) × (within least most (number_of word) ≡ Err NoNumber)))
 
--- what is wanted for each cause, in a line; other pairs of the two never occur
+-- a cause and the input that can be wanted for it, in a line; no other pair occurs
 abbrev pub IsWantedIn : List ℕ → Cause → Wish → Type 0
 IsWantedIn line Line (Lines names) = Unit {0}
 IsWantedIn line NoNumber (Number at size least most quantity) = IsNoNumberAt line at size least most
@@ -41,12 +41,12 @@ IsWantedIn line (Road fault) Nothing = Unit {0}
 IsWantedIn line StandardRefused Nothing = Unit {0}
 IsWantedIn line cause wanted = ⊥
 
--- the same of a fault of a line; if an allocation fails nothing is wanted
+-- the input that can be wanted at a fault of a line; nothing if an allocation failed
 abbrev pub IsWantedAt : List ℕ → LineFault → Wish → Type 0
 IsWantedAt line (Wrong cause) wanted = IsWantedIn line cause wanted
 IsWantedAt line NoMemory wanted = wanted ≡ Nothing
 
--- the same of a fault of a text
+-- the input that can be wanted at a fault of a text; nothing if an allocation failed
 abbrev pub IsWanted : List ℕ → TextFault → Wish → Type 0
 IsWanted line (At number cause) wanted = IsWantedIn line cause wanted
 IsWanted line Memory wanted = wanted ≡ Nothing

@@ -20,20 +20,20 @@ abbrev pub one_word : Option (List ℕ) → Result (List ℕ) Cause
 one_word None = Err Line
 one_word (Some word) = if is_word word then Ok word else Err Line
 
--- the one word of a line after its name, which ends with a space
+-- the only word of a line after its name, which ends with a space
 abbrev pub word_after : List ℕ → List ℕ → Result (List ℕ) Cause
 word_after name text = one_word (without_prefix name text)
 
--- the number whose decimal digits a word is
+-- the number that a word writes in decimal digits, without a leading 0
 abbrev pub number_of : List ℕ → Option ℕ
 number_of word = if bytes_eq (decimal (digits_value 10 word)) word then Some (digits_value 10 word) else None
 
--- a number from low to high
+-- a number, if it is from low to high
 abbrev pub within : ℕ → ℕ → Option ℕ → Result ℕ Cause
 within low high None = Err Number
 within low high (Some n) = if nat_le low n && nat_le n high then Ok n else Err Number
 
--- the number from low to high that a word writes, if there is a word
+-- the number from low to high that a word writes, if the line has the word
 abbrev pub number_within : ℕ → ℕ → Result (List ℕ) Cause → Result ℕ Cause
 number_within low high (Err cause) = Err cause
 number_within low high (Ok word) = within low high (number_of word)
@@ -42,7 +42,7 @@ number_within low high (Ok word) = within low high (number_of word)
 abbrev pub head_word : List ℕ → List ℕ
 head_word text = front_or_all text (cut 32 text)
 
--- a line is left whose first word is this one
+-- the next line begins with this word
 abbrev pub next_word_is : List ℕ → List (List ℕ) → Bool
 next_word_is word [] = false
 next_word_is word (text ∷ left) = bytes_eq (head_word text) word
@@ -56,6 +56,6 @@ abbrev pub both_words : Option (List ℕ × List ℕ) → Option (List ℕ × Li
 both_words None = None
 both_words (Some parts) = if is_word parts.0 && is_word parts.1 then Some parts else None
 
--- the two words that a text is, with one space between them
+-- the two words of a text with one space between them
 abbrev pub two_words : List ℕ → Option (List ℕ × List ℕ)
 two_words text = both_words (cut 32 text)

@@ -9,7 +9,7 @@ use trlab_asm::Why;
 use trlab_code::CodeFault;
 use trlab_road::RoadFault;
 
-/// What is wrong in a line of a text.
+/// The cause of a line's fault.
 #[derive(Clone, Copy, Debug, PartialEq, Eq, Error)]
 pub enum Cause {
     /// Not a line that may come here, a wrong number of words, or the end of the text.
@@ -24,7 +24,7 @@ pub enum Cause {
     /// A change program on a road of one lane.
     #[error("a change program needs two lanes")]
     OneLane,
-    /// The step is not above the one before it, or not below the number of steps.
+    /// The step is not above the step before it, or not below the number of steps.
     #[error("the step does not rise, or is not below the count of steps")]
     Order,
     /// More rules of later steps than a job may have, or more points than a sweep may have.
@@ -130,7 +130,6 @@ fn road_fault_number(fault: RoadFault) -> u64
 /// Why a line was rejected.
 #[derive(Clone, Copy, Debug, PartialEq, Eq, Error)]
 pub enum LineFault {
-    /// The cause.
     #[error("{0}")]
     Wrong(Cause),
     #[error("out of memory")]

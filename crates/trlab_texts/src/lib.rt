@@ -1,4 +1,9 @@
 //! Texts in lines: their words and numbers, the programs in them, and their first fault.
+//!
+//! ```text
+//! let line = b"steps 20";
+//! let steps = Excerpt::number_after(LineName::Steps, 0, 100, Quantity::Other, line).ok()?; // 20
+//! ```
 #![tactic(auto)]
 
 mod excerpt;

@@ -41,7 +41,7 @@ pub fn code_digits(line: &[u8]) -> Result<Excerpt<'_>, Objection<'_>>
     Excerpt::word_after(b"code ", line)
 }
 
-/// Reads the line `code X` of a program of either kind. A rejection says what was wanted.
+/// Reads the line `code X` of a program of either kind. A rejection has the wanted input.
 ///
 /// # Errors
 ///
@@ -79,7 +79,7 @@ pub fn code_line(alloc: Global, line: &[u8]) -> Result<Code, LineFault>
 ///
 /// # Errors
 ///
-/// Those of `parse_code`, and `CodeFault::Kind` for a program of the other kind.
+/// The faults of `parse_code`, and `CodeFault::Kind` for a program of the other kind.
 pub fn parse_code_of(alloc: Global, kind: Kind, line: &[u8]) -> Result<Code, LineRefusal<'_>>
     ensures { ReportsLine (code_line_of kind line.now) result }
 {

@@ -1,4 +1,4 @@
-//! Refusals: the first fault of a line or of a text, with what the reader wanted instead.
+//! Refusals: the first fault of a line or of a text, and the input that the reader wanted instead.
 
 ghost use Rattle.std.specs.Prelude.{◌≡◌, []};
 ghost use Rattle.trlab_texts.specs.Reading.{text_fault};
@@ -21,7 +21,7 @@ pub enum Quantity {
     Other,
 }
 
-/// What a reader wanted when it rejected a file. Positions are in bytes from the start of the line.
+/// The input that a reader wanted when it rejected a file. Positions are in bytes from the start of the line.
 #[derive(Drop)]
 pub enum Wanted {
     /// Nothing to add to the cause.
@@ -69,7 +69,7 @@ pub enum Wanted {
     },
 }
 
-/// What is wrong in a line, and what was wanted instead.
+/// The cause of a line's fault, and the input that was wanted instead.
 #[derive(Drop)]
 pub struct Objection<'a> {
     cause: Cause,
@@ -89,7 +89,7 @@ impl<'a> Model for Objection<'a> {
 }
 
 impl<'a> Objection<'a> {
-    /// An objection with what was wanted in this line.
+    /// An objection, and the input that was wanted in this line.
     pub fn new(cause: Cause, line: &'a [u8], wanted: Wanted) -> Objection<'a>
         requires { IsWantedIn line.now cause wanted }
         ensures { result ≡ cause }
@@ -125,7 +125,7 @@ impl<'a> Objection<'a> {
     }
 }
 
-/// Why a line was rejected, and what was wanted instead.
+/// Why a line was rejected, and the input that was wanted instead.
 #[derive(Drop)]
 pub struct LineRefusal<'a> {
     fault: LineFault,
@@ -203,7 +203,7 @@ impl<'a> LineRefusal<'a> {
     }
 }
 
-/// Why a text was rejected, and what was wanted at its first fault.
+/// Why a text was rejected, and the input that was wanted at its first fault.
 #[derive(Drop)]
 pub struct Refusal<'a> {
     fault: TextFault,
@@ -223,7 +223,7 @@ impl<'a> Model for Refusal<'a> {
 }
 
 impl<'a> Refusal<'a> {
-    /// A refusal with what was wanted in this line.
+    /// A refusal, and the input that was wanted in this line.
     pub fn new(fault: TextFault, line: &'a [u8], wanted: Wanted) -> Refusal<'a>
         requires { IsWanted line.now fault wanted }
         ensures { result ≡ fault }
@@ -267,7 +267,7 @@ impl<'a> Refusal<'a> {
         self.fault
     }
 
-    /// The fault, the line to which positions refer, and what was wanted.
+    /// The fault, the line to which positions refer, and the wanted input.
     pub fn into_parts(self) -> (TextFault, &'a [u8], Wanted)
         ensures fault { result.0 ≡ self.entry }
         ensures wanted { IsWanted result.1.now result.0 result.2 }

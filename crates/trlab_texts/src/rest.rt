@@ -2,7 +2,7 @@
 
 ghost use Rattle.std.specs.Prelude.{◌≡◌, ◌+◌, ◌-◌, ◌<◌, ◌^◌, [], ◌∷◌, None, length, MatchOption, MatchResult, IsTrue, ◌↔◌};
 ghost use Rattle.trlab_lines.specs.Lines.{lines_of};
-ghost use Rattle.trlab_texts.specs.Lines.{IsNextLine, Rest as RestOfLines, start};
+ghost use Rattle.trlab_texts.specs.Lines.{IsNextLine, Rest as RestOfLines, all_lines};
 ghost use Rattle.trlab_texts.specs.Programs.{SplitsPart, part_of};
 ghost use Rattle.std.specs.Fn.{FnOnceReturnsAt};
 ghost use Rattle.trlab_texts.specs.declared.fault.Cause.{Cause};
@@ -37,7 +37,7 @@ impl<'a> Rest<'a> {
     /// All lines of a text.
     pub fn start(text: &'a [u8]) -> Rest<'a>
         requires { length text.now < 2 ^ 31 }
-        ensures { result ≡ start text.now }
+        ensures { result ≡ all_lines text.now }
     {
         Rest {
             left: text,
@@ -92,7 +92,7 @@ impl<'a> Rest<'a> {
         }
     }
 
-    /// The names that the next line may have, and this one.
+    /// The names that the next line may have, with this one added.
     pub fn names_with(&self, name: LineName) -> LineNames {
         self.asked.with(name)
     }
@@ -104,7 +104,7 @@ impl<'a> Rest<'a> {
         Refusal::no_line(self.number, self.names_with(name))
     }
 
-    /// Returns the next line, if there is one, and the rest after it.
+    /// Returns the next line, if a line is left, and the rest after it.
     pub fn next(self) -> Option<(&'a [u8], Rest<'a>)>
         ensures { MatchOption result (self.entry.left ≡ [])
             (λ found. IsNextLine self.entry found.0.now found.1) }

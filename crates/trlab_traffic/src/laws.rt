@@ -75,8 +75,9 @@ pub fn free_flow_stays_free()
     ensures turned { FreeFlowTurns }
 {}
 
-/// Slow starts make free flow metastable: at one density free flow goes on for ever, and so does a jam (Barlovic,
-/// Santen, Schadschneider and Schreckenberg 1998, Eur. Phys. J. B 5, 793).
+/// Slow starts make free flow metastable: if moving cars never brake at random, free flow goes on for ever; if stopped
+/// cars always do, a road of stopped cars stays as it is (Barlovic, Santen, Schadschneider and Schreckenberg 1998, Eur.
+/// Phys. J. B 5, 793).
 pub fn slow_starts_are_metastable()
     ensures free { SlowStartsKeepFreeFlow }
     ensures turned { SlowStartsTurnFreeFlow }
@@ -207,8 +208,8 @@ pub fn rules_reduce_to_nasch()
     ensures runs { RunsAlike }
 {}
 
-/// With the limit 1 and without randomization the rule of 1992 is rule 184 (Wolfram 1983, Rev. Mod. Phys. 55, 601), in
-/// which empty cells move backwards as cars move forwards.
+/// With the limit 1 and without randomization the rule of 1992 takes each lane through a step of rule 184 (Wolfram 1983,
+/// Rev. Mod. Phys. 55, 601). Backwards round the ring, empty cells follow rule 184 too.
 pub fn nasch_is_rule_184()
     ensures rule { NaschIsRule184 }
     ensures holes { EmptyCellsGoBack }

@@ -38,7 +38,7 @@ def draw() -> str:
         drawing.text(middle, 188, f"has drawn {tickets}", "middle")
         drawing.text(middle, 210, "asks these cars", "middle", 12)
     segments(drawing, 290, "", "answers")
-    drawing.text(LEFT, 352, "in ticket order: the same answers as from one worker, whoever drew which ticket", weight="bold")
+    drawing.text(LEFT, 352, "in ticket order: the same answers as from one worker, however tickets were drawn", weight="bold")
     drawing.box(LEFT, 370, 150, 28, "#f6f6f6", FRAME)
     drawing.text(LEFT + 75, 389, "next ticket", "middle")
     drawing.text(LEFT + 162, 389, "the only number that all workers write: each draw adds 1 in one atomic step")

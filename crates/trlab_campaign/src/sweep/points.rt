@@ -7,10 +7,10 @@ ghost use Rattle.trlab_road.specs.Legal.{IsLegal};
 ghost use Rattle.trlab_road.specs.Spreading.{IsEven};
 ghost use Rattle.trlab_step.specs.Run.{IsTallyAt};
 ghost use Rattle.trlab_step.specs.Progress.{at_start};
-ghost use Rattle.trlab_sequential_book.specs.Jobs.{start_of};
+ghost use Rattle.trlab_sequential_book.specs.Jobs.{run_start};
 ghost use Rattle.trlab_jobs.specs.Shapes.{all_steps};
 ghost use Rattle.trlab_jobs.specs.Stored.{Spreads};
-ghost use Rattle.trlab_campaign.specs.SweepOutput.{IsPoint, point_of, seed_of, sheet_of};
+ghost use Rattle.trlab_campaign.specs.SweepOutput.{IsPoint, point_of, point_seed, sweep_sheet};
 
 use std::alloc::{AllocError, Global};
 use trlab_diagram::Point;
@@ -37,7 +37,7 @@ pub fn even_road(alloc: Global, sweep: &Sweep, cars: u32) -> Result<Road, AllocE
 fn run_of(alloc: Global, sweep: &Sweep, number: u32, road: Road) -> Result<Run, AllocError>
     requires { length road.lanes ≡ sweep.now.setup.shape.lanes }
     ensures { IfOk result (λ run.
-        run ≡ at_start (seed_of sweep.now.setup number road) (sheet_of sweep.now.setup)) }
+        run ≡ at_start (point_seed sweep.now.setup number road) (sweep_sheet sweep.now.setup)) }
 {
     let rule = sweep.rule.copy(alloc)?;
     let sheet = Schedule::new(rule, Vec::new(alloc));
@@ -58,8 +58,8 @@ fn count_run(alloc: Global, run: &mut Run, steps: u32) -> Result<StepTally, Allo
 /// The sum of the tallies of the point with this number, whose road is run from its start.
 fn tally_of(alloc: Global, sweep: &Sweep, number: u32, road: Road) -> Result<StepTally, AllocError>
     requires { length road.lanes ≡ sweep.now.setup.shape.lanes }
-    ensures { IfOk result (λ tally. IsTallyAt (seed_of sweep.now.setup number road)
-        (sheet_of sweep.now.setup) (all_steps sweep.now.setup.span) tally) }
+    ensures { IfOk result (λ tally. IsTallyAt (point_seed sweep.now.setup number road)
+        (sweep_sheet sweep.now.setup) (all_steps sweep.now.setup.span) tally) }
 {
     let mut run = run_of(alloc, sweep, number, road)?;
     let tally = count_run(alloc, &mut run, sweep.warm + sweep.measure);
@@ -101,9 +101,9 @@ pub fn run_point(
     Ok(point_of(sweep, cars, tally))
 }
 
-/// Whether a seed is that of the point with this number, which starts from `road`.
+/// Whether the point with this number, which starts from `road`, has this seed.
 fn is_seed_of(sweep: &Sweep, number: u32, road: &Road, seed: &Seed) -> bool
-    ensures { IsTrue result → start_of seed.now ≡ seed_of sweep.now.setup number road.now }
+    ensures { IsTrue result → run_start seed.now ≡ point_seed sweep.now.setup number road.now }
 {
     seed.number == number
         && seed.warm == sweep.warm
@@ -111,10 +111,10 @@ fn is_seed_of(sweep: &Sweep, number: u32, road: &Road, seed: &Seed) -> bool
         && seed.road.equals(road)
 }
 
-/// Whether a sheet is that of a sweep: its rule, from step 0 on.
+/// Whether a sheet has only the rule of the sweep, from step 0 on.
 #[tactic(auto, using(crate::proofs::OneEntry::one_entry))]
 fn is_sheet_of(sweep: &Sweep, sheet: &BookSheet) -> bool
-    ensures { IsTrue result → sheet.now ≡ sheet_of sweep.now.setup }
+    ensures { IsTrue result → sheet.now ≡ sweep_sheet sweep.now.setup }
 {
     if sheet.len() != 1 {
         return false;

@@ -21,7 +21,7 @@ use trlab_jobs::Sweep;
 use trlab_sequential_book::{Event, Seed};
 use trlab_strands::{Blank, Ledger};
 
-/// The most cars that the roads of a batch have together: those of 32 roads of the largest size.
+/// The maximum number of cars on the roads of a batch together: as many as on 32 roads of the largest size.
 const MAX_AT_ONCE: u32 = 6_400_000;
 
 /// The points `first` up to but not including `end` of a sweep, whose roads are kept at the same time.
@@ -135,8 +135,8 @@ impl<'a, R: Threads + Wait + Sync, O: ProgressObserver + Sync> Runners<'a, R, O>
         Ok(())
     }
 
-    /// The point with this number: that of the book's job or, if the job has not reached its last step, that of
-    /// a run by the caller.
+    /// The point with this number: from the book's job or, if the job has not reached its last step, from a run by
+    /// the caller.
     fn point<L: Ledger>(
         &self,
         book: &SharedBook<L>,

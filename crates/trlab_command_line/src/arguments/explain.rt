@@ -2,7 +2,7 @@
 
 ghost use Rattle.std.specs.Prelude.{◌≡◌, IfOk, Ok, codes, option_map};
 ghost use Rattle.clap.specs.Words.{FailsBy, found_of, kind_of, rows_of};
-ghost use Rattle.trlab_command_line.specs.Explains.{explained, explained_in, kinds_of, subject_named, topic_named};
+ghost use Rattle.trlab_command_line.specs.Explains.{explained, explained_in, error_kinds, subject_of_command, topic_named};
 ghost use Rattle.trlab_command_line.specs.Numbers.{HasFlag, MayHaveNumber};
 
 use crate::arguments::commands::explain_command;
@@ -23,8 +23,8 @@ pub enum Explaining {
 }
 
 /// The kind of input that the command of this name reads.
-fn subject_named(name: &[u8]) -> Option<Subject>
-    ensures { result ≡ subject_named name.now }
+fn subject_of_command(name: &[u8]) -> Option<Subject>
+    ensures { result ≡ subject_of_command name.now }
 {
     if name == b"run".as_slice() {
         Some(Subject::Job)
@@ -63,7 +63,7 @@ fn explained(
         return Ok(Explaining::Text(None, form));
     };
     let name = what.as_bytes();
-    match (subject_named(name), topic_named(name), number) {
+    match (subject_of_command(name), topic_named(name), number) {
         (Some(subject), _, None) => Ok(Explaining::Text(Some(subject), form)),
         (Some(_), _, Some(_)) => Err(ErrorKind::UnknownArgument),
         (None, Some(_), _) if is_json => Err(ErrorKind::ArgumentConflict),
@@ -84,7 +84,9 @@ fn refusal_text(alloc: Global, kind: ErrorKind, what: &str) -> Result<String, Al
             )
         }
         _ => format!(in alloc;
-            "unknown word {what:?} after `explain`\n  [possible words: run, sweep, check, cause, reason]\n  To explain a file, type: trlab explain < FILE"
+            "unknown word {what:?} after `explain`\n  \
+             [possible words: run, sweep, check, cause, reason]\n  \
+             To explain a file, type: trlab explain < FILE"
         ),
     }
 }
@@ -107,7 +109,7 @@ pub fn explaining_of(alloc: Global, matches: &ArgMatches) -> Result<Explaining, 
     requires number { MayHaveNumber (codes "number") (rows_of (found_of matches.now)) }
     requires json { HasFlag (codes "json") (rows_of (found_of matches.now)) }
     ensures answer { IfOk result (λ asked. explained_in (rows_of (found_of matches.now)) ≡ Ok asked) }
-    ensures fault { FailsBy (kinds_of (explained_in (rows_of (found_of matches.now)))) result }
+    ensures fault { FailsBy (error_kinds (explained_in (rows_of (found_of matches.now)))) result }
 {
     let what = matches.get_str("what");
     let number = given_number(matches, "number");

@@ -3,7 +3,7 @@
 ghost use Rattle.std.specs.Prelude.{◌≡◌, ℕ, ◌≤◌, ◌<◌, ◌^◌};
 ghost use Rattle.clap.specs.Words.{Text, rows_of};
 ghost use Rattle.clap.specs.Matches.{found_of};
-ghost use Rattle.trlab_command_line.specs.Numbers.{GivesFlag, GivesNumber, HasFlag, HasValueFrom, MayHaveNumber, number_in};
+ghost use Rattle.trlab_command_line.specs.Numbers.{GivesFlag, GivesNumber, HasFlag, HasValueFrom, MayHaveNumber, argument_number};
 
 use clap::ArgMatches;
 
@@ -35,7 +35,7 @@ pub fn count_of(matches: &ArgMatches, option: &str) -> u32
 /// The number of an argument, if it is given.
 pub fn given_number(matches: &ArgMatches, argument: &str) -> Option<u32>
     requires { MayHaveNumber (argument.now) (rows_of (found_of matches.now)) }
-    ensures { result ≡ number_in (argument.now) (rows_of (found_of matches.now)) }
+    ensures { result ≡ argument_number (argument.now) (rows_of (found_of matches.now)) }
 {
     matches.get_one::<u32>(argument)
 }

@@ -1,14 +1,15 @@
 //! Candidates for a line that is not one of those that would be valid there.
 
+use crate::Result;
 use crate::alike::nearest;
 use crate::candidates::number::density_candidate;
 use crate::candidates::program::end_candidates;
-use crate::candidates::{COMMENT, Candidates, LATE, MISSPELLED};
+use crate::candidates::{COMMENT, Candidates, LATE};
 use crate::instruction::name_and_operands;
-use crate::names::{CHECK_NAMES, RULES, after_rule, is_lone, is_name_of_line, listed};
-use crate::replacement::{Replacement, has_odd_blanks};
+use crate::names::{CHECK_NAMES, RULES, after_rule, is_name_of_line, listed};
+use crate::repair::Change;
 use crate::subject::{Subject, is_named, subject_named};
-use std::alloc::AllocError;
+use std::alloc::Global;
 use trlab_asm::mnemonic_named;
 use trlab_lines::cut;
 use trlab_texts::word::{head_word, without_prefix};
@@ -35,164 +36,145 @@ const OTHER_WORDS: [(&[u8], LineName); 14] = [
     (b"sample", LineName::Measure),
 ];
 
-/// Adds that words are separated by single spaces, with none at either end of the line.
-fn blanks_candidate(list: &mut Candidates<'_>) {
-    if list.line.len() <= LONGEST_LINE && has_odd_blanks(list.line) {
-        list.whole_line(
-            "separate words with one space, with none at either end of the line.",
-            Replacement::Spaced,
-        );
-    }
+/// Whether a byte separates words, also where it must not.
+fn separates(byte: u8) -> bool {
+    byte == b' ' || byte == b'\t' || byte == b'\r'
 }
 
-/// The length of a line without the blanks at its end.
-fn end_of_words(line: &[u8]) -> usize {
-    let mut end = 0usize;
-    let mut place = 0usize;
-    for byte in line {
-        place = place.saturating_add(1);
-        if *byte != b' ' && *byte != b'\t' {
-            end = place;
+/// The words of a line with a separator between each two, or a space if there is a comma already.
+pub fn joined(alloc: Global, words: &[u8], separator: &[u8]) -> Result<Vec<u8>> {
+    let mut bytes = Vec::new(alloc);
+    let mut is_after_blank = false;
+    for byte in words {
+        if separates(*byte) {
+            is_after_blank = !bytes.is_empty();
+            continue;
         }
+        if is_after_blank {
+            let has_comma = bytes.last() == Some(&b',');
+            bytes.extend_from_slice(if has_comma { b" " } else { separator })?;
+        }
+        bytes.push(*byte)?;
+        is_after_blank = false;
     }
-    end
+    Ok(bytes)
+}
+
+/// Adds that words are separated by single spaces, with none at either end of the line.
+fn blanks_candidate(list: &mut Candidates<'_>) -> Result<()> {
+    if list.line.len() > LONGEST_LINE {
+        return Ok(());
+    }
+    let words = joined(list.alloc, list.line, b" ")?;
+    if words.is_empty() || words.as_slice() == list.line {
+        return Ok(());
+    }
+    let mistake = "separate words with one space, with none at either end of the line.";
+    list.whole_line(mistake, &words)
 }
 
 /// Adds that the first such byte, all bytes after it and the blanks before it are deleted.
-fn comment_candidate(list: &mut Candidates<'_>, byte: u8) {
+fn comment_candidate(list: &mut Candidates<'_>, byte: u8) -> Result<()> {
     let Some((front, _)) = cut(list.line, byte) else {
-        return;
+        return Ok(());
     };
-    let kept = end_of_words(front);
+    let end = front
+        .iter()
+        .rposition(|byte| *byte != b' ' && *byte != b'\t');
+    let Some(end) = end else {
+        return list.without_line(COMMENT);
+    };
+    let kept = end.saturating_add(1);
     let removed = list.line.len().saturating_sub(kept);
-    if kept == 0 {
-        list.without_line(COMMENT);
-    } else {
-        list.in_line(COMMENT, kept, removed, Replacement::Bytes(b""));
-    }
+    list.in_line(COMMENT, kept, removed, b"")
 }
 
 /// Adds candidates for characters that are not allowed in any line.
-fn odd_candidates(list: &mut Candidates<'_>) {
+fn odd_candidates(list: &mut Candidates<'_>) -> Result<()> {
     if without_prefix(b"\xef\xbb\xbf", list.line).is_some() {
-        list.in_line(
-            "the file begins with a byte order mark: save it as plain ASCII.",
-            0,
-            3,
-            Replacement::Bytes(b""),
-        );
+        let mistake = "the file begins with a byte order mark: save it as plain ASCII.";
+        list.in_line(mistake, 0, 3, b"")?;
     }
     if list.line.is_empty() {
-        list.without_line("empty lines are allowed only inside programs.");
+        list.without_line("empty lines are allowed only inside programs.")?;
     }
-    blanks_candidate(list);
-    comment_candidate(list, b';');
-    comment_candidate(list, b'#');
-}
-
-/// Adds that the first word of the line is replaced, if there is a name for it.
-fn first_word_candidate(list: &mut Candidates<'_>, name: Option<&'static [u8]>) {
-    if let Some(name) = name {
-        let word = head_word(list.line);
-        list.in_line(MISSPELLED, 0, word.len(), Replacement::Bytes(name));
-    }
-}
-
-/// The name of a wanted line, for a word of other programs.
-fn name_of_other(word: &[u8], wanted: &[LineName]) -> Option<&'static [u8]> {
-    for pair in &OTHER_WORDS {
-        if is_named(word, pair.0) && wanted.contains(&pair.1) {
-            return Some(pair.1.word());
-        }
-    }
-    None
+    blanks_candidate(list)?;
+    comment_candidate(list, b';')?;
+    comment_candidate(list, b'#')
 }
 
 /// Adds the names of wanted lines that the first word may mean.
-fn name_candidates(list: &mut Candidates<'_>, wanted: &[LineName]) -> Result<(), AllocError> {
+fn name_candidates(list: &mut Candidates<'_>, wanted: &[LineName]) -> Result<()> {
     let word = head_word(list.line);
-    let name = nearest(list.alloc, word, wanted)?;
-    first_word_candidate(list, name);
+    let meant = nearest(list.alloc, word, wanted, |name| name.word())?;
+    list.misspelled(0, word, meant)?;
     if is_named(word, b"density") && wanted.contains(&LineName::Cars) {
-        density_candidate(list);
+        density_candidate(list)?;
     }
-    first_word_candidate(list, name_of_other(word, wanted));
+    for (other, name) in &OTHER_WORDS {
+        if is_named(word, *other) && wanted.contains(name) {
+            return list.misspelled(0, word, Some(name.word()));
+        }
+    }
     Ok(())
 }
 
 /// Adds the name of a rule that the word after `rule` may mean.
-fn rule_candidate(list: &mut Candidates<'_>) -> Result<(), AllocError> {
+fn rule_candidate(list: &mut Candidates<'_>) -> Result<()> {
     let Some(rest) = after_rule(list.line) else {
         return Ok(());
     };
     let name = head_word(rest);
-    if let Some(meant) = nearest(list.alloc, name, &RULES)? {
-        let at = list.line.len().saturating_sub(rest.len());
-        list.in_line(MISSPELLED, at, name.len(), Replacement::Bytes(meant));
-    }
-    Ok(())
+    let meant = nearest(list.alloc, name, &RULES, |rule| rule.0)?;
+    list.misspelled(list.line.len().saturating_sub(rest.len()), name, meant)
 }
 
 /// Adds that the first line of a program is inserted above an instruction.
-fn heading_candidates(list: &mut Candidates<'_>, wanted: &[LineName]) {
+fn heading_candidates(list: &mut Candidates<'_>, wanted: &[LineName]) -> Result<()> {
     for line in &[LineName::Motion, LineName::Change] {
         if list.fault.subject == Subject::Check || wanted.contains(line) {
-            list.above("the first line of the program is missing.", *line);
+            list.above("the first line of the program is missing.", *line)?;
         }
     }
-}
-
-/// Adds that a wanted line is inserted, for each that no program follows.
-fn lone_candidates(list: &mut Candidates<'_>, mistake: &'static str, wanted: &[LineName]) {
-    for line in wanted {
-        if is_lone(*line) {
-            list.above(mistake, *line);
-        }
-    }
-}
-
-/// Adds the command that reads a text with this first word, where it is another one.
-fn command_candidate(list: &mut Candidates<'_>) {
-    if list.fault.place.number != 1 {
-        return;
-    }
-    match subject_named(head_word(list.line)) {
-        Some(other) if other != list.fault.subject => {
-            list.edit(
-                "this input is for another command.",
-                0,
-                0,
-                Replacement::ReadAs(other),
-            );
-        }
-        _ => {}
-    }
-}
-
-/// Adds the name of the first line of a check text.
-fn check_candidates(list: &mut Candidates<'_>) -> Result<(), AllocError> {
-    let word = head_word(list.line);
-    let name = nearest(list.alloc, word, &CHECK_NAMES)?;
-    first_word_candidate(list, name);
-    list.without_line(LATE);
     Ok(())
+}
+
+/// Adds that a wanted line is inserted, for each that is never left out and that no program follows.
+fn missing_candidates(
+    list: &mut Candidates<'_>,
+    why: &'static str,
+    wanted: &[LineName],
+) -> Result<()> {
+    for line in wanted {
+        match line {
+            LineName::Motion | LineName::Change | LineName::At | LineName::End => {}
+            _ => list.above(why, *line)?,
+        }
+    }
+    Ok(())
+}
+
+/// Adds the command that reads a text with this first word, if it is another one.
+fn command_candidate(list: &mut Candidates<'_>) -> Result<()> {
+    match subject_named(head_word(list.line)) {
+        Some(other) if list.fault.place.number == 1 && other != list.fault.subject => {
+            list.change("this input is for another command.", Change::ReadAs(other))
+        }
+        _ => Ok(()),
+    }
 }
 
 /// Adds the lines that are missing at the end of a text.
-fn ended_candidates(list: &mut Candidates<'_>, wanted: &[LineName]) -> Result<(), AllocError> {
+fn ended_candidates(list: &mut Candidates<'_>, wanted: &[LineName]) -> Result<()> {
     if wanted.contains(&LineName::End) {
         return end_candidates(list);
     }
-    lone_candidates(
-        list,
-        "the file ends too early: a line is missing, for example this one.",
-        wanted,
-    );
-    Ok(())
+    let mistake = "the file ends too early: a line is missing, for example this one.";
+    missing_candidates(list, mistake, wanted)
 }
 
 /// Adds candidates for a line that is not one of those that would be valid there.
-pub fn line_candidates(list: &mut Candidates<'_>) -> Result<(), AllocError> {
+pub fn line_candidates(list: &mut Candidates<'_>) -> Result<()> {
     let wanted = match list.fault.wanted {
         Wanted::Lines(names) => listed(list.alloc, *names)?,
         _ => Vec::new(list.alloc),
@@ -201,20 +183,22 @@ pub fn line_candidates(list: &mut Candidates<'_>) -> Result<(), AllocError> {
         return ended_candidates(list, &wanted);
     }
     if mnemonic_named(name_and_operands(list.line).0).is_some() {
-        heading_candidates(list, &wanted);
-        return Ok(());
+        return heading_candidates(list, &wanted);
     }
-    odd_candidates(list);
-    command_candidate(list);
+    odd_candidates(list)?;
+    command_candidate(list)?;
+    let word = head_word(list.line);
     if list.fault.subject == Subject::Check {
-        return check_candidates(list);
+        let meant = nearest(list.alloc, word, &CHECK_NAMES, |name| name)?;
+        list.misspelled(0, word, meant)?;
+        return list.without_line(LATE);
     }
     name_candidates(list, &wanted)?;
     rule_candidate(list)?;
-    if is_name_of_line(head_word(list.line)) {
+    if is_name_of_line(word) {
         let missing = "a line is missing above this one, for example this one.";
-        lone_candidates(list, missing, &wanted);
-        list.without_line(LATE);
+        missing_candidates(list, missing, &wanted)?;
+        list.without_line(LATE)?;
     }
     Ok(())
 }

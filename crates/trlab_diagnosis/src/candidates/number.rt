@@ -1,8 +1,8 @@
 //! Candidates for numbers that are written as fractions, with a sign or with a power of ten.
 
+use crate::Result;
 use crate::candidates::{Candidates, DIGITS};
 use crate::fault::bytes_at;
-use crate::replacement::Replacement;
 use trlab_bounds::programs::CERTAIN;
 use trlab_bounds::roads::{MAX_LANES, MAX_LENGTH};
 use trlab_lines::{cut, digits_value, is_numeral, next_line};
@@ -29,65 +29,58 @@ fn number_above(list: &Candidates<'_>, name: &[u8], most: u32) -> u32 {
     0
 }
 
-/// The number of cells of a sweep's roads, by its lines `length n` and `lanes n`.
-fn cells_of(list: &Candidates<'_>) -> u32 {
-    let length = number_above(list, b"length ", MAX_LENGTH);
-    length.saturating_mul(number_above(list, b"lanes ", MAX_LANES))
-}
-
-/// The number that a word may mean, as a part of a whole or as it is, and the mistake.
-fn meaning_of(word: &[u8], of_whole: Option<(&'static str, u32)>) -> Option<(&'static str, u64)> {
-    let fraction = fraction_of(word)?;
-    if let Some((mistake, whole)) = of_whole {
-        if let Some(number) = nearest_part(fraction, whole) {
-            return Some((mistake, u64::from(number)));
-        }
-    }
-    Some((DIGITS, fraction.whole()?))
-}
-
-/// Adds the number that a word of the line may mean, after `at` bytes.
+/// Adds the number that a word of the line may mean, after `at` bytes: as a part of a whole, or as it is.
 fn meanings(
     list: &mut Candidates<'_>,
     at: usize,
     word: &[u8],
     of_whole: Option<(&'static str, u32)>,
-) {
-    if let Some((mistake, number)) = meaning_of(word, of_whole) {
-        list.in_line(mistake, at, word.len(), Replacement::Number("", number));
-    }
+) -> Result<()> {
+    let Some(fraction) = fraction_of(word) else {
+        return Ok(());
+    };
+    let (mistake, part) = match of_whole {
+        Some((mistake, whole)) => (mistake, nearest_part(fraction, whole)),
+        None => (DIGITS, None),
+    };
+    let mistake = if part.is_some() { mistake } else { DIGITS };
+    let Some(number) = part.or(fraction.whole()) else {
+        return Ok(());
+    };
+    let digits = format!(in list.alloc; "{number}")?;
+    list.in_line(mistake, at, word.len(), digits.as_bytes())
 }
 
 /// Adds the probability that a word of the line may mean, times 2^31.
-pub fn chance_candidates(list: &mut Candidates<'_>, at: usize, word: &[u8]) {
-    meanings(list, at, word, Some((PROBABILITY, CERTAIN)));
+pub fn chance_candidates(list: &mut Candidates<'_>, at: usize, word: &[u8]) -> Result<()> {
+    meanings(list, at, word, Some((PROBABILITY, CERTAIN)))
 }
 
 /// Adds the whole number that a word of the line may mean.
-pub fn whole_candidates(list: &mut Candidates<'_>, at: usize, word: &[u8]) {
-    meanings(list, at, word, None);
+pub fn whole_candidates(list: &mut Candidates<'_>, at: usize, word: &[u8]) -> Result<()> {
+    meanings(list, at, word, None)
 }
 
-/// The number of cars that a line `density x` means.
-fn count_of_density(list: &Candidates<'_>) -> Option<u32> {
-    let (_, word) = cut(list.line, b' ')?;
-    nearest_part(fraction_of(word)?, cells_of(list))
-}
-
-/// Adds the line `cars n` for a line `density x`.
-pub fn density_candidate(list: &mut Candidates<'_>) {
-    if let Some(count) = count_of_density(list) {
-        list.whole_line(DENSITY, Replacement::Number("cars ", u64::from(count)));
+/// Adds the line `cars n` for a line `density x`: the density of the cells of a sweep's road.
+pub fn density_candidate(list: &mut Candidates<'_>) -> Result<()> {
+    let length = number_above(list, b"length ", MAX_LENGTH);
+    let cells = length.saturating_mul(number_above(list, b"lanes ", MAX_LANES));
+    let word = cut(list.line, b' ').map_or(b"".as_slice(), |parts| parts.1);
+    let count = fraction_of(word).and_then(|density| nearest_part(density, cells));
+    if let Some(count) = count {
+        let line = format!(in list.alloc; "cars {count}")?;
+        list.whole_line(DENSITY, line.as_bytes())?;
     }
+    Ok(())
 }
 
 /// Adds the number that the word at fault in a job or sweep may mean: a part of 2^31 or of the cells, or as it is.
-pub fn number_candidates(list: &mut Candidates<'_>) {
+pub fn number_candidates(list: &mut Candidates<'_>) -> Result<()> {
     let (Some((at, length)), Wanted::Number { quantity, .. }) = (
         list.fault.word(),
         list.fault.wanted,
     ) else {
-        return;
+        return Ok(());
     };
     let of_whole = match quantity {
         Quantity::Probability => Some((PROBABILITY, CERTAIN)),
@@ -95,7 +88,7 @@ pub fn number_candidates(list: &mut Candidates<'_>) {
         Quantity::Other => None,
     };
     let word = bytes_at(list.line, at, length);
-    meanings(list, at, word, of_whole);
+    meanings(list, at, word, of_whole)
 }
 
 /// The maximum number of digits of a part of a fraction.
@@ -103,14 +96,14 @@ const MAX_FRACTION_DIGITS: usize = 9;
 
 /// A fraction of two whole numbers.
 #[derive(Clone, Copy)]
-pub struct Fraction {
+struct Fraction {
     over: u128,
     under: u128,
 }
 
 impl Fraction {
     /// The fraction as a whole number, if it is one.
-    pub fn whole(self) -> Option<u64> {
+    fn whole(self) -> Option<u64> {
         if self.under == 0 || self.over % self.under != 0 {
             return None;
         }
@@ -150,51 +143,45 @@ fn decimal_of(word: &[u8]) -> Option<Fraction> {
     Some(Fraction { over, under })
 }
 
-/// The fraction that a word writes with an exponent after `e`.
+/// The fraction that a word writes, also with an exponent after `e`.
 fn power_form_of(word: &[u8]) -> Option<Fraction> {
-    let (front, power) = cut(word, b'e').or(cut(word, b'E'))?;
+    let Some((front, power)) = cut(word, b'e').or(cut(word, b'E')) else {
+        return decimal_of(word);
+    };
     let Fraction { over, under } = decimal_of(front)?;
-    match power.strip_prefix(b"-") {
-        Some(power) => Some(Fraction {
-            over,
-            under: under.saturating_mul(power_of_ten(value_of(power)?)),
-        }),
-        None => Some(Fraction {
-            over: over.saturating_mul(power_of_ten(value_of(power)?)),
-            under,
-        }),
+    if let Some(power) = power.strip_prefix(b"-") {
+        let under = under.saturating_mul(power_of_ten(value_of(power)?));
+        return Some(Fraction { over, under });
     }
+    let over = over.saturating_mul(power_of_ten(value_of(power)?));
+    Some(Fraction { over, under })
 }
 
 /// The fraction that a word writes, for example `0.25`, `.25`, `25%`, `1/4`, `1e4` or `007`.
-pub fn fraction_of(word: &[u8]) -> Option<Fraction> {
+fn fraction_of(word: &[u8]) -> Option<Fraction> {
     let word = word.strip_prefix(b"+").unwrap_or(word);
     if let Some(front) = word.strip_suffix(b"%") {
         let Fraction { over, under } = decimal_of(front)?;
-        return Some(Fraction {
-            over,
-            under: under.saturating_mul(100),
-        });
+        let under = under.saturating_mul(100);
+        return Some(Fraction { over, under });
     }
-    if let Some((over, under)) = cut(word, b'/') {
-        if over.is_empty() || under.is_empty() {
-            return None;
-        }
-        return Some(Fraction {
-            over: value_of(over)?,
-            under: value_of(under)?,
-        });
+    let Some((over, under)) = cut(word, b'/') else {
+        return power_form_of(word);
+    };
+    if over.is_empty() || under.is_empty() {
+        return None;
     }
-    power_form_of(word).or(decimal_of(word))
+    let (over, under) = (value_of(over)?, value_of(under)?);
+    Some(Fraction { over, under })
 }
 
 /// A fraction of a whole, rounded to the nearest number, if the fraction is at most 1.
-pub fn nearest_part(fraction: Fraction, whole: u32) -> Option<u32> {
+fn nearest_part(fraction: Fraction, whole: u32) -> Option<u64> {
     let Fraction { over, under } = fraction;
     if under == 0 || over > under {
         return None;
     }
     let twice = over.saturating_mul(u128::from(whole)).saturating_mul(2);
     let part = twice.saturating_add(under) / under.saturating_mul(2).max(1);
-    u32::try_from(part).ok()
+    u64::try_from(part).ok()
 }

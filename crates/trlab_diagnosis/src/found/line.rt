@@ -3,111 +3,94 @@
 ghost use Rattle.std.specs.Prelude.{IfSome};
 ghost use Rattle.trlab_diagnosis.specs.Oddities.{Shows};
 
+use crate::Result;
 use crate::fault::Fault;
-use crate::found::{push_count, push_quoted};
-use crate::names::{after_rule, is_name, is_of, named, rule_named};
+use crate::names::{RULES, after_rule, is_of, named};
+use crate::sentence::Quoted;
 use crate::subject::Subject;
-use std::alloc::AllocError;
-use trlab_lines::Page;
+use std::alloc::Global;
 use trlab_texts::word::{head_word, without_prefix};
 use trlab_texts::{LineName, LineNames};
 
-/// The number of words of a text, separated by single spaces.
-fn count_words(text: &[u8]) -> u64 {
-    let mut count = 1u64;
-    for byte in text {
-        if *byte == b' ' {
-            count = count.saturating_add(1);
-        }
-    }
-    count
-}
-
-/// Adds the problem with the words after `rule`: an unknown name, or too many or too few values.
-fn push_rule(page: &mut Page, words: &[u8]) -> Result<(), AllocError> {
+/// The problem with the words after `rule`: an unknown name, or too many or too few values.
+fn rule_problem(alloc: Global, words: &[u8]) -> Result<String> {
     let rule = head_word(words);
-    let found = count_words(words).saturating_sub(1);
-    let Some(form) = rule_named(rule) else {
-        let rules = "`. The rules are nasch, vdr, rickert and own.";
-        return push_quoted(page, "unknown rule `", rule, rules);
+    let found = words.iter().filter(|byte| **byte == b' ').count();
+    let name = Quoted(rule);
+    let Some((_, takes)) = RULES.iter().find(|form| form.0 == rule) else {
+        return format!(in alloc;
+            "unknown rule `{name}`. The rules are nasch, vdr, rickert and own."
+        );
     };
-    if form.chances == found {
-        return Ok(());
-    }
-    let takes = match form.chances {
-        0 => "` takes no values, ",
-        1 => "` takes one value, ",
-        _ => "` takes two values, ",
+    let takes = match *takes {
+        takes if takes == found => return Ok(String::new(alloc)),
+        0 => "no values",
+        1 => "one value",
+        _ => "two values",
     };
-    push_quoted(page, "`rule ", rule, takes)?;
-    push_count(page, "found ", found, ".")
+    format!(in alloc; "`rule {name}` takes {takes}, found {found}.")
 }
 
-/// Adds the problem with a line that begins with this word, although lines of other names are valid there.
-fn push_name(page: &mut Page, subject: Subject, word: &[u8]) -> Result<(), AllocError> {
-    let elsewhere = match subject {
-        Subject::Job => "` line belongs in a sweep, not in a job.",
-        Subject::Sweep => "` line belongs in a job, not in a sweep.",
-        Subject::Check => "` line does not belong in a program.",
-    };
+/// The problem with a line that begins with this word, although lines of other names are valid there.
+fn name_problem(alloc: Global, subject: Subject, word: &[u8]) -> Result<String> {
     match named(word) {
-        Some(name) if !is_of(name, subject) => push_quoted(page, "a `", word, elsewhere),
-        _ if subject != Subject::Check && is_name(word) => page.say(
-            "this line does not belong here: a line above it is missing, or it is a duplicate.",
+        Some(name) if !is_of(name, subject) => {
+            let belongs = match subject {
+                Subject::Job => "belongs in a sweep, not in a job",
+                Subject::Sweep => "belongs in a job, not in a sweep",
+                Subject::Check => "does not belong in a program",
+            };
+            let word = Quoted(word);
+            format!(in alloc; "a `{word}` line {belongs}.")
+        }
+        None if word != b"code".as_slice() && word != b"end".as_slice() => Ok(String::new(alloc)),
+        _ if subject == Subject::Check => Ok(String::new(alloc)),
+        _ => format!(in alloc;
+            "this line does not belong here: a line above it is missing, or it is a duplicate."
         ),
-        _ => Ok(()),
     }
 }
 
-/// Adds the problem at the end of the input.
-fn push_end(page: &mut Page, names: LineNames) -> Result<(), AllocError> {
-    page.say(if names.has(LineName::End) {
-        "the end of the file: a program has no line `end`."
-    } else {
-        "the end of the file: a line is missing."
-    })
-}
-
-/// Adds the problem with a line by its first word.
-fn push_word(
-    page: &mut Page,
-    subject: Subject,
-    word: &[u8],
-    names: LineNames,
-) -> Result<(), AllocError> {
+/// The problem with a line by its first word.
+fn word_problem(alloc: Global, subject: Subject, word: &[u8], names: LineNames) -> Result<String> {
     let is_program = names.has(LineName::Motion) || names.has(LineName::Change);
     match named(word) {
         Some(name) if names.has(name) => match name {
-            LineName::Road | LineName::Sweep => page.say("the format version must be 1."),
-            _ => Ok(()),
+            LineName::Road | LineName::Sweep => format!(in alloc; "the format version must be 1."),
+            _ => Ok(String::new(alloc)),
         },
-        None if is_program && word == b"code".as_slice() => Ok(()),
-        _ if names.is_empty() => Ok(()),
-        _ => push_name(page, subject, word),
+        None if is_program && word == b"code".as_slice() => Ok(String::new(alloc)),
+        _ if names.is_empty() => Ok(String::new(alloc)),
+        _ => name_problem(alloc, subject, word),
     }
 }
 
-/// Adds the problem with a line that is not one of those that would be valid there.
-pub fn push_line(page: &mut Page, fault: &Fault<'_>, names: LineNames) -> Result<(), AllocError> {
+/// The problem with a line that is not one of those that would be valid there.
+pub fn line_problem(alloc: Global, fault: &Fault<'_>, names: LineNames) -> Result<String> {
     let Some(line) = fault.place.line else {
-        return push_end(page, names);
+        let missing = if names.has(LineName::End) {
+            "a program has no line `end`."
+        } else {
+            "a line is missing."
+        };
+        return format!(in alloc; "the end of the file: {missing}");
     };
     if let Some(oddity) = oddity_of(line) {
-        return page.say(odd_words(oddity));
+        let words = odd_words(oddity);
+        return format!(in alloc; "{words}");
     }
     if let Some(words) = after_rule(line) {
-        push_rule(page, words)?;
+        let problem = rule_problem(alloc, words)?;
+        if !problem.is_empty() {
+            return Ok(problem);
+        }
     }
-    if page.text().is_empty() {
-        push_word(page, fault.subject, head_word(line), names)
-    } else {
-        Ok(())
-    }
+    word_problem(alloc, fault.subject, head_word(line), names)
 }
 
 /// A character that is not allowed in any line outside programs, or an empty line.
 #[derive(Clone, Copy)]
-pub enum Oddity {
+enum Oddity {
     ByteOrderMark,
     CarriageReturn,
     Empty,
@@ -118,7 +101,7 @@ pub enum Oddity {
 }
 
 /// The first oddity of a line, in the order of the list.
-pub fn oddity_of(line: &[u8]) -> Option<Oddity>
+fn oddity_of(line: &[u8]) -> Option<Oddity>
     ensures { IfSome result (Shows line.now) }
 {
     if without_prefix(b"\xef\xbb\xbf", line).is_some() {
@@ -141,7 +124,7 @@ pub fn oddity_of(line: &[u8]) -> Option<Oddity>
 }
 
 /// An oddity in words.
-pub fn odd_words(oddity: Oddity) -> &'static str {
+fn odd_words(oddity: Oddity) -> &'static str {
     match oddity {
         Oddity::ByteOrderMark => "the file begins with a byte order mark: save it as plain ASCII.",
         Oddity::CarriageReturn =>

@@ -1,5 +1,5 @@
-//! A lock whose value fits a key that never changes. The value's type defines what fits; a thread that takes the value
-//! knows that it fits, and puts back one that fits too.
+//! A lock whose value fits a key that never changes. The value's type defines when it fits; a thread that takes the
+//! value knows that it fits, and puts back a value that fits too.
 
 ghost use Rattle.std.specs.Prelude.{◌≡◌, IfOk, IfSome};
 ghost use Rattle.trlab_segments.specs.KeyedLocks.{Guarded, HasOnly, Seized};

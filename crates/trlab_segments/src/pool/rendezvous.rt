@@ -1,4 +1,4 @@
-//! Where helpers wait for the next phase, and find it.
+//! The rendezvous, at which helpers wait for the next phase, and find it.
 
 ghost use Rattle.std.specs.Thread.{IsSync};
 

@@ -59,7 +59,7 @@ pub fn take_pass<A: Drop, P: Asked<A>>(
     )
 }
 
-/// What is left of a drawer, and a pass of it: the last pass is the drawer itself.
+/// The rest of a drawer, and a pass of it: the last pass is the drawer itself.
 pub fn split_pass(tickets: &Tickets, drawer: Drawer) -> (Option<Drawer>, Drawer)
     requires { IsNew tickets.now drawer }
     ensures left { IfSome result.0 (IsNew tickets.now) }
@@ -108,7 +108,7 @@ pub fn deposit<A: Drop, P: Asked<A>>(
     }
 }
 
-/// One drawer with the tickets of an earlier one, if there is one, and of this one.
+/// A drawer with the tickets of this drawer, after those of an earlier drawer if there is one.
 fn one_drawer(tickets: &Tickets, before: Option<Drawer>, drawer: Drawer) -> Drawer
     requires before { IfSome before (IsFrom tickets.now) }
     requires from { IsFrom tickets.now drawer }

@@ -25,7 +25,7 @@ pub struct Task<A, P: Asked<A>> {
 }
 
 impl<A: Copy + Drop, P: Asked<A> + Drop> Task<A, P> {
-    /// A phase in which helpers may take the passes of a drawer, if there is one.
+    /// A phase in which helpers may take the passes of the reserve, if there is a reserve.
     ///
     /// # Errors
     ///
@@ -61,7 +61,6 @@ impl<A: Copy + Drop, P: Asked<A> + Drop> Task<A, P> {
         self.results.take(rt)
     }
 
-    /// Puts the results back.
     fn put_back(&self, results: Results<A>, guard: Guard<Results<A>, Brief<P>>)
         requires results { AreResults P.answers P.can_ask self.now.brief results }
         requires from { guard.seat.table_id ≡ self.now.results.table.shared.table_id }

@@ -1,8 +1,9 @@
+use Rattle.std.proofs.Common.{sym, ◌∙◌}
 use Rattle.std.proofs.lemmas.Bool.{OnTrue_at}
 use Rattle.trlab_sequential_book.specs.Comparison.{OrderCall, offered}
 use Rattle.trlab_sequential_book.specs.Answers.{order_reply}
 use Rattle.trlab_book.specs.Desks.{IsOfOrder}
-use Rattle.trlab_book.proofs.Noting.{has_come, is_made}
+use Rattle.trlab_book.proofs.Noting.{full_order, has_come, is_made}
 use Rattle.trlab_book.proofs.desk.SharedBook.order.Goals as goal
 
 pub invariant_of-deref_mut : goal.invariant_of-deref_mut
@@ -11,7 +12,7 @@ invariant_of-deref_mut g c =
     let same = c.order-answer.ensures.noted.0 in
     let call = OrderCall (offered c.args.lease.now same) in
     let told = order_reply c.order-answer.result in
-    record { noted = (c.note_event.ensures call told (has_come kept c.order-answer.new.self call told _ c.order-answer.ensures.noted.2 c.order-answer.ensures.full c.deref_mut.result.now.noted)).0 }
+    record { noted = (c.note_event.ensures call told (has_come kept c.order-answer.new.self call told _ c.order-answer.ensures.noted.2 c.deref_mut.result.now.noted) (full_order c.order-answer.result ∙ sym c.is_refused_as_full-is_full.ensures)).0 }
 
 pub returns : goal.returns
 returns g c =
@@ -21,5 +22,5 @@ returns g c =
     let told = order_reply c.order-answer.result in (
       same,
       is_made (IsOfOrder c.args.lease.now same c.order-answer.result) kept c.order-answer.new.self call told _ c.args.desk.now c.note_event.new.self c.order-answer.ensures.noted.2 c.deref_mut.result.now.noted (λ is. (OnTrue_at is c.order-answer.ensures.noted.1, c.order-answer.ensures.rule)) c.order-answer.ensures.full
-          (c.note_event.ensures call told (has_come kept c.order-answer.new.self call told _ c.order-answer.ensures.noted.2 c.order-answer.ensures.full c.deref_mut.result.now.noted)).1,
+          (c.note_event.ensures call told (has_come kept c.order-answer.new.self call told _ c.order-answer.ensures.noted.2 c.deref_mut.result.now.noted) (full_order c.order-answer.result ∙ sym c.is_refused_as_full-is_full.ensures)).1,
     )

@@ -1,8 +1,6 @@
 use Rattle.std.proofs.Common.{sym, ◌∙◌}
 use Rattle.trlab_sequential_book.specs.declared.event.Call.TheVariants.{Submit}
-use Rattle.trlab_sequential_book.specs.Answers.{is_memory, number_reply}
-use Rattle.trlab_sequential_book.specs.Machine.{BookState}
-use Rattle.trlab_sequential_book.proofs.Booking.{counted, full_stays, full_told, next_number, told_made}
+use Rattle.trlab_sequential_book.proofs.Booking.{full_stays, full_told}
 use Rattle.trlab_sequential_book.proofs.book.Book.submit_boxed.Goals as goal
 
 pub returns-then-is_full-clause-reply : goal.returns-then-is_full-clause-reply
@@ -10,17 +8,3 @@ returns-then-is_full-clause-reply c = full_told c.args.self.now (Submit c.args.s
 
 pub returns-then-is_full-clause-state : goal.returns-then-is_full-clause-state
 returns-then-is_full-clause-state c = full_stays c.args.self.now (Submit c.args.seed c.args.rule c.args.steps) (sym c.is_full.ensures ∙ c.if-is_full.true)
-
-pub returns-clause-reply : goal.returns-clause-reply
-returns-clause-reply c =
-    let book = c.self.inside in
-    let state : BookState = record { count = book.count; next = book.next; jobs = book.jobs.items } in
-    let answer = c.submit_in-answer.result in
-    told_made state c.args.self.now (is_memory answer) (Submit c.args.seed c.args.rule c.args.steps) (number_reply answer) c.self.view_is (sym c.is_full.ensures ∙ c.if-is_full.false) c.submit_in-answer.ensures.reply
-
-pub returns-clause-state : goal.returns-clause-state
-returns-clause-state c =
-    let book = c.self.inside in
-    let state : BookState = record { count = book.count; next = book.next; jobs = book.jobs.items } in
-    let answer = c.submit_in-answer.result in
-    counted state c.args.self.now (is_memory answer) (Submit c.args.seed c.args.rule c.args.steps) (number_reply answer) c.submit_in-answer.new.jobs.items c.count_after-self-inside.result c.self.view_is (sym c.is_full.ensures ∙ c.if-is_full.false) (next_number book.next answer) c.count_after-self-inside.ensures.value c.submit_in-answer.ensures.reply c.submit_in-answer.ensures.jobs

@@ -1,0 +1,38 @@
+//! The examples of the model: limits, random words, roads.
+
+use std::alloc::Global;
+use trlab_bounds::roads::MAX_LENGTH;
+use trlab_road::Road;
+use trlab_words::{CERTAIN, Chance, Key, happens, words};
+
+/// Of `trlab_words`: the first two words, and whether the car brakes.
+fn draw() -> Option<(u32, u32, bool)> {
+    let (road, car, step) = (0, 0, 0);
+    let words = words(&Key([0; 32]), road, car, step);
+    let brakes = happens(words[0], Chance::new(CERTAIN / 4)?);
+    Some((words[0], words[1], brakes))
+}
+
+#[test]
+fn car_0_draws_its_words(rt: HostRuntime) {
+    assert_eq!(rt; draw(), Some((2917185654, 2419978656, false)));
+}
+
+/// Of `trlab_road`: the cars of the second road, if the first one has this picture.
+fn draw_roads(alloc: Global, wanted: &[u8]) -> Option<u32> {
+    let road = Road::parse(alloc, 5, &[b"0.0......."]).ok()?;
+    for lane in 0..road.lanes() {
+        let picture = road.picture(alloc, lane).ok()?;
+        if picture.as_slice() != wanted {
+            return None;
+        }
+    }
+    let even = Road::even(alloc, 2, 500, 5, 100).ok()?;
+    Some(even.cars())
+}
+
+#[test]
+fn roads_have_their_pictures(rt: HostRuntime) {
+    assert_eq!(rt; draw_roads(rt.alloc(), b"0.0......."), Some(100));
+    assert_eq!(rt; MAX_LENGTH, 100_000);
+}

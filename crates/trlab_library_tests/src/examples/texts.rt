@@ -1,0 +1,45 @@
+//! The examples of inputs and tables.
+
+use std::alloc::Global;
+use trlab_diagram::{Point, flow, points_text};
+use trlab_jobs::read_job;
+use trlab_texts::{Excerpt, LineName, Quantity};
+
+/// Of `trlab_texts`: the number of a line.
+fn read_steps() -> Option<u32> {
+    let line = b"steps 20";
+    let steps = Excerpt::number_after(LineName::Steps, 0, 100, Quantity::Other, line).ok()?;
+    Some(steps)
+}
+
+const JOB: &[u8] =
+    b"road 1\nkey 0000000000000000000000000000000000000000000000000000000000000000\nlimit 5\nlane 0.0.......\nrule nasch 0\nsteps 20\n";
+
+/// Of `trlab_jobs`: the steps and the cars of a job.
+fn read(alloc: Global, text: &[u8]) -> Option<(u32, u32)> {
+    let job = read_job(alloc, text).ok()?;
+    let (steps, cars) = (job.steps, job.road.cars());
+    Some((steps, cars))
+}
+
+/// Of `trlab_diagram`: the flow at a point, and the number of lines of a table.
+fn measure(alloc: Global) -> Option<(u128, usize)> {
+    let point = Point {
+        cars: 150,
+        cells: 1000,
+        steps: 100,
+        distance: 60_000,
+        stopped: 0,
+        changes: 0,
+    };
+    let flow = flow(&point);
+    let table = points_text(alloc, &[point]).ok()?;
+    Some((flow, table.iter().filter(|byte| **byte == b'\n').count()))
+}
+
+#[test]
+fn texts_are_read_and_written(rt: HostRuntime) {
+    assert_eq!(rt; read_steps(), Some(20));
+    assert_eq!(rt; read(rt.alloc(), JOB), Some((20, 2)));
+    assert_eq!(rt; measure(rt.alloc()), Some((600_000, 2)));
+}
