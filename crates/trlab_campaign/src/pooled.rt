@@ -19,7 +19,9 @@ use std::alloc::{AllocGlobal, Global};
 use std::sync::Wait;
 use std::thread::Threads;
 use trlab_bounds::runs::MAX_WORKERS;
+use trlab_code::{CERTAIN, Instr};
 use trlab_jobs::{Job, read_job};
+use trlab_rules::Rule;
 use trlab_segments::{Gate, OpenGate, Pool};
 use trlab_step::{Executor, Run, Schedule};
 use trlab_texts::TextFault;
@@ -100,6 +102,28 @@ fn write_by_pool<'x, R: Threads + Wait + Sync, G: Gate + Sync, C: Account, A: Ex
     )
 }
 
+/// Whether a program draws on a random word. A draw of probability 0 or 1 needs none.
+fn some_instr_draws(instrs: &[Instr]) -> bool {
+    instrs.iter().any(|instr| match *instr {
+        Instr::Draw(_, _, parts) => 0 < parts && parts < CERTAIN,
+        _ => false,
+    })
+}
+
+/// Whether a program of a rule draws on a random word.
+fn rule_draws(rule: &Rule) -> bool {
+    some_instr_draws(rule.motion().code().instrs())
+        || match rule.change() {
+            Some(change) => some_instr_draws(change.code().instrs()),
+            None => false,
+        }
+}
+
+/// Whether a rule of a job draws random numbers, on which the time of its steps depends most.
+fn some_rule_draws(job: &Job) -> bool {
+    rule_draws(&job.first) || job.later.iter().any(|(_, rule)| rule_draws(rule))
+}
+
 /// The engine of job texts, with at most `workers` workers.
 #[derive(Drop)]
 struct JobEngine<'a, R, C, O> {
@@ -119,7 +143,8 @@ impl<'a, R: Threads + Wait + Sync, C: Account, O: ProgressObserver> JobEngine<'a
         ensures { LeavesWriter K.Sink (EndsSo (C.outputs self.now.account.now job)) result writer.old writer.new }
     {
         let gate = OpenGate;
-        let pool = Pool::new(self.rt, self.workers, &gate).sparing(job.road.cars());
+        let draws = some_rule_draws(&job);
+        let pool = Pool::new(self.rt, self.workers, &gate).sparing(job.road.cars(), draws);
         let with_progress = WithProgress::new(&pool, self.progress, self.account.steps(&job));
         let end = write_by_pool(alloc, &pool, self.account, &with_progress, job, writer);
         with_progress.ended(end);

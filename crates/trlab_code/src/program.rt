@@ -10,10 +10,19 @@ use std::marker::Model;
 use trlab_bounds::programs::{CERTAIN, HEADSPEED_VERSION, MAX_INSTRUCTIONS, PLAIN_VERSION, WORDS};
 
 /// A program of 1 to 128 instructions whose fields are in range.
-#[derive(Drop)]
 pub struct Code {
     kind: Kind,
     instrs: Vec<Instr>,
+}
+
+// Not derived: a derived drop is proved again, field by field, wherever the value goes out of scope.
+impl Drop for Code {
+    fn drop(self) {
+        let Code {
+            kind: _kind,
+            instrs: _instrs,
+        } = self;
+    }
 }
 
 impl Model for Code {

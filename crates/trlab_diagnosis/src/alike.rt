@@ -35,20 +35,18 @@ pub fn edits_within(
 /// The name that is most like a word, among those that were compared with it so far.
 #[derive(Clone, Copy)]
 pub struct NearestName<'a> {
-    word: &'a [u8],
     /// The number of edits to it, or one more than the maximum.
     edits: usize,
     /// How many more names are compared.
     left: u32,
-    /// The position and the length of the name, if no other is as near.
-    pub found: Option<(usize, usize)>,
+    /// The name, if no other is as near.
+    pub found: Option<&'a [u8]>,
 }
 
 impl<'a> NearestName<'a> {
     /// Before any name was compared. Not every letter of a short word may be wrong.
-    pub fn to(word: &'a [u8]) -> NearestName<'a> {
+    pub fn to(word: &[u8]) -> NearestName<'a> {
         NearestName {
-            word,
             edits: word.len().max(1).min(MAX_EDITS + 1),
             left: MAX_NAMES,
             found: None,
@@ -56,28 +54,27 @@ impl<'a> NearestName<'a> {
     }
 
     /// Forgets the names so far.
-    pub fn restart(&mut self) {
+    pub fn restart(&mut self, word: &[u8]) {
         let left = self.left;
-        *self = NearestName::to(self.word);
+        *self = NearestName::to(word);
         self.left = left;
     }
 
-    /// Compares one more name, which is at this position.
-    pub fn compare(&mut self, alloc: Global, name: &[u8], at: usize) -> Result<()> {
+    /// Compares one more name.
+    pub fn compare(&mut self, alloc: Global, word: &[u8], name: &'a [u8]) -> Result<()> {
         if self.left == 0 {
             return Ok(());
         }
         self.left -= 1;
-        if let Some(edits) = edits_within(alloc, self.word, name, self.edits)? {
-            self.found = (edits < self.edits).then_some((at, name.len()));
+        if let Some(edits) = edits_within(alloc, word, name, self.edits)? {
+            self.found = (edits < self.edits).then_some(name);
             self.edits = edits;
         }
         Ok(())
     }
 }
 
-/// The name of one of these that a word was meant to be: the one with the fewest edits, if no other is as near, and
-/// none if the word is one of the names.
+/// The name of one of these that a word was meant to be: the one with the fewest edits, if no other is as near.
 pub fn nearest<'a, T: Copy, F: Fn(T) -> &'a [u8]>(
     alloc: Global,
     word: &[u8],
@@ -87,17 +84,8 @@ pub fn nearest<'a, T: Copy, F: Fn(T) -> &'a [u8]>(
     requires { F.IsAlwaysCallable name_of }
 {
     let mut best = NearestName::to(word);
-    for (at, one) in all.iter().enumerate() {
-        let name = name_of(*one);
-        if name == word {
-            return Ok(None);
-        }
-        best.compare(alloc, name, at)?;
+    for one in all {
+        best.compare(alloc, word, name_of(*one))?;
     }
-    if let Some((at, _)) = best.found
-        && let Some(one) = all.get(at)
-    {
-        return Ok(Some(name_of(*one)));
-    }
-    Ok(None)
+    Ok(best.found)
 }

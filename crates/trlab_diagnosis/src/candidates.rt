@@ -18,7 +18,7 @@ use crate::candidates::program::{label_candidate, operand_candidates, word_candi
 use crate::fault::Fault;
 use crate::names::line_after;
 use crate::repair::{Change, Edit, MAX_TRIED, Repair, first_that_helps};
-use std::alloc::Global;
+use std::alloc::{AllocError, Global};
 use trlab_asm::Why;
 use trlab_code::CodeFault;
 use trlab_road::RoadFault;
@@ -49,6 +49,8 @@ pub struct Candidates<'a> {
     /// The line at fault, empty if the input has ended.
     pub line: &'a [u8],
     repairs: Vec<Repair>,
+    /// Whether an allocation failed. It is reported once, after all candidates were added.
+    has_failed: bool,
 }
 
 impl<'a> Candidates<'a> {
@@ -58,83 +60,86 @@ impl<'a> Candidates<'a> {
             fault,
             line: fault.line(),
             repairs: Vec::new(alloc),
+            has_failed: false,
         }
+    }
+
+    /// The value, unless an allocation for it failed.
+    pub fn value<T>(&mut self, value: Result<T>) -> Option<T> {
+        self.has_failed |= value.is_err();
+        value.ok()
     }
 
     /// Adds a change, and why it may help.
-    pub fn change(&mut self, mistake: &'static str, change: Change) -> Result<()> {
+    pub fn change(&mut self, mistake: &'static str, change: Change) {
         if self.repairs.len() < MAX_TRIED {
-            self.repairs.push(Repair { mistake, change })?;
+            let pushed = self.repairs.push(Repair { mistake, change });
+            self.has_failed |= pushed.is_err();
         }
-        Ok(())
     }
 
     /// Adds that bytes of the input after position `at` are replaced.
-    pub fn edit(&mut self, why: &'static str, at: usize, removed: usize, put: &[u8]) -> Result<()> {
-        let mut inserted = Vec::new(self.alloc);
-        inserted.extend_from_slice(put)?;
-        let edit = Edit {
-            at,
-            removed,
-            inserted,
-        };
-        self.change(why, Change::Edited(edit))
+    pub fn edit(&mut self, why: &'static str, at: usize, removed: usize, put: Result<Vec<u8>>) {
+        if let Some(inserted) = self.value(put) {
+            let edit = Edit {
+                at,
+                removed,
+                inserted,
+            };
+            self.change(why, Change::Edited(edit));
+        }
+    }
+
+    /// Adds that bytes of the line at fault after position `at` are replaced by new ones.
+    pub fn rewrite(&mut self, why: &'static str, at: usize, removed: usize, put: Result<Vec<u8>>) {
+        let start = self.fault.place.start;
+        self.edit(why, start.saturating_add(at), removed, put);
     }
 
     /// Adds that bytes of the line at fault after position `at` are replaced.
-    pub fn in_line(
-        &mut self,
-        why: &'static str,
-        at: usize,
-        removed: usize,
-        put: &[u8],
-    ) -> Result<()> {
-        let start = self.fault.place.start;
-        self.edit(why, start.saturating_add(at), removed, put)
-    }
-
-    /// Adds that the whole line at fault is replaced.
-    pub fn whole_line(&mut self, why: &'static str, line: &[u8]) -> Result<()> {
-        self.in_line(why, 0, self.line.len(), line)
+    pub fn in_line(&mut self, why: &'static str, at: usize, removed: usize, put: &[u8]) {
+        let put = put.to_vec(self.alloc);
+        self.rewrite(why, at, removed, put);
     }
 
     /// Adds a new line above the one at fault, or at the end of the input.
-    pub fn above(&mut self, why: &'static str, line: LineName) -> Result<()> {
+    pub fn above(&mut self, why: &'static str, line: LineName) {
         let inserted = line_after(self.fault.place.above(), line);
-        self.in_line(why, 0, 0, inserted)
+        self.in_line(why, 0, 0, inserted);
     }
 
     /// Adds that the line at fault is deleted.
-    pub fn without_line(&mut self, why: &'static str) -> Result<()> {
+    pub fn without_line(&mut self, why: &'static str) {
         let place = self.fault.place;
         let left = place.text.len().saturating_sub(place.start);
         let removed = self.line.len().saturating_add(1).min(left);
-        self.in_line(why, 0, removed, b"")
+        self.in_line(why, 0, removed, b"");
     }
 
     /// Adds that a word of the line at fault after position `at` is replaced by the name that was meant, if any.
-    pub fn misspelled(&mut self, at: usize, word: &[u8], meant: Option<&[u8]>) -> Result<()> {
-        match meant {
-            Some(meant) => self.in_line(MISSPELLED, at, word.len(), meant),
-            None => Ok(()),
+    pub fn misspelled(&mut self, at: usize, word: &[u8], meant: Result<Option<&[u8]>>) {
+        if let Some(Some(meant)) = self.value(meant)
+            && meant != word
+        {
+            self.in_line(MISSPELLED, at, word.len(), meant);
         }
     }
 }
 
 /// Adds the candidates for a fault of a program's lines.
-fn program_candidates(list: &mut Candidates<'_>, why: Why) -> Result<()> {
+fn program_candidates(list: &mut Candidates<'_>, why: Why) {
     match why {
         Why::Word => word_candidates(list),
         Why::Operand | Why::Number => operand_candidates(list, why),
         Why::NoLabel => label_candidate(list),
-        Why::LabelTwice | Why::TooLong | Why::Empty | Why::Memory => Ok(()),
+        Why::LabelTwice | Why::TooLong | Why::Empty | Why::Memory => {}
     }
 }
 
 /// Adds the candidates for a fault.
-fn add_candidates(list: &mut Candidates<'_>) -> Result<()> {
+fn add_candidates(list: &mut Candidates<'_>) {
     if let Some(front) = list.line.strip_suffix(b"\r") {
-        list.in_line(WINDOWS, front.len(), 1, b"")?;
+        list.in_line(WINDOWS, front.len(), 1, b"");
     }
     match list.fault.cause {
         Cause::Line => line_candidates(list),
@@ -144,9 +149,9 @@ fn add_candidates(list: &mut Candidates<'_>) -> Result<()> {
         Cause::OneLane => lanes_candidate(list),
         Cause::Code(CodeFault::NeedlessVersion) => version_candidate(list),
         Cause::Road(RoadFault::Character { place, .. }) => cell_candidate(list, place),
-        Cause::Code(_) | Cause::Road(_) => Ok(()),
-        Cause::Order | Cause::TooMany | Cause::Work | Cause::TooBig => Ok(()),
-        Cause::StandardRefused | Cause::Verdict(_) => Ok(()),
+        Cause::Code(_) | Cause::Road(_) => {}
+        Cause::Order | Cause::TooMany | Cause::Work | Cause::TooBig => {}
+        Cause::StandardRefused | Cause::Verdict(_) => {}
     }
 }
 
@@ -161,7 +166,14 @@ pub fn likely_repair(alloc: Global, fault: Fault<'_>) -> Result<Option<Repair>>
         (λ repair. Helps fault.entry.subject fault.entry.place.text.now fault.entry.place.number repair.change)) }
 {
     let mut list = Candidates::new(alloc, fault);
-    add_candidates(&mut list)?;
-    let Candidates { repairs, .. } = list;
+    add_candidates(&mut list);
+    let Candidates {
+        repairs,
+        has_failed,
+        ..
+    } = list;
+    if has_failed {
+        return Err(AllocError);
+    }
     first_that_helps(alloc, fault, repairs)
 }

@@ -65,14 +65,13 @@ fn cells_problem(alloc: Global, line: &[u8], first: u32) -> Result<String> {
 
 /// The speed of a car that is faster than the maximum speed.
 fn speed_problem(alloc: Global, fault: &Fault<'_>, limit: u32) -> Result<String> {
-    let car = span_of(fault).and_then(|span| fault.line().get(span.0));
-    let speed = car.and_then(|car| char::from(*car).to_digit(36));
-    match speed {
-        Some(speed) => format!(in alloc;
-            "the speed of this car is {speed}, and the maximum is {limit}."
-        ),
-        None => Ok(String::new(alloc)),
+    if let Some((at, _)) = span_of(fault)
+        && let Some(car) = fault.line().get(at)
+        && let Some(speed) = char::from(*car).to_digit(36)
+    {
+        return format!(in alloc; "the speed of this car is {speed}, and the maximum is {limit}.");
     }
+    Ok(String::new(alloc))
 }
 
 /// The bytes at fault: how many bytes of the line come before them, and their number. `None` means the whole line.
@@ -84,7 +83,8 @@ pub fn span_of(fault: &Fault<'_>) -> Option<(usize, usize)> {
         ) => Some((BEFORE_CELLS.saturating_add(place as usize), 1)),
         Cause::Program(Why::Word) => word_span(line),
         Cause::Program(why) => {
-            operand_at_fault(line, why).map(|found| (found.at, found.word.len()))
+            let found = operand_at_fault(line, why)?;
+            Some((found.at, found.word.len()))
         }
         _ => fault.word(),
     }

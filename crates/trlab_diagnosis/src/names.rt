@@ -1,24 +1,11 @@
 //! The names of lines and of rules, and the samples of lines that repairs insert.
 
-use crate::Result;
 use crate::subject::{Subject, is_named};
-use std::alloc::Global;
 use trlab_lines::cut;
-use trlab_texts::{LineName, LineNames};
+use trlab_texts::LineName;
 
 /// The first words of a check.
 pub const CHECK_NAMES: [&[u8]; 4] = [b"motion", b"change", b"code", b"notes"];
-
-/// The names in a set, in the order of the lines.
-pub fn listed(alloc: Global, names: LineNames) -> Result<Vec<LineName>> {
-    let mut list = Vec::new(alloc);
-    for name in &LineName::ALL {
-        if names.has(*name) {
-            list.push(*name)?;
-        }
-    }
-    Ok(list)
-}
 
 /// The line that begins with this word, if it is not `end`.
 pub fn named(word: &[u8]) -> Option<LineName> {

@@ -13,7 +13,6 @@ use trlab_jobs::{read_check, read_job, read_sweep};
 use trlab_texts::{Cause, TextFault};
 
 /// A change of a text: some bytes are replaced.
-#[derive(Drop)]
 pub struct Edit {
     /// The number of bytes before the change.
     pub at: usize,
@@ -21,6 +20,17 @@ pub struct Edit {
     pub removed: usize,
     /// The bytes in their place.
     pub inserted: Vec<u8>,
+}
+
+// Not derived: a derived drop is proved again, field by field, wherever the value goes out of scope.
+impl Drop for Edit {
+    fn drop(self) {
+        let Edit {
+            at: _at,
+            removed: _removed,
+            inserted: _inserted,
+        } = self;
+    }
 }
 
 /// The text after a change.
@@ -47,11 +57,20 @@ pub enum Change {
 }
 
 /// A likely mistake, and the change that corrects it.
-#[derive(Drop)]
 pub struct Repair {
     /// The mistake in words.
     pub mistake: &'static str,
     pub change: Change,
+}
+
+// Not derived: a derived drop is proved again, field by field, wherever the value goes out of scope.
+impl Drop for Repair {
+    fn drop(self) {
+        let Repair {
+            mistake: _mistake,
+            change: _change,
+        } = self;
+    }
 }
 
 /// The first fault of a text that is read as `subject`, if it has one: its line and its cause.

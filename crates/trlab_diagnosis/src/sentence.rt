@@ -31,15 +31,20 @@ impl fmt::Display for Quoted<'_> {
     }
 }
 
+/// Writes a character of a sentence: the byte that it stands for.
+fn show_letter(page: &mut Page, letter: char) -> Result<()> {
+    match u8::try_from(letter) {
+        Ok(b'\n') => page.end_line(),
+        Ok(byte) => page.show_all(&[byte]),
+        Err(_) => page.say("?"),
+    }
+}
+
 /// A page with sentences, whose bytes it escapes. Lines end as in the text.
 pub fn page_of(alloc: Global, text: &str) -> Result<Page> {
     let mut page = Page::new(alloc);
     for letter in text.chars() {
-        match u8::try_from(letter) {
-            Ok(b'\n') => page.end_line()?,
-            Ok(byte) => page.show_all(&[byte])?,
-            Err(_) => page.say("?")?,
-        }
+        show_letter(&mut page, letter)?;
     }
     Ok(page)
 }

@@ -2,3 +2,4 @@ pub mod Known
 pub mod Endings
 pub mod SomeTelling
 pub mod PlainTokens
+pub mod Refusals

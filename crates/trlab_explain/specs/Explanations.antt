@@ -3,7 +3,8 @@ use Rattle.std.specs.Prelude.{◌≡◌, ℕ, Bool, true, false, not, All, List,
 use Rattle.trlab_lines.specs.Plain.{IsPlain}
 use Rattle.trlab_lines.specs.Lines.{lines_of}
 use Rattle.trlab_verify.specs.Verdict.{IsAccepted, IsRefused}
-use Rattle.trlab_texts.specs.Reading.{Fault}
+use Rattle.trlab_texts.specs.Reading.{Fault, Reports}
+use Rattle.trlab_texts.specs.declared.fault.TextFault.{TextFault}
 use Rattle.trlab_jobs.specs.Job.{Job as JobSaid, JobText}
 use Rattle.trlab_jobs.specs.Check.{Check as CheckSaid, CheckText}
 use Rattle.trlab_jobs.specs.Sweep.{Sweep as SweepSaid, SweepText}
@@ -25,6 +26,10 @@ use Rattle.trlab_explain.specs.declared.topics.Topic.TheVariants.{Cause, Reason}
 -- of the input
 abbrev pub Heads : Type 1
 Heads = Bool → List ℕ → List ℕ → Type 0
+
+-- the head of an explanation without any part yet
+abbrev pub IsBlankHead : Heads
+IsBlankHead refused answer quote = (refused ≡ false) × (answer ≡ []) × (quote ≡ [])
 
 -- a text begins with this front
 abbrev pub BeginsWith : List ℕ → List ℕ → Type 0
@@ -59,6 +64,12 @@ TellsAs Sweep text refused answer quote =
     (says : Result SweepSaid Fault) × SweepText text says × TellsText text says refused answer quote
 TellsAs Check text refused answer quote =
     (says : Result CheckSaid Fault) × CheckText text says × TellsCheck text says refused answer quote
+
+-- a text that is read as this has this first fault, unless an allocation failed
+abbrev pub IsRefusedText : Subject → List ℕ → TextFault → Type 0
+IsRefusedText Job text fault = Reports (JobText text) (Err fault)
+IsRefusedText Sweep text fault = Reports (SweepText text) (Err fault)
+IsRefusedText Check text fault = Reports (CheckText text) (Err fault)
 
 -- what a text is read as: what is wanted, or else what it is meant to be
 abbrev pub IsReadAs : Option Subject → List ℕ → Subject → Type 0

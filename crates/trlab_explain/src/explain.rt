@@ -8,9 +8,9 @@ ghost use Rattle.trlab_lines.specs.Plain.{IsPlain};
 ghost use Rattle.trlab_verify.specs.Faults.{IsFaultOf};
 ghost use Rattle.trlab_jobs.specs.Check.{Check as CheckSaid};
 ghost use Rattle.trlab_explain.specs.Quotes.{quote_line};
-ghost use Rattle.trlab_explain.specs.Explanations.{Explains, HasHead, Tells, TellsAs, TellsFault, TellsProgram};
+ghost use Rattle.trlab_explain.specs.Explanations.{Explains, HasHead, IsBlankHead, IsReadAs, IsRefusedText, TellsAs, TellsFault, TellsProgram};
 
-use crate::explanation::{Body, Explanation};
+use crate::explanation::Explanation;
 use crate::fault::add_fault;
 use crate::job::add_job;
 use crate::json_form::json_form;
@@ -25,7 +25,7 @@ use trlab_code::{Code, Kind};
 use trlab_diagnosis::{Fault, Place, Result, Subject, subject_of};
 use trlab_jobs::{Check, parse_check, parse_job, parse_sweep};
 use trlab_lines::Page;
-use trlab_texts::{TextFault, Wanted};
+use trlab_texts::{Refusal, TextFault, Wanted};
 use trlab_verify::{VerifyFault, verify_change, verify_motion};
 
 /// A form of explanations.
@@ -52,187 +52,161 @@ fn push_quote(page: &mut Page, number: u32, line: Option<&[u8]>) -> Result<()>
     page.end_line()
 }
 
-/// The explanation of a rejected input, by its first fault. `wanted` comes with the end of the line in which its
-/// places are counted.
+/// Explains a rejected input, by its first fault. `wanted` comes with the end of the line in which its places are
+/// counted.
 fn explain_fault<'a>(
-    alloc: Global,
-    subject: Subject,
+    told: &mut Explanation<'a>,
     text: &'a [u8],
     line: u32,
     cause: Cause,
-    wanted: (&[u8], Wanted),
-) -> Result<Explanation<'a>>
-    ensures { IfOk result (λ told. TellsFault text.now (record { line = line; cause = cause })
-        told.refused told.answer told.quote) }
+    wanted: (&[u8], &Wanted),
+) -> Result<()>
+    requires { IsBlankHead told.old.refused told.old.answer told.old.quote }
+    ensures { OnOk result (TellsFault text.now (record { line = line; cause = cause })
+        told.new.refused told.new.answer told.new.quote) }
 {
     let place = Place::at(text, line);
     let (within, wanted) = wanted;
     let fault = Fault {
-        subject,
+        subject: told.body.subject,
         place,
         cause,
-        wanted: &wanted,
+        wanted,
         within,
     };
-    let mut answer = Page::new(alloc);
-    push_fault_line(&mut answer, line, cause)?;
-    let mut quote = Page::new(alloc);
-    push_quote(&mut quote, line, place.line)?;
-    let mut body = Body::new(alloc, subject);
-    add_fault(&mut body, place, &fault)?;
-    Ok(Explanation {
-        refused: true,
-        answer,
-        quote,
-        body,
-    })
+    told.refused = true;
+    push_fault_line(&mut told.answer, line, cause)?;
+    push_quote(&mut told.quote, line, place.line)?;
+    add_fault(&mut told.body, place, &fault)
 }
 
-/// The explanation of an input that is not rejected, with the line that its command prints.
-fn explain_valid<'a>(body: Body<'a>, answer: Page) -> Explanation<'a>
-    ensures { result.refused ≡ false }
-{
-    Explanation {
-        refused: false,
-        answer,
-        quote: Page::new(body.alloc),
-        body,
-    }
-}
-
-/// The explanation of an input that is read as a job.
-fn explain_job(alloc: Global, text: &[u8]) -> Result<Explanation<'_>>
-    ensures { IfOk result (λ told. TellsAs Subject.Job text.now told.refused told.answer told.quote) }
-{
-    match parse_job(alloc, text) {
-        Ok(job) => {
-            let mut body = Body::new(alloc, Subject::Job);
-            add_job(&mut body, text, &job)?;
-            Ok(explain_valid(body, Page::new(alloc)))
-        }
-        Err(refusal) => match refusal.into_parts() {
-            (TextFault::At { line, cause }, within, wanted) => {
-                explain_fault(alloc, Subject::Job, text, line, cause, (within, wanted))
-            }
-            (TextFault::Memory, ..) => Err(AllocError),
-        },
-    }
-}
-
-/// The explanation of an input that is read as a sweep.
-fn explain_sweep(alloc: Global, text: &[u8]) -> Result<Explanation<'_>>
-    ensures { IfOk result (λ told. TellsAs Subject.Sweep text.now told.refused told.answer told.quote) }
-{
-    match parse_sweep(alloc, text) {
-        Ok(sweep) => {
-            let mut body = Body::new(alloc, Subject::Sweep);
-            add_sweep(&mut body, text, &sweep)?;
-            Ok(explain_valid(body, Page::new(alloc)))
-        }
-        Err(refusal) => match refusal.into_parts() {
-            (TextFault::At { line, cause }, within, wanted) => {
-                explain_fault(alloc, Subject::Sweep, text, line, cause, (within, wanted))
-            }
-            (TextFault::Memory, ..) => Err(AllocError),
-        },
-    }
-}
-
-/// The explanation of a program that the verifier accepts with a budget.
-fn explain_accepted<'a>(
-    alloc: Global,
-    text: &'a [u8],
-    code: &Code,
-    budget: u32,
-) -> Result<Explanation<'a>>
-    ensures { IfOk result (λ told. told.refused ≡ false) }
-{
-    let mut answer = Page::new(alloc);
-    answer.say("accepted budget ")?;
-    answer.number(u64::from(budget))?;
-    answer.end_line()?;
-    let mut body = Body::new(alloc, Subject::Check);
-    add_checked(&mut body, text, code, ProgramVerdict::Accepted(budget))?;
-    Ok(explain_valid(body, answer))
-}
-
-/// The explanation of a program that the verifier does not accept.
+/// Explains an input that its reader rejects.
+#[tactic(auto, using(crate::proofs::Refusals::refusal_told))]
 fn explain_refusal<'a>(
-    alloc: Global,
+    told: &mut Explanation<'a>,
+    subject: Subject,
     text: &'a [u8],
+    refusal: Refusal<'_>,
+) -> Result<()>
+    requires new { IsBlankHead told.old.refused told.old.answer told.old.quote }
+    requires refused { IsRefusedText subject text.now refusal }
+    ensures { OnOk result (TellsAs subject text.now told.new.refused told.new.answer told.new.quote) }
+{
+    match refusal.into_parts() {
+        (TextFault::At { line, cause }, within, wanted) => {
+            explain_fault(told, text, line, cause, (within, &wanted))
+        }
+        (TextFault::Memory, ..) => Err(AllocError),
+    }
+}
+
+/// Explains an input that is read as a job.
+fn explain_job<'a>(told: &mut Explanation<'a>, text: &'a [u8]) -> Result<()>
+    requires { IsBlankHead told.old.refused told.old.answer told.old.quote }
+    ensures { OnOk result (TellsAs Subject.Job text.now told.new.refused told.new.answer told.new.quote) }
+{
+    match parse_job(told.body.alloc, text) {
+        Ok(job) => add_job(&mut told.body, text, &job),
+        Err(refusal) => explain_refusal(told, Subject::Job, text, refusal),
+    }
+}
+
+/// Explains an input that is read as a sweep.
+fn explain_sweep<'a>(told: &mut Explanation<'a>, text: &'a [u8]) -> Result<()>
+    requires { IsBlankHead told.old.refused told.old.answer told.old.quote }
+    ensures { OnOk result (TellsAs Subject.Sweep text.now told.new.refused told.new.answer told.new.quote) }
+{
+    match parse_sweep(told.body.alloc, text) {
+        Ok(sweep) => add_sweep(&mut told.body, text, &sweep),
+        Err(refusal) => explain_refusal(told, Subject::Sweep, text, refusal),
+    }
+}
+
+/// Explains a program that the verifier accepts with a budget.
+fn explain_accepted(told: &mut Explanation<'_>, text: &[u8], code: &Code, budget: u32) -> Result<()>
+    ensures { told.new.refused ≡ told.old.refused }
+{
+    told.answer.say("accepted budget ")?;
+    told.answer.number(u64::from(budget))?;
+    told.answer.end_line()?;
+    add_checked(&mut told.body, text, code, ProgramVerdict::Accepted(budget))
+}
+
+/// Explains a program that the verifier does not accept.
+fn explain_rejected(
+    told: &mut Explanation<'_>,
+    text: &[u8],
     code: &Code,
     fault: VerifyFault,
-) -> Result<Explanation<'a>>
+) -> Result<()>
+    requires { IsBlankHead told.old.refused told.old.answer told.old.quote }
     ensures { (check : CheckSaid) → IsFaultOf check.program.kind check.program fault
-        → IfOk result (λ told. TellsProgram check told.refused told.answer told.quote) }
+        → OnOk result (TellsProgram check told.new.refused told.new.answer told.new.quote) }
 {
     let VerifyFault::Why { at, reason } = fault else {
         return Err(AllocError);
     };
-    let mut answer = Page::new(alloc);
-    push_refused_line(&mut answer, at, reason)?;
-    let mut body = Body::new(alloc, Subject::Check);
-    add_checked(&mut body, text, code, ProgramVerdict::Rejected(at, reason))?;
-    Ok(Explanation {
-        refused: true,
-        answer,
-        quote: Page::new(alloc),
-        body,
-    })
+    told.refused = true;
+    push_refused_line(&mut told.answer, at, reason)?;
+    add_checked(
+        &mut told.body,
+        text,
+        code,
+        ProgramVerdict::Rejected(at, reason),
+    )
 }
 
-/// The explanation of the program of a check.
-fn explain_program<'a>(alloc: Global, text: &'a [u8], check: Check) -> Result<Explanation<'a>>
-    ensures { IfOk result (λ told. TellsProgram check told.refused told.answer told.quote) }
+/// Explains the program of a check.
+fn explain_program(told: &mut Explanation<'_>, text: &[u8], check: Check) -> Result<()>
+    requires { IsBlankHead told.old.refused told.old.answer told.old.quote }
+    ensures { OnOk result (TellsProgram check told.new.refused told.new.answer told.new.quote) }
 {
     let Check { code, .. } = check;
+    let alloc = told.body.alloc;
     match code.kind() {
         Kind::Motion => match verify_motion(alloc, code) {
-            Ok(motion) => explain_accepted(alloc, text, motion.code(), motion.budget()),
-            Err((code, fault)) => explain_refusal(alloc, text, &code, fault),
+            Ok(motion) => explain_accepted(told, text, motion.code(), motion.budget()),
+            Err((code, fault)) => explain_rejected(told, text, &code, fault),
         },
         Kind::Change => match verify_change(alloc, code) {
-            Ok(change) => explain_accepted(alloc, text, change.code(), change.budget()),
-            Err((code, fault)) => explain_refusal(alloc, text, &code, fault),
+            Ok(change) => explain_accepted(told, text, change.code(), change.budget()),
+            Err((code, fault)) => explain_rejected(told, text, &code, fault),
         },
     }
 }
 
-/// The explanation of an input that is read as a check.
-fn explain_check(alloc: Global, text: &[u8]) -> Result<Explanation<'_>>
-    ensures { IfOk result (λ told. TellsAs Subject.Check text.now told.refused told.answer told.quote) }
+/// Explains an input that is read as a check.
+fn explain_check<'a>(told: &mut Explanation<'a>, text: &'a [u8]) -> Result<()>
+    requires { IsBlankHead told.old.refused told.old.answer told.old.quote }
+    ensures { OnOk result (TellsAs Subject.Check text.now told.new.refused told.new.answer told.new.quote) }
 {
-    match parse_check(alloc, text) {
-        Ok(check) => explain_program(alloc, text, check),
-        Err(refusal) => match refusal.into_parts() {
-            (TextFault::At { line, cause }, within, wanted) => {
-                explain_fault(alloc, Subject::Check, text, line, cause, (within, wanted))
-            }
-            (TextFault::Memory, ..) => Err(AllocError),
-        },
+    match parse_check(told.body.alloc, text) {
+        Ok(check) => explain_program(told, text, check),
+        Err(refusal) => explain_refusal(told, Subject::Check, text, refusal),
     }
 }
 
-/// The explanation of an input that is read as this.
-fn explain_as(alloc: Global, subject: Subject, text: &[u8]) -> Result<Explanation<'_>>
-    ensures { IfOk result (λ told. TellsAs subject text.now told.refused told.answer told.quote) }
+/// Explains an input that is read as this.
+fn explain_as<'a>(told: &mut Explanation<'a>, subject: Subject, text: &'a [u8]) -> Result<()>
+    requires { IsBlankHead told.old.refused told.old.answer told.old.quote }
+    ensures { OnOk result (TellsAs subject text.now told.new.refused told.new.answer told.new.quote) }
 {
     match subject {
-        Subject::Job => explain_job(alloc, text),
-        Subject::Sweep => explain_sweep(alloc, text),
-        Subject::Check => explain_check(alloc, text),
+        Subject::Job => explain_job(told, text),
+        Subject::Sweep => explain_sweep(told, text),
+        Subject::Check => explain_check(told, text),
     }
 }
 
-/// The explanation of an input, read as what is wanted, or else as what it is meant to be.
-fn explain_meant(alloc: Global, wanted: Option<Subject>, text: &[u8]) -> Result<Explanation<'_>>
-    ensures { IfOk result (λ told. Tells wanted text.now told.refused told.answer told.quote) }
+/// What an input is read as: what is wanted, or else what it is meant to be.
+fn read_as(alloc: Global, wanted: Option<Subject>, text: &[u8]) -> Result<Subject>
+    ensures { IfOk result (IsReadAs wanted text.now) }
 {
     let subject = match wanted {
         Some(subject) => subject,
         None => subject_of(alloc, text)?,
     };
-    explain_as(alloc, subject, text)
+    Ok(subject)
 }
 
 /// Plain text as bytes.
@@ -245,16 +219,18 @@ pub fn plain_bytes(alloc: Global, page: &Page) -> Result<Vec<u8>>
     Ok(bytes)
 }
 
-/// A form of an explanation, and whether it is a rejection.
-fn form_of(alloc: Global, form: Form, explanation: &Explanation<'_>) -> Result<Vec<u8>>
-    ensures head { IfOk result (λ bytes. HasHead form explanation.now.refused
-        explanation.now.answer explanation.now.quote bytes.items) }
-    ensures plain { IfOk result (λ bytes. All IsPlain bytes.items) }
+/// Whether an explanation is a rejection, and its form.
+fn form_of(alloc: Global, form: Form, told: &Explanation<'_>) -> Result<(bool, Vec<u8>)>
+    ensures refused { IfOk result (λ output. output.0 ≡ told.now.refused) }
+    ensures head { IfOk result (λ output.
+        HasHead form told.now.refused told.now.answer told.now.quote output.1.items) }
+    ensures plain { IfOk result (λ output. All IsPlain output.1.items) }
 {
-    match form {
-        Form::Text => plain_bytes(alloc, &text_form(alloc, explanation)?),
-        Form::Json => json_form(alloc, explanation),
-    }
+    let bytes = match form {
+        Form::Text => plain_bytes(alloc, &text_form(alloc, told)?)?,
+        Form::Json => json_form(alloc, told)?,
+    };
+    Ok((told.refused, bytes))
 }
 
 /// Whether an input is rejected, and its explanation in a form.
@@ -266,9 +242,12 @@ fn explained(
 ) -> Result<(bool, Vec<u8>)>
     ensures { IfOk result (λ told. Explains form wanted text.now told.0 told.1.items) }
 {
-    let explanation = explain_meant(alloc, wanted, text)?;
-    let bytes = form_of(alloc, form, &explanation)?;
-    Ok((explanation.refused, bytes))
+    let subject = read_as(alloc, wanted, text)?;
+    let mut told = Explanation::new(alloc, subject);
+    match explain_as(&mut told, subject, text) {
+        Ok(()) => form_of(alloc, form, &told),
+        Err(error) => Err(error),
+    }
 }
 
 /// Writes a whole output, which is a rejection or not, and passes it on.

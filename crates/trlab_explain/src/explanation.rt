@@ -1,8 +1,10 @@
 //! Explanations as values, of which both the text and the JSON object are written.
 
+ghost use Rattle.std.specs.Prelude.{◌≡◌, [], false};
+
 use std::alloc::Global;
 use std::fmt;
-use trlab_diagnosis::{Place, Repair, Subject};
+use trlab_diagnosis::{Place, Repair, Result, Subject};
 use trlab_lines::Page;
 use trlab_texts::Cause;
 
@@ -66,7 +68,6 @@ pub fn count(key: &'static str, front: &'static str, count: u64, after: &'static
 }
 
 /// The first error of an input, as its reader found it.
-#[derive(Drop)]
 pub struct Problem<'a> {
     pub cause: Cause,
     /// The number of the line, and the line itself unless the input has ended.
@@ -82,8 +83,22 @@ pub struct Problem<'a> {
     pub check: &'static str,
 }
 
+// Not derived: a derived drop is proved again, field by field, wherever the value goes out of scope.
+impl<'a> Drop for Problem<'a> {
+    fn drop(self) {
+        let Problem {
+            cause: _cause,
+            line: _line,
+            text: _text,
+            span: _span,
+            expected: _expected,
+            found: _found,
+            check: _check,
+        } = self;
+    }
+}
+
 /// The instruction at which the verifier rejects a program, and why.
-#[derive(Drop)]
 pub struct Rejection {
     /// The instruction, counted from 0.
     pub at: u32,
@@ -97,8 +112,22 @@ pub struct Rejection {
     pub advice: &'static str,
 }
 
+// Not derived: a derived drop is proved again, field by field, wherever the value goes out of scope.
+impl Drop for Rejection {
+    fn drop(self) {
+        let Rejection {
+            at: _at,
+            line: _line,
+            text: _text,
+            instruction: _instruction,
+            reason: _reason,
+            meaning: _meaning,
+            advice: _advice,
+        } = self;
+    }
+}
+
 /// An instruction of an accepted program, and the facts that are known before it.
-#[derive(Drop)]
 pub struct Known {
     /// The number of its line; 0 for a program in bytes.
     pub line: u32,
@@ -106,8 +135,18 @@ pub struct Known {
     pub facts: Vec<String>,
 }
 
+// Not derived: a derived drop is proved again, field by field, wherever the value goes out of scope.
+impl Drop for Known {
+    fn drop(self) {
+        let Known {
+            line: _line,
+            instruction: _instruction,
+            facts: _facts,
+        } = self;
+    }
+}
+
 /// An explanation below its head.
-#[derive(Drop)]
 pub struct Body<'a> {
     pub alloc: Global,
     /// What the input is read as, and the first line of the text form; it may be empty.
@@ -127,6 +166,25 @@ pub struct Body<'a> {
     pub repair: Option<(Place<'a>, Repair)>,
 }
 
+// Not derived: a derived drop is proved again, field by field, wherever the value goes out of scope.
+impl<'a> Drop for Body<'a> {
+    fn drop(self) {
+        let Body {
+            alloc: _alloc,
+            subject: _subject,
+            intro: _intro,
+            problem: _problem,
+            rejection: _rejection,
+            known: _known,
+            facts: _facts,
+            table: _table,
+            numbers: _numbers,
+            numbers_above: _numbers_above,
+            repair: _repair,
+        } = self;
+    }
+}
+
 impl<'a> Body<'a> {
     /// Without any part yet.
     pub fn new(alloc: Global, subject: Subject) -> Body<'a> {
@@ -144,9 +202,19 @@ impl<'a> Body<'a> {
             repair: None,
         }
     }
+
+    /// Adds a line to the facts.
+    pub fn add_fact(&mut self, fact: String) -> Result<()> {
+        self.facts.push(fact)?;
+        Ok(())
+    }
+
+    /// Adds a line of words to the facts.
+    pub fn add_words(&mut self, words: &'static str) -> Result<()> {
+        self.add_fact(format!(in self.alloc; "{words}")?)
+    }
 }
 
-#[derive(Drop)]
 pub struct Explanation<'a> {
     /// Whether the input or its program is rejected.
     pub refused: bool,
@@ -155,4 +223,32 @@ pub struct Explanation<'a> {
     /// The line at fault with its number, if there is one.
     pub quote: Page,
     pub body: Body<'a>,
+}
+
+// Not derived: a derived drop is proved again, field by field, wherever the value goes out of scope.
+impl<'a> Drop for Explanation<'a> {
+    fn drop(self) {
+        let Explanation {
+            refused: _refused,
+            answer: _answer,
+            quote: _quote,
+            body: _body,
+        } = self;
+    }
+}
+
+impl<'a> Explanation<'a> {
+    /// Of an input that is not rejected, without any part yet.
+    pub fn new(alloc: Global, subject: Subject) -> Explanation<'a>
+        ensures refused { result.refused ≡ false }
+        ensures answer { result.answer ≡ [] }
+        ensures quote { result.quote ≡ [] }
+    {
+        Explanation {
+            refused: false,
+            answer: Page::new(alloc),
+            quote: Page::new(alloc),
+            body: Body::new(alloc, subject),
+        }
+    }
 }

@@ -64,21 +64,13 @@ fn check_of(fault: &Fault<'_>) -> &'static str {
     }
 }
 
-/// Adds the first error of an input at a place.
-pub fn add_fault<'a>(body: &mut Body<'a>, place: Place<'a>, fault: &Fault<'_>) -> Result<()> {
-    let alloc = body.alloc;
-    if fault.cause != Cause::TooBig {
-        body.intro = read_as(fault.subject);
-    }
-    if let Cause::Verdict(reason) = fault.cause {
-        add_rejected_part(body, fault, reason)?;
-    }
-    let repair = likely_repair(alloc, *fault)?;
-    let found = found_at(alloc, fault)?;
-    let mut expected: Vec<&'static str> = Vec::new(alloc);
+/// The first error of an input at a place. The body has its repair, if one helps.
+fn problem_at<'a>(body: &Body<'a>, place: Place<'a>, fault: &Fault<'_>) -> Result<Problem<'a>> {
+    let found = found_at(body.alloc, fault)?;
+    let is_clear = body.repair.is_some() || !found.is_empty();
+    let mut expected: Vec<&'static str> = Vec::new(body.alloc);
     add_forms(&mut expected, fault)?;
-    let is_clear = repair.is_some() || !found.is_empty();
-    body.problem = Some(Problem {
+    Ok(Problem {
         cause: fault.cause,
         line: place.number,
         text: place.line,
@@ -86,10 +78,20 @@ pub fn add_fault<'a>(body: &mut Body<'a>, place: Place<'a>, fault: &Fault<'_>) -
         expected,
         found,
         check: if is_clear { "" } else { check_of(fault) },
-    });
-    body.repair = match repair {
-        Some(repair) => Some((place, repair)),
-        None => None,
-    };
+    })
+}
+
+/// Adds the first error of an input at a place.
+pub fn add_fault<'a>(body: &mut Body<'a>, place: Place<'a>, fault: &Fault<'_>) -> Result<()> {
+    if fault.cause != Cause::TooBig {
+        body.intro = read_as(fault.subject);
+    }
+    if let Cause::Verdict(reason) = fault.cause {
+        add_rejected_part(body, fault, reason)?;
+    }
+    if let Some(repair) = likely_repair(body.alloc, *fault)? {
+        body.repair = Some((place, repair));
+    }
+    body.problem = Some(problem_at(body, place, fault)?);
     Ok(())
 }

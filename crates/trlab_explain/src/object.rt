@@ -28,6 +28,8 @@ pub enum Member<'a> {
     TextOrNull(&'a str),
     /// Bytes, with the ends of their lines.
     Bytes(&'a [u8]),
+    /// A line of the input as the text form quotes it, or null if there is none.
+    Quote(Option<&'a [u8]>),
     Forms(&'a [&'static str]),
     Lines(&'a [String]),
     NoLines,
@@ -150,20 +152,10 @@ impl Object {
         }
     }
 
-    /// Adds a line of the input as the text form quotes it, or null if there is none.
-    pub fn quote(&mut self, line: Option<&[u8]>) -> Result<()> {
-        let Some(line) = line else {
-            return self.put(Token::Null);
-        };
-        let line = Quoted(line);
-        let text = format!(in self.alloc; "{line}")?;
-        self.text(&text)
-    }
-
     fn value(&mut self, value: Member<'_>) -> Result<()> {
         match value {
             Member::Count(count) | Member::CountOrNull(Some(count)) => self.number(count),
-            Member::Null | Member::CountOrNull(None) => self.put(Token::Null),
+            Member::Null | Member::CountOrNull(None) | Member::Quote(None) => self.put(Token::Null),
             Member::Amount(amount) => self.amount(amount),
             Member::Words(words) => self.text_or_null(words),
             Member::Text(text) => self.text(text),
@@ -171,6 +163,11 @@ impl Object {
             Member::Bytes(bytes) => {
                 let bytes = Shown(bytes);
                 let text = format!(in self.alloc; "{bytes}")?;
+                self.text(&text)
+            }
+            Member::Quote(Some(line)) => {
+                let line = Quoted(line);
+                let text = format!(in self.alloc; "{line}")?;
                 self.text(&text)
             }
             Member::Forms(forms) => self.forms(forms),
@@ -193,6 +190,19 @@ impl Object {
             self.member(*name, *value)?;
         }
         Ok(())
+    }
+
+    /// Adds an object with these members.
+    pub fn object(&mut self, members: &[(&'static str, Member<'_>)]) -> Result<()> {
+        self.put(Token::BeginObject)?;
+        self.members(members)?;
+        self.put(Token::EndObject)
+    }
+
+    /// Begins an array as a member.
+    pub fn array(&mut self, name: &str) -> Result<()> {
+        self.key(name)?;
+        self.put(Token::BeginArray)
     }
 
     /// Ends the object with the exit status and the line that the command prints, if it prints one.

@@ -102,28 +102,36 @@ fn facts_of(alloc: Global, note: &Note) -> Result<Vec<String>> {
     Ok(facts)
 }
 
+/// An instruction of an accepted program, and the facts of its note.
+fn known_at(alloc: Global, program: Listing<'_>, pc: u32, note: &Note) -> Result<Known> {
+    Ok(Known {
+        line: program.line_number(pc, 0),
+        instruction: program.instruction(alloc, pc)?,
+        facts: facts_of(alloc, note)?,
+    })
+}
+
+/// Adds the facts known before each instruction of an accepted program.
+fn add_table(body: &mut Body<'_>, program: Listing<'_>, table: &[Note]) -> Result<()> {
+    let mut pc = 0u32;
+    for note in table {
+        body.table.push(known_at(body.alloc, program, pc, note)?)?;
+        pc = pc.saturating_add(1);
+    }
+    Ok(())
+}
+
 /// Adds the budget of an accepted program, and the facts known before each instruction.
 fn add_accepted(body: &mut Body<'_>, program: Listing<'_>, budget: u32) -> Result<()> {
-    let alloc = body.alloc;
     let runs = "Accepted: a car runs at most ";
     let number = count("budget", runs, u64::from(budget), " instructions per step.");
     body.numbers.push(number)?;
     body.numbers_above = 1;
-    let table = match notes(alloc, program.code) {
-        Ok(table) => table,
-        Err(NotesFault::Memory) => return Err(AllocError),
-        Err(NotesFault::Refused) => return Ok(()),
-    };
-    let mut pc = 0u32;
-    for note in &table {
-        body.table.push(Known {
-            line: program.line_number(pc, 0),
-            instruction: program.instruction(alloc, pc)?,
-            facts: facts_of(alloc, note)?,
-        })?;
-        pc = pc.saturating_add(1);
+    match notes(body.alloc, program.code) {
+        Ok(table) => add_table(body, program, &table),
+        Err(NotesFault::Memory) => Err(AllocError),
+        Err(NotesFault::Refused) => Ok(()),
     }
-    Ok(())
 }
 
 /// Adds the verdict on a program that begins at a line of the input, whose other lines are below it.

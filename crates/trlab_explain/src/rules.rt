@@ -16,8 +16,7 @@ const SMALL: u32 = 2147;
 fn add_rule(body: &mut Body<'_>, number: u32, line: &[u8]) -> Result<()> {
     let alloc = body.alloc;
     let quoted = Quoted(line);
-    body.facts
-        .push(format!(in alloc; "line {number}: {quoted}")?)?;
+    body.add_fact(format!(in alloc; "line {number}: {quoted}")?)?;
     let mut left = after_rule(line).unwrap_or(b"");
     for _ in 0..MAX_CHANCES {
         let Some((_, rest)) = cut(left, b' ') else {
@@ -30,8 +29,7 @@ fn add_rule(body: &mut Body<'_>, number: u32, line: &[u8]) -> Result<()> {
             } else {
                 ""
             };
-            body.facts
-                .push(format!(in alloc; "  p = {p} ({parts}).{warning}")?)?;
+            body.add_fact(format!(in alloc; "  p = {p} ({parts}).{warning}")?)?;
         }
         left = rest;
     }
@@ -41,12 +39,12 @@ fn add_rule(body: &mut Body<'_>, number: u32, line: &[u8]) -> Result<()> {
 /// Adds a heading, and the first `most` lines of the input with this first word, which are rules.
 pub fn add_rules(
     body: &mut Body<'_>,
-    heading: &str,
+    heading: &'static str,
     text: &[u8],
     name: &[u8],
     most: u32,
 ) -> Result<()> {
-    body.facts.push(format!(in body.alloc; "{heading}")?)?;
+    body.add_words(heading)?;
     let mut left = text;
     let mut number = 1u32;
     let mut found = 0u32;

@@ -110,8 +110,9 @@ fn push_body(text: &mut String, body: &Body<'_>) -> Result<()> {
         push_problem(text, problem)?;
     }
     if let Some(rejection) = &body.rejection {
-        writeln!(text, "{}", rejection.instruction)?;
-        writeln!(text, "Reason {}: {}", rejection.reason, rejection.meaning)?;
+        let instruction = &rejection.instruction;
+        let (reason, meaning) = (rejection.reason, rejection.meaning);
+        writeln!(text, "{instruction}\nReason {reason}: {meaning}")?;
     }
     let numbers = body.numbers.as_slice();
     let (above, below) = numbers.split_at(body.numbers_above.min(numbers.len()));
@@ -121,14 +122,19 @@ fn push_body(text: &mut String, body: &Body<'_>) -> Result<()> {
     push_help(text, body)
 }
 
+/// The text form of an explanation below its head.
+fn body_page(alloc: Global, body: &Body<'_>) -> Result<Page> {
+    let mut text = String::new(alloc);
+    push_body(&mut text, body)?;
+    page_of(alloc, &text)
+}
+
 /// The text form of an explanation.
 pub fn text_form(alloc: Global, explanation: &Explanation<'_>) -> Result<Page>
     ensures { IfOk result (BeginsWith
         (text_front explanation.now.refused explanation.now.answer explanation.now.quote)) }
 {
-    let mut text = String::new(alloc);
-    push_body(&mut text, &explanation.body)?;
-    let body = page_of(alloc, &text)?;
+    let body = body_page(alloc, &explanation.body)?;
     let mut page = Page::new(alloc);
     if explanation.refused {
         page.add(&explanation.answer)?;

@@ -31,7 +31,6 @@ use trlab_texts::{
 use trlab_words::Key;
 
 /// A sweep, which can be run: the rule is for its number of lanes, and each road has room for its cars.
-#[derive(Drop)]
 pub struct Sweep {
     /// The seed of the random numbers.
     pub key: Key,
@@ -50,6 +49,22 @@ pub struct Sweep {
     /// The number of cars of each point: 1 to `MAX_POINTS` points, which take at most `MAX_WORK` steps
     /// together.
     pub cars: Vec<u32>,
+}
+
+// Not derived: a derived drop is proved again, field by field, wherever the value goes out of scope.
+impl Drop for Sweep {
+    fn drop(self) {
+        let Sweep {
+            key: _key,
+            limit: _limit,
+            length: _length,
+            lanes: _lanes,
+            rule: _rule,
+            warm: _warm,
+            measure: _measure,
+            cars: _cars,
+        } = self;
+    }
 }
 
 impl Model for Sweep {

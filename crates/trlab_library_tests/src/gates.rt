@@ -12,21 +12,7 @@ use std::thread::Threads;
 use trlab_segments::{Gate, step_shared};
 use trlab_words::Key;
 
-/// Takes a step of road 9 through a gate, by a crew of one worker more than `others`.
-fn step_through<G: Gate + Sync>(
-    rt: &(impl AllocGlobal + Threads + Sync),
-    traffic: &Traffic,
-    others: u32,
-    gate: &G,
-) -> bool
-    requires { others < 16 }
-{
-    let (alloc, key) = (rt.alloc(), Key([0; 32]));
-    let Traffic { road, rule } = traffic;
-    step_shared(rt, alloc, road, rule, &key, 9, 0, others + 1, gate).is_ok()
-}
-
-/// The same for a number of cars.
+/// Takes a step of road 9 with some cars through a gate, by a crew of one worker more than `others`.
 fn go_through<G: Gate + Sync>(
     rt: &(impl AllocGlobal + Threads + Sync),
     cars: u32,
@@ -35,8 +21,11 @@ fn go_through<G: Gate + Sync>(
 ) -> bool
     requires { others < 16 }
 {
-    match spread(rt.alloc(), 2, 100, cars) {
-        Some(traffic) => step_through(rt, &traffic, others, gate),
+    let (alloc, key) = (rt.alloc(), Key([0; 32]));
+    match spread(alloc, 100, cars) {
+        Some(Traffic { road, rule }) => {
+            step_shared(rt, alloc, &road, &rule, &key, 9, 0, others + 1, gate).is_ok()
+        }
         None => false,
     }
 }

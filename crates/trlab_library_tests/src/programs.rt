@@ -1,11 +1,11 @@
 //! Programs of rules: faults of their text, tables of notes that are passed in, and the standard rules.
 
+use crate::traffic::{of_1992, of_1996, of_1998};
 use std::alloc::Global;
 use trlab_asm::{AsmFault, Why, assemble};
 use trlab_code::Kind;
-use trlab_rules::{Rule, nasch, rickert, slowed_1992, vdr};
+use trlab_rules::{Rule, slowed_1992};
 use trlab_verify::{Change, Mark, Note, check_notes, notes};
-use trlab_words::Chance;
 
 /// Whether a fault is printed in these words.
 fn is_printed(alloc: Global, fault: &AsmFault, words: &str) -> bool {
@@ -106,21 +106,6 @@ fn tables_that_claim_enough_are_accepted(rt: HostRuntime) {
     for (altered, wanted) in &ROWS {
         assert!(rt; checks(rt.alloc(), altered) == Some(*wanted));
     }
-}
-
-/// The rule of 1992 with the probability p.
-fn of_1992(alloc: Global, p: u32) -> Option<Rule> {
-    nasch(alloc, Chance::new(p)?).ok()
-}
-
-/// The rule of 1998 with these probabilities.
-fn of_1998(alloc: Global, p: u32, p0: u32) -> Option<Rule> {
-    vdr(alloc, Chance::new(p)?, Chance::new(p0)?).ok()
-}
-
-/// The rule of 1996 with these probabilities.
-fn of_1996(alloc: Global, p: u32, c: u32) -> Option<Rule> {
-    rickert(alloc, Chance::new(p)?, Chance::new(c)?).ok()
 }
 
 /// Whether a change program has this budget, or there is none of either.

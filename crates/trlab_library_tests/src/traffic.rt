@@ -1,4 +1,4 @@
-//! Rules, roads with cars that follow them, and a comparison of steps.
+//! The published rules, roads with cars that follow one, and a comparison of steps.
 
 use std::alloc::Global;
 use trlab_road::Road;
@@ -6,24 +6,19 @@ use trlab_rules::{Rule, nasch, rickert, vdr};
 use trlab_step::{StepFault, StepTally};
 use trlab_words::{CERTAIN, Chance};
 
-/// The rule of 1992 without random braking.
-pub fn steady(alloc: Global) -> Option<Rule> {
-    nasch(alloc, Chance::new(0)?).ok()
+/// The rule of 1992 with the probability p.
+pub fn of_1992(alloc: Global, p: u32) -> Option<Rule> {
+    nasch(alloc, Chance::new(p)?).ok()
 }
 
-/// The rule of 1998 under which a stopped car stays where it is.
-pub fn resting(alloc: Global) -> Option<Rule> {
-    vdr(alloc, Chance::new(0)?, Chance::new(CERTAIN)?).ok()
+/// The rule of 1998 with these probabilities.
+pub fn of_1998(alloc: Global, p: u32, p0: u32) -> Option<Rule> {
+    vdr(alloc, Chance::new(p)?, Chance::new(p0)?).ok()
 }
 
-/// The rule of 1996 without random braking, under which each car crosses if it may.
-pub fn crossing(alloc: Global) -> Option<Rule> {
-    rickert(alloc, Chance::new(0)?, Chance::new(CERTAIN)?).ok()
-}
-
-/// The rule of 1996 with the probabilities 1/4 and 1/2.
-pub fn at_random(alloc: Global) -> Option<Rule> {
-    rickert(alloc, Chance::new(CERTAIN / 4)?, Chance::new(CERTAIN / 2)?).ok()
+/// The rule of 1996 with these probabilities.
+pub fn of_1996(alloc: Global, p: u32, c: u32) -> Option<Rule> {
+    rickert(alloc, Chance::new(p)?, Chance::new(c)?).ok()
 }
 
 /// The cars of a road, and the rule that they follow.
@@ -33,10 +28,10 @@ pub struct Traffic {
     pub rule: Rule,
 }
 
-/// Stopped cars, evenly spread over the lanes, that follow a rule with random braking.
-pub fn spread(alloc: Global, lanes: u32, cells: u32, cars: u32) -> Option<Traffic> {
-    let rule = at_random(alloc)?;
-    let road = Road::even(alloc, lanes, cells, 5, cars).ok()?;
+/// Stopped cars, evenly spread over two lanes, that follow the rule of 1996 with the probabilities 1/4 and 1/2.
+pub fn spread(alloc: Global, cells: u32, cars: u32) -> Option<Traffic> {
+    let road = Road::even(alloc, 2, cells, 5, cars).ok()?;
+    let rule = of_1996(alloc, CERTAIN / 4, CERTAIN / 2)?;
     Some(Traffic { road, rule })
 }
 

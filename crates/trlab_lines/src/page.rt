@@ -10,10 +10,19 @@ use std::marker::Model;
 pub const MAX_QUOTED: usize = 80;
 
 /// Lines of printable ASCII characters.
-#[derive(Drop)]
 pub struct Page {
     alloc: Global,
     text: Vec<u8>,
+}
+
+// Not derived: a derived drop is proved again, field by field, wherever the value goes out of scope.
+impl Drop for Page {
+    fn drop(self) {
+        let Page {
+            alloc: _alloc,
+            text: _text,
+        } = self;
+    }
 }
 
 impl Model for Page {

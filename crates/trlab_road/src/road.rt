@@ -30,13 +30,23 @@ use std::snapshot::Snapshot;
 /// A legal road: one or two lanes of cells on a ring, with a speed limit.
 ///
 /// Cars are numbered from 0 and keep their numbers. Standing order is lane by lane, by rising place.
-#[derive(Drop)]
 pub struct Road {
     limit: u32,
     /// The number of cells of each lane.
     cells: u32,
     /// The cars of each lane by rising place.
     lanes: Vec<Vec<LaneCar>>,
+}
+
+// Not derived: a derived drop is proved again, field by field, wherever the value goes out of scope.
+impl Drop for Road {
+    fn drop(self) {
+        let Road {
+            limit: _limit,
+            cells: _cells,
+            lanes: _lanes,
+        } = self;
+    }
 }
 
 impl Model for Road {
@@ -188,7 +198,12 @@ impl Road {
 
     /// Gives the memory of this road, which is no longer needed, to the room.
     pub fn leave_to(self, room: &mut Room) {
-        room.keep_lists(self.lanes);
+        let Road {
+            limit: _,
+            cells: _,
+            lanes,
+        } = self;
+        room.keep_lists(lanes);
     }
 }
 

@@ -8,10 +8,19 @@ use std::marker::Model;
 use trlab_verify::{Change, Motion};
 
 /// An accepted motion program, and for two lanes possibly an accepted change program.
-#[derive(Drop)]
 pub struct Rule {
     motion: Motion,
     change: Option<Change>,
+}
+
+// Not derived: a derived drop is proved again, field by field, wherever the value goes out of scope.
+impl Drop for Rule {
+    fn drop(self) {
+        let Rule {
+            motion: _motion,
+            change: _change,
+        } = self;
+    }
 }
 
 impl Model for Rule {

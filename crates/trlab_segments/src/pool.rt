@@ -7,9 +7,9 @@ mod rendezvous;
 mod results;
 mod task;
 
-ghost use Rattle.std.specs.Prelude.{◌≡◌, ◌/◌, ◌<◌, ◌≤◌, max};
+ghost use Rattle.std.specs.Prelude.{◌≡◌, ◌/◌, ◌<◌, ◌≤◌, if◌then◌else◌, max};
 ghost use Rattle.trlab_bounds.specs.declared.runs.TheConstants.{MAX_WORKERS};
-ghost use Rattle.trlab_segments.specs.declared.pool.TheConstants.{CARS_PER_WORKER};
+ghost use Rattle.trlab_segments.specs.declared.pool.TheConstants.{CARS_PER_WORKER, DRAWING_CARS_PER_WORKER};
 
 use crate::pool::rendezvous::{Rendezvous, help_all};
 use crate::segment::Gate;
@@ -18,8 +18,10 @@ use std::sync::Wait;
 use std::thread;
 use std::thread::{Threads, join_mut};
 
-/// How many cars keep a worker busy for longer than it takes to wake one.
-pub const CARS_PER_WORKER: u32 = 1000;
+/// How many cars keep a worker busy for longer than it takes to wake one, if no program draws random numbers.
+pub const CARS_PER_WORKER: u32 = 4000;
+/// The same if a program draws: then most of a car's time goes into random numbers.
+pub const DRAWING_CARS_PER_WORKER: u32 = 500;
 
 /// 1 to 16 workers and their gate. The calling thread is worker 0; the others are started once, for a
 /// whole run, and help with its phases.
@@ -52,14 +54,15 @@ impl<'a, R: Threads + Wait + Sync, G: Gate + Sync> Pool<'a, R, G> {
     }
 
     /// As many of these workers as make the work faster on a road with `cars` cars: at most one per processor, and
-    /// one per 1000 cars. Between two phases that are close they stay awake.
-    pub fn sparing(self, cars: u32) -> Pool<'a, R, G>
+    /// one per 4000 cars, or per 500 cars if a program `draws` random numbers. Between two phases that are close
+    /// they stay awake.
+    pub fn sparing(self, cars: u32, draws: bool) -> Pool<'a, R, G>
         ensures some { 0 < pool_workers result }
         ensures few { pool_workers result ≤ pool_workers self.entry }
-        ensures used { pool_workers result ≤ max 1 (cars / CARS_PER_WORKER) }
+        ensures used { pool_workers result ≤ max 1 (cars / (if draws then DRAWING_CARS_PER_WORKER else CARS_PER_WORKER)) }
     {
         let most = within_processors(self.rt, self.workers);
-        let busy = (cars / CARS_PER_WORKER).max(1);
+        let busy = (cars / cars_per_worker(draws)).max(1);
         Pool {
             rt: self.rt,
             gate: self.gate,
@@ -94,6 +97,18 @@ impl<'a, R: Threads + Wait + Sync, G: Gate + Sync> Pool<'a, R, G> {
             },
         );
         driven
+    }
+}
+
+/// How many cars keep a worker busy, by whether a program draws random numbers.
+fn cars_per_worker(draws: bool) -> u32
+    ensures some { 0 < result }
+    ensures value { result ≡ (if draws then DRAWING_CARS_PER_WORKER else CARS_PER_WORKER) }
+{
+    if draws {
+        DRAWING_CARS_PER_WORKER
+    } else {
+        CARS_PER_WORKER
     }
 }
 

@@ -26,7 +26,6 @@ use trlab_step::{StepRoom, StepTally, no_tally, tally_sum};
 use trlab_words::Key;
 
 /// A job. Contracts do not see its road and its tally, which follow from the seed, the sheet and the steps done.
-#[derive(Drop)]
 pub(crate) struct JobRecord {
     seed: BoxedSeed,
     sheet: Sheet,
@@ -41,6 +40,23 @@ pub(crate) struct JobRecord {
     /// The road at the steps done.
     road: BoxedRoad,
     tally: StepTally,
+}
+
+// Not derived: a derived drop is proved again, field by field, wherever the value goes out of scope.
+impl Drop for JobRecord {
+    fn drop(self) {
+        let JobRecord {
+            seed: _seed,
+            sheet: _sheet,
+            steps: _steps,
+            high: _high,
+            done: _done,
+            cancelled: _cancelled,
+            out: _out,
+            road: _road,
+            tally: _tally,
+        } = self;
+    }
 }
 
 impl Model for JobRecord {

@@ -25,11 +25,21 @@ pub(crate) fn suits(rule: &Rule, road: &Road) -> bool
 
 /// A rule with the encodings of its motion program and its change program. Rules are compared by these bytes,
 /// many at once; instructions would be compared one by one.
-#[derive(Drop)]
 pub(crate) struct EncodedRule {
     rule: Rule,
     motion: Vec<u8>,
     change: Vec<u8>,
+}
+
+// Not derived: a derived drop is proved again, field by field, wherever the value goes out of scope.
+impl Drop for EncodedRule {
+    fn drop(self) {
+        let EncodedRule {
+            rule: _rule,
+            motion: _motion,
+            change: _change,
+        } = self;
+    }
 }
 
 impl Model for EncodedRule {
@@ -86,9 +96,15 @@ fn bytes_of_change(alloc: Global, rule: &Rule) -> Result<Vec<u8>, AllocError>
 }
 
 /// A rule that several owners share and nobody changes.
-#[derive(Drop)]
 pub struct BoxedRule {
     held: Arc<EncodedRule, Global>,
+}
+
+// Not derived: a derived drop is proved again, field by field, wherever the value goes out of scope.
+impl Drop for BoxedRule {
+    fn drop(self) {
+        let BoxedRule { held: _held } = self;
+    }
 }
 
 impl Model for BoxedRule {

@@ -13,12 +13,23 @@ use trlab_words::Key;
 
 /// The initial state of a job: its road, the key and the number that determine its random numbers, and the
 /// step from which its tally counts.
-#[derive(Drop)]
 pub struct Seed {
     pub road: Road,
     pub key: Key,
     pub number: u32,
     pub warm: u32,
+}
+
+// Not derived: a derived drop is proved again, field by field, wherever the value goes out of scope.
+impl Drop for Seed {
+    fn drop(self) {
+        let Seed {
+            road: _road,
+            key: _key,
+            number: _number,
+            warm: _warm,
+        } = self;
+    }
 }
 
 impl Seed {
@@ -41,9 +52,15 @@ impl Seed {
 }
 
 /// A seed that several owners share and nobody changes.
-#[derive(Drop)]
 pub struct BoxedSeed {
     held: Arc<Seed, Global>,
+}
+
+// Not derived: a derived drop is proved again, field by field, wherever the value goes out of scope.
+impl Drop for BoxedSeed {
+    fn drop(self) {
+        let BoxedSeed { held: _held } = self;
+    }
 }
 
 impl Model for BoxedSeed {
@@ -88,11 +105,20 @@ impl BoxedSeed {
 }
 
 /// A road of the run of a seed, which several owners share and nobody changes.
-#[derive(Drop)]
 pub(crate) struct BoxedRoad {
     seed: BoxedSeed,
     /// None for the road of the seed itself.
     held: Option<Arc<Road, Global>>,
+}
+
+// Not derived: a derived drop is proved again, field by field, wherever the value goes out of scope.
+impl Drop for BoxedRoad {
+    fn drop(self) {
+        let BoxedRoad {
+            seed: _seed,
+            held: _held,
+        } = self;
+    }
 }
 
 impl Model for BoxedRoad {

@@ -14,13 +14,25 @@ use trlab_step::StepTally;
 
 /// The state of a job at its steps done. Its type guarantees that the road and the tally are those of one worker
 /// who runs the seed under the sheet.
-#[derive(Drop)]
 pub struct Snapshot {
     pub(crate) seed: BoxedSeed,
     pub(crate) sheet: Sheet,
     pub(crate) step: u32,
     pub(crate) road: BoxedRoad,
     pub(crate) tally: StepTally,
+}
+
+// Not derived: a derived drop is proved again, field by field, wherever the value goes out of scope.
+impl Drop for Snapshot {
+    fn drop(self) {
+        let Snapshot {
+            seed: _seed,
+            sheet: _sheet,
+            step: _step,
+            road: _road,
+            tally: _tally,
+        } = self;
+    }
 }
 
 impl Model for Snapshot {

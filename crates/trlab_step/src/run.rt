@@ -17,7 +17,6 @@ use trlab_words::Key;
 
 /// A run of a road under a schedule of rules: the current step, the road at this step, and the sum of the tallies
 /// so far.
-#[derive(Drop)]
 pub struct Run {
     start: Snapshot<Road>,
     key: Key,
@@ -29,6 +28,23 @@ pub struct Run {
     sum: StepTally,
     /// Memory that each step uses again.
     room: StepRoom,
+}
+
+// Not derived: a derived drop is proved again, field by field, wherever the value goes out of scope.
+impl Drop for Run {
+    fn drop(self) {
+        let Run {
+            start: _start,
+            key: _key,
+            number: _number,
+            warm: _warm,
+            sheet: _sheet,
+            step: _step,
+            road: _road,
+            sum: _sum,
+            room: _room,
+        } = self;
+    }
 }
 
 impl Model for Run {

@@ -8,10 +8,19 @@ use std::marker::Model;
 use trlab_rules::Rule;
 
 /// The rules of a run: the first is in force from step 0 on, each later one from its own step on.
-#[derive(Drop)]
 pub struct Schedule {
     first: Rule,
     later: Vec<(u32, Rule)>,
+}
+
+// Not derived: a derived drop is proved again, field by field, wherever the value goes out of scope.
+impl Drop for Schedule {
+    fn drop(self) {
+        let Schedule {
+            first: _first,
+            later: _later,
+        } = self;
+    }
 }
 
 impl Model for Schedule {

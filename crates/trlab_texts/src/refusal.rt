@@ -126,11 +126,21 @@ impl<'a> Objection<'a> {
 }
 
 /// Why a line was rejected, and the input that was wanted instead.
-#[derive(Drop)]
 pub struct LineRefusal<'a> {
     fault: LineFault,
     line: &'a [u8],
     wanted: Wanted,
+}
+
+// Not derived: a derived drop is proved again, field by field, wherever the value goes out of scope.
+impl<'a> Drop for LineRefusal<'a> {
+    fn drop(self) {
+        let LineRefusal {
+            fault: _fault,
+            line: _line,
+            wanted: _wanted,
+        } = self;
+    }
 }
 
 impl<'a> Model for LineRefusal<'a> {
@@ -204,11 +214,21 @@ impl<'a> LineRefusal<'a> {
 }
 
 /// Why a text was rejected, and the input that was wanted at its first fault.
-#[derive(Drop)]
 pub struct Refusal<'a> {
     fault: TextFault,
     line: &'a [u8],
     wanted: Wanted,
+}
+
+// Not derived: a derived drop is proved again, field by field, wherever the value goes out of scope.
+impl<'a> Drop for Refusal<'a> {
+    fn drop(self) {
+        let Refusal {
+            fault: _fault,
+            line: _line,
+            wanted: _wanted,
+        } = self;
+    }
 }
 
 impl<'a> Model for Refusal<'a> {

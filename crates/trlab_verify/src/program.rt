@@ -56,11 +56,21 @@ impl ProgramKind for ChangeKind {
 }
 
 /// An accepted program of a kind: safe for every view and all random words within its budget.
-#[derive(Drop)]
 pub struct AcceptedProgram<K: ProgramKind> {
     code: Code,
     budget: u32,
     kind: PhantomData<K>,
+}
+
+// Not derived: a derived drop is proved again, field by field, wherever the value goes out of scope.
+impl<K: ProgramKind> Drop for AcceptedProgram<K> {
+    fn drop(self) {
+        let AcceptedProgram {
+            code: _code,
+            budget: _budget,
+            kind: _kind,
+        } = self;
+    }
 }
 
 /// An accepted motion program.

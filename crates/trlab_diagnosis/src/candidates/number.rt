@@ -1,6 +1,5 @@
 //! Candidates for numbers that are written as fractions, with a sign or with a power of ten.
 
-use crate::Result;
 use crate::candidates::{Candidates, DIGITS};
 use crate::fault::bytes_at;
 use trlab_bounds::programs::CERTAIN;
@@ -9,7 +8,8 @@ use trlab_lines::{cut, digits_value, is_numeral, next_line};
 use trlab_texts::word::number_after;
 use trlab_texts::{Quantity, Wanted};
 
-const PROBABILITY: &str = "a probability p is written as p x 2147483648.";
+/// The whole of which a probability is a part, and how it is written.
+pub const PROBABILITY: (&str, u32) = ("a probability p is written as p x 2147483648.", CERTAIN);
 
 const DENSITY: &str =
     "`cars` takes a number of cars, not a density; this is that density on this road.";
@@ -30,65 +30,53 @@ fn number_above(list: &Candidates<'_>, name: &[u8], most: u32) -> u32 {
 }
 
 /// Adds the number that a word of the line may mean, after `at` bytes: as a part of a whole, or as it is.
-fn meanings(
+pub fn meanings(
     list: &mut Candidates<'_>,
     at: usize,
     word: &[u8],
     of_whole: Option<(&'static str, u32)>,
-) -> Result<()> {
+) {
     let Some(fraction) = fraction_of(word) else {
-        return Ok(());
+        return;
     };
     let (mistake, part) = match of_whole {
         Some((mistake, whole)) => (mistake, nearest_part(fraction, whole)),
         None => (DIGITS, None),
     };
     let mistake = if part.is_some() { mistake } else { DIGITS };
-    let Some(number) = part.or(fraction.whole()) else {
-        return Ok(());
-    };
-    let digits = format!(in list.alloc; "{number}")?;
-    list.in_line(mistake, at, word.len(), digits.as_bytes())
-}
-
-/// Adds the probability that a word of the line may mean, times 2^31.
-pub fn chance_candidates(list: &mut Candidates<'_>, at: usize, word: &[u8]) -> Result<()> {
-    meanings(list, at, word, Some((PROBABILITY, CERTAIN)))
-}
-
-/// Adds the whole number that a word of the line may mean.
-pub fn whole_candidates(list: &mut Candidates<'_>, at: usize, word: &[u8]) -> Result<()> {
-    meanings(list, at, word, None)
+    if let Some(number) = part.or(fraction.whole()) {
+        let digits = format!(in list.alloc; "{number}");
+        list.rewrite(mistake, at, word.len(), digits.map(String::into_bytes));
+    }
 }
 
 /// Adds the line `cars n` for a line `density x`: the density of the cells of a sweep's road.
-pub fn density_candidate(list: &mut Candidates<'_>) -> Result<()> {
+pub fn density_candidate(list: &mut Candidates<'_>) {
     let length = number_above(list, b"length ", MAX_LENGTH);
     let cells = length.saturating_mul(number_above(list, b"lanes ", MAX_LANES));
-    let word = cut(list.line, b' ').map_or(b"".as_slice(), |parts| parts.1);
-    let count = fraction_of(word).and_then(|density| nearest_part(density, cells));
-    if let Some(count) = count {
-        let line = format!(in list.alloc; "cars {count}")?;
-        list.whole_line(DENSITY, line.as_bytes())?;
+    let (_, word) = cut(list.line, b' ').unwrap_or((b"", b""));
+    if let Some(density) = fraction_of(word)
+        && let Some(count) = nearest_part(density, cells)
+    {
+        let line = format!(in list.alloc; "cars {count}");
+        list.rewrite(DENSITY, 0, list.line.len(), line.map(String::into_bytes));
     }
-    Ok(())
 }
 
 /// Adds the number that the word at fault in a job or sweep may mean: a part of 2^31 or of the cells, or as it is.
-pub fn number_candidates(list: &mut Candidates<'_>) -> Result<()> {
+pub fn number_candidates(list: &mut Candidates<'_>) {
     let (Some((at, length)), Wanted::Number { quantity, .. }) = (
         list.fault.word(),
         list.fault.wanted,
     ) else {
-        return Ok(());
+        return;
     };
     let of_whole = match quantity {
-        Quantity::Probability => Some((PROBABILITY, CERTAIN)),
+        Quantity::Probability => Some(PROBABILITY),
         Quantity::Cars { cells } => Some((DENSITY, *cells)),
         Quantity::Other => None,
     };
-    let word = bytes_at(list.line, at, length);
-    meanings(list, at, word, of_whole)
+    meanings(list, at, bytes_at(list.line, at, length), of_whole);
 }
 
 /// The maximum number of digits of a part of a fraction.
@@ -123,11 +111,7 @@ fn value_of(digits: &[u8]) -> Option<u128> {
 }
 
 fn power_of_ten(exponent: u128) -> u128 {
-    let mut power = 1u128;
-    for _ in 0..exponent.min(18) as u32 {
-        power = power.saturating_mul(10);
-    }
-    power
+    10u128.saturating_pow(exponent.min(18) as u32)
 }
 
 /// The fraction that a word writes, with or without a decimal point.

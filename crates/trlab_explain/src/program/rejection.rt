@@ -75,22 +75,73 @@ fn is_followed(program: Listing<'_>, pc: u32, at: u32) -> bool {
 
 /// Adds the instructions that can be followed by the rejected one, if there are several.
 fn add_paths(body: &mut Body<'_>, program: Listing<'_>, at: u32) -> Result<()> {
-    let alloc = body.alloc;
-    let mut paths = Vec::new(alloc);
+    let mut paths = 0u32;
     for pc in 0..at {
         if is_followed(program, pc, at) {
-            paths.push(program.instruction(alloc, pc)?)?;
+            paths = paths.saturating_add(1);
         }
     }
-    if paths.len() < 2 {
+    if paths < 2 {
         return Ok(());
     }
-    let heading = "Several paths lead here; only facts that hold on all of them are kept:";
-    body.facts.push(format!(in alloc; "{heading}")?)?;
-    for path in paths {
-        body.facts.push(path)?;
+    body.add_words("Several paths lead here; only facts that hold on all of them are kept:")?;
+    for pc in 0..at {
+        if is_followed(program, pc, at) {
+            body.add_fact(program.instruction(body.alloc, pc)?)?;
+        }
     }
     Ok(())
+}
+
+/// The instruction at which a program is rejected, and why.
+fn rejection_at(alloc: Global, program: Listing<'_>, at: u32, reason: Reason) -> Result<Rejection> {
+    Ok(Rejection {
+        at,
+        line: program.line_number(at, 1),
+        text: program.text(alloc, at)?,
+        instruction: program.instruction(alloc, at)?,
+        reason: reason.number(),
+        meaning: reason_meaning(reason),
+        advice: advice(reason, program.code.kind()),
+    })
+}
+
+/// Adds the instruction above one that can never be reached.
+fn add_above(body: &mut Body<'_>, program: Listing<'_>, at: u32) -> Result<()> {
+    let Some(above) = at.checked_sub(1) else {
+        return Ok(());
+    };
+    body.add_words("The instruction above never continues here, and no jump comes here:")?;
+    body.add_fact(program.instruction(body.alloc, above)?)
+}
+
+/// Adds the facts known before an instruction with this note, and what is not known.
+fn add_known(body: &mut Body<'_>, note: &Note, instr: Instr, reason: Reason) -> Result<()> {
+    add_operands(body, note, instr)?;
+    let fact = missing_fact(body.alloc, reason, note, instr)?;
+    if !fact.is_empty() {
+        body.known.push(fact)?;
+    }
+    Ok(())
+}
+
+/// Adds why a program with these notes is rejected at an instruction.
+fn add_reason(
+    body: &mut Body<'_>,
+    program: Listing<'_>,
+    notes: &[Note],
+    at: u32,
+    reason: Reason,
+) -> Result<()> {
+    body.rejection = Some(rejection_at(body.alloc, program, at, reason)?);
+    if reason == Reason::Unreachable {
+        return add_above(body, program, at);
+    }
+    let instr = program.code.instrs().get(at as usize);
+    if let (Some(note), Some(instr)) = (notes.get(at as usize), instr) {
+        add_known(body, note, *instr, reason)?;
+    }
+    add_paths(body, program, at)
 }
 
 /// Adds why a program is rejected at an instruction.
@@ -100,36 +151,8 @@ pub fn add_rejection(
     at: u32,
     reason: Reason,
 ) -> Result<()> {
-    let alloc = body.alloc;
-    let Some(notes) = notes_of_refused(alloc, program.code)? else {
-        return Ok(());
-    };
-    body.rejection = Some(Rejection {
-        at,
-        line: program.line_number(at, 1),
-        text: program.text(alloc, at)?,
-        instruction: program.instruction(alloc, at)?,
-        reason: reason.number(),
-        meaning: reason_meaning(reason),
-        advice: advice(reason, program.code.kind()),
-    });
-    if reason == Reason::Unreachable {
-        let heading = "The instruction above never continues here, and no jump comes here:";
-        if let Some(above) = at.checked_sub(1) {
-            body.facts.push(format!(in alloc; "{heading}")?)?;
-            body.facts.push(program.instruction(alloc, above)?)?;
-        }
-        return Ok(());
+    match notes_of_refused(body.alloc, program.code)? {
+        Some(notes) => add_reason(body, program, &notes, at, reason),
+        None => Ok(()),
     }
-    if let (Some(note), Some(instr)) = (
-        notes.get(at as usize),
-        program.code.instrs().get(at as usize),
-    ) {
-        add_operands(body, note, *instr)?;
-        let fact = missing_fact(alloc, reason, note, *instr)?;
-        if !fact.is_empty() {
-            body.known.push(fact)?;
-        }
-    }
-    add_paths(body, program, at)
 }

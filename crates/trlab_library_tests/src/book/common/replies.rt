@@ -1,0 +1,82 @@
+//! Replies that tests expect, in few words, and those that correspond to the answers of a desk.
+
+use trlab_sequential_book::{BookFault, Reply, Snapshot};
+
+/// The parts that an event keeps of a lease of job 0 that runs its own road.
+macro_rules! own {
+    ($number:expr, $base:expr, $step:expr) => {
+        Offered {
+            job: 0,
+            number: $number,
+            base: $base,
+            step: $step,
+            same: true,
+        }
+    };
+}
+
+pub(crate) use own;
+
+/// The reply that a lease of job 0, which has four steps, went out.
+macro_rules! went_out {
+    ($number:expr, $step:expr) => {
+        Reply::Leased {
+            job: 0,
+            number: $number,
+            step: $step,
+            steps: 4,
+        }
+    };
+}
+
+pub(crate) use went_out;
+
+/// The reply that a step of job 0 was ordered.
+macro_rules! ordered {
+    ($number:expr, $step:expr, $from:expr) => {
+        Reply::Ordered {
+            job: 0,
+            number: $number,
+            step: $step,
+            from: $from,
+        }
+    };
+}
+
+pub(crate) use ordered;
+
+/// The reply to a read, with the steps done and the number of rules.
+macro_rules! seen {
+    ($step:expr, $entries:expr) => {
+        Reply::Seen {
+            step: $step,
+            entries: $entries,
+        }
+    };
+}
+
+pub(crate) use seen;
+
+/// The reply for an answer of `submit` or `replace`.
+pub fn number_reply(answer: Result<u32, BookFault>) -> Reply {
+    match answer {
+        Ok(number) => Reply::Number(number),
+        Err(fault) => Reply::Refused(fault),
+    }
+}
+
+/// The reply for an answer of `revoke` or `cancel`.
+pub fn done_reply(answer: Result<(), BookFault>) -> Reply {
+    match answer {
+        Ok(()) => Reply::Done,
+        Err(fault) => Reply::Refused(fault),
+    }
+}
+
+/// The reply for a snapshot.
+pub fn seen_reply(seen: &Snapshot) -> Reply {
+    Reply::Seen {
+        step: seen.step(),
+        entries: seen.sheet().len() as u32,
+    }
+}

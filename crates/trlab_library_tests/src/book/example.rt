@@ -1,0 +1,120 @@
+//! The example of the guide to the book: two runners, and a rule that is replaced while they run.
+
+ghost use Rattle.std.specs.Prelude.{◌≡◌, ◌≤◌};
+ghost use Rattle.trlab_book.specs.Desks.{parts_of};
+ghost use Rattle.trlab_strands.specs.Tokens.{name_of};
+
+use crate::book::common::books::{ended, history_of, new_blank, replace, submit};
+use crate::book::common::jobs::{ALWAYS, two_cars};
+use crate::book::common::replies::seen_reply;
+use std::alloc::Global;
+use std::marker::Brand;
+use std::sync::Wait;
+use std::thread::{Threads, join};
+use trlab_book::{Desk, SharedBook, run_jobs};
+use trlab_segments::OpenGate;
+use trlab_sequential_book::{Event, Reply, Snapshot};
+use trlab_strands::{Blank, Ledger};
+
+/// Replaces the rule of job 0. Returns the step from which the new rule is in force, or `None` if all steps were
+/// ordered by then.
+fn replace_late<L: Ledger, R: Wait>(
+    rt: &R,
+    alloc: Global,
+    book: &SharedBook<L>,
+    mut desk: Desk<L>,
+) -> (Desk<L>, Option<u32>) {
+    let entered = replace(rt, alloc, book, &mut desk, 0, ALWAYS).ok();
+    (desk, entered)
+}
+
+/// Submits two jobs of 100 steps.
+fn submit_two<L: Ledger, R: Wait>(
+    rt: &R,
+    alloc: Global,
+    book: &SharedBook<L>,
+    desk: &mut Desk<L>,
+) -> bool {
+    submit(rt, alloc, book, desk, &two_cars(0, 100)) == Ok(0)
+        && submit(rt, alloc, book, desk, &two_cars(1, 100)) == Ok(1)
+}
+
+/// Runs the jobs of a book with two runners, while the rule of job 0 is replaced. Returns whether they succeeded, and
+/// the step from which the new rule is in force, if it entered.
+fn run_and_replace<L: Ledger + Send + Sync, R: Threads + Wait + Sync>(
+    rt: &R,
+    alloc: Global,
+    book: &SharedBook<L>,
+    mut mine: Desk<L>,
+) -> (Desk<L>, bool, Option<u32>) {
+    if mine.parts() < 3 {
+        return (mine, false, None);
+    }
+    let theirs = book.split(&mut mine);
+    let ((theirs, entered), (mine, ran)) = join(
+        rt,
+        || replace_late(rt, alloc, book, theirs),
+        || -> (Desk<L>, bool)
+            requires { 2 ≤ parts_of mine }
+        { ended(run_jobs(rt, alloc, book, mine, 2, 1, &OpenGate)) },
+    );
+    (book.gather(mine, theirs), ran, entered)
+}
+
+/// Whether the sheet of a snapshot has a second rule exactly if one entered, from that step on.
+fn has_entered(seen: &Snapshot, entered: Option<u32>) -> bool {
+    let sheet = seen.sheet();
+    match entered {
+        Some(step) => sheet.len() == 2 && sheet.entry(1).0 == step,
+        None => sheet.len() == 1,
+    }
+}
+
+/// Reads job 0. Returns the reply in the history, if the job has come to its end, with the rule that entered.
+fn read_end<L: Ledger, R: Wait>(
+    rt: &R,
+    alloc: Global,
+    book: &SharedBook<L>,
+    desk: &mut Desk<L>,
+    entered: Option<u32>,
+) -> Option<Reply> {
+    match book.read(rt, alloc, desk, 0) {
+        Ok(seen) => {
+            (seen.step() == 100 && has_entered(&seen, entered)).then_some(seen_reply(&seen))
+        }
+        Err(_) => None,
+    }
+}
+
+/// Whether the last event of a history has a reply.
+fn is_last(history: &[Event], reply: Option<Reply>) -> bool {
+    match (history.last(), reply) {
+        (Some(last), Some(reply)) => last.reply == reply,
+        _ => false,
+    }
+}
+
+/// Whether the new rule is in the sheet of a job that two runners run meanwhile, and the read of this job is the last
+/// event.
+fn is_in_the_sheet<L: Ledger + Send + Sync, R: Threads + Wait + Sync>(
+    rt: &R,
+    alloc: Global,
+    blank: Blank<Event>,
+) -> bool
+    requires name { name_of blank ≡ L.name }
+{
+    let (book, mut desk) = SharedBook::<L>::start(alloc, blank);
+    let submitted = submit_two(rt, alloc, &book, &mut desk);
+    let (mut desk, ran, entered) = run_and_replace(rt, alloc, &book, desk);
+    let reply = read_end(rt, alloc, &book, &mut desk, entered);
+    match history_of(book, desk) {
+        Some(history) => submitted && ran && is_last(&history, reply),
+        None => false,
+    }
+}
+
+#[test]
+fn a_replaced_rule_is_in_the_sheet(rt: HostRuntime) {
+    let blank = new_blank(rt.alloc()).expect(&rt, "memory");
+    assert!(rt; is_in_the_sheet::<Brand, HostRuntime>(&rt, rt.alloc(), blank));
+}
