@@ -177,6 +177,16 @@ class Crate:
         with open(os.path.join(self.folder, file), encoding="utf-8") as it:
             return it.read()
 
+    def fits(self, body):
+        """Whether each old text of a body is in its file exactly once, after the edits before it."""
+        texts = {}
+        for file, old, new in body.edits:
+            text = texts.get(file) or self.text(file)
+            if text.count(old) != 1:
+                return False
+            texts[file] = text.replace(old, new)
+        return True
+
     def changed_by(self, body):
         """The functions that a body changes: all, where it changes a constant or a definition and names no function."""
         if body.function:
