@@ -1,6 +1,6 @@
 """Wrong bodies, and how the prover is asked to refuse them.
 
-A crate's wrong bodies are in its files together.edit and apart.edit. Each has a line `# its_name`, and then lines
+A crate's wrong bodies are in its files must-fail/_together.edit and apart.edit. Each has a line `# its_name`, and then lines
 `file: src/NAME.rt`, `old: TEXT` and `new: TEXT`: the text, which is in the file once, is replaced. One that changes a
 constant may name the function that has to be refused, by a line `in: module::function`.
 
@@ -146,7 +146,7 @@ class Crate:
     def __init__(self, name, libraries):
         self.name, self.libraries = name, libraries
         self.folder = os.path.join(tools.TOP, "crates", name)
-        self.together, self.apart = (bodies_in(os.path.join(self.folder, f"{file}.edit")) for file in ("together", "apart"))
+        self.together, self.apart = (bodies_in(os.path.join(self.folder, f"{file}.edit")) for file in ("must-fail/_together", "apart"))
         names = [body.name for body in self.together + self.apart]
         if len(set(names)) < len(names):
             raise SystemExit(f"{name}: two wrong bodies have one name")
