@@ -1,4 +1,4 @@
-//! The problem at a fault in words, if there is more to say than the cause does: else the words are empty.
+//! What is wrong at a fault, in words. The words are empty if the cause says it all.
 
 mod line;
 mod program;
@@ -90,7 +90,7 @@ pub fn span_of(fault: &Fault<'_>) -> Option<(usize, usize)> {
     }
 }
 
-/// The problem at a fault in words, or no words if there is no more to say than the cause does.
+/// What is wrong at a fault, in words; an empty string if the cause says it all.
 ///
 /// # Errors
 ///

@@ -19,7 +19,7 @@ use std::thread;
 use std::thread::{Threads, join_mut};
 
 /// How many cars keep a worker busy for longer than it takes to wake one, if no program draws random numbers.
-pub const CARS_PER_WORKER: u32 = 4000;
+pub const CARS_PER_WORKER: u32 = 2000;
 /// The same if a program draws: then most of a car's time goes into random numbers.
 pub const DRAWING_CARS_PER_WORKER: u32 = 500;
 
@@ -54,7 +54,7 @@ impl<'a, R: Threads + Wait + Sync, G: Gate + Sync> Pool<'a, R, G> {
     }
 
     /// As many of these workers as make the work faster on a road with `cars` cars: at most one per processor, and
-    /// one per 4000 cars, or per 500 cars if a program `draws` random numbers. Between two phases that are close
+    /// one per 2000 cars, or per 500 cars if a program `draws` random numbers. Between two phases that are close
     /// they stay awake.
     pub fn sparing(self, cars: u32, draws: bool) -> Pool<'a, R, G>
         ensures some { 0 < pool_workers result }

@@ -208,8 +208,8 @@ pub fn rules_reduce_to_nasch()
     ensures runs { RunsAlike }
 {}
 
-/// With the limit 1 and without randomization the rule of 1992 takes each lane through a step of rule 184 (Wolfram 1983,
-/// Rev. Mod. Phys. 55, 601). Backwards round the ring, empty cells follow rule 184 too.
+/// With the limit 1 and without randomization the rule of 1992 takes each lane through a step of rule 184 (Wolfram
+/// 1983, Rev. Mod. Phys. 55, 601). Backwards round the ring, empty cells follow rule 184 too.
 pub fn nasch_is_rule_184()
     ensures rule { NaschIsRule184 }
     ensures holes { EmptyCellsGoBack }
@@ -262,8 +262,8 @@ pub fn detector_counts_below_peak()
 {}
 
 /// Even if cars change lanes, none is lost or created between two rows of detectors, each with one detector on each
-/// lane. So within one lap the counts of two rows differ by at most all cars, or all empty cells, and each row by itself
-/// measures the flow.
+/// lane. So within one lap the counts of two rows differ by at most all cars, or all empty cells, and each row by
+/// itself measures the flow.
 pub fn rows_of_detectors_count()
     ensures step { StepIsContinuousByRows }
     ensures run { RunIsContinuousByRows }
