@@ -63,19 +63,22 @@ command name arguments = fold with_rule (new_app name) arguments
 abbrev pub check_command : App
 check_command = command (codes "check") []
 
--- the command `run`, with the options `--every`, `--from`, `--workers` and `--progress`
+-- a command of this name that runs a job, with the options `--every`, `--from`, `--workers` and `--progress`
+abbrev pub job_command : Text → App
+job_command name =
+    command name (every_option ∷ from_option ∷ workers_option ∷ progress_flag ∷ [])
+
+-- the command `run`
 abbrev pub run_command : App
-run_command =
-    command (codes "run") (every_option ∷ from_option ∷ workers_option ∷ progress_flag ∷ [])
+run_command = job_command (codes "run")
 
 -- the command `sweep`, with the options `--runners`, `--workers` and `--progress`
 abbrev pub sweep_command : App
 sweep_command = command (codes "sweep") (runners_option ∷ workers_option ∷ progress_flag ∷ [])
 
--- the command `series`, with the options `--every`, `--from`, `--workers` and `--progress`
+-- the command `series`
 abbrev pub series_command : App
-series_command =
-    command (codes "series") (every_option ∷ from_option ∷ workers_option ∷ progress_flag ∷ [])
+series_command = job_command (codes "series")
 
 -- the command `explain`, with its two arguments and the flag `--json`
 abbrev pub explain_command : App

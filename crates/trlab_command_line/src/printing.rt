@@ -33,10 +33,6 @@ const READING: [&[u8]; 4] = [b"check", b"run", b"sweep", b"series"];
 /// The options whose number is the next argument.
 const NUMBERED: [&[u8]; 4] = [b"--workers", b"--runners", b"--every", b"--from"];
 
-fn is_among(words: &[&[u8]], word: &[u8]) -> bool {
-    words.iter().any(|it| *it == word)
-}
-
 /// The first argument after the command that is neither an option nor an option's number: probably the name of a file.
 fn file_name(arguments: &[String]) -> Option<&str> {
     let mut is_number = true;
@@ -45,7 +41,7 @@ fn file_name(arguments: &[String]) -> Option<&str> {
         if !is_number && word.first() != Some(&b'-') {
             return Some(argument);
         }
-        is_number = is_among(&NUMBERED, word);
+        is_number = NUMBERED.contains(&word);
     }
     None
 }
@@ -53,7 +49,7 @@ fn file_name(arguments: &[String]) -> Option<&str> {
 /// Prints on standard error how to read a file, if the arguments name a file.
 fn suggest_redirection<R: AllocGlobal + Eprint>(rt: &R, arguments: &[String]) {
     if let Some(command) = arguments.first() {
-        if is_among(&READING, command.as_bytes()) {
+        if READING.contains(&command.as_bytes()) {
             if let Some(name) = file_name(arguments) {
                 let _ = eprintln!(rt; "trlab reads standard input. Type: trlab {command} < {name}");
             }

@@ -3,18 +3,19 @@
 ghost use Rattle.std.specs.Prelude.{◌≡◌, IfOk, false};
 ghost use Rattle.clap.specs.Words.{app_of, new_app};
 ghost use Rattle.clap.specs.declared.builder.command.Command.TheViews.{out-Command as fields_of};
-ghost use Rattle.trlab_command_line.specs.CommandLine.{check_command, command_line, explain_command, program, run_command, series_command, sweep_command};
+ghost use Rattle.trlab_command_line.specs.CommandLine.{command_line, explain_command, job_command, program, sweep_command};
 
 use crate::arguments::options::{
-    every_option, from_option, json_flag, number_argument, progress_flag, runners_option,
-    what_argument, workers_option,
+    count_option, flag, number_argument, number_option, progress_flag, what_argument,
+    workers_option,
 };
 use crate::help::{
-    ABOUT, AFTER, CHECK, EVERY_HELP, EXPLAIN, FROM_HELP, Help, RUN, SERIES, SHOWN_EVERY_HELP,
-    SHOWN_FROM_HELP, SWEEP, VERSION,
+    ABOUT, AFTER, CHECK, EVERY_HELP, EXPLAIN, FROM_HELP, Help, JSON_HELP, RUN, RUNNERS_HELP,
+    SERIES, SHOWN_EVERY_HELP, SHOWN_FROM_HELP, SWEEP, VERSION,
 };
 use clap::Command;
 use std::alloc::{AllocError, Global};
+use trlab_bounds::runs::{MAX_RUNNERS, MAX_STEPS};
 
 /// A command without arguments, with its help texts.
 fn bare_command<'a>(alloc: Global, name: &'a str, help: Help) -> Command<'a>
@@ -27,20 +28,20 @@ fn bare_command<'a>(alloc: Global, name: &'a str, help: Help) -> Command<'a>
         .after_help(help.after)
 }
 
-fn check_command<'a>(alloc: Global) -> Command<'a>
-    ensures app { app_of result ≡ check_command }
-    ensures local { (fields_of result).has_globals ≡ false }
-{
-    bare_command(alloc, "check", CHECK)
-}
-
-fn run_command<'a>(alloc: Global) -> Result<Command<'a>, AllocError>
-    ensures app { IfOk result (λ command. app_of command ≡ run_command) }
+/// A command that runs a job: `run` or `series`.
+fn job_command<'a>(
+    alloc: Global,
+    name: &'a str,
+    help: Help,
+    every_help: &'a str,
+    from_help: &'a str,
+) -> Result<Command<'a>, AllocError>
+    ensures app { IfOk result (λ command. app_of command ≡ job_command name.now) }
     ensures local { IfOk result (λ command. (fields_of command).has_globals ≡ false) }
 {
-    bare_command(alloc, "run", RUN)
-        .arg(every_option(alloc, SHOWN_EVERY_HELP))?
-        .arg(from_option(alloc, SHOWN_FROM_HELP))?
+    bare_command(alloc, name, help)
+        .arg(count_option(alloc, "every", MAX_STEPS, every_help))?
+        .arg(number_option(alloc, "from", 0, MAX_STEPS, "0", from_help))?
         .arg(workers_option(alloc))?
         .arg(progress_flag(alloc))
 }
@@ -50,18 +51,7 @@ fn sweep_command<'a>(alloc: Global) -> Result<Command<'a>, AllocError>
     ensures local { IfOk result (λ command. (fields_of command).has_globals ≡ false) }
 {
     bare_command(alloc, "sweep", SWEEP)
-        .arg(runners_option(alloc))?
-        .arg(workers_option(alloc))?
-        .arg(progress_flag(alloc))
-}
-
-fn series_command<'a>(alloc: Global) -> Result<Command<'a>, AllocError>
-    ensures app { IfOk result (λ command. app_of command ≡ series_command) }
-    ensures local { IfOk result (λ command. (fields_of command).has_globals ≡ false) }
-{
-    bare_command(alloc, "series", SERIES)
-        .arg(every_option(alloc, EVERY_HELP))?
-        .arg(from_option(alloc, FROM_HELP))?
+        .arg(count_option(alloc, "runners", MAX_RUNNERS, RUNNERS_HELP))?
         .arg(workers_option(alloc))?
         .arg(progress_flag(alloc))
 }
@@ -73,7 +63,7 @@ pub fn explain_command<'a>(alloc: Global) -> Result<Command<'a>, AllocError>
     bare_command(alloc, "explain", EXPLAIN)
         .arg(what_argument(alloc))?
         .arg(number_argument(alloc))?
-        .arg(json_flag(alloc))
+        .arg(flag(alloc, "json", JSON_HELP))
 }
 
 /// The program without its commands, one of which has to be named.
@@ -95,9 +85,9 @@ pub fn command_line<'a>(alloc: Global) -> Result<Command<'a>, AllocError>
     ensures { IfOk result (λ command. app_of command ≡ command_line) }
 {
     program(alloc)?
-        .subcommand(check_command(alloc))?
-        .subcommand(run_command(alloc)?)?
+        .subcommand(bare_command(alloc, "check", CHECK))?
+        .subcommand(job_command(alloc, "run", RUN, SHOWN_EVERY_HELP, SHOWN_FROM_HELP)?)?
         .subcommand(sweep_command(alloc)?)?
-        .subcommand(series_command(alloc)?)?
+        .subcommand(job_command(alloc, "series", SERIES, EVERY_HELP, FROM_HELP)?)?
         .subcommand(explain_command(alloc)?)
 }

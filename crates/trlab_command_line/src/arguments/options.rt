@@ -2,15 +2,15 @@
 
 ghost use Rattle.std.specs.Prelude.{◌≡◌, false};
 ghost use Rattle.clap.specs.Words.{rule_of};
-ghost use Rattle.trlab_command_line.specs.CommandLine.{count_option, every_option, flag, from_option, json_flag, number_argument, number_option, progress_flag, runners_option, what_argument, workers_option};
+ghost use Rattle.trlab_command_line.specs.CommandLine.{count_option, flag, number_argument, number_option, progress_flag, what_argument, workers_option};
 
-use crate::help::{JSON_HELP, NUMBER_HELP, PROGRESS_HELP, RUNNERS_HELP, WHAT_HELP, WORKERS_HELP};
+use crate::help::{NUMBER_HELP, PROGRESS_HELP, WHAT_HELP, WORKERS_HELP};
 use clap::{Arg, ArgAction, value_parser};
 use std::alloc::Global;
-use trlab_bounds::runs::{MAX_RUNNERS, MAX_STEPS, MAX_WORKERS};
+use trlab_bounds::runs::MAX_WORKERS;
 
 /// The option `--name n`, with the range of n and its default.
-fn number_option<'a>(
+pub fn number_option<'a>(
     alloc: Global,
     name: &'a str,
     least: u32,
@@ -30,7 +30,7 @@ fn number_option<'a>(
 }
 
 /// The option `--name n`, n from 1 to `most`, with the default 1.
-fn count_option<'a>(alloc: Global, name: &'a str, most: u32, help: &'a str) -> Arg<'a>
+pub fn count_option<'a>(alloc: Global, name: &'a str, most: u32, help: &'a str) -> Arg<'a>
     ensures rule { rule_of result ≡ count_option name.now most }
     ensures local { result.global ≡ false }
 {
@@ -44,28 +44,7 @@ pub fn workers_option<'a>(alloc: Global) -> Arg<'a>
     count_option(alloc, "workers", MAX_WORKERS, WORKERS_HELP)
 }
 
-pub fn runners_option<'a>(alloc: Global) -> Arg<'a>
-    ensures rule { rule_of result ≡ runners_option }
-    ensures local { result.global ≡ false }
-{
-    count_option(alloc, "runners", MAX_RUNNERS, RUNNERS_HELP)
-}
-
-pub fn every_option<'a>(alloc: Global, help: &'a str) -> Arg<'a>
-    ensures rule { rule_of result ≡ every_option }
-    ensures local { result.global ≡ false }
-{
-    count_option(alloc, "every", MAX_STEPS, help)
-}
-
-pub fn from_option<'a>(alloc: Global, help: &'a str) -> Arg<'a>
-    ensures rule { rule_of result ≡ from_option }
-    ensures local { result.global ≡ false }
-{
-    number_option(alloc, "from", 0, MAX_STEPS, "0", help)
-}
-
-fn flag<'a>(alloc: Global, name: &'a str, help: &'a str) -> Arg<'a>
+pub fn flag<'a>(alloc: Global, name: &'a str, help: &'a str) -> Arg<'a>
     ensures rule { rule_of result ≡ flag name.now }
     ensures local { result.global ≡ false }
 {
@@ -80,13 +59,6 @@ pub fn progress_flag<'a>(alloc: Global) -> Arg<'a>
     ensures local { result.global ≡ false }
 {
     flag(alloc, "progress", PROGRESS_HELP)
-}
-
-pub fn json_flag<'a>(alloc: Global) -> Arg<'a>
-    ensures rule { rule_of result ≡ json_flag }
-    ensures local { result.global ≡ false }
-{
-    flag(alloc, "json", JSON_HELP)
 }
 
 /// The first argument of `explain`: a command, `cause` or `reason`.

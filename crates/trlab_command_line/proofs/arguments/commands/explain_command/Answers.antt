@@ -7,10 +7,10 @@ pub returns-clause-app : goal.returns-clause-app
 returns-clause-app c =
     let first = c.in_ok-arg.ensures.shape c.what_argument.ensures.local ∙ ap₂ with_rule c.bare_command.ensures.app c.what_argument.ensures.rule in
     let second = c.in_ok-arg-2.ensures.shape c.number_argument.ensures.local ∙ ap₂ with_rule first c.number_argument.ensures.rule in
-    IfOk-weaker c.arg-3.result _ _ (λ command added. added.shape c.json_flag.ensures.local ∙ ap₂ with_rule second c.json_flag.ensures.rule) c.arg-3.ensures
+    IfOk-weaker c.arg-3.result _ _ (λ command added. added.shape c.flag.ensures.local ∙ ap₂ with_rule second c.flag.ensures.rule) c.arg-3.ensures
 
 pub returns-clause-local : goal.returns-clause-local
 returns-clause-local c =
     let first = c.in_ok-arg.ensures.globals ∙ ap₂ (λ a b. a || b) c.bare_command.ensures.local c.what_argument.ensures.local in
     let second = c.in_ok-arg-2.ensures.globals ∙ ap₂ (λ a b. a || b) first c.number_argument.ensures.local in
-    IfOk-weaker c.arg-3.result _ _ (λ command added. added.globals ∙ ap₂ (λ a b. a || b) second c.json_flag.ensures.local) c.arg-3.ensures
+    IfOk-weaker c.arg-3.result _ _ (λ command added. added.globals ∙ ap₂ (λ a b. a || b) second c.flag.ensures.local) c.arg-3.ensures

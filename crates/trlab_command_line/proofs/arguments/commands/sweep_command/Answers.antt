@@ -5,12 +5,12 @@ use Rattle.trlab_command_line.proofs.arguments.commands.sweep_command.Goals as g
 
 pub returns-clause-app : goal.returns-clause-app
 returns-clause-app c =
-    let first = c.in_ok-arg.ensures.shape c.runners_option.ensures.local ∙ ap₂ with_rule c.bare_command.ensures.app c.runners_option.ensures.rule in
+    let first = c.in_ok-arg.ensures.shape c.count_option.ensures.local ∙ ap₂ with_rule c.bare_command.ensures.app c.count_option.ensures.rule in
     let second = c.in_ok-arg-2.ensures.shape c.workers_option.ensures.local ∙ ap₂ with_rule first c.workers_option.ensures.rule in
     IfOk-weaker c.arg-3.result _ _ (λ command added. added.shape c.progress_flag.ensures.local ∙ ap₂ with_rule second c.progress_flag.ensures.rule) c.arg-3.ensures
 
 pub returns-clause-local : goal.returns-clause-local
 returns-clause-local c =
-    let first = c.in_ok-arg.ensures.globals ∙ ap₂ (λ a b. a || b) c.bare_command.ensures.local c.runners_option.ensures.local in
+    let first = c.in_ok-arg.ensures.globals ∙ ap₂ (λ a b. a || b) c.bare_command.ensures.local c.count_option.ensures.local in
     let second = c.in_ok-arg-2.ensures.globals ∙ ap₂ (λ a b. a || b) first c.workers_option.ensures.local in
     IfOk-weaker c.arg-3.result _ _ (λ command added. added.globals ∙ ap₂ (λ a b. a || b) second c.progress_flag.ensures.local) c.arg-3.ensures
