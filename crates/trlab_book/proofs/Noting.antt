@@ -1,19 +1,14 @@
 -- A desk notes the last event of the history.
 use denote.Struct.Props.{props}
 use Rattle.std.proofs.Math.Logic.{∥∥₁_elim}
-use Rattle.std.specs.Prelude.{Result, Ok, Err}
-use Rattle.std.proofs.lemmas.Bool.{ltb-false, not-true}
-use Rattle.std.proofs.Common.{◌≡◌, ◌≤◌, ℕ, Option, Some, None, length, arith, Bool, true, false, List, [], ◌∷◌, ◌++◌, refl, sym, ap, ◌∙◌, subst, MatchBool}
+use Rattle.std.proofs.lemmas.Bool.{MatchBool-at_false, false≢true, ltb-false, not-true}
+use Rattle.std.proofs.Common.{◌≡◌, ◌≤◌, length, arith, Bool, true, false, List, [], ◌∷◌, ◌++◌, refl, sym, ap, ◌∙◌, subst, MatchBool}
 use Rattle.trlab_sequential_book.specs.declared.event.Call.{Call}
 use Rattle.trlab_sequential_book.specs.declared.event.Event.{Event}
 use Rattle.trlab_sequential_book.specs.declared.event.Reply.{Reply}
-use Rattle.trlab_step.specs.Progress.{Progress}
-use Rattle.trlab_sequential_book.specs.Answers.{done_reply, is_event, is_refused_as_full, lease_reply, number_reply, order_reply, seen_reply, tells_full}
-use Rattle.trlab_sequential_book.specs.Leases.{LeaseState}
+use Rattle.trlab_sequential_book.specs.Answers.{is_event, tells_full}
 use Rattle.trlab_sequential_book.specs.Machine.{BookState, is_full}
-use Rattle.trlab_sequential_book.specs.declared.fault.BookFault.{BookFault}
 use Rattle.trlab_sequential_book.specs.declared.fault.BookFault.TheVariants.{HistoryFull}
-use Rattle.trlab_sequential_book.specs.declared.order.Order.{Order}
 use Rattle.trlab_sequential_book.specs.declared.event.Reply.TheVariants.{Refused}
 use Rattle.trlab_sequential_book.specs.declared.book.TheConstants.{MAX_EVENTS}
 use Rattle.trlab_sequential_book.specs.Replay.{Replays, event}
@@ -34,28 +29,6 @@ pub has_come : (old new : Kept) (call : Call) (told : Reply) (list : List Event)
 has_come old new call told list made was =
     subst (λ (l : List Event). MatchBool (is_event told) (new.history.items ≡ l ++ event call told ∷ []) (new.history.items ≡ l)) was (appended old new call told (is_event told) made)
 
--- the reply of each call says that the history is full if its answer says so
-pub full_number : (answer : Result ℕ BookFault) → tells_full (number_reply answer) ≡ is_refused_as_full answer
-full_number (Ok number) = refl
-full_number (Err fault) = refl
-
-pub full_done : (answer : Result (Unit {0}) BookFault) → tells_full (done_reply answer) ≡ is_refused_as_full answer
-full_done (Ok done) = refl
-full_done (Err fault) = refl
-
-pub full_order : (answer : Result Order BookFault) → tells_full (order_reply answer) ≡ is_refused_as_full answer
-full_order (Ok order) = refl
-full_order (Err fault) = refl
-
-pub full_seen_by : (answer : Result Progress BookFault) → tells_full (seen_reply answer) ≡ is_refused_as_full answer
-full_seen_by (Ok seen) = refl
-full_seen_by (Err fault) = refl
-
-pub full_lease : (answer : Result (Option LeaseState) BookFault) → tells_full (lease_reply answer) ≡ is_refused_as_full answer
-full_lease (Ok None) = refl
-full_lease (Ok (Some lease)) = refl
-full_lease (Err fault) = refl
-
 -- a full book has had MAX_EVENTS events
 history_is_full : (kept : Kept) → is_full kept.book ≡ true → MAX_EVENTS ≤ length kept.history.items
 history_is_full kept full =
@@ -65,6 +38,23 @@ history_is_full kept full =
 full_reply : (told : Reply) → tells_full told ≡ true → told ≡ Refused HistoryFull
 full_reply (Refused HistoryFull) is = refl
 full_reply told is = absurd (cc is)
+
+-- a reply says that the history is full exactly if it is
+pub full_told : (old : Kept) (told : Reply) → TellsFull old told → tells_full told ≡ is_full old.book
+full_told old told full = by (tells_full told) (is_full old.book) refl refl
+  where
+    by : (says is : Bool) → tells_full told ≡ says → is_full old.book ≡ is → says ≡ is
+    by true true says is = refl
+    by false false says is = refl
+    by true false says is = absurd (false≢true (sym is ∙ full.0 (full_reply told says)))
+    by false true says is = absurd (false≢true (sym says ∙ ap tells_full (full.1 is)))
+
+-- a call that is not an event leaves the book as full as it was
+pub full_after : (old new : Kept) (call : Call) (told : Reply) → Records old call told new → TellsFull old told
+    → is_event told ≡ false → tells_full told ≡ is_full new.book
+full_after old new call told made full none =
+    let same : IsUnchanged old new = MatchBool-at_false _ _ none made in
+    full_told old told full ∙ ap is_full (sym same.book)
 
 module _ {L : Type 0} {ledger : Ghosts L} where
   -- a call that is not an event

@@ -4,7 +4,6 @@ ghost use Rattle.std.specs.Prelude.{◌≡◌, ◌+◌, ◌-◌, ◌<◌, ◌≤
 ghost use Rattle.trlab_strands.specs.Knowledge.{IsLinearization};
 ghost use Rattle.trlab_strands.specs.Tokens.{list_of, name_of, strand_events, strand_parts};
 ghost use Rattle.trlab_strands.specs.declared.knowledge.TheConstants.{ALL_PARTS};
-ghost use Rattle.trlab_sequential_book.specs.Answers.{back_reply, is_refused_as_full, tells_full};
 ghost use Rattle.trlab_sequential_book.specs.declared.event.Reply.TheVariants.{Refused};
 
 use crate::kept::{Kept, copied_replace, copied_submit};
@@ -56,6 +55,8 @@ pub struct Desk<L: Ledger> {
 impl<L: Ledger> Desk<L> {
     ghost use Rattle.trlab_sequential_book.specs.declared.event.Call.{Call};
     ghost use Rattle.trlab_sequential_book.specs.declared.event.Reply.{Reply};
+    ghost use Rattle.trlab_sequential_book.specs.Answers.{is_event, tells_full};
+    ghost use Rattle.trlab_sequential_book.specs.Machine.{is_full};
     ghost use Rattle.trlab_book.specs.Events.{HasCome};
     ghost use Rattle.trlab_book.specs.Desks.{PutsDown, parts_of};
 
@@ -67,8 +68,7 @@ impl<L: Ledger> Desk<L> {
     }
 
     /// Notes a call that has just been made, when the history had `before` events. If the history has grown, its new
-    /// event is added to the desk's subhistory. If the call was refused because the history is full (`is_full`), the
-    /// desk has now seen all of it.
+    /// event is added to the desk's subhistory. If it is full and has not grown, the desk has now seen all of it.
     ///
     /// A call breaks the invariant of `Locked` and this restores it, so it takes the parts of `Locked` one by one.
     fn note_event(
@@ -77,25 +77,24 @@ impl<L: Ledger> Desk<L> {
         strands: &Strands<L, Event>,
         kept: &Kept,
         before: usize,
-        is_full: bool,
     )
         requires { before ≡ length (list_of keeper.old) }
         ensures { (call : Call) (told : Reply) → HasCome (list_of keeper.old) call told kept.now
-            → tells_full told ≡ is_full
+            → (is_event told ≡ false → tells_full told ≡ is_full kept.now.book)
             → (kept.now.history.items ≡ list_of keeper.new)
             × PutsDown self.old (list_of keeper.old) call told self.new }
     {
         if let Some(event) = kept.history.get(before) {
             keeper.note(strands, &mut self.strand, event);
             self.count = self.count.saturating_add(1);
-        } else if is_full {
+        } else if kept.book.is_full() {
             keeper.look(strands, &mut self.strand);
         }
     }
 }
 
 impl<L: Ledger> SharedBook<L> {
-    ghost use Rattle.trlab_sequential_book.specs.Answers.{done_reply, is_event, lease_reply};
+    ghost use Rattle.trlab_sequential_book.specs.Answers.{back_reply, done_reply, is_event, lease_reply};
     ghost use Rattle.trlab_sequential_book.specs.Answers.{number_reply, order_reply, seen_reply};
     ghost use Rattle.trlab_sequential_book.specs.Comparison.{LeaseCall, OrderCall, offered};
     ghost use Rattle.trlab_sequential_book.specs.Replay.{Replays};
@@ -214,8 +213,7 @@ impl<L: Ledger> SharedBook<L> {
         let Locked { kept, keeper } = &mut *guard;
         let before = kept.history.len();
         let answer = kept.submit(alloc, boxed, rule, steps, call);
-        let is_full = is_refused_as_full(&answer);
-        desk.note_event(keeper, &self.strands, kept, before, is_full);
+        desk.note_event(keeper, &self.strands, kept, before);
         answer
     }
 
@@ -228,8 +226,7 @@ impl<L: Ledger> SharedBook<L> {
         let Locked { kept, keeper } = &mut *guard;
         let before = kept.history.len();
         let fault = kept.fault_without_memory();
-        let is_full = is_history_full(fault);
-        desk.note_event(keeper, &self.strands, kept, before, is_full);
+        desk.note_event(keeper, &self.strands, kept, before);
         fault
     }
 
@@ -256,8 +253,7 @@ impl<L: Ledger> SharedBook<L> {
         let Locked { kept, keeper } = &mut *guard;
         let before = kept.history.len();
         let answer = kept.replace(job, rule, call);
-        let is_full = is_refused_as_full(&answer);
-        desk.note_event(keeper, &self.strands, kept, before, is_full);
+        desk.note_event(keeper, &self.strands, kept, before);
         answer
     }
 
@@ -279,8 +275,7 @@ impl<L: Ledger> SharedBook<L> {
         let Locked { kept, keeper } = &mut *guard;
         let before = kept.history.len();
         let answer = kept.lease(alloc);
-        let is_full = is_refused_as_full(&answer);
-        desk.note_event(keeper, &self.strands, kept, before, is_full);
+        desk.note_event(keeper, &self.strands, kept, before);
         answer
     }
 
@@ -304,8 +299,7 @@ impl<L: Ledger> SharedBook<L> {
         let Locked { kept, keeper } = &mut *guard;
         let before = kept.history.len();
         let answer = kept.order(alloc, lease);
-        let is_full = is_refused_as_full(&answer);
-        desk.note_event(keeper, &self.strands, kept, before, is_full);
+        desk.note_event(keeper, &self.strands, kept, before);
         answer
     }
 
@@ -329,8 +323,7 @@ impl<L: Ledger> SharedBook<L> {
         let Locked { kept, keeper } = &mut *guard;
         let before = kept.history.len();
         let answer = kept.give_back(lease);
-        let is_full = is_return_refused_as_full(&answer);
-        desk.note_event(keeper, &self.strands, kept, before, is_full);
+        desk.note_event(keeper, &self.strands, kept, before);
         answer
     }
 
@@ -346,8 +339,7 @@ impl<L: Ledger> SharedBook<L> {
         let Locked { kept, keeper } = &mut *guard;
         let before = kept.history.len();
         let answer = kept.revoke(job);
-        let is_full = is_refused_as_full(&answer);
-        desk.note_event(keeper, &self.strands, kept, before, is_full);
+        desk.note_event(keeper, &self.strands, kept, before);
         answer
     }
 
@@ -363,8 +355,7 @@ impl<L: Ledger> SharedBook<L> {
         let Locked { kept, keeper } = &mut *guard;
         let before = kept.history.len();
         let answer = kept.cancel(job);
-        let is_full = is_refused_as_full(&answer);
-        desk.note_event(keeper, &self.strands, kept, before, is_full);
+        desk.note_event(keeper, &self.strands, kept, before);
         answer
     }
 
@@ -386,35 +377,7 @@ impl<L: Ledger> SharedBook<L> {
         let Locked { kept, keeper } = &mut *guard;
         let before = kept.history.len();
         let answer = kept.read(alloc, job);
-        let is_full = is_refused_as_full(&answer);
-        desk.note_event(keeper, &self.strands, kept, before, is_full);
+        desk.note_event(keeper, &self.strands, kept, before);
         answer
-    }
-}
-
-/// Whether a fault says that the history is full.
-fn is_history_full(fault: BookFault) -> bool
-    ensures { result ≡ tells_full (Refused fault) }
-{
-    matches!(fault, BookFault::HistoryFull)
-}
-
-/// Whether a call was refused because the history is full.
-fn is_refused_as_full<T>(answer: &Result<T, BookFault>) -> bool
-    ensures { result ≡ is_refused_as_full answer.now }
-{
-    match answer {
-        Ok(_) => false,
-        Err(fault) => is_history_full(*fault),
-    }
-}
-
-/// Whether a lease was not taken back because the history is full.
-fn is_return_refused_as_full(answer: &Result<(), (Lease, BookFault)>) -> bool
-    ensures { result ≡ tells_full (back_reply answer.now) }
-{
-    match answer {
-        Ok(()) => false,
-        Err((_, fault)) => is_history_full(*fault),
     }
 }

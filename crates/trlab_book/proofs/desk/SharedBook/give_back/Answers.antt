@@ -1,10 +1,9 @@
-use Rattle.std.proofs.Common.{sym}
 use Rattle.std.proofs.lemmas.Bool.{OnTrue_at}
 use Rattle.trlab_sequential_book.specs.Comparison.{offered}
 use Rattle.trlab_sequential_book.specs.declared.event.Call.TheVariants.{GiveBack}
 use Rattle.trlab_sequential_book.specs.Answers.{back_reply}
 use Rattle.trlab_book.specs.Desks.{TellsSame}
-use Rattle.trlab_book.proofs.Noting.{has_come, is_made}
+use Rattle.trlab_book.proofs.Noting.{full_after, has_come, is_made}
 use Rattle.trlab_book.proofs.desk.SharedBook.give_back.Goals as goal
 
 pub invariant_of-deref_mut : goal.invariant_of-deref_mut
@@ -13,7 +12,7 @@ invariant_of-deref_mut g c =
     let same = c.give_back-answer.ensures.noted.0 in
     let call = GiveBack (offered c.args.lease same) in
     let told = back_reply c.give_back-answer.result in
-    record { noted = (c.note_event.ensures call told (has_come kept c.give_back-answer.new.self call told _ c.give_back-answer.ensures.noted.2 c.deref_mut.result.now.noted) (sym c.is_return_refused_as_full-is_full.ensures)).0 }
+    record { noted = (c.note_event.ensures call told (has_come kept c.give_back-answer.new.self call told _ c.give_back-answer.ensures.noted.2 c.deref_mut.result.now.noted) (full_after kept c.give_back-answer.new.self call told c.give_back-answer.ensures.noted.2 c.give_back-answer.ensures.full)).0 }
 
 pub returns-clause-made : goal.returns-clause-made
 returns-clause-made g c =
@@ -23,5 +22,5 @@ returns-clause-made g c =
     let told = back_reply c.give_back-answer.result in (
       same,
       is_made (TellsSame c.args.lease same) kept c.give_back-answer.new.self call told _ c.args.desk.now c.note_event.new.self c.give_back-answer.ensures.noted.2 c.deref_mut.result.now.noted (λ is. OnTrue_at is c.give_back-answer.ensures.noted.1) c.give_back-answer.ensures.full
-          (c.note_event.ensures call told (has_come kept c.give_back-answer.new.self call told _ c.give_back-answer.ensures.noted.2 c.deref_mut.result.now.noted) (sym c.is_return_refused_as_full-is_full.ensures)).1,
+          (c.note_event.ensures call told (has_come kept c.give_back-answer.new.self call told _ c.give_back-answer.ensures.noted.2 c.deref_mut.result.now.noted) (full_after kept c.give_back-answer.new.self call told c.give_back-answer.ensures.noted.2 c.give_back-answer.ensures.full)).1,
     )

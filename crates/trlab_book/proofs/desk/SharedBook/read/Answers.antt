@@ -1,8 +1,7 @@
-use Rattle.std.proofs.Common.{sym, ◌∙◌}
 use Rattle.trlab_sequential_book.specs.declared.event.Call.TheVariants.{Read}
 use Rattle.trlab_sequential_book.specs.Answers.{seen_reply}
 use Rattle.trlab_book.specs.Desks.{IsOfRead}
-use Rattle.trlab_book.proofs.Noting.{full_seen_by, has_come, is_made}
+use Rattle.trlab_book.proofs.Noting.{full_after, has_come, is_made}
 use Rattle.trlab_book.proofs.desk.SharedBook.read.Goals as goal
 
 pub invariant_of-deref_mut : goal.invariant_of-deref_mut
@@ -10,7 +9,7 @@ invariant_of-deref_mut g c =
     let kept = c.deref_mut.result.now.kept in
     let call = Read c.args.job in
     let told = seen_reply c.read-answer.result in
-    record { noted = (c.note_event.ensures call told (has_come kept c.read-answer.new.self call told _ c.read-answer.ensures.made c.deref_mut.result.now.noted) (full_seen_by c.read-answer.result ∙ sym c.is_refused_as_full-is_full.ensures)).0 }
+    record { noted = (c.note_event.ensures call told (has_come kept c.read-answer.new.self call told _ c.read-answer.ensures.made c.deref_mut.result.now.noted) (full_after kept c.read-answer.new.self call told c.read-answer.ensures.made c.read-answer.ensures.full)).0 }
 
 pub returns : goal.returns
 returns g c =
@@ -18,4 +17,4 @@ returns g c =
     let call = Read c.args.job in
     let told = seen_reply c.read-answer.result in
     is_made (IsOfRead c.args.job c.read-answer.result) kept c.read-answer.new.self call told _ c.args.desk.now c.note_event.new.self c.read-answer.ensures.made c.deref_mut.result.now.noted (λ is. c.read-answer.ensures.seen) c.read-answer.ensures.full
-    (c.note_event.ensures call told (has_come kept c.read-answer.new.self call told _ c.read-answer.ensures.made c.deref_mut.result.now.noted) (full_seen_by c.read-answer.result ∙ sym c.is_refused_as_full-is_full.ensures)).1
+    (c.note_event.ensures call told (has_come kept c.read-answer.new.self call told _ c.read-answer.ensures.made c.deref_mut.result.now.noted) (full_after kept c.read-answer.new.self call told c.read-answer.ensures.made c.read-answer.ensures.full)).1

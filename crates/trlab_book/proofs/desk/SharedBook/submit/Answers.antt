@@ -1,7 +1,6 @@
-use Rattle.std.proofs.Common.{sym, ◌∙◌}
 use Rattle.trlab_sequential_book.specs.declared.event.Call.TheVariants.{Submit}
 use Rattle.trlab_sequential_book.specs.Answers.{number_reply}
-use Rattle.trlab_book.proofs.Noting.{full_number, has_come, is_made}
+use Rattle.trlab_book.proofs.Noting.{full_after, has_come, is_made}
 use Rattle.trlab_book.proofs.desk.SharedBook.submit.Goals as goal
 
 pub invariant_of-deref_mut : goal.invariant_of-deref_mut
@@ -9,7 +8,7 @@ invariant_of-deref_mut g c =
     let kept = c.deref_mut.result.now.kept in
     let call = Submit c.in-Ok.boxed c.args.rule c.args.steps in
     let told = number_reply c.submit-answer.result in
-    record { noted = (c.note_event.ensures call told (has_come kept c.submit-answer.new.self call told _ c.submit-answer.ensures.made c.deref_mut.result.now.noted) (full_number c.submit-answer.result ∙ sym c.is_refused_as_full-is_full.ensures)).0 }
+    record { noted = (c.note_event.ensures call told (has_come kept c.submit-answer.new.self call told _ c.submit-answer.ensures.made c.deref_mut.result.now.noted) (full_after kept c.submit-answer.new.self call told c.submit-answer.ensures.made c.submit-answer.ensures.full)).0 }
 
 pub returns : goal.returns
 returns g c =
@@ -17,4 +16,4 @@ returns g c =
     let call = Submit c.in-Ok.boxed c.args.rule c.args.steps in
     let told = number_reply c.submit-answer.result in
     rw (← c.in-Ok.ensures.seed) (is_made (λ book. Unit {0}) kept c.submit-answer.new.self call told _ c.args.desk.now c.note_event.new.self c.submit-answer.ensures.made c.deref_mut.result.now.noted (λ is. tt) c.submit-answer.ensures.full
-    (c.note_event.ensures call told (has_come kept c.submit-answer.new.self call told _ c.submit-answer.ensures.made c.deref_mut.result.now.noted) (full_number c.submit-answer.result ∙ sym c.is_refused_as_full-is_full.ensures)).1)
+    (c.note_event.ensures call told (has_come kept c.submit-answer.new.self call told _ c.submit-answer.ensures.made c.deref_mut.result.now.noted) (full_after kept c.submit-answer.new.self call told c.submit-answer.ensures.made c.submit-answer.ensures.full)).1)
