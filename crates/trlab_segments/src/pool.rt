@@ -59,7 +59,8 @@ impl<'a, R: Threads + Wait + Sync, G: Gate + Sync> Pool<'a, R, G> {
     pub fn sparing(self, cars: u32, draws: bool) -> Pool<'a, R, G>
         ensures some { 0 < pool_workers result }
         ensures few { pool_workers result ≤ pool_workers self.entry }
-        ensures used { pool_workers result ≤ max 1 (cars / (if draws then DRAWING_CARS_PER_WORKER else CARS_PER_WORKER)) }
+        ensures used { let share = if draws then DRAWING_CARS_PER_WORKER else CARS_PER_WORKER in
+            pool_workers result ≤ max 1 (cars / share) }
     {
         let most = within_processors(self.rt, self.workers);
         let busy = (cars / cars_per_worker(draws)).max(1);
