@@ -34,29 +34,37 @@ module _ {A : Type 0} (Fits : Part A → Type 0) (t : Tickets) where
   told_parts d e f (Ok a) (Ok b) (Ok v) first second items joins =
       both_parts d e f a.items b.items v.items first second items joins
 
-  -- earlier deposits, and more parts
-  pub all_parts : (before : Option Drawer) (e f : Drawer) (some more all : List (Part A))
-      → MatchOption before (some ≡ []) (λ d. IsFrom t d × HasParts Fits d some) → IsFrom t e × HasParts Fits e more
-      → all ≡ some ++ more → IsJoined t before e f → IsFrom t f × HasParts Fits f all
-  all_parts None e f some more all none done items same =
-      subst (λ d. IsFrom t d × HasParts Fits d all) (sym same) (subst (λ xs. IsFrom t e × HasParts Fits e xs)
-      (sym (items ∙ ap (λ xs. xs ++ more) none)) done)
-  all_parts (Some d) e f some more all deposited done items joins =
-      (joins.from, both_parts d e f some more all deposited.1 done.1 items joins)
+  -- a worker's parts, if those before it are none
+  first_told : {B E : Type 0} (e : Drawer) (some more all : Result (Vec (Part A) B) E)
+      → IfOk some (λ parts. parts.items ≡ []) → IfOk more (λ parts. HasParts Fits e parts.items)
+      → IfOk all (λ v. IsOkAnd some (λ a. IsOkAnd more (λ b. v.items ≡ a.items ++ b.items)))
+      → IfOk all (λ parts. HasParts Fits e parts.items)
+  first_told e some more (Err x) none done items = tt
+  first_told e (Err x) more (Ok v) none done items = absurd items
+  first_told e (Ok a) (Err x) (Ok v) none done items = absurd items
+  first_told e (Ok a) (Ok b) (Ok v) none done items =
+      subst (HasParts Fits e) (sym (items ∙ ap (λ xs. xs ++ b.items) none)) done
 
-  -- the same if more parts are the result of a worker
-  pub all_told : {B E : Type 0} (before : Option Drawer) (e f : Drawer) (some all : List (Part A)) (told : Result (Vec (Part A) B) E)
-      → MatchOption before (some ≡ []) (λ d. IsFrom t d × HasParts Fits d some)
-      → IsFrom t e × IfOk told (λ more. HasParts Fits e more.items) → IsOkAnd told (λ more. all ≡ some ++ more.items)
-      → IsJoined t before e f → IsFrom t f × HasParts Fits f all
-  all_told before e f some all (Ok more) deposited done items joins = all_parts before e f some more.items all deposited (done.0, done.1) items joins
-  all_told before e f some all (Err x) deposited done items joins = absurd items
+  -- earlier deposits, and the parts of a worker
+  pub all_told : {B E : Type 0} (before : Option Drawer) (e f : Drawer) (some more all : Result (Vec (Part A) B) E)
+      → MatchOption before (IfOk some (λ parts. parts.items ≡ [])) (λ d. IsFrom t d × IfOk some (λ parts. HasParts Fits d parts.items))
+      → IsFrom t e × IfOk more (λ parts. HasParts Fits e parts.items)
+      → IfOk all (λ v. IsOkAnd some (λ a. IsOkAnd more (λ b. v.items ≡ a.items ++ b.items)))
+      → IsJoined t before e f → IsFrom t f × IfOk all (λ parts. HasParts Fits f parts.items)
+  all_told None e f some more all none done items same =
+      subst (λ d. IsFrom t d × IfOk all (λ parts. HasParts Fits d parts.items)) (sym same)
+      (done.0, first_told e some more all none done.1 items)
+  all_told (Some d) e f some more all deposited done items joins =
+      (joins.from, told_parts d e f some more all deposited.1 done.1 items joins)
 
   -- a drawer that drew nothing changes no parts
-  pub with_reserve : (reserve : Option Drawer) (e f : Drawer) (parts : List (Part A)) → IfSome reserve (IsNew t)
-      → IsFrom t e × HasParts Fits e parts → IsJoined t reserve e f → IsFrom t f × HasParts Fits f parts
-  with_reserve None e f parts new done same = subst (λ d. IsFrom t d × HasParts Fits d parts) (sym same) done
-  with_reserve (Some d) e f parts new done joins = (
+  pub with_reserve : {B E : Type 0} (reserve : Option Drawer) (e f : Drawer) (told : Result (Vec (Part A) B) E) → IfSome reserve (IsNew t)
+      → IsFrom t e × IfOk told (λ parts. HasParts Fits e parts.items) → IsJoined t reserve e f
+      → IsFrom t f × IfOk told (λ parts. HasParts Fits f parts.items)
+  with_reserve None e f told new done same =
+      subst (λ d. IsFrom t d × IfOk told (λ parts. HasParts Fits d parts.items)) (sym same) done
+  with_reserve (Some d) e f (Err x) new done joins = (joins.from, tt)
+  with_reserve (Some d) e f (Ok parts) new done joins = (
     joins.from,
     record {
       tickets = done.1.tickets ∙ sym (joins.tickets ∙ ap (λ xs. xs ++ tickets_of e) new.1);

@@ -35,9 +35,10 @@ TellsDone answers b d told =
     IsFrom b.tickets d × IfOk told (λ parts. HasParts (IsRight answers b) d parts.items)
 
 -- the deposit, if a helper has made one
-abbrev pub IsDeposited : {P A : Type 0} → (P → Dice → Cells → ℕ → ℕ → List A → Type 0)
-    → Brief P → Option Drawer → List (Part A) → Type 0
-IsDeposited answers b deposited parts = MatchOption deposited (parts ≡ []) (λ d. HasDone answers b d parts)
+abbrev pub IsDeposited : {P A B E : Type 0} → (P → Dice → Cells → ℕ → ℕ → List A → Type 0)
+    → Brief P → Option Drawer → Result (Vec (Part A) B) E → Type 0
+IsDeposited answers b deposited told =
+    MatchOption deposited (IfOk told (λ parts. parts.items ≡ [])) (λ d. TellsDone answers b d told)
 
 -- the answers of all cars to a brief
 abbrev pub AnswersAll : {P A : Type 0} → (P → Dice → Cells → ℕ → ℕ → List A → Type 0)
@@ -49,4 +50,4 @@ pub record AreResults {P A : Type 0} (answers : P → Dice → Cells → ℕ →
     (can_ask : Cells → Type 0) (b : Brief P) (r : Results A) : Type 0 where
   pub lanes : can_ask b.road
   pub reserve : IfSome r.reserve (IsNew b.tickets)
-  pub done : IsDeposited answers b r.done r.parts.items
+  pub done : IsDeposited answers b r.done r.parts

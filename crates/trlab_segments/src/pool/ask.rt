@@ -81,7 +81,7 @@ impl<'a, R: Wait, G: Gate> Pool<'a, R, G> {
         ensures { O.observes observer.old (arc_value task.now).brief.road observer.new }
     {
         if let Ok(shared) = Arc::try_clone(task) {
-            slot.publish(self.rt, shared);
+            slot.set_task(self.rt, Some(shared));
             self.rendezvous.wake();
         }
         observer.observe(&task.brief.road);
@@ -120,7 +120,7 @@ impl<'a, R: Wait, G: Gate> Pool<'a, R, G> {
         };
         self.open(slot, &task, observer);
         let parts = draw_all(alloc, &task.brief, &mut mine, 0, self.gate);
-        slot.withdraw(self.rt);
+        slot.set_task(self.rt, None);
         alone(self.rt, task).settle(self.rt, answers, mine, parts)
     }
 

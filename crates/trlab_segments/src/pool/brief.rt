@@ -69,11 +69,11 @@ pub fn brief_of<A, P: Asked<A> + Drop>(
     ensures err { OnErr result (road.new ≡ road.old) }
 {
     let count = segments_for(road.cars(), workers);
-    let program = program.copied(alloc)?;
-    let (tickets, drawer) = Tickets::start(alloc, count, workers)?;
     let Ok(other) = Road::even(alloc, 1, 1, 1, 0) else {
         return Err(AllocError);
     };
+    let program = program.copied(alloc)?;
+    let (tickets, drawer) = Tickets::start(alloc, count, workers)?;
     let whole = mem::replace(road, other);
     let brief = Brief {
         program,

@@ -1,7 +1,7 @@
 //! A lock whose value fits a key that never changes. The value's type defines when it fits; a thread that takes the
 //! value knows that it fits, and puts back a value that fits too.
 
-ghost use Rattle.std.specs.Prelude.{◌≡◌, IfOk, IfSome};
+ghost use Rattle.std.specs.Prelude.{◌≡◌, IfOk};
 ghost use Rattle.trlab_segments.specs.KeyedLocks.{Guarded, HasOnly, Seized};
 
 use atomic_table::{Play, Refused, Seat, Table, TableRule};
@@ -75,30 +75,18 @@ impl<K, T: Keyed<K> + Drop> KeyedLock<T, K> {
         }
     }
 
-    /// The value; `None` if another thread has it.
-    fn try_take(&self) -> Option<(T, Guard<T, K>)>
-        ensures fits { IfSome result (λ taken. T.fits self.now.table.shared.key taken.0) }
-        ensures from { IfSome result (λ taken. taken.1.seat.table_id ≡ self.now.table.shared.table_id) }
-        ensures guard { IfSome result (λ taken. HasOnly taken.1.seat.me) }
-    {
-        let shared = &self.table.shared;
-        let (found, mut seat) = shared.swap_new_seat::<Acquire<T, K>>(0, 1);
-        if found == 0 {
-            let value = shared.exchange(&mut seat, 0, None).unwrap();
-            return Some((value, Guard { seat }));
-        }
-        None
-    }
-
     /// The value, once no other thread has it.
     pub fn take<R: Wait>(&self, rt: &R) -> (T, Guard<T, K>)
         ensures fits { T.fits self.now.table.shared.key result.0 }
         ensures from { result.1.seat.table_id ≡ self.now.table.shared.table_id }
         ensures guard { HasOnly result.1.seat.me }
     {
+        let shared = &self.table.shared;
         for _ in rt.forever() {
-            if let Some(taken) = self.try_take() {
-                return taken;
+            let (found, mut seat) = shared.swap_new_seat::<Acquire<T, K>>(0, 1);
+            if found == 0 {
+                let value = shared.exchange(&mut seat, 0, None).unwrap();
+                return (value, Guard { seat });
             }
             thread::yield_now();
         }

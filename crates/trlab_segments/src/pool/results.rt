@@ -1,7 +1,7 @@
 //! The results of a phase so far: the deposits of helpers, and the passes that none of them has taken.
 
-ghost use Rattle.std.specs.Prelude.{IfOk, IfSome};
-ghost use Rattle.trlab_segments.specs.Results.{AreResults, HasDone, TellsDone};
+ghost use Rattle.std.specs.Prelude.{IfSome};
+ghost use Rattle.trlab_segments.specs.Results.{AreResults, TellsDone};
 ghost use Rattle.trlab_segments.specs.Drawers.{IsFrom, IsJoined, IsNew};
 
 use crate::parts::{Part, joined};
@@ -9,16 +9,15 @@ use crate::phase::Asked;
 use crate::pool::brief::Brief;
 use crate::pool::keyed_lock::Keyed;
 use crate::tickets::{Drawer, Tickets};
-use std::alloc::{AllocError, Global};
+use std::alloc::AllocError;
 
 /// The passes that no helper has taken yet, the tickets that helpers have drawn, and their answers.
 #[derive(Drop)]
 pub struct Results<A> {
     pub reserve: Option<Drawer>,
     pub done: Option<Drawer>,
-    pub parts: Vec<Part<A>>,
-    /// Whether an allocation failed in a helper.
-    pub failed: bool,
+    /// An error if an allocation failed in a helper.
+    pub parts: Result<Vec<Part<A>>, AllocError>,
 }
 
 impl<A, P: Asked<A>> Keyed<Brief<P>> for Results<A> {
@@ -38,7 +37,6 @@ pub fn take_pass<A: Drop, P: Asked<A>>(
         reserve,
         done,
         parts,
-        failed,
     } = results;
     let (reserve, taken) = match reserve {
         None => (None, None),
@@ -53,7 +51,6 @@ pub fn take_pass<A: Drop, P: Asked<A>>(
             reserve,
             done,
             parts,
-            failed,
         },
         taken,
     )
@@ -75,7 +72,6 @@ pub fn split_pass(tickets: &Tickets, drawer: Drawer) -> (Option<Drawer>, Drawer)
 
 /// The results, after a helper has deposited its drawer and its parts.
 pub fn deposit<A: Drop, P: Asked<A>>(
-    alloc: Global,
     brief: &Brief<P>,
     results: Results<A>,
     drawer: Drawer,
@@ -89,22 +85,11 @@ pub fn deposit<A: Drop, P: Asked<A>>(
         reserve,
         done,
         parts,
-        failed,
     } = results;
-    let drawer = one_drawer(&brief.tickets, done, drawer);
-    match joined(Ok(parts), more) {
-        Ok(parts) => Results {
-            reserve,
-            done: Some(drawer),
-            parts,
-            failed,
-        },
-        Err(_) => Results {
-            reserve,
-            done: None,
-            parts: Vec::new(alloc),
-            failed: true,
-        },
+    Results {
+        reserve,
+        done: Some(one_drawer(&brief.tickets, done, drawer)),
+        parts: joined(parts, more),
     }
 }
 
@@ -120,31 +105,27 @@ fn one_drawer(tickets: &Tickets, before: Option<Drawer>, drawer: Drawer) -> Draw
     }
 }
 
-/// All parts, and one drawer with all passes that came back.
+/// One drawer with all passes that came back, and all parts.
 ///
 /// # Errors
 ///
-/// If an allocation failed, in a helper or in the caller.
+/// The second part is an error if an allocation failed, in a helper or in the caller.
 pub fn gathered<A: Drop, P: Asked<A>>(
     brief: &Brief<P>,
     results: Results<A>,
     mine: Drawer,
     parts: Result<Vec<Part<A>>, AllocError>,
-) -> Result<(Drawer, Vec<Part<A>>), AllocError>
+) -> (Drawer, Result<Vec<Part<A>>, AllocError>)
     requires results { AreResults P.answers P.can_ask brief.now results }
     requires done { TellsDone P.answers brief.now mine parts }
-    ensures { IfOk result (λ all. HasDone P.answers brief.now all.0 all.1.items) }
+    ensures { TellsDone P.answers brief.now result.0 result.1 }
 {
     let Results {
         reserve,
         done,
         parts: theirs,
-        failed,
     } = results;
     let drawn = one_drawer(&brief.tickets, done, mine);
     let drawer = one_drawer(&brief.tickets, reserve, drawn);
-    match joined(Ok(theirs), parts) {
-        Ok(parts) if !failed => Ok((drawer, parts)),
-        _ => Err(AllocError),
-    }
+    (drawer, joined(theirs, parts))
 }

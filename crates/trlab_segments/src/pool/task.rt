@@ -13,6 +13,7 @@ use crate::pool::results::{Results, deposit, gathered, take_pass};
 use crate::segment::Gate;
 use crate::tickets::Drawer;
 use std::alloc::{AllocError, Global};
+use std::mem;
 use std::sync::{Arc, Mutex, Wait};
 use trlab_road::Road;
 
@@ -43,8 +44,7 @@ impl<A: Copy + Drop, P: Asked<A> + Drop> Task<A, P> {
         let results = Results {
             reserve,
             done: None,
-            parts: Vec::new(alloc),
-            failed: false,
+            parts: Ok(Vec::new(alloc)),
         };
         match KeyedLock::new(alloc, results, &brief) {
             Ok(results) => Ok(Task { brief, results }),
@@ -79,7 +79,7 @@ impl<A: Copy + Drop, P: Asked<A> + Drop> Task<A, P> {
         };
         let parts = draw_all(alloc, &self.brief, &mut drawer, worker, gate);
         let (results, guard) = self.take(rt);
-        let results = deposit(alloc, &self.brief, results, drawer, parts);
+        let results = deposit(&self.brief, results, drawer, parts);
         self.put_back(results, guard);
     }
 
@@ -106,8 +106,9 @@ impl<A: Copy + Drop, P: Asked<A> + Drop> Task<A, P> {
             brief,
             results: _results,
         } = self;
-        match gathered(&brief, found, mine, parts) {
-            Ok((drawer, parts)) => finish(answers, brief, drawer, &parts),
+        let (drawer, parts) = gathered(&brief, found, mine, parts);
+        match parts {
+            Ok(parts) => finish(answers, brief, drawer, &parts),
             Err(_) => (brief.into_road(), Err(AllocError)),
         }
     }
@@ -124,7 +125,7 @@ impl<A: Copy + Drop, P: Asked<A> + Drop> Task<A, P> {
     }
 }
 
-/// The slot of at most one phase of a kind: the caller publishes the phase, and its helpers find it.
+/// The slot of at most one phase of a kind: the caller puts the phase in, and its helpers find it.
 #[derive(Drop)]
 pub struct TaskSlot<A, P: Asked<A>> {
     open: Mutex<Option<Arc<Task<A, P>, Global>>>,
@@ -138,20 +139,11 @@ impl<A: Drop, P: Asked<A> + Drop> TaskSlot<A, P> {
         }
     }
 
-    /// Opens a phase to helpers.
-    pub fn publish<R: Wait>(&self, rt: &R, task: Arc<Task<A, P>, Global>) {
+    /// Opens a phase to helpers. `None` closes the open phase: no helper can join it from now on.
+    pub fn set_task<R: Wait>(&self, rt: &R, task: Option<Arc<Task<A, P>, Global>>) {
         let before = {
             let mut open = self.open.lock(rt);
-            open.replace(task)
-        };
-        drop(before);
-    }
-
-    /// Closes the phase: no helper can join it from now on.
-    pub fn withdraw<R: Wait>(&self, rt: &R) {
-        let before = {
-            let mut open = self.open.lock(rt);
-            open.take()
+            mem::replace(&mut *open, task)
         };
         drop(before);
     }

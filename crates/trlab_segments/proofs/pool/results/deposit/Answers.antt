@@ -2,10 +2,10 @@ use Rattle.trlab_segments.specs.Results.{IsRight}
 use Rattle.trlab_segments.proofs.Joining.{all_told}
 use Rattle.trlab_segments.proofs.pool.results.deposit.Goals as goal
 
-pub returns-in-Ok : goal.returns-in-Ok
-returns-in-Ok g c = record {
+pub returns : goal.returns
+returns g c = record {
   lanes = c.requires.results.lanes;
   reserve = c.requires.results.reserve;
-  done = all_told (IsRight g.P.Asked.answers c.args.brief.now) c.args.brief.now.tickets c.args.results.done _ _ _ _ c.args.more
-      c.requires.results.done c.requires.done c.in-Ok.ensures c.one_drawer-drawer.ensures;
+  done = all_told (IsRight g.P.Asked.answers c.args.brief.now) c.args.brief.now.tickets c.args.results.done _ _ c.args.results.parts c.args.more _
+      c.requires.results.done c.requires.done c.joined.ensures c.one_drawer.ensures;
 }

@@ -12,10 +12,10 @@ one_drawer-drawer-requires g c = record {
   from = joined_from c.args.brief.now.tickets c.args.results.done _ _ c.requires.done.0 c.one_drawer-drawn.ensures;
 }
 
-pub returns-in-Ok : goal.returns-in-Ok
-returns-in-Ok g c =
+pub returns : goal.returns
+returns g c =
     let fits = IsRight g.P.Asked.answers c.args.brief.now in
     let t = c.args.brief.now.tickets in
     with_reserve fits t c.args.results.reserve _ _ _ c.requires.results.reserve
-    (all_told fits t c.args.results.done _ _ _ _ c.args.parts c.requires.results.done c.requires.done c.in-Ok.ensures c.one_drawer-drawn.ensures)
+    (all_told fits t c.args.results.done _ _ c.args.results.parts c.args.parts _ c.requires.results.done c.requires.done c.joined.ensures c.one_drawer-drawn.ensures)
     c.one_drawer-drawer.ensures

@@ -1,7 +1,7 @@
 use Rattle.std.proofs.Common.{rules, Some, ap, sym, ◌∙◌, ◌∷◌}
 use Rattle.atomic_table.specs.Table.{rest}
 use Rattle.trlab_segments.proofs.Locks.{seizes}
-use Rattle.trlab_segments.proofs.pool.keyed_lock.KeyedLock.try_take.Goals as goal
+use Rattle.trlab_segments.proofs.pool.keyed_lock.KeyedLock.take.Goals as goal
 
 pub swap_new_seat-found-requires : goal.swap_new_seat-found-requires
 swap_new_seat-found-requires g c = (search rules, seizes _ _ c.args.self.now.table.shared.key)
