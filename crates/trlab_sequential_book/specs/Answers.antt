@@ -57,11 +57,6 @@ abbrev pub tells_full : Reply → Bool
 tells_full (Refused HistoryFull) = true
 tells_full _ = false
 
--- the call was refused because the history is full
-abbrev pub is_refused_as_full : {A : Type 0} → Result A BookFault → Bool
-is_refused_as_full (Ok answer) = false
-is_refused_as_full (Err fault) = tells_full (Refused fault)
-
 -- a call has the reply of the machine, unless an allocation failed
 abbrev pub RepliesAs : Bool → Reply → BookState → Call → Type 0
 RepliesAs ran_out told book call = MatchBool ran_out (Unit {0}) (told ≡ reply_of book call)
