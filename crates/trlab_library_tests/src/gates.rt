@@ -79,9 +79,7 @@ fn begin(rt: &(impl AllocGlobal + Threads + Sync), cars: u32, calls: u64, begun:
 
 #[test]
 fn sixteen_workers_begin_each_segment_once(rt: HostRuntime) {
-    assert!(rt; begin(&rt, 0, 0, 0));
-    assert!(rt; begin(&rt, 1, 2, 1));
-    assert!(rt; begin(&rt, 3, 6, 0b111));
+    assert!(rt; begin(&rt, 0, 0, 0) && begin(&rt, 1, 2, 1) && begin(&rt, 3, 6, 0b111));
 }
 
 /// The same for a pool of one worker more than `others`, 60 cars and three steps.
@@ -97,20 +95,17 @@ fn pool_begins(
     pool_as_one(rt, others, &notes, 3) && notes.are(calls, begun)
 }
 
-#[test]
-fn a_pool_begins_each_segment_once(rt: HostRuntime) {
-    assert!(rt; pool_begins(&rt, 15, 360, (1 << 60) - 1));
-}
-
 /// Whether a sparing pool begins no segment if the cars are so few that it has one worker.
 fn spares_workers(rt: &(impl AllocGlobal + Threads + Wait + Sync)) -> bool {
     let notes = Notes::new();
     sparing_pool_as_one(rt, 60, &notes) && notes.are(0, 0)
 }
 
+// A pool of one worker passes no gate.
 #[test]
-fn a_pool_of_one_worker_passes_no_gate(rt: HostRuntime) {
-    assert!(rt; pool_begins(&rt, 0, 0, 0) && spares_workers(&rt));
+fn a_pool_begins_each_segment_once(rt: HostRuntime) {
+    let all = pool_begins(&rt, 15, 360, (1 << 60) - 1);
+    assert!(rt; all && pool_begins(&rt, 0, 0, 0) && spares_workers(&rt));
 }
 
 /// The maximum number of turns for which a worker is held.
@@ -164,11 +159,6 @@ fn goes_on(rt: &(impl AllocGlobal + Threads + Sync)) -> bool {
     go_through(rt, 8, 1, &gate) && gate.saw(16)
 }
 
-#[test]
-fn a_crew_goes_on_while_one_worker_is_held(rt: HostRuntime) {
-    assert!(rt; goes_on(&rt));
-}
-
 /// The same for a pool's two workers, in ten steps.
 fn pool_goes_on(rt: &(impl AllocGlobal + Threads + Wait + Sync)) -> bool {
     let gate = HoldsFirst::new();
@@ -176,6 +166,6 @@ fn pool_goes_on(rt: &(impl AllocGlobal + Threads + Wait + Sync)) -> bool {
 }
 
 #[test]
-fn a_pool_goes_on_while_one_worker_is_held(rt: HostRuntime) {
-    assert!(rt; pool_goes_on(&rt));
+fn crews_and_pools_go_on_while_one_worker_is_held(rt: HostRuntime) {
+    assert!(rt; goes_on(&rt) && pool_goes_on(&rt));
 }

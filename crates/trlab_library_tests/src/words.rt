@@ -7,11 +7,11 @@ fn happens_first(parts: u32) -> Option<bool> {
     Some(happens(2917185654, Chance::new(parts)?))
 }
 
-// The second is the smallest probability with which it happens on that word; the fourth is above certainty.
+// The second is the smallest probability with which it happens on that word; the last is above certainty.
 #[test]
 fn chances_are_cut_at_half_of_the_word(rt: HostRuntime) {
-    assert!(rt; happens_first(1458592827) == Some(false));
-    assert!(rt; happens_first(1458592828) == Some(true));
-    assert!(rt; CERTAIN == 2147483648 && happens_first(2147483648) == Some(true));
-    assert!(rt; happens_first(2147483649) == None);
+    assert!(rt;
+        happens_first(1458592827) == Some(false) && happens_first(1458592828) == Some(true)
+    );
+    assert!(rt; happens_first(CERTAIN) == Some(true) && happens_first(CERTAIN + 1) == None);
 }

@@ -66,7 +66,7 @@ fn done(alloc: Global, book: &mut Book, job: u32) -> Option<u32> {
 #[test]
 fn a_job_is_run(rt: HostRuntime) {
     let mut book = Book::new(rt.alloc());
-    assert_eq!(rt; submit(rt.alloc(), &mut book), Some(0));
-    assert_eq!(rt; run(rt.alloc(), &mut book), Some(()));
-    assert_eq!(rt; done(rt.alloc(), &mut book, 0), Some(200));
+    let alloc = rt.alloc();
+    let ran = submit(alloc, &mut book) == Some(0) && run(alloc, &mut book).is_some();
+    assert!(rt; ran && done(alloc, &mut book, 0) == Some(200));
 }

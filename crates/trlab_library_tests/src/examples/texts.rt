@@ -22,8 +22,11 @@ fn read(alloc: Global, text: &[u8]) -> Option<(u32, u32)> {
     Some((steps, cars))
 }
 
-/// Of `trlab_diagram`: the flow at a point, and the number of lines of a table.
-fn measure(alloc: Global) -> Option<(u128, usize)> {
+const TABLE: &[u8] =
+    b"cars,cells,steps,distance,stopped,changes,flow\n150,1000,100,60000,0,0,600000\n";
+
+/// Of `trlab_diagram`: the flow at a point, and whether a table is printed as `TABLE`.
+fn measure(alloc: Global) -> Option<(u128, bool)> {
     let point = Point {
         cars: 150,
         cells: 1000,
@@ -34,12 +37,12 @@ fn measure(alloc: Global) -> Option<(u128, usize)> {
     };
     let flow = flow(&point);
     let table = points_text(alloc, &[point]).ok()?;
-    Some((flow, table.iter().filter(|byte| **byte == b'\n').count()))
+    Some((flow, table.as_slice() == TABLE))
 }
 
 #[test]
 fn texts_are_read_and_written(rt: HostRuntime) {
-    assert_eq!(rt; read_steps(), Some(20));
-    assert_eq!(rt; read(rt.alloc(), JOB), Some((20, 2)));
-    assert_eq!(rt; measure(rt.alloc()), Some((600_000, 2)));
+    let alloc = rt.alloc();
+    let read = read_steps() == Some(20) && read(alloc, JOB) == Some((20, 2));
+    assert!(rt; read && measure(alloc) == Some((600_000, true)));
 }
