@@ -1,5 +1,5 @@
-//! Tests by public calls, with values worked out by hand: faults of program text, tables of notes, standard rules,
-//! probabilities, and steps by a crew or a pool; the book of jobs; and the examples of the crates.
+//! Tests by public calls, with values worked out by hand: faults of program text, tables of notes, probabilities, and
+//! steps by a crew or a pool; the book of jobs; and the examples of the crates.
 #![tactic(auto)]
 
 #[cfg(test)]
