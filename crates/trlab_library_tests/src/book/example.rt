@@ -4,16 +4,15 @@ ghost use Rattle.std.specs.Prelude.{◌≡◌, ◌≤◌};
 ghost use Rattle.trlab_book.specs.Desks.{parts_of};
 ghost use Rattle.trlab_strands.specs.Tokens.{name_of};
 
-use crate::book::common::books::{ended, history_of, new_blank, replace, submit};
+use crate::book::common::books::{ended, events_of, new_blank, replace, submit};
 use crate::book::common::jobs::{ALWAYS, two_cars};
-use crate::book::common::replies::seen_reply;
 use std::alloc::Global;
 use std::marker::Brand;
 use std::sync::Wait;
 use std::thread::{Threads, join};
 use trlab_book::{Desk, SharedBook, run_jobs};
 use trlab_segments::OpenGate;
-use trlab_sequential_book::{Event, Reply, Snapshot};
+use trlab_sequential_book::{Event, Snapshot};
 use trlab_strands::{Blank, Ledger};
 
 /// Replaces the rule of job 0. Returns the step from which the new rule is in force, or `None` if all steps were
@@ -26,17 +25,6 @@ fn replace_late<L: Ledger, R: Wait>(
 ) -> (Desk<L>, Option<u32>) {
     let entered = replace(rt, alloc, book, &mut desk, 0, ALWAYS).ok();
     (desk, entered)
-}
-
-/// Submits two jobs of 100 steps.
-fn submit_two<L: Ledger, R: Wait>(
-    rt: &R,
-    alloc: Global,
-    book: &SharedBook<L>,
-    desk: &mut Desk<L>,
-) -> bool {
-    submit(rt, alloc, book, desk, &two_cars(0, 100)) == Ok(0)
-        && submit(rt, alloc, book, desk, &two_cars(1, 100)) == Ok(1)
 }
 
 /// Runs the jobs of a book with two runners, while the rule of job 0 is replaced. Returns whether they succeeded, and
@@ -70,32 +58,21 @@ fn has_entered(seen: &Snapshot, entered: Option<u32>) -> bool {
     }
 }
 
-/// Reads job 0. Returns the reply in the history, if the job has come to its end, with the rule that entered.
-fn read_end<L: Ledger, R: Wait>(
+/// Whether job 0 has come to its end, with the rule that entered.
+fn has_ended<L: Ledger, R: Wait>(
     rt: &R,
     alloc: Global,
     book: &SharedBook<L>,
     desk: &mut Desk<L>,
     entered: Option<u32>,
-) -> Option<Reply> {
+) -> bool {
     match book.read(rt, alloc, desk, 0) {
-        Ok(seen) => {
-            (seen.step() == 100 && has_entered(&seen, entered)).then_some(seen_reply(&seen))
-        }
-        Err(_) => None,
+        Ok(seen) => seen.step() == 100 && has_entered(&seen, entered),
+        Err(_) => false,
     }
 }
 
-/// Whether the last event of a history has a reply.
-fn is_last(history: &[Event], reply: Option<Reply>) -> bool {
-    match (history.last(), reply) {
-        (Some(last), Some(reply)) => last.reply == reply,
-        _ => false,
-    }
-}
-
-/// Whether the new rule is in the sheet of a job that two runners run meanwhile, and the read of this job is the last
-/// event.
+/// Whether the new rule is in the sheet of a job that two runners run meanwhile, and the book closes.
 fn is_in_the_sheet<L: Ledger + Send + Sync, R: Threads + Wait + Sync>(
     rt: &R,
     alloc: Global,
@@ -104,13 +81,11 @@ fn is_in_the_sheet<L: Ledger + Send + Sync, R: Threads + Wait + Sync>(
     requires name { name_of blank ≡ L.name }
 {
     let (book, mut desk) = SharedBook::<L>::start(alloc, blank);
-    let submitted = submit_two(rt, alloc, &book, &mut desk);
+    let submitted = submit(rt, alloc, &book, &mut desk, &two_cars(0, 100)) == Ok(0)
+        && submit(rt, alloc, &book, &mut desk, &two_cars(1, 100)) == Ok(1);
     let (mut desk, ran, entered) = run_and_replace(rt, alloc, &book, desk);
-    let reply = read_end(rt, alloc, &book, &mut desk, entered);
-    match history_of(book, desk) {
-        Some(history) => submitted && ran && is_last(&history, reply),
-        None => false,
-    }
+    let right = has_ended(rt, alloc, &book, &mut desk, entered);
+    events_of(book, desk).is_some() && submitted && ran && right
 }
 
 #[test]

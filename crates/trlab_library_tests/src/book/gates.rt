@@ -107,21 +107,8 @@ fn end_of(end: LeaseEnd) -> Shown<'static> {
     }
 }
 
-/// Submits a job, runs it with `run_held` and reads it. Returns whether all answers are as expected.
-fn hold<L: Ledger + Send + Sync, R: Threads + Wait + Sync>(
-    rt: &R,
-    alloc: Global,
-    book: &SharedBook<L>,
-    mut desk: Desk<L>,
-    end: LeaseEnd,
-) -> (Desk<L>, bool) {
-    let submitted = submit(rt, alloc, book, &mut desk, &two_cars(0, 4)) == Ok(0);
-    let (mut desk, ended) = run_held(rt, alloc, book, desk, end);
-    let right = reads(rt, alloc, book, &mut desk, 0, &end_of(end));
-    (desk, submitted && ended && right)
-}
-
-/// Whether one order is refused to a runner whose lease ends during its first step, and all else is as expected.
+/// Submits a job, runs it with `run_held` and reads it. Returns whether one order is refused to the runner, whose lease
+/// ends during its first step, and all else is as expected.
 fn is_refused_once<L: Ledger + Send + Sync, R: Threads + Wait + Sync>(
     rt: &R,
     alloc: Global,
@@ -130,10 +117,12 @@ fn is_refused_once<L: Ledger + Send + Sync, R: Threads + Wait + Sync>(
 ) -> bool
     requires name { name_of blank ≡ L.name }
 {
-    let (book, desk) = SharedBook::<L>::start(alloc, blank);
-    let (desk, held) = hold(rt, alloc, &book, desk, end);
+    let (book, mut desk) = SharedBook::<L>::start(alloc, blank);
+    let submitted = submit(rt, alloc, &book, &mut desk, &two_cars(0, 4)) == Ok(0);
+    let (mut desk, ended) = run_held(rt, alloc, &book, desk, end);
+    let right = reads(rt, alloc, &book, &mut desk, 0, &end_of(end));
     match history_of(book, desk) {
-        Some(history) => held && refused_orders(&history, end) == 1,
+        Some(history) => submitted && ended && right && refused_orders(&history, end) == 1,
         None => false,
     }
 }

@@ -44,7 +44,6 @@ fn is_submitted<L: Ledger, R: Wait>(
     let (picture, chance, _) = KINDS[kind as usize];
     let job = TestJob {
         picture,
-        byte: 0,
         number: kind,
         chance,
         steps: STEPS,
@@ -159,22 +158,18 @@ fn passes_anew<R: AllocGlobal + Threads + Wait + Sync, G: Gate + Sync>(
     }
 }
 
+// First a few runners come to many roads, then many runners to a few.
 #[test]
 fn runners_run_all_jobs(rt: HostRuntime) {
-    let runners = Workforce {
+    let few = Workforce {
         count: 4,
         workers: 2,
     };
-    assert!(rt; passes_anew(&rt, 16, runners, &OpenGate));
-}
-
-#[test]
-fn many_runners_come_to_the_roads_of_one(rt: HostRuntime) {
-    let runners = Workforce {
+    let many = Workforce {
         count: 16,
         workers: 16,
     };
-    assert!(rt; passes_anew(&rt, 4, runners, &OpenGate));
+    assert!(rt; passes_anew(&rt, 16, few, &OpenGate) && passes_anew(&rt, 4, many, &OpenGate));
 }
 
 #[test]

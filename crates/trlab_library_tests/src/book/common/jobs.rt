@@ -14,23 +14,20 @@ pub const BY_HALF: u32 = CERTAIN / 2;
 /// Each car brakes in each step.
 pub const ALWAYS: u32 = CERTAIN;
 
-/// A job of the cars of a picture on one lane, who brake with the probability `chance`.
+/// A job of the cars of a picture on one lane, who brake with the probability `chance`. Its key is zero.
 #[derive(Clone, Copy)]
 pub struct TestJob {
     pub picture: &'static [u8],
-    /// Each byte of its key.
-    pub byte: u8,
     /// The number of its road.
     pub number: u32,
     pub chance: u32,
     pub steps: u32,
 }
 
-/// A job of two cars who never brake at random, with the key of zeros.
+/// A job of two cars who never brake at random.
 pub fn two_cars(number: u32, steps: u32) -> TestJob {
     TestJob {
         picture: b"0.0.......",
-        byte: 0,
         number,
         chance: NEVER,
         steps,
@@ -41,7 +38,7 @@ pub fn seed_of(alloc: Global, job: &TestJob) -> Option<Seed> {
     match Road::parse(alloc, 5, &[job.picture]) {
         Ok(road) => Some(Seed {
             road,
-            key: Key([job.byte; 32]),
+            key: Key([0; 32]),
             number: job.number,
             warm: 0,
         }),

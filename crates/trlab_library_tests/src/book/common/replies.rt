@@ -1,21 +1,6 @@
 //! Replies that tests expect, in few words, and those that correspond to the answers of a desk.
 
-use trlab_sequential_book::{BookFault, Reply, Snapshot};
-
-/// The parts that an event keeps of a lease of job 0 that runs its own road.
-macro_rules! own {
-    ($number:expr, $base:expr, $step:expr) => {
-        Offered {
-            job: 0,
-            number: $number,
-            base: $base,
-            step: $step,
-            same: true,
-        }
-    };
-}
-
-pub(crate) use own;
+use trlab_sequential_book::{BookFault, Lease, Order, Reply, Snapshot};
 
 /// The reply that a lease of job 0, which has four steps, went out.
 macro_rules! went_out {
@@ -70,6 +55,26 @@ pub fn done_reply(answer: Result<(), BookFault>) -> Reply {
     match answer {
         Ok(()) => Reply::Done,
         Err(fault) => Reply::Refused(fault),
+    }
+}
+
+/// The reply for a lease that went out.
+pub fn leased_reply(lease: &Lease) -> Reply {
+    Reply::Leased {
+        job: lease.job(),
+        number: lease.number(),
+        step: lease.step(),
+        steps: lease.steps(),
+    }
+}
+
+/// The reply for an order.
+pub fn ordered_reply(order: &Order) -> Reply {
+    Reply::Ordered {
+        job: order.job(),
+        number: order.lease(),
+        step: order.step(),
+        from: order.from(),
     }
 }
 

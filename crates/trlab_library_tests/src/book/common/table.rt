@@ -1,166 +1,79 @@
 //! A shared book with one desk, for tests of many calls. The calls of the table promise nothing, so that such a test is
-//! proved in little time: the replies and the history are what the tests are for.
+//! proved in little time: the replies are what the tests are for.
 //!
 //! A call is made once more if an allocation failed. So a test passes even if one allocation fails, whichever it is.
 
 ghost use Rattle.std.specs.Prelude.{◌≡◌};
 ghost use Rattle.trlab_strands.specs.Tokens.{name_of};
 
-use crate::book::common::books::{events_of, history_of, replace, submit};
-use crate::book::common::expected::Made;
+use crate::book::common::books::{events_of, replace, submit};
+use crate::book::common::expected::has_picture;
 use crate::book::common::jobs::{ALWAYS, NEVER, TestJob};
-use crate::book::common::replies::{done_reply, number_reply, seen_reply};
+use crate::book::common::replies::{
+    done_reply, leased_reply, number_reply, ordered_reply, seen_reply,
+};
 use std::alloc::Global;
 use std::sync::Wait;
 use trlab_book::{Desk, SharedBook};
-use trlab_sequential_book::{BookFault, Event, Lease, Offered, Order, Reply, Snapshot};
+use trlab_sequential_book::{BookFault, Event, Lease, Order, Reply, Snapshot};
 use trlab_step::Caller;
 use trlab_strands::{Blank, Ledger};
 
-/// The leases that were not given back, by their places, and the orders for them.
-#[derive(Drop)]
-pub struct Held {
-    leases: Vec<Option<Lease>>,
-    orders: Vec<Order>,
+/// A call at the table.
+#[derive(Clone, Copy)]
+pub enum Made {
+    /// Submits a job of this many steps.
+    Submit(u32),
+    Replace(u32),
+    Lease,
+    /// Orders the next step of the last lease, and runs it.
+    Order,
+    /// Gives the last lease back. If it is refused, it stays at the table.
+    GiveBack,
+    Revoke(u32),
+    Cancel(u32),
+    /// Reads a job, whose cars have to be those of a picture.
+    Read(u32, &'static [u8]),
 }
 
-/// Runs the last order of a lease, if its next step is not yet this one.
-fn bring_to(alloc: Global, lease: &mut Lease, orders: &[Order], step: u32) -> Option<()> {
-    if lease.step() == step {
-        return Some(());
-    }
-    lease.advance(&Caller, alloc, orders.last()?).ok()
-}
-
-impl Held {
-    pub fn new(alloc: Global) -> Held {
-        Held {
-            leases: Vec::new(alloc),
-            orders: Vec::new(alloc),
-        }
-    }
-
-    /// Runs the last order with the lease of a place, if its next step is not yet this one.
-    fn bring(&mut self, alloc: Global, place: usize, step: u32) -> Option<()> {
-        match self.leases.get_mut(place) {
-            Some(there) => bring_to(alloc, there.as_mut()?, &self.orders, step),
-            None => None,
-        }
-    }
-
-    /// Leases a job, and puts the lease at the next place.
-    pub fn lease<L: Ledger, R: Wait>(
-        &mut self,
-        rt: &R,
-        alloc: Global,
-        book: &SharedBook<L>,
-        desk: &mut Desk<L>,
-    ) -> Option<Reply> {
-        self.leases.reserve(1).ok()?;
-        match book.lease(rt, alloc, desk) {
-            Ok(Some(lease)) => {
-                let told = Reply::Leased {
-                    job: lease.job(),
-                    number: lease.number(),
-                    step: lease.step(),
-                    steps: lease.steps(),
-                };
-                self.leases.push_reserved(Some(lease));
-                Some(told)
-            }
-            Ok(None) => Some(Reply::NoLease),
-            Err(fault) => Some(Reply::Refused(fault)),
-        }
-    }
-
-    /// Orders the next step of the lease of a place.
-    pub fn order<L: Ledger, R: Wait>(
-        &mut self,
-        rt: &R,
-        alloc: Global,
-        book: &SharedBook<L>,
-        desk: &mut Desk<L>,
-        offered: Offered,
-    ) -> Option<Reply> {
-        let place = offered.number as usize;
-        self.bring(alloc, place, offered.step)?;
-        self.orders.reserve(1).ok()?;
-        match book.order(rt, alloc, desk, self.leases.get(place)?.as_ref()?) {
-            Ok(order) => {
-                let told = Reply::Ordered {
-                    job: order.job(),
-                    number: order.lease(),
-                    step: order.step(),
-                    from: order.from(),
-                };
-                self.orders.push_reserved(order);
-                Some(told)
-            }
-            Err(fault) => Some(Reply::Refused(fault)),
-        }
-    }
-
-    /// Gives the lease of a place back. If it is refused, it stays there.
-    pub fn give_back<L: Ledger, R: Wait>(
-        &mut self,
-        rt: &R,
-        alloc: Global,
-        book: &SharedBook<L>,
-        desk: &mut Desk<L>,
-        offered: Offered,
-    ) -> Option<Reply> {
-        let place = offered.number as usize;
-        self.bring(alloc, place, offered.step)?;
-        let there = self.leases.get_mut(place)?;
-        match book.give_back(rt, desk, there.take()?) {
-            Ok(()) => Some(Reply::Done),
-            Err((lease, fault)) => {
-                *there = Some(lease);
-                Some(Reply::Refused(fault))
-            }
-        }
-    }
-
-    /// Moves the lease of a place, at a step, to the next place of `other`. Returns whether it is there.
-    pub fn hand_over(&mut self, alloc: Global, place: usize, step: u32, other: &mut Held) -> bool {
-        if self.bring(alloc, place, step).is_none() || other.leases.reserve(1).is_err() {
-            return false;
-        }
-        match self.leases.get_mut(place) {
-            Some(there) => {
-                other.leases.push_reserved(there.take());
-                true
-            }
-            None => false,
-        }
-    }
-}
-
-/// A shared book with its desk, the leases that were not given back, and the results of reads. All jobs have the cars
-/// of one picture, and a key of equal bytes.
+/// A shared book with its desk, and the leases that were not given back. All jobs have the cars of one picture.
 #[derive(Drop)]
 pub struct Table<L: Ledger> {
     pub book: SharedBook<L>,
     pub desk: Desk<L>,
-    pub held: Held,
-    pub reads: Vec<Snapshot>,
-    pub picture: &'static [u8],
-    pub byte: u8,
+    leases: Vec<Lease>,
+    picture: &'static [u8],
+}
+
+/// Runs an order with its lease, again if an allocation failed. Returns the reply to the order if this succeeded.
+fn run_ordered(alloc: Global, lease: &mut Lease, order: &Order) -> Option<Reply> {
+    let ran = lease.advance(&Caller, alloc, order).is_ok()
+        || lease.advance(&Caller, alloc, order).is_ok();
+    if ran {
+        Some(ordered_reply(order))
+    } else {
+        None
+    }
+}
+
+/// The reply to a read, if its cars are those of a picture. They are compared twice if an allocation fails.
+fn reply_if_shown(alloc: Global, seen: &Snapshot, picture: &[u8]) -> Option<Reply> {
+    let shown = has_picture(alloc, seen.road(), picture)
+        || has_picture(alloc, seen.road(), picture);
+    if shown { Some(seen_reply(seen)) } else { None }
 }
 
 impl<L: Ledger> Table<L> {
     /// A table with a new book.
-    pub fn start(alloc: Global, blank: Blank<Event>, picture: &'static [u8], byte: u8) -> Table<L>
+    pub fn start(alloc: Global, blank: Blank<Event>, picture: &'static [u8]) -> Table<L>
         requires name { name_of blank ≡ L.name }
     {
         let (book, desk) = SharedBook::<L>::start(alloc, blank);
         Table {
             book,
             desk,
-            held: Held::new(alloc),
-            reads: Vec::new(alloc),
+            leases: Vec::new(alloc),
             picture,
-            byte,
         }
     }
 
@@ -168,7 +81,6 @@ impl<L: Ledger> Table<L> {
     fn submit<R: Wait>(&mut self, rt: &R, alloc: Global, steps: u32) -> Reply {
         let job = TestJob {
             picture: self.picture,
-            byte: self.byte,
             number: 0,
             chance: NEVER,
             steps,
@@ -181,40 +93,62 @@ impl<L: Ledger> Table<L> {
         number_reply(replace(rt, alloc, &self.book, &mut self.desk, job, ALWAYS))
     }
 
-    /// Reads a job, and keeps the snapshot.
-    fn read<R: Wait>(&mut self, rt: &R, alloc: Global, job: u32) -> Option<Reply> {
-        self.reads.reserve(1).ok()?;
-        match self.book.read(rt, alloc, &mut self.desk, job) {
-            Ok(seen) => {
-                let told = seen_reply(&seen);
-                self.reads.push_reserved(seen);
+    fn lease<R: Wait>(&mut self, rt: &R, alloc: Global) -> Option<Reply> {
+        self.leases.reserve(1).ok()?;
+        match self.book.lease(rt, alloc, &mut self.desk) {
+            Ok(Some(lease)) => {
+                let told = leased_reply(&lease);
+                self.leases.push_reserved(lease);
                 Some(told)
             }
+            Ok(None) => Some(Reply::NoLease),
             Err(fault) => Some(Reply::Refused(fault)),
         }
     }
 
-    /// Makes a call, and returns its reply, or `None` if an allocation failed before the call.
+    /// Orders the next step of the last lease, and runs it.
+    fn order<R: Wait>(&mut self, rt: &R, alloc: Global) -> Option<Reply> {
+        let lease = self.leases.last_mut()?;
+        match self.book.order(rt, alloc, &mut self.desk, lease) {
+            Ok(order) => run_ordered(alloc, lease, &order),
+            Err(fault) => Some(Reply::Refused(fault)),
+        }
+    }
+
+    /// Gives the last lease back. If it is refused, it stays at the table.
+    fn give_back<R: Wait>(&mut self, rt: &R) -> Option<Reply> {
+        match self.book.give_back(rt, &mut self.desk, self.leases.pop()?) {
+            Ok(()) => Some(Reply::Done),
+            Err((lease, fault)) => {
+                self.leases.push(lease).ok()?;
+                Some(Reply::Refused(fault))
+            }
+        }
+    }
+
+    /// Reads a job. Returns the reply if its cars are those of a picture.
+    fn read<R: Wait>(&mut self, rt: &R, alloc: Global, job: u32, picture: &[u8]) -> Option<Reply> {
+        match self.book.read(rt, alloc, &mut self.desk, job) {
+            Ok(seen) => reply_if_shown(alloc, &seen, picture),
+            Err(fault) => Some(Reply::Refused(fault)),
+        }
+    }
+
+    /// Makes a call, and returns its reply, or `None` if an allocation failed or a read shows other cars.
     fn make<R: Wait>(&mut self, rt: &R, alloc: Global, call: Made) -> Option<Reply> {
         match call {
             Made::Submit(steps) => Some(self.submit(rt, alloc, steps)),
             Made::Replace(job) => Some(self.replace(rt, alloc, job)),
-            Made::Lease => self.held.lease(rt, alloc, &self.book, &mut self.desk),
-            Made::Order(offered) => {
-                self.held
-                    .order(rt, alloc, &self.book, &mut self.desk, offered)
-            }
-            Made::GiveBack(offered) => {
-                self.held
-                    .give_back(rt, alloc, &self.book, &mut self.desk, offered)
-            }
+            Made::Lease => self.lease(rt, alloc),
+            Made::Order => self.order(rt, alloc),
+            Made::GiveBack => self.give_back(rt),
             Made::Revoke(job) => Some(done_reply(self.book.revoke(rt, &mut self.desk, job))),
             Made::Cancel(job) => Some(done_reply(self.book.cancel(rt, &mut self.desk, job))),
-            Made::Read(job) => self.read(rt, alloc, job),
+            Made::Read(job, picture) => self.read(rt, alloc, job, picture),
         }
     }
 
-    /// Whether a call has this reply. If an allocation fails, nothing has changed, and the call is made again.
+    /// Whether a call has this reply. If an allocation fails, the call is made again.
     pub fn answers<R: Wait>(&mut self, rt: &R, alloc: Global, call: Made, wanted: Reply) -> bool {
         match self.make(rt, alloc, call) {
             None | Some(Reply::Refused(BookFault::Memory)) => {
@@ -232,12 +166,6 @@ impl<L: Ledger> Table<L> {
             }
         }
         true
-    }
-
-    /// Closes the book, and returns its history.
-    pub fn close(self) -> Option<Vec<Event>> {
-        let Table { book, desk, .. } = self;
-        history_of(book, desk)
     }
 
     /// The number of events in the history, if the book closes.
