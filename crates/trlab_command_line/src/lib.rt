@@ -6,14 +6,12 @@
 //! ```
 #![tactic(auto)]
 
-mod acting;
 mod arguments;
 mod engines;
 mod help;
 mod printing;
 mod status;
 
-pub use acting::{act, is_live};
 pub use arguments::{Explaining, Request, read_words};
 pub use engines::execute;
 pub use printing::print_help_or_error;
