@@ -1,8 +1,8 @@
 """Wrong bodies, and how the prover is asked to refuse them.
 
-A crate's wrong bodies are in its files must-fail/_together.edit and apart.edit. Each has a line `# its_name`, and then lines
-`file: src/NAME.rt`, `old: TEXT` and `new: TEXT`: the text, which is in the file once, is replaced. One that changes a
-constant may name the function that has to be refused, by a line `in: module::function`.
+A crate's wrong bodies are in its files must-fail/_together.edit and apart.edit. Each has a line `# its_name`, and then
+lines `file: src/NAME.rt`, `old: TEXT` and `new: TEXT`: the text, which is in the file once, is replaced. One that
+changes a constant may name the function that has to be refused, by a line `in: module::function`.
 
 They are tried on a copy of the crate, over the libraries that ./test has proved here. Only the functions that they change
 are proved there; the theorem of every other function is taken as proved, by a hole in place of its proof. So a trial
@@ -146,7 +146,8 @@ class Crate:
     def __init__(self, name, libraries):
         self.name, self.libraries = name, libraries
         self.folder = os.path.join(tools.TOP, "crates", name)
-        self.together, self.apart = (bodies_in(os.path.join(self.folder, f"{file}.edit")) for file in ("must-fail/_together", "apart"))
+        self.together = bodies_in(os.path.join(self.folder, "must-fail", "_together.edit"))
+        self.apart = bodies_in(os.path.join(self.folder, "apart.edit"))
         names = [body.name for body in self.together + self.apart]
         if len(set(names)) < len(names):
             raise SystemExit(f"{name}: two wrong bodies have one name")
