@@ -31,7 +31,7 @@ pub {name}_spec : {{M : Type 1}} → stated.statement M
 """
 # What is not proved at a place of a source.
 NOTE = re.compile(r"note: (src/\S+):(\d+):\d+: (it is not proved.*)")
-# An error in a proof file that tells only that the file names what the edit took away.
+# An error in a proof file only because it names something that the edit took away.
 BY_NAME = re.compile(r"has no field|is not in scope|has no `|was not admitted")
 
 
@@ -45,7 +45,7 @@ class Body(NamedTuple):
 class Verdict(NamedTuple):
     """Whether a clause refuses a body, and what the prover says."""
     is_refused: bool
-    told: str
+    why: str
 
 
 def bodies_in(path):
@@ -258,20 +258,20 @@ class Crate:
         return f"note: {' '.join(functions)}: {found[3]}"
 
     def refusal(self, lines, function):
-        """What tells that a clause of a function is refused, or None."""
+        """The line by which the prover refuses a clause of a function, or None."""
         begin, path = f"fn {self.name}::{function}: ", function.replace("::", "/")
         begins = f"./proofs/{path}/", f"note: {function}: "
         if errors := [line for line in lines if line.startswith(begins)]:
             return next((line for line in errors if not BY_NAME.search(line)), None)
         status = next((line.removeprefix(begin) for line in lines if line.startswith(begin)), "")
-        stands_on, is_refused, _ = status.partition("which antt refuses")
+        blamed, is_refused, _ = status.partition("which antt refuses")
         # (a lemma is refused for what is stated, the answers of another function for that function)
-        refused = [name for name in re.findall(rf"`Rattle\.{self.name}\.proofs\.([^`]+)`", stands_on) if is_refused]
+        refused = [name for name in re.findall(rf"`Rattle\.{self.name}\.proofs\.([^`]+)`", blamed) if is_refused]
         is_own = any(name.startswith(f"{path.replace('/', '.')}.") or ".Answers." not in name for name in refused)
         return status if is_own or "did not prove" in status else None
 
     def refusal_of(self, lines, body):
-        """What tells that a clause of a function that a body changes is refused, or None."""
+        """The line by which the prover refuses a clause of a function that a body changes, or None."""
         return next(filter(None, (self.refusal(lines, function) for function in sorted(self.changed_by(body)))), None)
 
     def said_of(self, lines, body):
@@ -287,8 +287,8 @@ def alone(crate, body):
         lines = crate.try_bodies([body])
     except ValueError as error:
         return Verdict(False, str(error))
-    told = crate.refusal_of(lines, body)
-    return Verdict(True, told) if told else Verdict(False, crate.said_of(lines, body))
+    why = crate.refusal_of(lines, body)
+    return Verdict(True, why) if why else Verdict(False, crate.said_of(lines, body))
 
 
 def together(crate):
@@ -298,10 +298,10 @@ def together(crate):
     except ValueError:
         lines = []
     found = [(body, crate.refusal_of(lines, body)) for body in crate.together]
-    return [Verdict(True, told) if told else alone(crate, body) for body, told in found]
+    return [Verdict(True, why) if why else alone(crate, body) for body, why in found]
 
 
 def print_verdict(crate, body, verdict):
     """Prints a verdict, and returns whether it is a refusal, and what to say if not."""
-    print(f"{crate.name}, {body.name}: {'refused: ' * verdict.is_refused}{verdict.told[:150]}", flush=True)
+    print(f"{crate.name}, {body.name}: {'refused: ' * verdict.is_refused}{verdict.why[:150]}", flush=True)
     return verdict.is_refused, f"{crate.name}, {body.name}: no clause has refused it"

@@ -98,16 +98,16 @@ fn four_threads_call_one_book(rt: HostRuntime) {
     assert!(rt; four_threads::<Brand, HostRuntime>(&rt, rt.alloc(), blank));
 }
 
-/// Gathers two desks and closes the book. Returns whether the desks have the parts of one that was split, and the history
-/// has both calls.
+/// Gathers two desks and closes the book. Returns whether the desks have the parts of one that was split, and the
+/// history has both calls.
 fn is_closed_by_both<L: Ledger>(book: SharedBook<L>, mine: Desk<L>, theirs: Desk<L>) -> bool {
     let parts = mine.parts() == 1023 && theirs.parts() == 1;
     let desk = book.gather(mine, theirs);
     events_of(book, desk) == Some(2) && parts
 }
 
-/// Submits a job at one desk and revokes its lease at another. Returns whether the first desk cannot close the book, and
-/// both can.
+/// Submits a job at one desk and revokes its lease at another. Returns whether the first desk cannot close the book,
+/// and both can.
 fn half_a_desk<L: Ledger, R: Wait>(rt: &R, alloc: Global, blank: Blank<Event>) -> bool
     requires name { name_of blank ≡ L.name }
 {

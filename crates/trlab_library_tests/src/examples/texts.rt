@@ -13,7 +13,8 @@ fn read_steps() -> Option<u32> {
 }
 
 const JOB: &[u8] =
-    b"road 1\nkey 0000000000000000000000000000000000000000000000000000000000000000\nlimit 5\nlane 0.0.......\nrule nasch 0\nsteps 20\n";
+    b"road 1\nkey 0000000000000000000000000000000000000000000000000000000000000000\nlimit 5\n\
+    lane 0.0.......\nrule nasch 0\nsteps 20\n";
 
 /// Of `trlab_jobs`: the steps and the cars of a job.
 fn read(alloc: Global, text: &[u8]) -> Option<(u32, u32)> {
