@@ -5,7 +5,7 @@ use Rattle.trlab_campaign.specs.Refusal.{Outputs}
 use Rattle.trlab_campaign.specs.Output.{IsShownOutput, every_from}
 use Rattle.trlab_campaign.specs.SeriesOutput.{IsSeriesOutput}
 use Rattle.trlab_campaign.specs.SweepOutput.{IsSweepOutput}
-use Rattle.trlab_explain.specs.Explanations.{Explains, TellsNumber}
+use Rattle.trlab_explain.specs.Explanations.{Explains, IsNumberPage}
 use Rattle.trlab_command_line.specs.declared.arguments.explain.Explaining.TheVariants.{Number, Text}
 use Rattle.trlab_command_line.specs.declared.arguments.Request.{Request}
 use Rattle.trlab_command_line.specs.declared.arguments.Request.TheVariants.{Check, Explain, Run, Series, Sweep}
@@ -20,7 +20,7 @@ output_of (Run workers every from progress) text = IsShownOutput (every_from eve
 output_of (Sweep runners workers progress) text = IsSweepOutput text
 output_of (Series workers every from progress) text = IsSeriesOutput every from text
 output_of (Explain (Text subject form)) text = Explains form subject text
-output_of (Explain (Number topic number)) text = TellsNumber topic number
+output_of (Explain (Number topic number)) text = IsNumberPage topic number
 
 -- the output if help or the version is asked for: some text, which is not a refusal
 abbrev pub IsHelp : Outputs

@@ -13,7 +13,7 @@ use Rattle.trlab_diagnosis.specs.declared.subject.Subject.TheVariants.{Job, Swee
 abbrev pub edited : ℕ → ℕ → List ℕ → List ℕ → List ℕ
 edited at gone put text = take at text ++ (put ++ drop (at + gone) text)
 
--- where what was said of a text is its first fault, if it is one, and what is wrong there
+-- the line and the cause of a text's first fault, if its reading found one
 abbrev pub fault_of : {A : Type 0} → Result A Fault → Option (ℕ × Cause)
 fault_of (Ok said) = None
 fault_of (Err fault) = Some (fault.line, fault.cause)

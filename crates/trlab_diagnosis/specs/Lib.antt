@@ -3,3 +3,4 @@ pub mod Oddities
 pub mod Subjects
 pub mod Edits
 pub mod Repairs
+pub mod Json

@@ -1,12 +1,12 @@
--- What is odd about a line.
+-- The oddities of a line.
 use Rattle.std.specs.Prelude.{◌≡◌, ◌⊎◌, ℕ, ◌-◌, ◌==◌, IsTrue, List, [], ◌∷◌, length, Some, slice_get}
 use Rattle.std.specs.List.{list_any}
 use Rattle.std.specs.Option.{is_some}
 use Rattle.trlab_lines.specs.Cutting.{without_prefix}
-use Rattle.trlab_diagnosis.specs.declared.found.line.Oddity.{Oddity}
-use Rattle.trlab_diagnosis.specs.declared.found.line.Oddity.TheVariants.{ByteOrderMark, CarriageReturn, Empty, Tab, FirstSpace, FinalSpace, Comment}
+use Rattle.trlab_diagnosis.specs.declared.oddity.Oddity.{Oddity}
+use Rattle.trlab_diagnosis.specs.declared.oddity.Oddity.TheVariants.{ByteOrderMark, CarriageReturn, Empty, Tab, FirstSpace, FinalSpace, Comment}
 
--- a byte stands in a line
+-- a line has this byte
 abbrev pub Has : ℕ → List ℕ → Type 0
 Has byte line = IsTrue (list_any (λ c. c == byte) line)
 

@@ -7,6 +7,6 @@ abbrev pub line_at : ℕ → List (List ℕ) → Option (List ℕ)
 line_at zero lines = None
 line_at (suc n) lines = slice_get lines n
 
--- after the label of a line, and before its comment: the first word, and what stands after that
+-- the first word after the label of a line and before its comment, and the bytes after that word
 abbrev pub name_and_operands : List ℕ → List ℕ × List ℕ
 name_and_operands line = first_word (label_and_rest (without_comment line)).1

@@ -1,4 +1,4 @@
--- What a text is meant to be.
+-- The kind of input that a text is meant to be.
 use Rattle.std.specs.Prelude.{◌≡◌, ◌≤◌, ℕ, Bool, List, [], ◌∷◌, codes, map, nat_eq, Option, None, Some, MatchOption, if◌then◌else◌}
 use Rattle.std.specs.List.{list_any}
 use Rattle.std.specs.Str.{bytes_eq}
@@ -33,7 +33,7 @@ MayBe word Job = IsNearly word (codes "road")
 MayBe word Sweep = IsNearly word (codes "sweep")
 MayBe word Check = Unit {0}
 
--- what a text is meant to be, by its first word
+-- the kind of input that a text is meant to be, by its first word
 abbrev pub IsMeant : List (List ℕ) → Subject → Type 0
 IsMeant [] subject = subject ≡ Check
 IsMeant (line ∷ left) subject =

@@ -1,4 +1,4 @@
-//! The first fault of an input: its place, and what the reader wanted there.
+//! The first fault of an input: its place, and the lines or values that its reader wanted there.
 
 ghost use Rattle.std.specs.Prelude.{◌≡◌, length, option_map};
 ghost use Rattle.trlab_lines.specs.Lines.{lines_of};

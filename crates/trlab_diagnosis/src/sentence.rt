@@ -1,7 +1,7 @@
-//! Sentences with bytes of the input: while a sentence is a `String`, it has one character, U+0000 to U+00FF, per byte.
+//! Sentences with bytes of the input: while a sentence is a draft, it has one character, U+0000 to U+00FF, per byte.
 
 use crate::Result;
-use std::alloc::Global;
+use std::alloc::{AllocError, Global};
 use std::fmt;
 use trlab_lines::{MAX_QUOTED, Page};
 
@@ -31,9 +31,69 @@ impl fmt::Display for Quoted<'_> {
     }
 }
 
-/// Writes a character of a sentence: the byte that it stands for.
-fn show_letter(page: &mut Page, letter: char) -> Result<()> {
-    match u8::try_from(letter) {
+/// Sentences while they are written. If an allocation fails, `text` reports it, so that `write!` need not.
+#[derive(Drop)]
+pub struct Draft {
+    text: String,
+    has_failed: bool,
+}
+
+impl Draft {
+    /// Without any words yet.
+    pub fn new(alloc: Global) -> Draft {
+        Draft {
+            text: String::new(alloc),
+            has_failed: false,
+        }
+    }
+
+    // What `write!` and `writeln!` call.
+    pub fn write_fmt<D: fmt::Display + Drop>(&mut self, words: D) {
+        self.has_failed |= self.text.write_fmt(words).is_err();
+    }
+
+    /// Adds the lines of another draft, the first one after `first` and the others after `later`.
+    pub fn add_lines<'x>(&mut self, first: &'x str, later: &'x str, lines: &Draft) {
+        self.has_failed |= lines.has_failed;
+        let mut is_first = true;
+        for line in lines.text.split_terminator('\n') {
+            let front = if is_first { first } else { later };
+            writeln!(self, "{front}{line}");
+            is_first = false;
+        }
+    }
+
+    /// Whether nothing was written.
+    pub fn is_empty(&self) -> bool {
+        self.text.is_empty() && !self.has_failed
+    }
+
+    /// The words.
+    ///
+    /// # Errors
+    ///
+    /// If an allocation failed while they were written.
+    pub fn text(&self) -> Result<&str> {
+        if self.has_failed {
+            Err(AllocError)
+        } else {
+            Ok(&self.text)
+        }
+    }
+}
+
+impl fmt::Display for Draft {
+    fn fmt<W: fmt::Write>(&self, f: &mut fmt::Formatter<W>) -> fmt::Result {
+        match self.text() {
+            Ok(text) => f.write_str(text),
+            Err(_) => Err(fmt::Error),
+        }
+    }
+}
+
+/// Adds the byte of a character.
+fn push_character(page: &mut Page, character: char) -> Result<()> {
+    match u8::try_from(character) {
         Ok(b'\n') => page.end_line(),
         Ok(byte) => page.show_all(&[byte]),
         Err(_) => page.say("?"),
@@ -41,10 +101,14 @@ fn show_letter(page: &mut Page, letter: char) -> Result<()> {
 }
 
 /// A page with sentences, whose bytes it escapes. Lines end as in the text.
+///
+/// # Errors
+///
+/// If an allocation fails.
 pub fn page_of(alloc: Global, text: &str) -> Result<Page> {
     let mut page = Page::new(alloc);
-    for letter in text.chars() {
-        show_letter(&mut page, letter)?;
+    for character in text.chars() {
+        push_character(&mut page, character)?;
     }
     Ok(page)
 }

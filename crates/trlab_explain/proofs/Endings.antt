@@ -1,9 +1,8 @@
 -- How explanations end, by what was written.
 use Rattle.std.proofs.Common.{◌≡◌, ◌<◌, ℕ, List, [], ◌∷◌, length, refl, subst, Bool, true, inl, inr}
 use Rattle.std.proofs.lemmas.Bool.{lt-ltb}
-use Rattle.std.specs.Prelude.{All, Option, None, Some, Result, Ok, Err, IfOk, MatchOption, MatchResult}
+use Rattle.std.specs.Prelude.{Option, None, Some, Result, Ok, Err, IfOk, MatchOption, MatchResult}
 use Rattle.trlab_lines.specs.Lines.{lines_of}
-use Rattle.trlab_lines.specs.Plain.{IsPlain}
 use Rattle.trlab_bounds.specs.declared.texts.TheConstants.{TEXT_LIMIT}
 use Rattle.trlab_texts.specs.Words.{head_word}
 use Rattle.trlab_texts.specs.Reading.{Fault}
@@ -21,16 +20,16 @@ use Rattle.trlab_campaign.proofs.Endings.{output_ends, kept_at_memory}
 use Rattle.trlab_diagnosis.specs.Subjects.{IsMeant, MayBe, subject_named}
 use Rattle.trlab_diagnosis.specs.declared.subject.Subject.{Subject}
 use Rattle.trlab_diagnosis.specs.declared.subject.Subject.TheVariants.{Job, Sweep, Check}
-use Rattle.trlab_explain.specs.Explanations.{Explains, IsReadAs, TellsAs, TellsCheck, TellsText}
+use Rattle.trlab_explain.specs.Explanations.{Explains, IsReadAs, IsHeadAs, IsCheckHead, IsTextHead}
 use Rattle.trlab_explain.specs.declared.explain.Form.{Form}
 
 -- what was told was written so
-pub told_ends : {A E : Type 0} (told : Result (Bool × A) E) (bytes : A → List ℕ) (IsWhole : Outputs) (e : End) (old new : SinkBytes)
+pub output_ends_so : {A E : Type 0} (told : Result (Bool × A) E) (bytes : A → List ℕ) (IsWhole : Outputs) (e : End) (old new : SinkBytes)
     → IfOk told (λ t. IsWhole t.0 (bytes t.1))
     → MatchResult told (λ t. OutputEnds t.0 (bytes t.1) e old new) (λ _. (e ≡ Memory) × AddsNone old new)
     → EndsSo IsWhole e old new
-told_ends (Ok t) bytes IsWhole e old new whole ends = output_ends IsWhole t.0 (bytes t.1) e old new whole ends
-told_ends (Err x) bytes IsWhole e old new whole ends = rw ends.0 (inl ends.1)
+output_ends_so (Ok t) bytes IsWhole e old new whole ends = output_ends IsWhole t.0 (bytes t.1) e old new whole ends
+output_ends_so (Err x) bytes IsWhole e old new whole ends = rw ends.0 (inl ends.1)
 
 -- each text is meant to be something
 meant_by : (word : List ℕ) (named : Option Subject) → (subject : Subject) × MatchOption named (MayBe word subject) (λ s. subject ≡ s)
@@ -53,7 +52,7 @@ abbrev too_big_line : List ℕ
 too_big_line = fault_line too_big
 
 -- a text that is too long, as whatever it is read
-big_as : (subject : Subject) (text : List ℕ) → TEXT_LIMIT < length text → TellsAs subject text true too_big_line []
+big_as : (subject : Subject) (text : List ℕ) → TEXT_LIMIT < length text → IsHeadAs subject text true too_big_line []
 big_as Job text big = (Err too_big, rw (lt-ltb TEXT_LIMIT (length text) big) refl, (refl, refl, refl))
 big_as Sweep text big = (Err too_big, rw (lt-ltb TEXT_LIMIT (length text) big) refl, (refl, refl, refl))
 big_as Check text big = (Err too_big, rw (lt-ltb TEXT_LIMIT (length text) big) refl, (refl, refl, refl))
@@ -62,21 +61,21 @@ big_as Check text big = (Err too_big, rw (lt-ltb TEXT_LIMIT (length text) big) r
 abbrev BigHead : Bool → List ℕ → List ℕ → Type 0
 BigHead refused answer quote = (refused ≡ true) × (answer ≡ too_big_line) × (quote ≡ [])
 
-big_told : (subject : Subject) (text : List ℕ) (refused : Bool) (answer quote : List ℕ) → TEXT_LIMIT < length text
-    → TellsAs subject text refused answer quote → BigHead refused answer quote
-big_told Job text refused answer quote big told =
-    subst (λ (says : Result JobSaid Fault). TellsText text says refused answer quote) (rw (lt-ltb TEXT_LIMIT (length text) big) at told.1) told.2
-big_told Sweep text refused answer quote big told =
-    subst (λ (says : Result SweepSaid Fault). TellsText text says refused answer quote) (rw (lt-ltb TEXT_LIMIT (length text) big) at told.1) told.2
-big_told Check text refused answer quote big told =
-    subst (λ (says : Result CheckSaid Fault). TellsCheck text says refused answer quote) (rw (lt-ltb TEXT_LIMIT (length text) big) at told.1) told.2
+big_head : (subject : Subject) (text : List ℕ) (refused : Bool) (answer quote : List ℕ) → TEXT_LIMIT < length text
+    → IsHeadAs subject text refused answer quote → BigHead refused answer quote
+big_head Job text refused answer quote big told =
+    subst (λ (says : Result JobSaid Fault). IsTextHead text says refused answer quote) (rw (lt-ltb TEXT_LIMIT (length text) big) at told.1) told.2
+big_head Sweep text refused answer quote big told =
+    subst (λ (says : Result SweepSaid Fault). IsTextHead text says refused answer quote) (rw (lt-ltb TEXT_LIMIT (length text) big) at told.1) told.2
+big_head Check text refused answer quote big told =
+    subst (λ (says : Result CheckSaid Fault). IsCheckHead text says refused answer quote) (rw (lt-ltb TEXT_LIMIT (length text) big) at told.1) told.2
 
 -- an explanation of what was read of an input is one of the input
 read_explains : (form : Form) (wanted : Option Subject) (text input : List ℕ) (refused : Bool) (out : List ℕ) → IsReadOf text input
     → Explains form wanted text refused out → Explains form wanted input refused out
 read_explains form wanted text input refused out (inl same) explains = subst (λ (t : List ℕ). Explains form wanted t refused out) same explains
 read_explains form wanted text input refused out (inr long) explains =
-    let big = big_told explains.2.0 text refused explains.0 explains.1 long.0 explains.2.2 in
+    let big = big_head explains.2.0 text refused explains.0 explains.1 long.0 explains.2.2 in
     let read = some_read wanted input in
     (explains.0, explains.1, (read.0, read.1, rw (big.0, big.1, big.2) (big_as read.0 input long.1)), explains.3, explains.4)
 
@@ -86,7 +85,7 @@ reads (Ok t) bytes form wanted text input read explains = read_explains form wan
 reads (Err x) bytes form wanted text input read explains = tt
 
 -- if an allocation fails, nothing was written
-pub told_kept : {A E : Type 0} (told : Result (Bool × A) E) (bytes : A → List ℕ) (e : End) (old new : SinkBytes)
+pub nothing_written : {A E : Type 0} (told : Result (Bool × A) E) (bytes : A → List ℕ) (e : End) (old new : SinkBytes)
     → MatchResult told (λ t. OutputEnds t.0 (bytes t.1) e old new) (λ _. (e ≡ Memory) × AddsNone old new) → e ≡ Memory → AddsNone old new
-told_kept (Ok t) bytes e old new ends is = kept_at_memory t.0 (bytes t.1) e old new ends is
-told_kept (Err x) bytes e old new ends is = ends.1
+nothing_written (Ok t) bytes e old new ends is = kept_at_memory t.0 (bytes t.1) e old new ends is
+nothing_written (Err x) bytes e old new ends is = ends.1

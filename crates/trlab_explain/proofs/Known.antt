@@ -6,7 +6,7 @@ use Rattle.std.specs.List.{find, list_all, list_any}
 use Rattle.trlab_texts.specs.Causes.{cause_number}
 use Rattle.trlab_texts.specs.declared.fault.Cause.{Cause}
 use Rattle.trlab_explain.specs.Numbers.{cause_ranges, is_known, is_within}
-use Rattle.trlab_explain.specs.declared.causes.TheConstants.{CAUSES}
+use Rattle.trlab_explain.specs.declared.numbers.TheConstants.{CAUSES}
 use Rattle.trlab_explain.specs.declared.topics.Topic.TheVariants.{Cause as OfCause}
 
 -- a test passes for each number below another

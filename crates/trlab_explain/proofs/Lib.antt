@@ -1,5 +1,4 @@
 pub mod Known
 pub mod Endings
-pub mod SomeTelling
-pub mod PlainTokens
+pub mod SomeHead
 pub mod Refusals

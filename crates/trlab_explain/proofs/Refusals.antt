@@ -5,12 +5,12 @@ use Rattle.trlab_texts.specs.declared.fault.Cause.{Cause}
 use Rattle.trlab_texts.specs.declared.fault.TextFault.TheVariants.{At}
 use Rattle.trlab_diagnosis.specs.declared.subject.Subject.{Subject}
 use Rattle.trlab_diagnosis.specs.declared.subject.Subject.TheVariants.{Job, Sweep, Check}
-use Rattle.trlab_explain.specs.Explanations.{IsRefusedText, TellsAs, TellsFault}
+use Rattle.trlab_explain.specs.Explanations.{IsRefusedText, IsHeadAs, IsFaultHead}
 
-pub refusal_told : {U E : Type 0} (r : Result U E) (subject : Subject) (text : List ℕ) (line : ℕ) (cause : Cause) (refused : Bool) (answer quote : List ℕ)
-    → IsRefusedText subject text (At line cause) → OnOk r (TellsFault text (record { line = line; cause = cause }) refused answer quote)
-    → OnOk r (TellsAs subject text refused answer quote)
-refusal_told (Ok x) Job text line cause refused answer quote says tells = (Err (record { line = line; cause = cause }), says, tells)
-refusal_told (Ok x) Sweep text line cause refused answer quote says tells = (Err (record { line = line; cause = cause }), says, tells)
-refusal_told (Ok x) Check text line cause refused answer quote says tells = (Err (record { line = line; cause = cause }), says, tells)
-refusal_told (Err x) subject text line cause refused answer quote says tells = tt
+pub refusal_has_head : {U E : Type 0} (r : Result U E) (subject : Subject) (text : List ℕ) (line : ℕ) (cause : Cause) (refused : Bool) (answer quote : List ℕ)
+    → IsRefusedText subject text (At line cause) → OnOk r (IsFaultHead text (record { line = line; cause = cause }) refused answer quote)
+    → OnOk r (IsHeadAs subject text refused answer quote)
+refusal_has_head (Ok x) Job text line cause refused answer quote says tells = (Err (record { line = line; cause = cause }), says, tells)
+refusal_has_head (Ok x) Sweep text line cause refused answer quote says tells = (Err (record { line = line; cause = cause }), says, tells)
+refusal_has_head (Ok x) Check text line cause refused answer quote says tells = (Err (record { line = line; cause = cause }), says, tells)
+refusal_has_head (Err x) subject text line cause refused answer quote says tells = tt

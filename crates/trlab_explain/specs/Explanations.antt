@@ -15,7 +15,7 @@ use Rattle.trlab_diagnosis.specs.Subjects.{IsMeant}
 use Rattle.trlab_diagnosis.specs.declared.subject.Subject.{Subject}
 use Rattle.trlab_diagnosis.specs.declared.subject.Subject.TheVariants.{Job, Sweep, Check}
 use Rattle.trlab_explain.specs.Quotes.{quote_line}
-use Rattle.trlab_explain.specs.Json.{EndsObject}
+use Rattle.trlab_diagnosis.specs.Json.{EndsObject}
 use Rattle.trlab_explain.specs.Numbers.{is_known}
 use Rattle.trlab_explain.specs.declared.explain.Form.{Form}
 use Rattle.trlab_explain.specs.declared.explain.Form.TheVariants.{Text, Json}
@@ -36,34 +36,34 @@ abbrev pub BeginsWith : List ℕ → List ℕ → Type 0
 BeginsWith front out = (more : List ℕ) × (out ≡ front ++ more)
 
 -- the head for a text with a fault
-abbrev pub TellsFault : List ℕ → Fault → Heads
-TellsFault text fault refused answer quote = (refused ≡ true) × (answer ≡ fault_line fault)
+abbrev pub IsFaultHead : List ℕ → Fault → Heads
+IsFaultHead text fault refused answer quote = (refused ≡ true) × (answer ≡ fault_line fault)
     × (quote ≡ quote_line fault.line (line_at fault.line (lines_of text)))
 
--- the head for a job or sweep, by what it says
-abbrev pub TellsText : {A : Type 0} → List ℕ → Result A Fault → Heads
-TellsText text (Ok said) refused answer quote = refused ≡ false
-TellsText text (Err fault) refused answer quote = TellsFault text fault refused answer quote
+-- the head for a job or sweep, by the result of its reading
+abbrev pub IsTextHead : {A : Type 0} → List ℕ → Result A Fault → Heads
+IsTextHead text (Ok said) refused answer quote = refused ≡ false
+IsTextHead text (Err fault) refused answer quote = IsFaultHead text fault refused answer quote
 
 -- the head for the program of a check
-abbrev pub TellsProgram : CheckSaid → Heads
-TellsProgram check false answer quote = IsAccepted check.program.kind check.program
-TellsProgram check true answer quote = (at reason : ℕ)
+abbrev pub IsProgramHead : CheckSaid → Heads
+IsProgramHead check false answer quote = IsAccepted check.program.kind check.program
+IsProgramHead check true answer quote = (at reason : ℕ)
     × IsRefused check.program.kind check.program at reason × (answer ≡ refused_line at reason)
 
--- the head for a check, by what it says
-abbrev pub TellsCheck : List ℕ → Result CheckSaid Fault → Heads
-TellsCheck text (Ok check) refused answer quote = TellsProgram check refused answer quote
-TellsCheck text (Err fault) refused answer quote = TellsFault text fault refused answer quote
+-- the head for a check, by the result of its reading
+abbrev pub IsCheckHead : List ℕ → Result CheckSaid Fault → Heads
+IsCheckHead text (Ok check) refused answer quote = IsProgramHead check refused answer quote
+IsCheckHead text (Err fault) refused answer quote = IsFaultHead text fault refused answer quote
 
 -- the head for a text that is read as this
-abbrev pub TellsAs : Subject → List ℕ → Heads
-TellsAs Job text refused answer quote =
-    (says : Result JobSaid Fault) × JobText text says × TellsText text says refused answer quote
-TellsAs Sweep text refused answer quote =
-    (says : Result SweepSaid Fault) × SweepText text says × TellsText text says refused answer quote
-TellsAs Check text refused answer quote =
-    (says : Result CheckSaid Fault) × CheckText text says × TellsCheck text says refused answer quote
+abbrev pub IsHeadAs : Subject → List ℕ → Heads
+IsHeadAs Job text refused answer quote =
+    (says : Result JobSaid Fault) × JobText text says × IsTextHead text says refused answer quote
+IsHeadAs Sweep text refused answer quote =
+    (says : Result SweepSaid Fault) × SweepText text says × IsTextHead text says refused answer quote
+IsHeadAs Check text refused answer quote =
+    (says : Result CheckSaid Fault) × CheckText text says × IsCheckHead text says refused answer quote
 
 -- a text that is read as this has this first fault, unless an allocation failed
 abbrev pub IsRefusedText : Subject → List ℕ → TextFault → Type 0
@@ -71,15 +71,15 @@ IsRefusedText Job text fault = Reports (JobText text) (Err fault)
 IsRefusedText Sweep text fault = Reports (SweepText text) (Err fault)
 IsRefusedText Check text fault = Reports (CheckText text) (Err fault)
 
--- what a text is read as: what is wanted, or else what it is meant to be
+-- the kind of input that a text is read as: the wanted one, or else the one that it is meant to be
 abbrev pub IsReadAs : Option Subject → List ℕ → Subject → Type 0
 IsReadAs (Some wanted) text subject = subject ≡ wanted
 IsReadAs None text subject = IsMeant (lines_of text) subject
 
--- the head for a text that is read as what is wanted, or else as what it is meant to be
-abbrev pub Tells : Option Subject → List ℕ → Heads
-Tells wanted text refused answer quote =
-    (subject : Subject) × IsReadAs wanted text subject × TellsAs subject text refused answer quote
+-- the head for a text that is read as the wanted kind, or else as the one that it is meant to be
+abbrev pub IsHead : Option Subject → List ℕ → Heads
+IsHead wanted text refused answer quote =
+    (subject : Subject) × IsReadAs wanted text subject × IsHeadAs subject text refused answer quote
 
 -- the first lines of the text form
 abbrev pub text_front : Bool → List ℕ → List ℕ → List ℕ
@@ -94,14 +94,14 @@ HasHead Json refused answer quote out = EndsObject refused answer out
 -- whatever bytes the text has
 abbrev pub Explains : Form → Option Subject → List ℕ → Outputs
 Explains form wanted text refused out = (answer quote : List ℕ)
-    × Tells wanted text refused answer quote × HasHead form refused answer quote out × All IsPlain out
+    × IsHead wanted text refused answer quote × HasHead form refused answer quote out × All IsPlain out
 
 -- how the page on a number begins
 abbrev pub topic_front : Topic → ℕ → List ℕ
 topic_front Cause number = codes "Cause " ++ (decimal number ++ codes ": ")
 topic_front Reason number = codes "Reason " ++ (decimal number ++ codes ": ")
 
--- the whole pages that there may be on a number, which is refused exactly where none has it
-abbrev pub TellsNumber : Topic → ℕ → Outputs
-TellsNumber topic number refused out =
+-- the whole pages that there may be on a number, which is refused exactly if nothing has it
+abbrev pub IsNumberPage : Topic → ℕ → Outputs
+IsNumberPage topic number refused out =
     (refused ≡ not (is_known topic number)) × BeginsWith (topic_front topic number) out × All IsPlain out

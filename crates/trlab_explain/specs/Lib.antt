@@ -1,5 +1,4 @@
 pub mod Numbers
 pub mod Quotes
-pub mod Json
 pub mod Explanations
 pub mod Laws

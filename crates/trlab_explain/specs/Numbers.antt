@@ -9,7 +9,7 @@ abbrev pub is_within : ℕ → ℕ × ℕ → Bool
 is_within number range = nat_le range.0 number && nat_le number range.1
 
 -- the numbers of the causes for which a text may be refused: those of its own lines, of a program's lines,
--- of a program's bytes and of roads, and from 40 on what the verifier refuses
+-- of a program's bytes and of roads, and from 40 on those of the verifier
 abbrev pub cause_ranges : List (ℕ × ℕ)
 cause_ranges =
     (1, 9) ∷ (11, 17) ∷ (21, 28) ∷ (30, 30) ∷ (32, 32) ∷ (34, 35) ∷ (37, 37) ∷ (40, 52) ∷ []

@@ -1,8 +1,8 @@
--- How a line of a text is shown.
+-- Lines of a text, as they are quoted.
 use Rattle.std.specs.Prelude.{ℕ, List, [], ◌∷◌, ◌++◌, codes, decimal, Option, None, Some}
 use Rattle.trlab_lines.specs.Plain.{quoted}
 
--- a line of the text with its number; nothing where the text has no such line
+-- a line of the text with its number; empty if the text has no such line
 abbrev pub quote_line : ℕ → Option (List ℕ) → List ℕ
 quote_line number None = []
 quote_line number (Some line) =

@@ -8,15 +8,9 @@ ghost use Rattle.trlab_lines.specs.Plain.{IsPlain};
 ghost use Rattle.trlab_verify.specs.Faults.{IsFaultOf};
 ghost use Rattle.trlab_jobs.specs.Check.{Check as CheckSaid};
 ghost use Rattle.trlab_explain.specs.Quotes.{quote_line};
-ghost use Rattle.trlab_explain.specs.Explanations.{Explains, HasHead, IsBlankHead, IsReadAs, IsRefusedText, TellsAs, TellsFault, TellsProgram};
+ghost use Rattle.trlab_explain.specs.Explanations.{Explains, HasHead, IsBlankHead, IsReadAs, IsRefusedText, IsHeadAs, IsFaultHead, IsProgramHead};
 
-use crate::explanation::Explanation;
-use crate::fault::add_fault;
-use crate::job::add_job;
-use crate::json_form::json_form;
-use crate::program::{ProgramVerdict, add_checked};
-use crate::sweep::add_sweep;
-use crate::text::text_form;
+use crate::explanation::{Explanation, json_form, text_form};
 use std::alloc::{AllocError, AllocGlobal, Global};
 use trlab_campaign::{
     Cause, End, Engine, Sink, Source, push_fault_line, push_refused_line, run_engine, write_output,
@@ -25,6 +19,7 @@ use trlab_code::{Code, Kind};
 use trlab_diagnosis::{Fault, Place, Result, Subject, subject_of};
 use trlab_jobs::{Check, parse_check, parse_job, parse_sweep};
 use trlab_lines::Page;
+use trlab_messages::{ProgramVerdict, add_checked, add_fault, add_job, add_sweep};
 use trlab_texts::{Refusal, TextFault, Wanted};
 use trlab_verify::{VerifyFault, verify_change, verify_motion};
 
@@ -62,7 +57,7 @@ fn explain_fault<'a>(
     wanted: (&[u8], &Wanted),
 ) -> Result<()>
     requires { IsBlankHead told.old.refused told.old.answer told.old.quote }
-    ensures { OnOk result (TellsFault text.now (record { line = line; cause = cause })
+    ensures { OnOk result (IsFaultHead text.now (record { line = line; cause = cause })
         told.new.refused told.new.answer told.new.quote) }
 {
     let place = Place::at(text, line);
@@ -77,11 +72,12 @@ fn explain_fault<'a>(
     told.refused = true;
     push_fault_line(&mut told.answer, line, cause)?;
     push_quote(&mut told.quote, line, place.line)?;
-    add_fault(&mut told.body, place, &fault)
+    add_fault(&mut told.body, place, &fault);
+    Ok(())
 }
 
 /// Explains an input that its reader rejects.
-#[tactic(auto, using(crate::proofs::Refusals::refusal_told))]
+#[tactic(auto, using(crate::proofs::Refusals::refusal_has_head))]
 fn explain_refusal<'a>(
     told: &mut Explanation<'a>,
     subject: Subject,
@@ -90,7 +86,7 @@ fn explain_refusal<'a>(
 ) -> Result<()>
     requires new { IsBlankHead told.old.refused told.old.answer told.old.quote }
     requires refused { IsRefusedText subject text.now refusal }
-    ensures { OnOk result (TellsAs subject text.now told.new.refused told.new.answer told.new.quote) }
+    ensures { OnOk result (IsHeadAs subject text.now told.new.refused told.new.answer told.new.quote) }
 {
     match refusal.into_parts() {
         (TextFault::At { line, cause }, within, wanted) => {
@@ -103,10 +99,13 @@ fn explain_refusal<'a>(
 /// Explains an input that is read as a job.
 fn explain_job<'a>(told: &mut Explanation<'a>, text: &'a [u8]) -> Result<()>
     requires { IsBlankHead told.old.refused told.old.answer told.old.quote }
-    ensures { OnOk result (TellsAs Subject.Job text.now told.new.refused told.new.answer told.new.quote) }
+    ensures { OnOk result (IsHeadAs Subject.Job text.now told.new.refused told.new.answer told.new.quote) }
 {
     match parse_job(told.body.alloc, text) {
-        Ok(job) => add_job(&mut told.body, text, &job),
+        Ok(job) => {
+            add_job(&mut told.body, text, &job);
+            Ok(())
+        }
         Err(refusal) => explain_refusal(told, Subject::Job, text, refusal),
     }
 }
@@ -114,10 +113,13 @@ fn explain_job<'a>(told: &mut Explanation<'a>, text: &'a [u8]) -> Result<()>
 /// Explains an input that is read as a sweep.
 fn explain_sweep<'a>(told: &mut Explanation<'a>, text: &'a [u8]) -> Result<()>
     requires { IsBlankHead told.old.refused told.old.answer told.old.quote }
-    ensures { OnOk result (TellsAs Subject.Sweep text.now told.new.refused told.new.answer told.new.quote) }
+    ensures { OnOk result (IsHeadAs Subject.Sweep text.now told.new.refused told.new.answer told.new.quote) }
 {
     match parse_sweep(told.body.alloc, text) {
-        Ok(sweep) => add_sweep(&mut told.body, text, &sweep),
+        Ok(sweep) => {
+            add_sweep(&mut told.body, text, &sweep);
+            Ok(())
+        }
         Err(refusal) => explain_refusal(told, Subject::Sweep, text, refusal),
     }
 }
@@ -129,7 +131,8 @@ fn explain_accepted(told: &mut Explanation<'_>, text: &[u8], code: &Code, budget
     told.answer.say("accepted budget ")?;
     told.answer.number(u64::from(budget))?;
     told.answer.end_line()?;
-    add_checked(&mut told.body, text, code, ProgramVerdict::Accepted(budget))
+    add_checked(&mut told.body, text, code, ProgramVerdict::Accepted(budget));
+    Ok(())
 }
 
 /// Explains a program that the verifier does not accept.
@@ -141,7 +144,7 @@ fn explain_rejected(
 ) -> Result<()>
     requires { IsBlankHead told.old.refused told.old.answer told.old.quote }
     ensures { (check : CheckSaid) → IsFaultOf check.program.kind check.program fault
-        → OnOk result (TellsProgram check told.new.refused told.new.answer told.new.quote) }
+        → OnOk result (IsProgramHead check told.new.refused told.new.answer told.new.quote) }
 {
     let VerifyFault::Why { at, reason } = fault else {
         return Err(AllocError);
@@ -153,13 +156,14 @@ fn explain_rejected(
         text,
         code,
         ProgramVerdict::Rejected(at, reason),
-    )
+    );
+    Ok(())
 }
 
 /// Explains the program of a check.
 fn explain_program(told: &mut Explanation<'_>, text: &[u8], check: Check) -> Result<()>
     requires { IsBlankHead told.old.refused told.old.answer told.old.quote }
-    ensures { OnOk result (TellsProgram check told.new.refused told.new.answer told.new.quote) }
+    ensures { OnOk result (IsProgramHead check told.new.refused told.new.answer told.new.quote) }
 {
     let Check { code, .. } = check;
     let alloc = told.body.alloc;
@@ -178,7 +182,7 @@ fn explain_program(told: &mut Explanation<'_>, text: &[u8], check: Check) -> Res
 /// Explains an input that is read as a check.
 fn explain_check<'a>(told: &mut Explanation<'a>, text: &'a [u8]) -> Result<()>
     requires { IsBlankHead told.old.refused told.old.answer told.old.quote }
-    ensures { OnOk result (TellsAs Subject.Check text.now told.new.refused told.new.answer told.new.quote) }
+    ensures { OnOk result (IsHeadAs Subject.Check text.now told.new.refused told.new.answer told.new.quote) }
 {
     match parse_check(told.body.alloc, text) {
         Ok(check) => explain_program(told, text, check),
@@ -186,10 +190,10 @@ fn explain_check<'a>(told: &mut Explanation<'a>, text: &'a [u8]) -> Result<()>
     }
 }
 
-/// Explains an input that is read as this.
+/// Explains an input that is read as this kind.
 fn explain_as<'a>(told: &mut Explanation<'a>, subject: Subject, text: &'a [u8]) -> Result<()>
     requires { IsBlankHead told.old.refused told.old.answer told.old.quote }
-    ensures { OnOk result (TellsAs subject text.now told.new.refused told.new.answer told.new.quote) }
+    ensures { OnOk result (IsHeadAs subject text.now told.new.refused told.new.answer told.new.quote) }
 {
     match subject {
         Subject::Job => explain_job(told, text),
@@ -198,7 +202,7 @@ fn explain_as<'a>(told: &mut Explanation<'a>, subject: Subject, text: &'a [u8]) 
     }
 }
 
-/// What an input is read as: what is wanted, or else what it is meant to be.
+/// The kind of input that is wanted, or else the one that is meant.
 fn read_as(alloc: Global, wanted: Option<Subject>, text: &[u8]) -> Result<Subject>
     ensures { IfOk result (IsReadAs wanted text.now) }
 {
@@ -226,6 +230,7 @@ fn form_of(alloc: Global, form: Form, told: &Explanation<'_>) -> Result<(bool, V
         HasHead form told.now.refused told.now.answer told.now.quote output.1.items) }
     ensures plain { IfOk result (λ output. All IsPlain output.1.items) }
 {
+    told.body.outcome()?;
     let bytes = match form {
         Form::Text => plain_bytes(alloc, &text_form(alloc, told)?)?,
         Form::Json => json_form(alloc, told)?,
@@ -251,7 +256,7 @@ fn explained(
 }
 
 /// Writes a whole output, which is a rejection or not, and passes it on.
-pub fn write_told<K: Sink>(told: Result<(bool, Vec<u8>)>, writer: &mut K) -> End
+pub fn write_explanation<K: Sink>(told: Result<(bool, Vec<u8>)>, writer: &mut K) -> End
     requires { K.failed writer.old ≡ false }
     ensures answer { MatchResult told
         (λ told. OutputEnds told.0 told.1.items result (bytes_of K.Sink writer.old) (bytes_of K.Sink writer.new))
@@ -281,7 +286,7 @@ impl Engine for ExplainEngine {
     ghost at_once = { true };
 
     fn write<K: Sink>(self, alloc: Global, text: &[u8], writer: &mut K) -> End {
-        write_told(explained(alloc, self.form, self.subject, text), writer)
+        write_explanation(explained(alloc, self.form, self.subject, text), writer)
     }
 }
 

@@ -2,9 +2,9 @@
 //!
 //! Each law is the contract of a function with nothing to do.
 
-ghost use Rattle.trlab_explain.specs.Laws.{TellsSomething};
+ghost use Rattle.trlab_explain.specs.Laws.{EveryTextHasAHead};
 
-/// Of any text something can be told, whatever it is read as.
-pub fn text_tells_something()
-    ensures { TellsSomething }
+/// Every text has the head of an explanation, whichever kind of input it is read as.
+pub fn every_text_has_a_head()
+    ensures { EveryTextHasAHead }
 {}

@@ -7,21 +7,10 @@
 //! ```
 #![tactic(auto)]
 
-mod causes;
 mod explain;
 mod explanation;
-mod fault;
-mod forms;
-mod job;
-mod json_form;
 pub mod laws;
-mod object;
-mod program;
-mod reasons;
-mod repairs;
-mod rules;
-mod sweep;
-mod text;
+mod numbers;
 mod topics;
 
 pub use explain::{Form, explain_text};

@@ -1,10 +1,10 @@
-use Rattle.trlab_explain.specs.Explanations.{TellsNumber}
-use Rattle.trlab_explain.proofs.Endings.{told_ends}
+use Rattle.trlab_explain.specs.Explanations.{IsNumberPage}
+use Rattle.trlab_explain.proofs.Endings.{output_ends_so}
 use Rattle.trlab_explain.proofs.topics.explain_number.Goals as goal
 
 pub returns : goal.returns
 returns g c = record {
-  answer = told_ends c.number_page.result (λ v. v.items) (TellsNumber c.args.topic c.args.number) _ _ _ c.number_page.ensures c.write_told.ensures.answer;
-  handed = c.write_told.ensures.handed;
-  device = c.write_told.ensures.device;
+  answer = output_ends_so c.number_page.result (λ v. v.items) (IsNumberPage c.args.topic c.args.number) _ _ _ c.number_page.ensures c.write_explanation.ensures.answer;
+  handed = c.write_explanation.ensures.handed;
+  device = c.write_explanation.ensures.device;
 }

@@ -1,0 +1,90 @@
+//! Misspelled names.
+
+use std::alloc::Global;
+use strsim::generic_damerau_levenshtein;
+use trlab_diagnosis::{Result, is_named};
+
+/// The maximum length of a word that is compared with names: all names are shorter.
+const LONGEST_WORD: usize = 32;
+
+/// The maximum number of edits from a word to the name that was meant.
+const MAX_EDITS: usize = 2;
+
+/// The maximum number of names that a word is compared with.
+const MAX_NAMES: u32 = 4096;
+
+/// The number of edits from a word to another, if at most `most`. Exchanging two neighbours is one edit; the case of
+/// letters does not matter.
+pub fn edits_within(
+    alloc: Global,
+    word: &[u8],
+    other: &[u8],
+    most: usize,
+) -> Result<Option<usize>> {
+    if is_named(word, other) {
+        return Ok(Some(0));
+    }
+    if word.len() > LONGEST_WORD || word.len().abs_diff(other.len()) > most {
+        return Ok(None);
+    }
+    let edits = generic_damerau_levenshtein(alloc, word, other)?;
+    Ok(if edits <= most { Some(edits) } else { None })
+}
+
+/// The name that is most like a word, among those that were compared with it so far.
+#[derive(Clone, Copy)]
+pub struct NearestName<'a> {
+    /// The number of edits to it, or one more than the maximum.
+    edits: usize,
+    /// How many more names are compared.
+    left: u32,
+    /// The name, if no other is as near.
+    pub found: Option<&'a [u8]>,
+}
+
+impl<'a> NearestName<'a> {
+    /// Before any name was compared. Not every letter of a short word may be wrong.
+    pub fn to(word: &[u8]) -> NearestName<'a> {
+        NearestName {
+            edits: word.len().max(1).min(MAX_EDITS + 1),
+            left: MAX_NAMES,
+            found: None,
+        }
+    }
+
+    /// Forgets the names so far.
+    pub fn restart(&mut self, word: &[u8]) {
+        let left = self.left;
+        *self = NearestName::to(word);
+        self.left = left;
+    }
+
+    /// Compares one more name.
+    pub fn compare(&mut self, alloc: Global, word: &[u8], name: &'a [u8]) -> Result<()> {
+        if self.left == 0 {
+            return Ok(());
+        }
+        self.left -= 1;
+        if let Some(edits) = edits_within(alloc, word, name, self.edits)? {
+            self.found = (edits < self.edits).then_some(name);
+            self.edits = edits;
+        }
+        Ok(())
+    }
+}
+
+/// The name of one of these that a word was meant to be: the one with the fewest edits, if no other is as near.
+pub fn nearest<'a, T: Copy, F: Fn(T) -> &'a [u8]>(
+    alloc: Global,
+    word: &[u8],
+    all: &[T],
+    name_of: F,
+) -> Result<Option<&'a [u8]>>
+    requires { F.IsAlwaysCallable name_of }
+{
+    let mut best = NearestName::to(word);
+    for one in all {
+        best.compare(alloc, word, name_of(*one))?;
+    }
+    Ok(best.found)
+}

@@ -1,0 +1,136 @@
+//! The parts of an explanation, of which both the text and the JSON object are written.
+
+use std::alloc::{AllocError, Global};
+use trlab_diagnosis::{Amount, Draft, Place, Repair, Result, Subject};
+use trlab_texts::Cause;
+
+/// A number that a valid input determines. The text form puts it between two phrases, on a line of its own. A
+/// number without a key is only in the text form, on the line of the next number.
+#[derive(Clone, Copy)]
+pub struct Number {
+    pub key: &'static str,
+    pub front: &'static str,
+    pub amount: Amount,
+    pub after: &'static str,
+}
+
+/// A whole number with the phrases around it.
+pub fn count(key: &'static str, front: &'static str, count: u64, after: &'static str) -> Number {
+    Number {
+        key,
+        front,
+        amount: Amount::of(count, 1, 0),
+        after,
+    }
+}
+
+/// The first error of an input, as its reader found it.
+#[derive(Drop)]
+pub struct Problem<'a> {
+    pub cause: Cause,
+    /// The number of the line, and the line itself unless the input has ended.
+    pub line: u32,
+    pub text: Option<&'a [u8]>,
+    /// The bytes at fault: how many come before them in the line, and their number. `None` means the whole line.
+    pub span: Option<(usize, usize)>,
+    /// The forms that would be valid, one per line.
+    pub expected: Draft,
+    /// The problem in words; empty if there is no more to say than the cause does.
+    pub found: Draft,
+    /// Where to look if nothing was found and no repair helps; else empty.
+    pub check: &'static str,
+}
+
+/// The instruction at which the verifier rejects a program, and why.
+#[derive(Drop)]
+pub struct Rejection {
+    /// The instruction, counted from 0.
+    pub at: u32,
+    /// The number of its line; 1 for a program in bytes.
+    pub line: u32,
+    /// The instruction as it is written, and as a line of the text form.
+    pub text: Draft,
+    pub instruction: Draft,
+    pub reason: u32,
+    pub meaning: &'static str,
+    pub advice: &'static str,
+}
+
+/// An instruction of an accepted program, and the facts that are known before it, one per line.
+#[derive(Drop)]
+pub struct Known {
+    /// The number of its line; 0 for a program in bytes.
+    pub line: u32,
+    pub instruction: Draft,
+    pub facts: Draft,
+}
+
+/// An explanation below its head.
+#[derive(Drop)]
+pub struct Body<'a> {
+    pub alloc: Global,
+    /// What the input is read as, and the first line of the text form; it may be empty.
+    pub subject: Subject,
+    pub intro: &'static str,
+    pub problem: Option<Problem<'a>>,
+    pub rejection: Option<Rejection>,
+    /// The facts known before the rejected instruction, one per line.
+    pub known: Draft,
+    /// The paths to the rejected instruction, or the rules of a valid input, one per line.
+    pub facts: Draft,
+    pub table: Vec<Known>,
+    /// The numbers of a valid input, and how many of them come above the facts in the text form.
+    pub numbers: Vec<Number>,
+    pub numbers_above: usize,
+    /// A repair that helps, with the place of the error.
+    pub repair: Option<(Place<'a>, Repair)>,
+    has_failed: bool,
+}
+
+impl<'a> Body<'a> {
+    /// Without any part yet.
+    pub fn new(alloc: Global, subject: Subject) -> Body<'a> {
+        Body {
+            alloc,
+            subject,
+            intro: "",
+            problem: None,
+            rejection: None,
+            known: Draft::new(alloc),
+            facts: Draft::new(alloc),
+            table: Vec::new(alloc),
+            numbers: Vec::new(alloc),
+            numbers_above: 0,
+            repair: None,
+            has_failed: false,
+        }
+    }
+
+    /// The value, unless an allocation for it failed.
+    pub fn value<T>(&mut self, value: Result<T>) -> Option<T> {
+        self.has_failed |= value.is_err();
+        value.ok()
+    }
+
+    pub fn add_numbers(&mut self, numbers: &[Number]) {
+        self.has_failed |= self.numbers.extend_from_slice(numbers).is_err();
+    }
+
+    /// Adds an instruction of an accepted program.
+    pub fn add_known(&mut self, known: Known) {
+        self.has_failed |= self.table.push(known).is_err();
+    }
+
+    /// Reports whether an allocation failed, except for words, whose drafts report it.
+    ///
+    /// # Errors
+    ///
+    /// If one failed.
+    pub fn outcome(&self) -> Result<()> {
+        if self.has_failed {
+            Err(AllocError)
+        } else {
+            Ok(())
+        }
+    }
+}

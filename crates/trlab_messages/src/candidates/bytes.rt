@@ -1,0 +1,87 @@
+//! Candidates for keys, programs in bytes and lanes.
+
+use crate::candidates::{Candidates, DIGITS};
+use crate::found::{BEFORE_CELLS, KEY_DIGITS, first_no_digit};
+use std::alloc::Global;
+use trlab_diagnosis::{Place, Result, bytes_at};
+use trlab_texts::word::without_prefix;
+use trlab_texts::{Cause, Wanted};
+
+/// A key with leading zeros, of a word with fewer digits.
+fn long_key(alloc: Global, word: &[u8]) -> Result<Vec<u8>> {
+    let mut key = vec![in alloc; b'0'; KEY_DIGITS.saturating_sub(word.len())]?;
+    key.extend_from_slice(word)?;
+    Ok(key)
+}
+
+/// Adds that `0x` is deleted, that a letter is replaced by the digit it was meant to be, or that a short key gets
+/// leading zeros.
+pub fn hex_candidates(list: &mut Candidates<'_>) {
+    let Some((at, length)) = list.fault.word() else {
+        return;
+    };
+    let word = bytes_at(list.line, at, length);
+    if word.starts_with(b"0x") {
+        list.in_line(DIGITS, at, 2, b"");
+    }
+    if let Some(place) = first_no_digit(word) {
+        let digit_at = at.saturating_add(place);
+        match word.get(place) {
+            Some(b'o' | b'O') => list.in_line(DIGITS, digit_at, 1, b"0"),
+            Some(b'l' | b'I') => list.in_line(DIGITS, digit_at, 1, b"1"),
+            _ => {}
+        }
+    } else if list.fault.cause == Cause::Key && length < KEY_DIGITS {
+        let mistake = "a key has 64 hexadecimal digits; leading zeros count.";
+        list.rewrite(mistake, at, length, long_key(list.alloc, word));
+    }
+}
+
+/// Adds that the version is 1, because no instruction of the program needs version 2.
+pub fn version_candidate(list: &mut Candidates<'_>) {
+    if let Some(space) = list.line.iter().rposition(|byte| *byte == b' ') {
+        let mistake = "the version is 1 if no instruction reads `headspeed`.";
+        list.in_line(mistake, space.saturating_add(9), 2, b"01");
+    }
+}
+
+/// The maximum length of a lane next to which an empty one is inserted.
+const LONGEST_LANE: usize = 100;
+
+/// Adds that a capital letter in a cell becomes a small one.
+pub fn cell_candidate(list: &mut Candidates<'_>, cell: u32) {
+    let at = BEFORE_CELLS.saturating_add(cell as usize);
+    let mistake = "a car is a digit or a lower-case letter.";
+    match list.line.get(at) {
+        Some(letter) if letter.is_ascii_uppercase() => {
+            list.in_line(mistake, at, 1, &[letter.to_ascii_lowercase()])
+        }
+        _ => {}
+    }
+}
+
+/// The line of an empty lane with this number of cells.
+fn empty_lane(alloc: Global, cells: usize) -> Result<Vec<u8>> {
+    let mut line = b"lane ".to_vec(alloc)?;
+    line.resize(cells.saturating_add(5), b'.')?;
+    line.push(b'\n')?;
+    Ok(line)
+}
+
+/// Adds the second lane that a rule needs: an empty one below the first, or the line `lanes 2`.
+pub fn lanes_candidate(list: &mut Candidates<'_>) {
+    let Wanted::SecondLane { line: number } = list.fault.wanted else {
+        return;
+    };
+    let mistake = "this rule needs a second lane. (Or use a rule without lane changes.)";
+    let Place { start, line, .. } = Place::at(list.fault.place.above(), *number);
+    let line = line.unwrap_or(b"");
+    match without_prefix(b"lane ", line) {
+        None => list.edit(mistake, start, line.len(), b"lanes 2".to_vec(list.alloc)),
+        Some(lane) if lane.len() <= LONGEST_LANE => {
+            let below = start.saturating_add(line.len()).saturating_add(1);
+            list.edit(mistake, below, 0, empty_lane(list.alloc, lane.len()));
+        }
+        Some(_) => {}
+    }
+}

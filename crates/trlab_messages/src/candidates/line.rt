@@ -1,0 +1,212 @@
+//! Candidates for a line that is not one of those that would be valid there.
+
+use crate::alike::{NearestName, nearest};
+use crate::candidates::number::density_candidate;
+use crate::candidates::program::end_candidates;
+use crate::candidates::{COMMENT, Candidates, LATE};
+use crate::names::{CHECK_NAMES, RULES, after_rule, is_name_of_line};
+use std::alloc::Global;
+use trlab_asm::mnemonic_named;
+use trlab_diagnosis::{Change, Result, Subject, is_named, name_and_operands, subject_named};
+use trlab_lines::cut;
+use trlab_texts::LineName;
+use trlab_texts::word::{head_word, without_prefix};
+
+/// The longest line that is rewritten.
+const LONGEST_LINE: usize = 120;
+
+/// Words of other programs, and the lines that they mean.
+const OTHER_WORDS: [(&[u8], LineName); 14] = [
+    (b"density", LineName::Cars),
+    (b"count", LineName::Cars),
+    (b"seed", LineName::Key),
+    (b"vmax", LineName::Limit),
+    (b"speed", LineName::Limit),
+    (b"maxspeed", LineName::Limit),
+    (b"cells", LineName::Length),
+    (b"size", LineName::Length),
+    (b"model", LineName::Rule),
+    (b"time", LineName::Steps),
+    (b"iterations", LineName::Steps),
+    (b"warmup", LineName::Warm),
+    (b"transient", LineName::Warm),
+    (b"sample", LineName::Measure),
+];
+
+/// Whether a byte separates words, also where it must not.
+fn separates(byte: u8) -> bool {
+    byte == b' ' || byte == b'\t' || byte == b'\r'
+}
+
+/// The words of a line with a separator between each two, or a space if there is a comma already.
+pub fn joined(alloc: Global, words: &[u8], separator: &[u8]) -> Result<Vec<u8>> {
+    let mut bytes = Vec::new(alloc);
+    let mut is_after_blank = false;
+    for byte in words {
+        if separates(*byte) {
+            is_after_blank = !bytes.is_empty();
+            continue;
+        }
+        if is_after_blank {
+            let has_comma = bytes.last() == Some(&b',');
+            bytes.extend_from_slice(if has_comma { b" " } else { separator })?;
+        }
+        bytes.push(*byte)?;
+        is_after_blank = false;
+    }
+    Ok(bytes)
+}
+
+/// Adds that words are separated by single spaces, with none at either end of the line.
+fn blanks_candidate(list: &mut Candidates<'_>) {
+    if list.line.len() > LONGEST_LINE {
+        return;
+    }
+    let mistake = "separate words with one space, with none at either end of the line.";
+    match joined(list.alloc, list.line, b" ") {
+        Ok(words) if words.is_empty() || words.as_slice() == list.line => {}
+        words => list.rewrite(mistake, 0, list.line.len(), words),
+    }
+}
+
+/// Adds that the first such byte, all bytes after it and the blanks before it are deleted.
+fn comment_candidate(list: &mut Candidates<'_>, byte: u8) {
+    let Some((front, _)) = cut(list.line, byte) else {
+        return;
+    };
+    let end = front
+        .iter()
+        .rposition(|byte| *byte != b' ' && *byte != b'\t');
+    match end {
+        Some(end) => {
+            let kept = end.saturating_add(1);
+            let removed = list.line.len().saturating_sub(kept);
+            list.in_line(COMMENT, kept, removed, b"");
+        }
+        None => list.without_line(COMMENT),
+    }
+}
+
+/// Adds candidates for characters that are not allowed in any line.
+fn odd_candidates(list: &mut Candidates<'_>) {
+    if without_prefix(b"\xef\xbb\xbf", list.line).is_some() {
+        let mistake = "the file begins with a byte order mark: save it as plain ASCII.";
+        list.in_line(mistake, 0, 3, b"");
+    }
+    if list.line.is_empty() {
+        list.without_line("empty lines are allowed only inside programs.");
+    }
+    blanks_candidate(list);
+    comment_candidate(list, b';');
+    comment_candidate(list, b'#');
+}
+
+/// The name of a wanted line that is most like a word.
+fn nearest_wanted(list: &Candidates<'_>, word: &[u8]) -> Result<Option<&'static [u8]>> {
+    let mut best = NearestName::to(word);
+    for name in &LineName::ALL {
+        if list.fault.wants(*name) {
+            best.compare(list.alloc, word, name.word())?;
+        }
+    }
+    Ok(best.found)
+}
+
+/// Adds the names of wanted lines that the first word may mean.
+fn name_candidates(list: &mut Candidates<'_>, word: &[u8]) {
+    list.misspelled(0, word, nearest_wanted(list, word));
+    if is_named(word, b"density") && list.fault.wants(LineName::Cars) {
+        density_candidate(list);
+    }
+    for (other, name) in &OTHER_WORDS {
+        if is_named(word, *other) && list.fault.wants(*name) {
+            list.misspelled(0, word, Ok(Some(name.word())));
+        }
+    }
+}
+
+/// Adds the name of a rule that the word after `rule` may mean.
+fn rule_candidate(list: &mut Candidates<'_>) {
+    if let Some(rest) = after_rule(list.line) {
+        let name = head_word(rest);
+        let at = list.line.len().saturating_sub(rest.len());
+        let meant = nearest(list.alloc, name, &RULES, |rule| rule.0);
+        list.misspelled(at, name, meant);
+    }
+}
+
+/// Adds that the first line of a program is inserted above an instruction.
+fn heading_candidates(list: &mut Candidates<'_>) {
+    for line in &[LineName::Motion, LineName::Change] {
+        if list.fault.subject == Subject::Check || list.fault.wants(*line) {
+            list.above("the first line of the program is missing.", *line);
+        }
+    }
+}
+
+/// Adds that a wanted line is inserted, for each that is never left out and that no program follows.
+fn missing_candidates(list: &mut Candidates<'_>, why: &'static str) {
+    for line in &LineName::ALL {
+        match line {
+            LineName::Motion | LineName::Change | LineName::At | LineName::End => {}
+            _ if list.fault.wants(*line) => list.above(why, *line),
+            _ => {}
+        }
+    }
+}
+
+/// Adds the command that reads a text with this first word, if it is another one.
+fn command_candidate(list: &mut Candidates<'_>, word: &[u8]) {
+    match subject_named(word) {
+        Some(other) if list.fault.place.number == 1 && other != list.fault.subject => {
+            list.change("this input is for another command.", Change::ReadAs(other));
+        }
+        _ => {}
+    }
+}
+
+/// Adds the lines that are missing at the end of a text.
+fn ended_candidates(list: &mut Candidates<'_>) {
+    if list.fault.wants(LineName::End) {
+        end_candidates(list);
+    } else {
+        let mistake = "the file ends too early: a line is missing, for example this one.";
+        missing_candidates(list, mistake);
+    }
+}
+
+/// Adds the heading of a program that the first word may mean, and that the line is deleted.
+fn check_candidates(list: &mut Candidates<'_>, word: &[u8]) {
+    let meant = nearest(list.alloc, word, &CHECK_NAMES, |name| name);
+    list.misspelled(0, word, meant);
+    list.without_line(LATE);
+}
+
+/// Adds candidates for a line of a job or sweep that begins with this word.
+fn word_candidates(list: &mut Candidates<'_>, word: &[u8]) {
+    name_candidates(list, word);
+    rule_candidate(list);
+    if is_name_of_line(word) {
+        let missing = "a line is missing above this one, for example this one.";
+        missing_candidates(list, missing);
+        list.without_line(LATE);
+    }
+}
+
+/// Adds candidates for a line that is not one of those that would be valid there.
+pub fn line_candidates(list: &mut Candidates<'_>) {
+    let word = head_word(list.line);
+    if list.fault.place.line.is_none() {
+        ended_candidates(list);
+    } else if mnemonic_named(name_and_operands(list.line).0).is_some() {
+        heading_candidates(list);
+    } else {
+        odd_candidates(list);
+        command_candidate(list, word);
+        if list.fault.subject == Subject::Check {
+            check_candidates(list, word);
+        } else {
+            word_candidates(list, word);
+        }
+    }
+}

@@ -1,0 +1,190 @@
+//! Candidates for the lines of programs: for their words, labels and operands.
+
+use crate::alike::{NearestName, edits_within, nearest};
+use crate::candidates::line::joined;
+use crate::candidates::number::{PROBABILITY, meanings};
+use crate::candidates::{Candidates, END, ENDLESS, OTHER_COMMENT};
+use std::alloc::Global;
+use trlab_asm::{
+    INPUTS, MNEMONICS, OperandKind, REGISTERS, Why, input_text, is_label, mnemonic_named,
+    mnemonic_text, register_text,
+};
+use trlab_diagnosis::{
+    OperandWord, Place, Result, Subject, name_and_operands, operand_at_fault, start_of_name,
+};
+use trlab_lines::{cut, is_numeral, label_and_rest, next_line, without_comment, without_indent};
+use trlab_texts::LineName;
+use trlab_texts::word::{head_word, without_prefix};
+
+/// The first words of the lines after which a program begins.
+const PROGRAM_HEADS: [&[u8]; 3] = [b"motion", b"change", b"notes"];
+
+/// The first words of the lines that may follow a program of a job or sweep.
+const FOLLOWING: [&[u8]; 7] = [
+    b"steps", b"at", b"change", b"warm", b"measure", b"motion", b"code",
+];
+
+/// Whether the first word of a line is `end` or nearly so.
+fn is_like_end(alloc: Global, line: &[u8]) -> Result<bool> {
+    let (name, _) = name_and_operands(line);
+    let name = name.strip_suffix(b"\r").unwrap_or(name);
+    if mnemonic_named(name).is_some() {
+        return Ok(false);
+    }
+    Ok(edits_within(alloc, name, b"end", 1)?.is_some())
+}
+
+/// Where the line `end` may be missing in the last program of a text: a line that may be `end` with something after
+/// it, by its position and length, and the position of the first other line that may follow a program.
+fn end_places(alloc: Global, text: &[u8]) -> Result<(Option<(usize, usize)>, Option<usize>)> {
+    let mut like_end: Option<(usize, usize)> = None;
+    let mut next: Option<usize> = None;
+    let mut left = text;
+    for _ in 0..text.len() {
+        let Some((line, rest)) = next_line(left) else {
+            break;
+        };
+        let at = text.len().saturating_sub(left.len());
+        if PROGRAM_HEADS.contains(&head_word(line)) {
+            like_end = None;
+            next = None;
+        } else if like_end.is_none() && is_like_end(alloc, line)? {
+            like_end = Some((at, line.len()));
+        } else if next.is_none() && FOLLOWING.contains(&head_word(line)) {
+            next = Some(at);
+        }
+        left = rest;
+    }
+    Ok((like_end, next))
+}
+
+/// Adds the line `end` where it may be missing in the last program of an input that has ended.
+pub fn end_candidates(list: &mut Candidates<'_>) {
+    let places = end_places(list.alloc, list.fault.place.text);
+    let (like_end, next) = list.value(places).unwrap_or((None, None));
+    if let Some((at, length)) = like_end {
+        list.edit(END, at, length, b"end".to_vec(list.alloc));
+    }
+    if let Some(at) = next {
+        list.edit(ENDLESS, at, 0, b"end\n".to_vec(list.alloc));
+    }
+    list.above(ENDLESS, LineName::End);
+}
+
+/// Adds that a comment begins with `;` and not as in other languages.
+fn other_comment_candidates(list: &mut Candidates<'_>) {
+    let line = without_comment(list.line);
+    if let Some((front, _)) = cut(line, b'#') {
+        list.in_line(OTHER_COMMENT, front.len(), 1, b";");
+    }
+    match cut(line, b'/') {
+        Some((front, [b'/', ..])) => list.in_line(OTHER_COMMENT, front.len(), 2, b";"),
+        _ => {}
+    }
+}
+
+/// Adds that the line is `end`, or that it is deleted, because a driver program has no such line.
+fn like_end_candidate(list: &mut Candidates<'_>) {
+    if list.fault.subject == Subject::Check {
+        let mistake = "`trlab check` takes no line `end`: the program ends where the input ends.";
+        list.without_line(mistake);
+    } else {
+        list.in_line(END, 0, list.line.len(), b"end");
+    }
+}
+
+/// Adds candidates for a line whose first word is not an instruction.
+pub fn word_candidates(list: &mut Candidates<'_>) {
+    other_comment_candidates(list);
+    let (label, _) = label_and_rest(without_comment(list.line));
+    let (name, _) = name_and_operands(list.line);
+    if list.fault.subject != Subject::Check && FOLLOWING.contains(&name) {
+        list.above(ENDLESS, LineName::End);
+    }
+    if let Some(true) = list.value(is_like_end(list.alloc, list.line)) {
+        like_end_candidate(list);
+    }
+    if !matches!(label, Some(label) if !is_label(label)) {
+        let meant = nearest(list.alloc, name, &MNEMONICS, |name| mnemonic_text(name));
+        list.misspelled(start_of_name(list.line), name, meant);
+    }
+}
+
+/// The label of the program at a place that is most like a word.
+fn nearest_label<'a>(alloc: Global, place: &Place<'a>, word: &[u8]) -> Result<Option<&'a [u8]>> {
+    let text = place.text;
+    let mut best = NearestName::to(word);
+    let mut left = text;
+    for _ in 0..text.len() {
+        let Some((line, rest)) = next_line(left) else {
+            break;
+        };
+        let at = text.len().saturating_sub(left.len());
+        if at > place.start && line == b"end".as_slice() {
+            break;
+        }
+        if at < place.start && PROGRAM_HEADS.contains(&head_word(line)) {
+            best.restart(word);
+        }
+        if let (Some(label), _) = label_and_rest(without_comment(line)) {
+            best.compare(alloc, word, label)?;
+        }
+        left = rest;
+    }
+    Ok(best.found)
+}
+
+/// Adds the label that a missing target of a jump may mean.
+pub fn label_candidate(list: &mut Candidates<'_>) {
+    if let Some(OperandWord { at, word, .. }) = operand_at_fault(list.line, Why::NoLabel) {
+        let meant = nearest_label(list.alloc, &list.fault.place, word);
+        if let Some(Some(label)) = list.value(meant) {
+            list.in_line("probably a misspelled label.", at, word.len(), label);
+        }
+    }
+}
+
+/// Adds the operand that a word may mean. A number, also after `r`, is not a misspelled name.
+fn word_candidate(list: &mut Candidates<'_>, found: OperandWord<'_>) {
+    let OperandWord { operand, at, word } = found;
+    let is_number = is_numeral(without_prefix(b"r", word).unwrap_or(word));
+    match operand {
+        OperandKind::Register | OperandKind::Result if !is_number => {
+            let meant = nearest(list.alloc, word, &REGISTERS, |name| register_text(name));
+            list.misspelled(at, word, meant);
+        }
+        OperandKind::Input if !is_number => {
+            let meant = nearest(list.alloc, word, &INPUTS, |name| input_text(name));
+            list.misspelled(at, word, meant);
+        }
+        OperandKind::Target if is_numeral(word) => {
+            list.in_line("put `@` before the number of an instruction.", at, 0, b"@");
+        }
+        OperandKind::Chance => meanings(list, at, word, Some(PROBABILITY)),
+        OperandKind::Number | OperandKind::Divisor | OperandKind::Word => {
+            meanings(list, at, word, None);
+        }
+        OperandKind::Register | OperandKind::Result | OperandKind::Input | OperandKind::Target => {}
+    }
+}
+
+/// Adds that operands are separated by commas.
+fn comma_candidate(list: &mut Candidates<'_>) {
+    let (name, operands) = name_and_operands(list.line);
+    let words = without_indent(operands);
+    let before = name
+        .len()
+        .saturating_add(operands.len().saturating_sub(words.len()));
+    let at = start_of_name(list.line).saturating_add(before);
+    let mistake = "separate operands with commas.";
+    list.rewrite(mistake, at, words.len(), joined(list.alloc, words, b", "));
+}
+
+/// Adds candidates for a line whose operands are wrong.
+pub fn operand_candidates(list: &mut Candidates<'_>, why: Why) {
+    other_comment_candidates(list);
+    match operand_at_fault(list.line, why) {
+        Some(found) => word_candidate(list, found),
+        None => comma_candidate(list),
+    }
+}

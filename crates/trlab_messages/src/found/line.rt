@@ -1,0 +1,97 @@
+//! The problem with a line that is not one of those that would be valid there.
+
+use crate::names::{RULES, after_rule, is_of, named};
+use trlab_diagnosis::{Draft, Fault, Oddity, Quoted, Subject, oddity_of};
+use trlab_texts::word::head_word;
+use trlab_texts::{LineName, LineNames};
+
+/// Adds the problem with the words after `rule`: an unknown name, or too many or too few values.
+fn push_rule_problem(problem: &mut Draft, words: &[u8]) {
+    let rule = head_word(words);
+    let found = words.iter().filter(|byte| **byte == b' ').count();
+    let name = Quoted(rule);
+    let takes = match RULES.iter().find(|form| form.0 == rule) {
+        None => {
+            return write!(
+                problem,
+                "unknown rule `{name}`. The rules are nasch, vdr, rickert and own."
+            );
+        }
+        Some((_, takes)) if *takes == found => return,
+        Some((_, 0)) => "no values",
+        Some((_, 1)) => "one value",
+        Some(_) => "two values",
+    };
+    write!(problem, "`rule {name}` takes {takes}, found {found}.");
+}
+
+/// Adds the problem with a line that begins with this word, although lines of other names are valid there.
+fn push_name_problem(problem: &mut Draft, subject: Subject, word: &[u8]) {
+    match named(word) {
+        Some(name) if !is_of(name, subject) => {
+            let belongs = match subject {
+                Subject::Job => "belongs in a sweep, not in a job",
+                Subject::Sweep => "belongs in a job, not in a sweep",
+                Subject::Check => "does not belong in a program",
+            };
+            let word = Quoted(word);
+            write!(problem, "a `{word}` line {belongs}.");
+        }
+        None if word != b"code".as_slice() && word != b"end".as_slice() => {}
+        _ if subject == Subject::Check => {}
+        _ => write!(
+            problem,
+            "this line does not belong here: a line above it is missing, or it is a duplicate."
+        ),
+    }
+}
+
+/// Adds the problem with a line by its first word.
+fn push_word_problem(problem: &mut Draft, subject: Subject, word: &[u8], names: LineNames) {
+    let is_program = names.has(LineName::Motion) || names.has(LineName::Change);
+    match named(word) {
+        Some(name) if names.has(name) => {
+            if matches!(name, LineName::Road | LineName::Sweep) {
+                write!(problem, "the format version must be 1.");
+            }
+        }
+        None if is_program && word == b"code".as_slice() => {}
+        _ if names.is_empty() => {}
+        _ => push_name_problem(problem, subject, word),
+    }
+}
+
+/// An oddity in words.
+fn odd_words(oddity: Oddity) -> &'static str {
+    match oddity {
+        Oddity::ByteOrderMark => "the file begins with a byte order mark: save it as plain ASCII.",
+        Oddity::CarriageReturn =>
+            "the line ends with a carriage return (Windows line ending): use LF only.",
+        Oddity::Empty => "the line is empty: empty lines are allowed only inside programs.",
+        Oddity::Tab => "the line contains a tab: separate words with one space.",
+        Oddity::FirstSpace => "the line begins with a space.",
+        Oddity::FinalSpace => "the line ends with a space.",
+        Oddity::Comment => "the line has a comment: comments are allowed only inside programs.",
+    }
+}
+
+/// Adds the problem with a line that is not one of those that would be valid there.
+pub fn push_line_problem(problem: &mut Draft, fault: &Fault<'_>, names: LineNames) {
+    let Some(line) = fault.place.line else {
+        let missing = if names.has(LineName::End) {
+            "a program has no line `end`."
+        } else {
+            "a line is missing."
+        };
+        return write!(problem, "the end of the file: {missing}");
+    };
+    if let Some(oddity) = oddity_of(line) {
+        return write!(problem, "{}", odd_words(oddity));
+    }
+    if let Some(words) = after_rule(line) {
+        push_rule_problem(problem, words);
+    }
+    if problem.is_empty() {
+        push_word_problem(problem, fault.subject, head_word(line), names);
+    }
+}

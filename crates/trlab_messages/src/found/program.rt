@@ -1,0 +1,90 @@
+//! The problem with a line of a program.
+
+use crate::found::push_number_problem;
+use trlab_asm::{OperandKind, Why, is_label, mnemonic_named, operand_kinds};
+use trlab_diagnosis::{Draft, Quoted, name_and_operands, operand_at_fault, start_of_name};
+use trlab_lines::{label_and_rest, without_comment};
+
+/// The number of operands after the name of an instruction, separated by commas or blanks.
+fn count_operands(operands: &[u8]) -> usize {
+    operands
+        .split(|byte| matches!(byte, b',' | b' ' | b'\t'))
+        .filter(|word| !word.is_empty())
+        .count()
+}
+
+/// The words for an operand of another form, after the word itself.
+fn wrong_operand(operand: OperandKind) -> &'static str {
+    match operand {
+        OperandKind::Register =>
+            "is not a register (r0 to r7). To use a number, load it first: `num r1, ..`.",
+        OperandKind::Result =>
+            "is not a register (r0 to r7): the first operand is the register for the result.",
+        OperandKind::Number | OperandKind::Divisor | OperandKind::Word =>
+            "is not a whole number (digits only).",
+        OperandKind::Chance => "is not a probability: write p x 2147483648 as a whole number.",
+        OperandKind::Input => "is not an input.",
+        OperandKind::Target => "is neither a label nor `@` followed by an instruction number.",
+    }
+}
+
+/// Adds the operand of another form, or that there are too many or too few operands.
+fn push_operand_problem(problem: &mut Draft, line: &[u8]) {
+    let (name, operands) = name_and_operands(line);
+    let Some(name) = mnemonic_named(name) else {
+        return;
+    };
+    let found = count_operands(operands);
+    let wanted = operand_kinds(name).len();
+    if found != wanted {
+        return write!(problem, "{found} operands; the instruction takes {wanted}.");
+    }
+    if let Some(found) = operand_at_fault(line, Why::Operand) {
+        let word = Quoted(found.word);
+        write!(problem, "`{word}` {}", wrong_operand(found.operand));
+    }
+}
+
+/// Adds that the label of a line is not one.
+fn push_label_problem(problem: &mut Draft, line: &[u8]) {
+    match label_and_rest(without_comment(line)) {
+        (Some(label), _) if !is_label(label) => {
+            let label = Quoted(label);
+            write!(
+                problem,
+                "`{label}` is not a label: \
+                use at most 32 letters, digits and `_`, not starting with a digit."
+            );
+        }
+        _ => {}
+    }
+}
+
+/// Adds the problem with a line of a program, unless the cause says it all.
+pub fn push_program_problem(problem: &mut Draft, line: &[u8], why: Why) {
+    match why {
+        Why::Word => push_label_problem(problem, line),
+        Why::Operand => push_operand_problem(problem, line),
+        Why::Number => {
+            if let Some(found) = operand_at_fault(line, why)
+                && let Some((least, most)) = found.operand.range()
+            {
+                push_number_problem(problem, found.word, u64::from(least), u64::from(most));
+            }
+        }
+        Why::LabelTwice | Why::NoLabel | Why::TooLong | Why::Empty | Why::Memory => {}
+    }
+}
+
+/// The label of a line if it is not one, else the name of its instruction: how many bytes come before it, and its
+/// length.
+pub fn word_span(line: &[u8]) -> Option<(usize, usize)> {
+    let (before, length) = match label_and_rest(without_comment(line)) {
+        (Some(label), _) if !is_label(label) => (0, label.len()),
+        _ => (start_of_name(line), name_and_operands(line).0.len()),
+    };
+    if length == 0 {
+        return None;
+    }
+    Some((before, length))
+}

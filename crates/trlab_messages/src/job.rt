@@ -1,0 +1,78 @@
+//! The work of a valid job.
+
+use crate::body::{Body, Number, count};
+use crate::rules::{count_digits, megabytes, push_rules};
+use trlab_bounds::runs::MAX_LATER;
+use trlab_diagnosis::Amount;
+use trlab_jobs::Job;
+use trlab_road::Road;
+
+/// The number of bytes that a run writes: for each step its line and a row per lane.
+fn output_bytes(road: &Road, steps: u32) -> u64 {
+    let rows = u64::from(road.lanes()).saturating_mul(u64::from(road.length()).saturating_add(1));
+    let mut bytes = 0u64;
+    for step in 0..=steps {
+        let line = count_digits(u64::from(step)).saturating_add(6);
+        bytes = bytes.saturating_add(line).saturating_add(rows);
+    }
+    bytes
+}
+
+/// An upper bound on the bytes of memory of a run with one worker, fitted to measurements.
+fn memory_bytes(text: &[u8], cars: u64) -> u64 {
+    (text.len() as u64)
+        .saturating_mul(9)
+        .saturating_add(cars.saturating_mul(20))
+        .saturating_add(3_000_000)
+}
+
+/// The numbers of the road of a job.
+fn road_numbers(road: &Road) -> [Number; 5] {
+    let (lanes, length) = (u64::from(road.lanes()), u64::from(road.length()));
+    let (cars, limit) = (u64::from(road.cars()), u64::from(road.limit()));
+    let cells = lanes.saturating_mul(length);
+    [
+        count("lanes", "Lanes: ", lanes, "."),
+        count("cells", "Cells per lane: ", length, "."),
+        count("cars", "Cars: ", cars, "."),
+        Number {
+            key: "density",
+            front: "Density: ",
+            amount: Amount::of(cars, cells, 4),
+            after: " cars per cell.",
+        },
+        count("limit", "Maximum speed: ", limit, " cells per step."),
+    ]
+}
+
+/// The numbers of the run of a job.
+fn run_numbers(text: &[u8], job: &Job) -> [Number; 4] {
+    let (steps, cars) = (u64::from(job.steps), u64::from(job.road.cars()));
+    let output = output_bytes(&job.road, job.steps);
+    let memory = megabytes(memory_bytes(text, cars));
+    let measured = " MB with one worker (measured, not proved).";
+    [
+        count("steps", "Steps: ", steps, "."),
+        count("work", "Work: ", cars.saturating_mul(steps), " car-steps."),
+        count("output_bytes", "Output: ", output, " bytes."),
+        count("memory_mb", "Memory: about ", memory, measured),
+    ]
+}
+
+/// Adds the road, the rules and the work of a valid job.
+pub fn add_job(body: &mut Body<'_>, text: &[u8], job: &Job) {
+    body.intro = "This is a valid job: `trlab run` runs it.";
+    body.add_numbers(&road_numbers(&job.road));
+    body.numbers_above = body.numbers.len();
+    push_rules(
+        &mut body.facts,
+        "The rule from the start:",
+        text,
+        b"rule",
+        1,
+    );
+    if !job.later.is_empty() {
+        push_rules(&mut body.facts, "Later rules:", text, b"at", MAX_LATER);
+    }
+    body.add_numbers(&run_numbers(text, job));
+}

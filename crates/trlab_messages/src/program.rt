@@ -1,0 +1,179 @@
+//! Programs: the facts known in an accepted one, and why the verifier rejects one.
+
+mod marks;
+mod rejection;
+
+use crate::body::{Body, Known, count};
+use crate::program::marks::push_fact;
+use crate::program::rejection::add_rejection;
+use std::alloc::{AllocError, Global};
+use trlab_asm::{REGISTERS, disassemble};
+use trlab_code::Code;
+use trlab_diagnosis::{Draft, Fault, Quoted, Result, name_and_operands};
+use trlab_lines::next_line;
+use trlab_notes::Reason;
+use trlab_texts::Wanted;
+use trlab_texts::word::without_prefix;
+use trlab_verify::{Mark, Note, NotesFault, notes};
+
+/// The verifier's answer on a program.
+#[derive(Clone, Copy)]
+pub enum ProgramVerdict {
+    /// It is accepted, with this budget.
+    Accepted(u32),
+    /// It is rejected at an instruction, for the reason with a number.
+    Rejected(u32, u32),
+}
+
+/// A program with the lines of its instructions, each with its number in the whole input. A program in bytes is
+/// listed: it has the lines of its canonical form.
+#[derive(Clone, Copy)]
+pub struct Listing<'a> {
+    code: &'a Code,
+    lines: &'a [(u32, &'a [u8])],
+    is_listed: bool,
+}
+
+impl Listing<'_> {
+    /// The number of an instruction's line: `listed` for a program in bytes.
+    fn line_number(&self, pc: u32, listed: u32) -> u32 {
+        match self.lines.get(pc as usize) {
+            Some((number, _)) if !self.is_listed => *number,
+            _ => listed,
+        }
+    }
+
+    /// Adds an instruction as it is written.
+    fn push_text(&self, text: &mut Draft, pc: u32) {
+        if let Some((_, line)) = self.lines.get(pc as usize) {
+            write!(text, "{}", Quoted(*line));
+        }
+    }
+
+    /// Adds the line of an instruction with its number, or that of the instruction for a program in bytes.
+    fn push_instruction(&self, text: &mut Draft, pc: u32) {
+        match self.lines.get(pc as usize) {
+            Some((_, line)) if self.is_listed => {
+                write!(text, "instruction {pc}: {}", Quoted(*line))
+            }
+            Some((number, line)) => write!(text, "line {number}: {}", Quoted(*line)),
+            None => {}
+        }
+    }
+}
+
+/// The first `count` lines of a text that have an instruction, numbered from the line after `above` on.
+fn instruction_lines<'a>(
+    alloc: Global,
+    above: u32,
+    text: &'a [u8],
+    count: usize,
+) -> Result<Vec<(u32, &'a [u8])>> {
+    let mut lines = Vec::new(alloc);
+    let mut left = text;
+    let mut number = above;
+    for _ in 0..text.len() {
+        let Some((line, rest)) = next_line(left) else {
+            break;
+        };
+        number = number.saturating_add(1);
+        if lines.len() < count && !name_and_operands(line).0.is_empty() {
+            lines.push((number, line))?;
+        }
+        left = rest;
+    }
+    Ok(lines)
+}
+
+/// An instruction of an accepted program, and the facts that its note has of each register that is set, and of the
+/// side cell.
+fn known_at(alloc: Global, program: Listing<'_>, pc: u32, note: &Note) -> Known {
+    let mut instruction = Draft::new(alloc);
+    program.push_instruction(&mut instruction, pc);
+    let mut facts = Draft::new(alloc);
+    for i in 0..REGISTERS.len() {
+        if note.regs[i] != Mark::Unset {
+            push_fact(&mut facts, note, REGISTERS[i]);
+        }
+    }
+    if note.side {
+        writeln!(facts, "the side cell is empty");
+    }
+    Known {
+        line: program.line_number(pc, 0),
+        instruction,
+        facts,
+    }
+}
+
+/// Adds the budget of an accepted program, and the facts known before each instruction.
+fn add_accepted(body: &mut Body<'_>, program: Listing<'_>, budget: u32) {
+    let runs = "Accepted: a car runs at most ";
+    let number = count("budget", runs, u64::from(budget), " instructions per step.");
+    body.add_numbers(&[number]);
+    body.numbers_above = 1;
+    let table = match notes(body.alloc, program.code) {
+        Ok(table) => Ok(Some(table)),
+        Err(NotesFault::Refused) => Ok(None),
+        Err(NotesFault::Memory) => Err(AllocError),
+    };
+    let Some(Some(table)) = body.value(table) else {
+        return;
+    };
+    let mut pc = 0u32;
+    for note in &table {
+        body.add_known(known_at(body.alloc, program, pc, note));
+        pc = pc.saturating_add(1);
+    }
+}
+
+/// Adds the verdict on a program that begins at a line of the input, whose other lines are below it.
+fn add_verdict(
+    body: &mut Body<'_>,
+    code: &Code,
+    place: (u32, &[u8], &[u8]),
+    verdict: ProgramVerdict,
+) {
+    let (number, line, below) = place;
+    let line = without_prefix(b"notes ", line).unwrap_or(line);
+    let is_listed = without_prefix(b"code ", line).is_some();
+    let Some(listing) = body.value(disassemble(body.alloc, code)) else {
+        return;
+    };
+    let (above, text) = if is_listed {
+        (0, listing.as_slice())
+    } else {
+        (number, below)
+    };
+    let lines = instruction_lines(body.alloc, above, text, code.instrs().len());
+    let Some(lines) = body.value(lines) else {
+        return;
+    };
+    let program = Listing {
+        code,
+        lines: &lines,
+        is_listed,
+    };
+    match verdict {
+        ProgramVerdict::Accepted(budget) => add_accepted(body, program, budget),
+        ProgramVerdict::Rejected(at, reason) => {
+            if let Some(reason) = Reason::from_number(reason) {
+                add_rejection(body, program, at, reason);
+            }
+        }
+    }
+}
+
+/// Adds why the verifier rejects a program of a job or sweep, which begins at the fault.
+pub fn add_rejected_part(body: &mut Body<'_>, fault: &Fault<'_>, reason: u32) {
+    if let Wanted::Program { code, at } = fault.wanted {
+        let place = (fault.place.number, fault.line(), fault.place.below());
+        add_verdict(body, code, place, ProgramVerdict::Rejected(*at, reason));
+    }
+}
+
+/// Adds the verdict on the program of a check.
+pub fn add_checked(body: &mut Body<'_>, text: &[u8], code: &Code, verdict: ProgramVerdict) {
+    let (line, below) = next_line(text).unwrap_or((b"", b""));
+    add_verdict(body, code, (1, line, below), verdict);
+}

@@ -1,0 +1,143 @@
+//! Rejected programs: the instruction, the reason, the facts known before it, and advice.
+
+use crate::body::{Body, Rejection};
+use crate::program::Listing;
+use crate::program::marks::push_fact;
+use crate::reasons::{advice, reason_meaning};
+use std::alloc::Global;
+use trlab_asm::register_text;
+use trlab_code::{Instr, Register};
+use trlab_diagnosis::{Draft, Shown};
+use trlab_notes::{Operands, Reason};
+use trlab_verify::{Mark, Note, notes_of_refused};
+
+/// Adds the facts about the registers that an instruction reads.
+fn push_operands(known: &mut Draft, note: &Note, instr: Instr) {
+    let (first, second) = match Operands::of(instr) {
+        Operands::Nothing => return,
+        Operands::Value(a) | Operands::Number(a) | Operands::Flag(a) => (a, a),
+        Operands::Numbers(a, b) | Operands::Flags(a, b) => (a, b),
+    };
+    push_fact(known, note, first);
+    if first != second {
+        push_fact(known, note, second);
+    }
+}
+
+/// The maximum that is known of a register.
+fn maximum_of(note: &Note, register: Register) -> u64 {
+    match note.regs[register.number()] {
+        Mark::Num(_, high) => u64::from(high),
+        _ => 0,
+    }
+}
+
+/// Adds a fact that is not known about the operands, which is why the instruction is rejected, if there is one.
+fn push_missing(known: &mut Draft, reason: Reason, note: &Note, instr: Instr) {
+    match (reason, instr) {
+        (Reason::MaybeTooLarge, Instr::Add(_, a, b)) => {
+            let largest = maximum_of(note, a).saturating_add(maximum_of(note, b));
+            writeln!(known, "The result may be as large as {largest}.")
+        }
+        (Reason::MaybeTooLarge, Instr::Mul(_, a, n)) => {
+            let largest = maximum_of(note, a).saturating_mul(u64::from(n));
+            writeln!(known, "The result may be as large as {largest}.")
+        }
+        (Reason::MaybeBelowZero, Instr::Sub(_, a, b)) => {
+            let (a, b) = (Shown(register_text(a)), Shown(register_text(b)));
+            writeln!(
+                known,
+                "{b} is not known to be at most {a}, so {a} - {b} may be negative."
+            )
+        }
+        (Reason::MaybeAboveGap, Instr::Go(a)) => {
+            let name = Shown(register_text(a));
+            writeln!(known, "{name} is not known to be at most the gap.")
+        }
+        (Reason::MaybeAboveLimit, Instr::Go(a)) => {
+            let name = Shown(register_text(a));
+            writeln!(known, "{name} is not known to be at most the limit.")
+        }
+        _ => {}
+    }
+}
+
+/// Whether the instruction at `pc` can be followed by the one at `at`.
+fn is_followed(program: Listing<'_>, pc: u32, at: u32) -> bool {
+    match program.code.instrs().get(pc as usize) {
+        Some(instr) => {
+            let continues = instr.falls() && pc.checked_add(1) == Some(at);
+            continues || instr.target() == Some(at)
+        }
+        None => false,
+    }
+}
+
+/// Adds the instructions that can be followed by the rejected one, if there are several.
+fn push_paths(facts: &mut Draft, program: Listing<'_>, at: u32) {
+    let paths = (0..at).filter(|pc| is_followed(program, *pc, at)).count();
+    if paths < 2 {
+        return;
+    }
+    writeln!(
+        facts,
+        "Several paths lead here; only facts that hold on all of them are kept:"
+    );
+    for pc in 0..at {
+        if is_followed(program, pc, at) {
+            program.push_instruction(facts, pc);
+            writeln!(facts);
+        }
+    }
+}
+
+/// The instruction at which a program is rejected, and why.
+fn rejection_at(alloc: Global, program: Listing<'_>, at: u32, reason: Reason) -> Rejection {
+    let mut text = Draft::new(alloc);
+    program.push_text(&mut text, at);
+    let mut instruction = Draft::new(alloc);
+    program.push_instruction(&mut instruction, at);
+    Rejection {
+        at,
+        line: program.line_number(at, 1),
+        text,
+        instruction,
+        reason: reason.number(),
+        meaning: reason_meaning(reason),
+        advice: advice(reason, program.code.kind()),
+    }
+}
+
+/// Adds the instruction above one that can never be reached.
+fn push_above(facts: &mut Draft, program: Listing<'_>, at: u32) {
+    if let Some(above) = at.checked_sub(1) {
+        writeln!(
+            facts,
+            "The instruction above never continues here, and no jump comes here:"
+        );
+        program.push_instruction(facts, above);
+        writeln!(facts);
+    }
+}
+
+/// Adds why a program with these notes is rejected at an instruction.
+fn add_reason(body: &mut Body<'_>, program: Listing<'_>, notes: &[Note], at: u32, reason: Reason) {
+    body.rejection = Some(rejection_at(body.alloc, program, at, reason));
+    if reason == Reason::Unreachable {
+        return push_above(&mut body.facts, program, at);
+    }
+    let instr = program.code.instrs().get(at as usize);
+    if let (Some(note), Some(instr)) = (notes.get(at as usize), instr) {
+        push_operands(&mut body.known, note, *instr);
+        push_missing(&mut body.known, reason, note, *instr);
+    }
+    push_paths(&mut body.facts, program, at);
+}
+
+/// Adds why a program is rejected at an instruction.
+pub fn add_rejection(body: &mut Body<'_>, program: Listing<'_>, at: u32, reason: Reason) {
+    let notes = notes_of_refused(body.alloc, program.code);
+    if let Some(Some(notes)) = body.value(notes) {
+        add_reason(body, program, &notes, at, reason);
+    }
+}
