@@ -46,7 +46,8 @@ def docstrings(path):
 def texts():
     """Each text that users read, by its name."""
     yield "the help texts", literals("crates/trlab_command_line/src/help.rt")
-    yield "the explanations", " ".join(map(literals, files_below("crates/trlab_messages/src", ".rt")))
+    sources = [*files_below("crates/trlab_messages/src", ".rt"), *files_below("crates/trlab_explain/src", ".rt")]
+    yield "the explanations", " ".join(map(literals, sources))
     yield "the docstrings of python/trlab", " ".join(map(docstrings, files_below("python/trlab", ".py")))
     yield "the messages of ./trlab", " ".join(MESSAGE.findall(content("trlab")))
     for page in sorted({*PAGES, *MAX_WORDS}):

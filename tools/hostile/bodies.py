@@ -43,7 +43,7 @@ class Body(NamedTuple):
 
 
 class Verdict(NamedTuple):
-    """Whether a clause refuses a body, and what the prover says."""
+    """Whether a clause refuses a body, and the prover's line about it."""
     is_refused: bool
     why: str
 

@@ -18,7 +18,7 @@ abbrev pub fault_of : {A : Type 0} → Result A Fault → Option (ℕ × Cause)
 fault_of (Ok said) = None
 fault_of (Err fault) = Some (fault.line, fault.cause)
 
--- the first fault of a text that is read so, if it has one
+-- the first fault of a text that is read as this kind, if it has one
 abbrev pub HasFirst : Subject → List ℕ → Option (ℕ × Cause) → Type 0
 HasFirst Job text fault = (says : Result JobSaid Fault) × JobText text says × (fault ≡ fault_of says)
 HasFirst Sweep text fault = (says : Result SweepSaid Fault) × SweepText text says × (fault ≡ fault_of says)
@@ -31,7 +31,7 @@ IsAfter lines number mended None = Unit {0}
 IsAfter lines number mended (Some fault) =
     (number < fault.0) × (length mended + number < length lines + fault.0)
 
--- a text, read so, gets further than another with its fault at the line of a number
+-- a text, read as this kind, gets further than another whose first fault is at this line
 abbrev pub GetsFurther : List ℕ → ℕ → Subject → List ℕ → Type 0
 GetsFurther text number subject mended = (fault : Option (ℕ × Cause))
     × HasFirst subject mended fault × IsAfter (lines_of text) number (lines_of mended) fault

@@ -10,7 +10,7 @@ use Rattle.trlab_diagnosis.specs.declared.oddity.Oddity.TheVariants.{ByteOrderMa
 abbrev pub Has : ℕ → List ℕ → Type 0
 Has byte line = IsTrue (list_any (λ c. c == byte) line)
 
--- the oddity is there
+-- a line has this oddity
 abbrev pub Shows : List ℕ → Oddity → Type 0
 Shows line ByteOrderMark = IsTrue (is_some (without_prefix (239 ∷ 187 ∷ 191 ∷ []) line))
 Shows line CarriageReturn = Has 13 line

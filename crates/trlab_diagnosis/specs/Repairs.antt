@@ -1,12 +1,11 @@
--- What a repair does for a text.
+-- Repairs that help a text.
 use Rattle.std.specs.Prelude.{ℕ, ◌+◌, ◌≤◌, List, length}
 use Rattle.trlab_diagnosis.specs.declared.subject.Subject.{Subject}
 use Rattle.trlab_diagnosis.specs.declared.repair.Change.{Change}
 use Rattle.trlab_diagnosis.specs.declared.repair.Change.TheVariants.{Edited, ReadAs}
 use Rattle.trlab_diagnosis.specs.Edits.{edited, GetsFurther}
 
--- a text with its first fault at the line of a number gets further: once it is changed so, or is read as
--- another one
+-- after this change, a text gets further than its first fault at this line
 abbrev pub Helps : Subject → List ℕ → ℕ → Change → Type 0
 Helps subject text number (Edited edit) = (edit.at + edit.removed ≤ length text)
     × GetsFurther text number subject (edited edit.at edit.removed edit.inserted.items text)

@@ -16,14 +16,14 @@ is_named word name = bytes_eq (map to_ascii_lowercase word) (map to_ascii_lowerc
 abbrev pub program_words : List (List ℕ)
 program_words = codes "motion" ∷ codes "change" ∷ codes "code" ∷ codes "notes" ∷ []
 
--- the text that begins with this word: a job with `road`, a sweep with `sweep`, a check with a program
+-- the kind of input that begins with this word: a job with `road`, a sweep with `sweep`, a check with a program
 abbrev pub subject_named : List ℕ → Option Subject
 subject_named word =
     if is_named word (codes "road") then Some Job
     else if is_named word (codes "sweep") then Some Sweep
     else if list_any (is_named word) program_words then Some Check else None
 
--- one edit at most leads from a word to this name
+-- a word is at most one edit away from this name
 abbrev pub IsNearly : List ℕ → List ℕ → Type 0
 IsNearly word name = damerau nat_eq word name ≤ 1
 

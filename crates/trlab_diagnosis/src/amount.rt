@@ -2,7 +2,7 @@
 
 use std::fmt;
 
-/// A part of a whole, which is 1 for whole numbers: written with at most this many decimals, rounded down.
+/// A part of a whole, which is 1 for whole numbers: their quotient, rounded down to at most this many decimals.
 #[derive(Clone, Copy)]
 pub struct Amount {
     part: u64,

@@ -81,14 +81,14 @@ impl<'a> Place<'a> {
 /// The first fault of an input.
 #[derive(Clone, Copy)]
 pub struct Fault<'a> {
-    /// What the input is read as.
+    /// The kind of input it is read as.
     pub subject: Subject,
     /// Where the fault is.
     pub place: Place<'a>,
     pub cause: Cause,
-    /// What its reader wanted there.
+    /// The lines or values that its reader wanted there.
     pub wanted: &'a Wanted,
-    /// The end of the line, in which the places in `wanted` are counted.
+    /// The rest of the line, in which the positions in `wanted` are counted.
     pub within: &'a [u8],
 }
 

@@ -1,4 +1,4 @@
-//! A JSON text of plain characters, while it is written.
+//! The writer of JSON objects.
 
 ghost use Rattle.std.specs.Prelude.{◌≡◌, ◌++◌, ◌∷◌, [], All, IfOk, OnOk};
 ghost use Rattle.json.specs.Print.{IsPrintable, print};
@@ -17,15 +17,16 @@ use std::fmt;
 use std::marker::Model;
 use trlab_lines::Page;
 
-/// The value of a member.
+/// A value in an object.
 #[derive(Clone, Copy)]
 pub enum Member<'a> {
     Null,
     Count(u64),
     CountOrNull(Option<u64>),
     Amount(Amount),
-    /// Words, or null if there are none.
+    /// Words, or null if they are empty.
     Words(&'static str),
+    /// A draft as a string, or null if it is empty.
     Text(&'a Draft),
     /// Bytes, with the ends of their lines.
     Bytes(&'a [u8]),
@@ -36,8 +37,8 @@ pub enum Member<'a> {
     NoLines,
 }
 
-/// A JSON text of plain characters, while it is written. If an allocation fails, `end` reports it, so that the calls
-/// before it need not.
+/// A JSON object of plain characters that is being written. Its calls remember a failed allocation; `finish` returns
+/// it.
 #[derive(Drop)]
 pub struct Object {
     alloc: Global,
@@ -71,7 +72,7 @@ fn plain_str(bytes: &[u8]) -> &str
 }
 
 impl Object {
-    /// Without any token yet.
+    /// An object without tokens.
     pub fn new(alloc: Global) -> Object
         ensures { result ≡ [] }
     {
@@ -176,7 +177,7 @@ impl Object {
         }
     }
 
-    /// Keeps that an allocation failed.
+    /// Remembers a failed allocation.
     fn keep(&mut self, done: Result<()>) {
         self.has_failed |= done.is_err();
     }
@@ -212,11 +213,11 @@ impl Object {
     pub fn begin_object(&mut self, name: &str) {
         let done = self.key(name);
         self.keep(done);
-        self.begin();
+        self.begin_item();
     }
 
     /// Begins the whole object, or one in an array.
-    pub fn begin(&mut self) {
+    pub fn begin_item(&mut self) {
         let done = self.put(Token::BeginObject);
         self.keep(done);
     }
@@ -226,12 +227,12 @@ impl Object {
         self.keep(done);
     }
 
-    /// Ends the object with the exit status and the line that the command prints, if it prints one.
+    /// Ends the whole object with the exit status and the line that the command prints, if it prints one.
     ///
     /// # Errors
     ///
     /// If an allocation fails, or failed before.
-    pub fn end(&mut self, refused: bool, answer: &Page) -> Result<()>
+    pub fn finish(&mut self, refused: bool, answer: &Page) -> Result<()>
         ensures { OnOk result (self.new ≡ self.old ++ object_end refused answer.now) }
     {
         if self.has_failed {

@@ -1,4 +1,4 @@
-//! What is odd about a line: characters that no line may have outside programs.
+//! Oddities: characters that lines outside programs may not have.
 
 ghost use Rattle.std.specs.Prelude.{IfSome};
 ghost use Rattle.trlab_diagnosis.specs.Oddities.{Shows};

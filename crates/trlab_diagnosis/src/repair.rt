@@ -52,7 +52,7 @@ fn edited(alloc: Global, text: &[u8], at: usize, gone: usize, put: &[u8]) -> Res
 pub enum Change {
     /// The input is edited.
     Edited(Edit),
-    /// The input is read as this.
+    /// The input is read as this kind.
     ReadAs(Subject),
 }
 
@@ -143,7 +143,7 @@ const LONGEST_REREAD: usize = 524288;
 /// The maximum number of repairs that are tried. Each one is a reading of the whole text.
 pub const MAX_TRIED: usize = 5;
 
-/// The first of these repairs that helps an input, or only the first one if the input is long.
+/// The first of these repairs that helps. If the input is long, only the first repair is tried.
 pub fn first_that_helps(
     alloc: Global,
     fault: Fault<'_>,

@@ -31,7 +31,8 @@ impl fmt::Display for Quoted<'_> {
     }
 }
 
-/// Sentences while they are written. If an allocation fails, `text` reports it, so that `write!` need not.
+/// Sentences that are being written. `write!` returns nothing: a failed allocation is remembered, and `text` returns
+/// it.
 #[derive(Drop)]
 pub struct Draft {
     text: String,
@@ -39,7 +40,7 @@ pub struct Draft {
 }
 
 impl Draft {
-    /// Without any words yet.
+    /// An empty draft.
     pub fn new(alloc: Global) -> Draft {
         Draft {
             text: String::new(alloc),
@@ -47,13 +48,13 @@ impl Draft {
         }
     }
 
-    // What `write!` and `writeln!` call.
+    /// `write!` and `writeln!` call this.
     pub fn write_fmt<D: fmt::Display + Drop>(&mut self, words: D) {
         self.has_failed |= self.text.write_fmt(words).is_err();
     }
 
-    /// Adds the lines of another draft, the first one after `first` and the others after `later`.
-    pub fn add_lines<'x>(&mut self, first: &'x str, later: &'x str, lines: &Draft) {
+    /// Adds the lines of another draft, with `first` before the first one and `later` before the others.
+    pub fn push_lines<'x>(&mut self, first: &'x str, later: &'x str, lines: &Draft) {
         self.has_failed |= lines.has_failed;
         let mut is_first = true;
         for line in lines.text.split_terminator('\n') {
@@ -63,7 +64,7 @@ impl Draft {
         }
     }
 
-    /// Whether nothing was written.
+    /// Whether nothing was written, and no allocation failed.
     pub fn is_empty(&self) -> bool {
         self.text.is_empty() && !self.has_failed
     }
@@ -100,7 +101,7 @@ fn push_character(page: &mut Page, character: char) -> Result<()> {
     }
 }
 
-/// A page with sentences, whose bytes it escapes. Lines end as in the text.
+/// A page of sentences: bytes that are not plain are escaped, and a character above U+00FF becomes `?`.
 ///
 /// # Errors
 ///

@@ -29,8 +29,8 @@ pub fn is_named(word: &[u8], name: &[u8]) -> bool
     word.eq_ignore_ascii_case(name)
 }
 
-/// The input that begins with this word: a job with `road`, a sweep with `sweep`, a check with the first word of a
-/// program.
+/// The kind of input that begins with this word: a job with `road`, a sweep with `sweep`, a check with the first word
+/// of a program.
 pub fn subject_named(word: &[u8]) -> Option<Subject>
     ensures { result ≡ subject_named word.now }
 {
@@ -52,7 +52,7 @@ pub fn subject_named(word: &[u8]) -> Option<Subject>
 /// The maximum length of a word that may be a misspelled name.
 const LONGEST_WORD: usize = 16;
 
-/// Whether at most one edit leads from a word to this name: a letter inserted, deleted or replaced, or two neighbours
+/// Whether a word is at most one edit away from this name: a letter inserted, deleted or replaced, or two neighbours
 /// exchanged.
 fn is_nearly(alloc: Global, word: &[u8], name: &[u8]) -> Result<bool>
     requires { name.now ≢ [] }

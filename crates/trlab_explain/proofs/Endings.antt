@@ -23,7 +23,7 @@ use Rattle.trlab_diagnosis.specs.declared.subject.Subject.TheVariants.{Job, Swee
 use Rattle.trlab_explain.specs.Explanations.{Explains, IsReadAs, IsHeadAs, IsCheckHead, IsTextHead}
 use Rattle.trlab_explain.specs.declared.explain.Form.{Form}
 
--- what was told was written so
+-- the end of a written output
 pub output_ends_so : {A E : Type 0} (told : Result (Bool × A) E) (bytes : A → List ℕ) (IsWhole : Outputs) (e : End) (old new : SinkBytes)
     → IfOk told (λ t. IsWhole t.0 (bytes t.1))
     → MatchResult told (λ t. OutputEnds t.0 (bytes t.1) e old new) (λ _. (e ≡ Memory) × AddsNone old new)

@@ -1,4 +1,4 @@
--- Of any text something can be told.
+-- Every text has the head of an explanation.
 use Rattle.std.proofs.Common.{ℕ, List, [], refl, inl, inr, Bool, true, false}
 use Rattle.std.specs.Prelude.{Result, Ok, Err}
 use Rattle.trlab_verify.proofs.Judged.{accepted_or_refused}

@@ -1,4 +1,4 @@
--- The explanations of an input: whether it is rejected, and how the explanation begins.
+-- Explanations: whether an input is rejected, and how the text form begins and the JSON form ends.
 use Rattle.std.specs.Prelude.{◌≡◌, ℕ, Bool, true, false, not, All, List, [], ◌++◌, codes, decimal, Option, None, Some, Result, Ok, Err, if◌then◌else◌}
 use Rattle.trlab_lines.specs.Plain.{IsPlain}
 use Rattle.trlab_lines.specs.Lines.{lines_of}
@@ -27,7 +27,7 @@ use Rattle.trlab_explain.specs.declared.topics.Topic.TheVariants.{Cause, Reason}
 abbrev pub Heads : Type 1
 Heads = Bool → List ℕ → List ℕ → Type 0
 
--- the head of an explanation without any part yet
+-- the head of a blank explanation
 abbrev pub IsBlankHead : Heads
 IsBlankHead refused answer quote = (refused ≡ false) × (answer ≡ []) × (quote ≡ [])
 
@@ -56,7 +56,7 @@ abbrev pub IsCheckHead : List ℕ → Result CheckSaid Fault → Heads
 IsCheckHead text (Ok check) refused answer quote = IsProgramHead check refused answer quote
 IsCheckHead text (Err fault) refused answer quote = IsFaultHead text fault refused answer quote
 
--- the head for a text that is read as this
+-- the head for a text that is read as this kind
 abbrev pub IsHeadAs : Subject → List ℕ → Heads
 IsHeadAs Job text refused answer quote =
     (says : Result JobSaid Fault) × JobText text says × IsTextHead text says refused answer quote
@@ -65,7 +65,7 @@ IsHeadAs Sweep text refused answer quote =
 IsHeadAs Check text refused answer quote =
     (says : Result CheckSaid Fault) × CheckText text says × IsCheckHead text says refused answer quote
 
--- a text that is read as this has this first fault, unless an allocation failed
+-- a text that is read as this kind has this first fault, unless an allocation failed
 abbrev pub IsRefusedText : Subject → List ℕ → TextFault → Type 0
 IsRefusedText Job text fault = Reports (JobText text) (Err fault)
 IsRefusedText Sweep text fault = Reports (SweepText text) (Err fault)
@@ -90,8 +90,7 @@ abbrev pub HasHead : Form → Bool → List ℕ → List ℕ → List ℕ → Ty
 HasHead Text refused answer quote out = BeginsWith (text_front refused answer quote) out
 HasHead Json refused answer quote out = EndsObject refused answer out
 
--- the whole explanations that there may be of a text in a form, each with whether it is a rejection: plain text,
--- whatever bytes the text has
+-- an explanation of a text in a form, and whether it is a rejection; it is plain, whichever bytes the text has
 abbrev pub Explains : Form → Option Subject → List ℕ → Outputs
 Explains form wanted text refused out = (answer quote : List ℕ)
     × IsHead wanted text refused answer quote × HasHead form refused answer quote out × All IsPlain out
@@ -101,7 +100,7 @@ abbrev pub topic_front : Topic → ℕ → List ℕ
 topic_front Cause number = codes "Cause " ++ (decimal number ++ codes ": ")
 topic_front Reason number = codes "Reason " ++ (decimal number ++ codes ": ")
 
--- the whole pages that there may be on a number, which is refused exactly if nothing has it
+-- a page on a number; it is a rejection exactly if there is no such number
 abbrev pub IsNumberPage : Topic → ℕ → Outputs
 IsNumberPage topic number refused out =
     (refused ≡ not (is_known topic number)) × BeginsWith (topic_front topic number) out × All IsPlain out

@@ -19,7 +19,7 @@ use trlab_code::{Code, Kind};
 use trlab_diagnosis::{Fault, Place, Result, Subject, subject_of};
 use trlab_jobs::{Check, parse_check, parse_job, parse_sweep};
 use trlab_lines::Page;
-use trlab_messages::{ProgramVerdict, add_checked, add_fault, add_job, add_sweep};
+use trlab_messages::{ProgramVerdict, add_fault, add_job, add_program, add_sweep};
 use trlab_texts::{Refusal, TextFault, Wanted};
 use trlab_verify::{VerifyFault, verify_change, verify_motion};
 
@@ -47,112 +47,125 @@ fn push_quote(page: &mut Page, number: u32, line: Option<&[u8]>) -> Result<()>
     page.end_line()
 }
 
-/// Explains a rejected input, by its first fault. `wanted` comes with the end of the line in which its places are
-/// counted.
+/// Explains a rejected input, by its first fault. `at_fault` is the rest of the line, in which positions are counted,
+/// and the lines or values that were wanted there.
 fn explain_fault<'a>(
-    told: &mut Explanation<'a>,
+    explanation: &mut Explanation<'a>,
     text: &'a [u8],
     line: u32,
     cause: Cause,
-    wanted: (&[u8], &Wanted),
+    at_fault: (&[u8], &Wanted),
 ) -> Result<()>
-    requires { IsBlankHead told.old.refused told.old.answer told.old.quote }
+    requires { IsBlankHead explanation.old.refused explanation.old.answer explanation.old.quote }
     ensures { OnOk result (IsFaultHead text.now (record { line = line; cause = cause })
-        told.new.refused told.new.answer told.new.quote) }
+        explanation.new.refused explanation.new.answer explanation.new.quote) }
 {
     let place = Place::at(text, line);
-    let (within, wanted) = wanted;
+    let (within, wanted) = at_fault;
     let fault = Fault {
-        subject: told.body.subject,
+        subject: explanation.body.subject,
         place,
         cause,
         wanted,
         within,
     };
-    told.refused = true;
-    push_fault_line(&mut told.answer, line, cause)?;
-    push_quote(&mut told.quote, line, place.line)?;
-    add_fault(&mut told.body, place, &fault);
+    explanation.refused = true;
+    push_fault_line(&mut explanation.answer, line, cause)?;
+    push_quote(&mut explanation.quote, line, place.line)?;
+    add_fault(&mut explanation.body, place, &fault);
     Ok(())
 }
 
 /// Explains an input that its reader rejects.
 #[tactic(auto, using(crate::proofs::Refusals::refusal_has_head))]
 fn explain_refusal<'a>(
-    told: &mut Explanation<'a>,
+    explanation: &mut Explanation<'a>,
     subject: Subject,
     text: &'a [u8],
     refusal: Refusal<'_>,
 ) -> Result<()>
-    requires new { IsBlankHead told.old.refused told.old.answer told.old.quote }
+    requires new { IsBlankHead explanation.old.refused explanation.old.answer explanation.old.quote }
     requires refused { IsRefusedText subject text.now refusal }
-    ensures { OnOk result (IsHeadAs subject text.now told.new.refused told.new.answer told.new.quote) }
+    ensures { OnOk result (IsHeadAs subject text.now
+        explanation.new.refused explanation.new.answer explanation.new.quote) }
 {
     match refusal.into_parts() {
         (TextFault::At { line, cause }, within, wanted) => {
-            explain_fault(told, text, line, cause, (within, &wanted))
+            explain_fault(explanation, text, line, cause, (within, &wanted))
         }
         (TextFault::Memory, ..) => Err(AllocError),
     }
 }
 
 /// Explains an input that is read as a job.
-fn explain_job<'a>(told: &mut Explanation<'a>, text: &'a [u8]) -> Result<()>
-    requires { IsBlankHead told.old.refused told.old.answer told.old.quote }
-    ensures { OnOk result (IsHeadAs Subject.Job text.now told.new.refused told.new.answer told.new.quote) }
+fn explain_job<'a>(explanation: &mut Explanation<'a>, text: &'a [u8]) -> Result<()>
+    requires { IsBlankHead explanation.old.refused explanation.old.answer explanation.old.quote }
+    ensures { OnOk result (IsHeadAs Subject.Job text.now
+        explanation.new.refused explanation.new.answer explanation.new.quote) }
 {
-    match parse_job(told.body.alloc, text) {
+    match parse_job(explanation.body.alloc, text) {
         Ok(job) => {
-            add_job(&mut told.body, text, &job);
+            add_job(&mut explanation.body, text, &job);
             Ok(())
         }
-        Err(refusal) => explain_refusal(told, Subject::Job, text, refusal),
+        Err(refusal) => explain_refusal(explanation, Subject::Job, text, refusal),
     }
 }
 
 /// Explains an input that is read as a sweep.
-fn explain_sweep<'a>(told: &mut Explanation<'a>, text: &'a [u8]) -> Result<()>
-    requires { IsBlankHead told.old.refused told.old.answer told.old.quote }
-    ensures { OnOk result (IsHeadAs Subject.Sweep text.now told.new.refused told.new.answer told.new.quote) }
+fn explain_sweep<'a>(explanation: &mut Explanation<'a>, text: &'a [u8]) -> Result<()>
+    requires { IsBlankHead explanation.old.refused explanation.old.answer explanation.old.quote }
+    ensures { OnOk result (IsHeadAs Subject.Sweep text.now
+        explanation.new.refused explanation.new.answer explanation.new.quote) }
 {
-    match parse_sweep(told.body.alloc, text) {
+    match parse_sweep(explanation.body.alloc, text) {
         Ok(sweep) => {
-            add_sweep(&mut told.body, text, &sweep);
+            add_sweep(&mut explanation.body, text, &sweep);
             Ok(())
         }
-        Err(refusal) => explain_refusal(told, Subject::Sweep, text, refusal),
+        Err(refusal) => explain_refusal(explanation, Subject::Sweep, text, refusal),
     }
 }
 
 /// Explains a program that the verifier accepts with a budget.
-fn explain_accepted(told: &mut Explanation<'_>, text: &[u8], code: &Code, budget: u32) -> Result<()>
-    ensures { told.new.refused ≡ told.old.refused }
+fn explain_accepted(
+    explanation: &mut Explanation<'_>,
+    text: &[u8],
+    code: &Code,
+    budget: u32,
+) -> Result<()>
+    ensures { explanation.new.refused ≡ explanation.old.refused }
 {
-    told.answer.say("accepted budget ")?;
-    told.answer.number(u64::from(budget))?;
-    told.answer.end_line()?;
-    add_checked(&mut told.body, text, code, ProgramVerdict::Accepted(budget));
+    explanation.answer.say("accepted budget ")?;
+    explanation.answer.number(u64::from(budget))?;
+    explanation.answer.end_line()?;
+    add_program(
+        &mut explanation.body,
+        text,
+        code,
+        ProgramVerdict::Accepted(budget),
+    );
     Ok(())
 }
 
 /// Explains a program that the verifier does not accept.
 fn explain_rejected(
-    told: &mut Explanation<'_>,
+    explanation: &mut Explanation<'_>,
     text: &[u8],
     code: &Code,
     fault: VerifyFault,
 ) -> Result<()>
-    requires { IsBlankHead told.old.refused told.old.answer told.old.quote }
+    requires { IsBlankHead explanation.old.refused explanation.old.answer explanation.old.quote }
     ensures { (check : CheckSaid) → IsFaultOf check.program.kind check.program fault
-        → OnOk result (IsProgramHead check told.new.refused told.new.answer told.new.quote) }
+        → OnOk result (IsProgramHead check explanation.new.refused explanation.new.answer explanation.new.quote) }
 {
     let VerifyFault::Why { at, reason } = fault else {
         return Err(AllocError);
     };
-    told.refused = true;
-    push_refused_line(&mut told.answer, at, reason)?;
-    add_checked(
-        &mut told.body,
+    explanation.refused = true;
+    push_refused_line(&mut explanation.answer, at, reason)?;
+    add_program(
+        &mut explanation.body,
         text,
         code,
         ProgramVerdict::Rejected(at, reason),
@@ -161,44 +174,46 @@ fn explain_rejected(
 }
 
 /// Explains the program of a check.
-fn explain_program(told: &mut Explanation<'_>, text: &[u8], check: Check) -> Result<()>
-    requires { IsBlankHead told.old.refused told.old.answer told.old.quote }
-    ensures { OnOk result (IsProgramHead check told.new.refused told.new.answer told.new.quote) }
+fn explain_program(explanation: &mut Explanation<'_>, text: &[u8], check: Check) -> Result<()>
+    requires { IsBlankHead explanation.old.refused explanation.old.answer explanation.old.quote }
+    ensures { OnOk result (IsProgramHead check explanation.new.refused explanation.new.answer explanation.new.quote) }
 {
     let Check { code, .. } = check;
-    let alloc = told.body.alloc;
+    let alloc = explanation.body.alloc;
     match code.kind() {
         Kind::Motion => match verify_motion(alloc, code) {
-            Ok(motion) => explain_accepted(told, text, motion.code(), motion.budget()),
-            Err((code, fault)) => explain_rejected(told, text, &code, fault),
+            Ok(motion) => explain_accepted(explanation, text, motion.code(), motion.budget()),
+            Err((code, fault)) => explain_rejected(explanation, text, &code, fault),
         },
         Kind::Change => match verify_change(alloc, code) {
-            Ok(change) => explain_accepted(told, text, change.code(), change.budget()),
-            Err((code, fault)) => explain_rejected(told, text, &code, fault),
+            Ok(change) => explain_accepted(explanation, text, change.code(), change.budget()),
+            Err((code, fault)) => explain_rejected(explanation, text, &code, fault),
         },
     }
 }
 
 /// Explains an input that is read as a check.
-fn explain_check<'a>(told: &mut Explanation<'a>, text: &'a [u8]) -> Result<()>
-    requires { IsBlankHead told.old.refused told.old.answer told.old.quote }
-    ensures { OnOk result (IsHeadAs Subject.Check text.now told.new.refused told.new.answer told.new.quote) }
+fn explain_check<'a>(explanation: &mut Explanation<'a>, text: &'a [u8]) -> Result<()>
+    requires { IsBlankHead explanation.old.refused explanation.old.answer explanation.old.quote }
+    ensures { OnOk result (IsHeadAs Subject.Check text.now
+        explanation.new.refused explanation.new.answer explanation.new.quote) }
 {
-    match parse_check(told.body.alloc, text) {
-        Ok(check) => explain_program(told, text, check),
-        Err(refusal) => explain_refusal(told, Subject::Check, text, refusal),
+    match parse_check(explanation.body.alloc, text) {
+        Ok(check) => explain_program(explanation, text, check),
+        Err(refusal) => explain_refusal(explanation, Subject::Check, text, refusal),
     }
 }
 
 /// Explains an input that is read as this kind.
-fn explain_as<'a>(told: &mut Explanation<'a>, subject: Subject, text: &'a [u8]) -> Result<()>
-    requires { IsBlankHead told.old.refused told.old.answer told.old.quote }
-    ensures { OnOk result (IsHeadAs subject text.now told.new.refused told.new.answer told.new.quote) }
+fn explain_as<'a>(explanation: &mut Explanation<'a>, subject: Subject, text: &'a [u8]) -> Result<()>
+    requires { IsBlankHead explanation.old.refused explanation.old.answer explanation.old.quote }
+    ensures { OnOk result (IsHeadAs subject text.now
+        explanation.new.refused explanation.new.answer explanation.new.quote) }
 {
     match subject {
-        Subject::Job => explain_job(told, text),
-        Subject::Sweep => explain_sweep(told, text),
-        Subject::Check => explain_check(told, text),
+        Subject::Job => explain_job(explanation, text),
+        Subject::Sweep => explain_sweep(explanation, text),
+        Subject::Check => explain_check(explanation, text),
     }
 }
 
@@ -223,19 +238,23 @@ pub fn plain_bytes(alloc: Global, page: &Page) -> Result<Vec<u8>>
     Ok(bytes)
 }
 
-/// Whether an explanation is a rejection, and its form.
-fn form_of(alloc: Global, form: Form, told: &Explanation<'_>) -> Result<(bool, Vec<u8>)>
-    ensures refused { IfOk result (λ output. output.0 ≡ told.now.refused) }
+/// Whether an explanation is a rejection, and its bytes in this form.
+fn bytes_in_form(
+    alloc: Global,
+    form: Form,
+    explanation: &Explanation<'_>,
+) -> Result<(bool, Vec<u8>)>
+    ensures refused { IfOk result (λ output. output.0 ≡ explanation.now.refused) }
     ensures head { IfOk result (λ output.
-        HasHead form told.now.refused told.now.answer told.now.quote output.1.items) }
+        HasHead form explanation.now.refused explanation.now.answer explanation.now.quote output.1.items) }
     ensures plain { IfOk result (λ output. All IsPlain output.1.items) }
 {
-    told.body.outcome()?;
+    explanation.body.outcome()?;
     let bytes = match form {
-        Form::Text => plain_bytes(alloc, &text_form(alloc, told)?)?,
-        Form::Json => json_form(alloc, told)?,
+        Form::Text => plain_bytes(alloc, &text_form(alloc, explanation)?)?,
+        Form::Json => json_form(alloc, explanation)?,
     };
-    Ok((told.refused, bytes))
+    Ok((explanation.refused, bytes))
 }
 
 /// Whether an input is rejected, and its explanation in a form.
@@ -245,33 +264,32 @@ fn explained(
     wanted: Option<Subject>,
     text: &[u8],
 ) -> Result<(bool, Vec<u8>)>
-    ensures { IfOk result (λ told. Explains form wanted text.now told.0 told.1.items) }
+    ensures { IfOk result (λ output. Explains form wanted text.now output.0 output.1.items) }
 {
     let subject = read_as(alloc, wanted, text)?;
-    let mut told = Explanation::new(alloc, subject);
-    match explain_as(&mut told, subject, text) {
-        Ok(()) => form_of(alloc, form, &told),
+    let mut explanation = Explanation::new(alloc, subject);
+    match explain_as(&mut explanation, subject, text) {
+        Ok(()) => bytes_in_form(alloc, form, &explanation),
         Err(error) => Err(error),
     }
 }
 
-/// Writes a whole output, which is a rejection or not, and passes it on.
-pub fn write_explanation<K: Sink>(told: Result<(bool, Vec<u8>)>, writer: &mut K) -> End
+/// Writes a whole output, which is a rejection or not, and flushes the writer. If an allocation failed, writes nothing.
+pub fn write_explanation<K: Sink>(output: Result<(bool, Vec<u8>)>, writer: &mut K) -> End
     requires { K.failed writer.old ≡ false }
-    ensures answer { MatchResult told
-        (λ told. OutputEnds told.0 told.1.items result (bytes_of K.Sink writer.old) (bytes_of K.Sink writer.new))
+    ensures answer { MatchResult output
+        (λ output. OutputEnds output.0 output.1.items result (bytes_of K.Sink writer.old) (bytes_of K.Sink writer.new))
         (λ _. (result ≡ Memory) × AddsNone (bytes_of K.Sink writer.old) (bytes_of K.Sink writer.new)) }
     ensures handed { HandsOn result
         (K.handed_on writer.new) (K.flushes writer.old) (K.flushes writer.new) }
     ensures device { (result ≡ DeviceFault) ↔ (K.failed writer.new ≡ true) }
 {
-    match told {
+    match output {
         Ok((refused, bytes)) => write_output(refused, &bytes, writer),
         Err(_) => End::Memory,
     }
 }
 
-/// The engine of explanations.
 #[derive(Drop)]
 struct ExplainEngine {
     form: Form,
@@ -290,11 +308,11 @@ impl Engine for ExplainEngine {
     }
 }
 
-/// Reads an input, and writes in a form why it is rejected and how to repair it, or its work if it is valid. It is
-/// read as `subject`, or as its first word says, also if that is misspelled.
+/// Reads an input and writes, in the given form, why it is rejected and a repair if one helps, or its work if it is
+/// valid. Without `subject`, the first word decides how it is read, even if it is misspelled.
 ///
-/// The whole input is read and judged before a byte is written. If an allocation fails, nothing is written; if a
-/// call of the reader or the writer fails, a prefix of the whole output.
+/// The whole input is read and judged before a byte is written. If an allocation fails, nothing is written; if the
+/// reader or the writer fails, a prefix of the output is written.
 pub fn explain_text<R: AllocGlobal, S: Source, K: Sink>(
     rt: &R,
     form: Form,

@@ -8,8 +8,9 @@ ghost use Rattle.trlab_explain.specs.Explanations.{BeginsWith, text_front};
 use std::alloc::Global;
 use trlab_diagnosis::{Draft, Object, Result, Subject, page_of};
 use trlab_lines::Page;
-use trlab_messages::{Body, add_body, push_body};
+use trlab_messages::{Body, add_members, push_text};
 
+/// An explanation of an input: its head and its body.
 #[derive(Drop)]
 pub struct Explanation<'a> {
     /// Whether the input or its program is rejected.
@@ -22,7 +23,7 @@ pub struct Explanation<'a> {
 }
 
 impl<'a> Explanation<'a> {
-    /// Of an input that is not rejected, without any part yet.
+    /// A blank explanation of an input that is not rejected.
     pub fn new(alloc: Global, subject: Subject) -> Explanation<'a>
         ensures refused { result.refused ≡ false }
         ensures answer { result.answer ≡ [] }
@@ -40,11 +41,10 @@ impl<'a> Explanation<'a> {
 /// The text form of an explanation below its head.
 fn body_page(alloc: Global, body: &Body<'_>) -> Result<Page> {
     let mut text = Draft::new(alloc);
-    push_body(&mut text, body);
+    push_text(&mut text, body);
     page_of(alloc, text.text()?)
 }
 
-/// The text form of an explanation.
 pub fn text_form(alloc: Global, explanation: &Explanation<'_>) -> Result<Page>
     ensures { IfOk result (BeginsWith
         (text_front explanation.now.refused explanation.now.answer explanation.now.quote)) }
@@ -65,7 +65,7 @@ pub fn json_form(alloc: Global, explanation: &Explanation<'_>) -> Result<Vec<u8>
     ensures object { IfOk result (λ text. EndsObject explanation.now.refused explanation.now.answer text.items) }
 {
     let mut out = Object::new(alloc);
-    add_body(&mut out, &explanation.body);
-    out.end(explanation.refused, &explanation.answer)?;
+    add_members(&mut out, &explanation.body);
+    out.finish(explanation.refused, &explanation.answer)?;
     out.into_line()
 }

@@ -1,6 +1,6 @@
 //! Explanations: why an input is rejected and how to repair it, or the work of a valid one, in plain words or as a
-//! JSON object. No contract says which words these are, except how an explanation begins or ends, how a line of the
-//! input is quoted, and which inputs are rejected.
+//! JSON object. Contracts fix which inputs are rejected, how an explanation begins or ends, and how a line of the input
+//! is quoted; they fix no other words.
 //!
 //! ```text
 //! explain_text(rt, form, subject, reader, writer)

@@ -9,12 +9,10 @@ use crate::explain::{plain_bytes, write_explanation};
 use crate::numbers::cause_numbered;
 use std::alloc::{AllocGlobal, Global};
 use trlab_campaign::{End, Sink};
-use trlab_code::Kind;
 use trlab_diagnosis::{Draft, Result, page_of};
 use trlab_lines::Page;
-use trlab_messages::{advice, cause_check, cause_meaning, reason_meaning};
+use trlab_messages::{push_cause, push_reason};
 use trlab_notes::Reason;
-use trlab_texts::Cause;
 
 /// The kinds of numbers in the answers to rejected inputs.
 #[derive(Clone, Copy)]
@@ -23,44 +21,6 @@ pub enum Topic {
     Cause,
     /// The reason of a line `refused at N reason R`.
     Reason,
-}
-
-fn push_advice(text: &mut Draft, reason: Reason) {
-    let motion = advice(reason, Kind::Motion);
-    let change = advice(reason, Kind::Change);
-    if motion == change {
-        writeln!(text, "Advice: {motion}");
-    } else {
-        writeln!(text, "Advice for a motion program: {motion}");
-        writeln!(text, "Advice for a change program: {change}");
-    }
-}
-
-fn push_cause(text: &mut Draft, cause: Cause) {
-    writeln!(text, "{}", cause_meaning(cause));
-    if let Cause::Verdict(number) = cause
-        && let Some(reason) = Reason::from_number(number)
-    {
-        writeln!(text, "The reason: {}", reason_meaning(reason));
-        push_advice(text, reason);
-    }
-    let check = cause_check(cause);
-    if !check.is_empty() {
-        writeln!(text, "Check: {check}");
-    }
-    writeln!(
-        text,
-        "To find it in your file: `trlab explain < FILE`. All causes: docs/ERRORS.md."
-    );
-}
-
-fn push_reason(text: &mut Draft, reason: Reason) {
-    writeln!(text, "{}", reason_meaning(reason));
-    push_advice(text, reason);
-    writeln!(
-        text,
-        "To find it in your file: `trlab explain < FILE`. All reasons: docs/ERRORS.md."
-    );
 }
 
 /// Adds the words for a number, and returns whether there is no such number.
@@ -85,7 +45,7 @@ fn push_number(text: &mut Draft, topic: Topic, number: u32) -> bool
     true
 }
 
-/// Adds the number itself.
+/// Adds the start of a page, for example `Cause 5: `.
 fn push_topic(page: &mut Page, topic: Topic, number: u32) -> Result<()>
     ensures { OnOk result (page.new ≡ page.old ++ topic_front topic number) }
 {
@@ -99,7 +59,7 @@ fn push_topic(page: &mut Page, topic: Topic, number: u32) -> Result<()>
 
 /// Whether there is no such number, and the page on it.
 fn number_page(alloc: Global, topic: Topic, number: u32) -> Result<(bool, Vec<u8>)>
-    ensures { IfOk result (λ told. IsNumberPage topic number told.0 told.1.items) }
+    ensures { IfOk result (λ page. IsNumberPage topic number page.0 page.1.items) }
 {
     let mut text = Draft::new(alloc);
     let is_none = push_number(&mut text, topic, number);
@@ -110,7 +70,7 @@ fn number_page(alloc: Global, topic: Topic, number: u32) -> Result<(bool, Vec<u8
     Ok((is_none, plain_bytes(alloc, &page)?))
 }
 
-/// Writes the meaning of the cause or reason with a number, and how to repair it. An unknown number is rejected.
+/// Writes the meaning of the cause or reason with a number, and a hint if there is one. An unknown number is rejected.
 pub fn explain_number<R: AllocGlobal, K: Sink>(
     rt: &R,
     topic: Topic,

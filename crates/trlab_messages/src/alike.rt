@@ -4,7 +4,7 @@ use std::alloc::Global;
 use strsim::generic_damerau_levenshtein;
 use trlab_diagnosis::{Result, is_named};
 
-/// The maximum length of a word that is compared with names: all names are shorter.
+/// The maximum length of a word that is compared with names: no name is longer.
 const LONGEST_WORD: usize = 32;
 
 /// The maximum number of edits from a word to the name that was meant.
@@ -13,8 +13,8 @@ const MAX_EDITS: usize = 2;
 /// The maximum number of names that a word is compared with.
 const MAX_NAMES: u32 = 4096;
 
-/// The number of edits from a word to another, if at most `most`. Exchanging two neighbours is one edit; the case of
-/// letters does not matter.
+/// The number of edits from a word to another, if at most `most`. Exchanging two neighbours is one edit. Words that
+/// differ only in case have 0 edits; otherwise a letter in the other case is one.
 pub fn edits_within(
     alloc: Global,
     word: &[u8],
@@ -43,7 +43,7 @@ pub struct NearestName<'a> {
 }
 
 impl<'a> NearestName<'a> {
-    /// Before any name was compared. Not every letter of a short word may be wrong.
+    /// Before any name is compared. Not every letter of a short word may be wrong.
     pub fn to(word: &[u8]) -> NearestName<'a> {
         NearestName {
             edits: word.len().max(1).min(MAX_EDITS + 1),
@@ -73,7 +73,7 @@ impl<'a> NearestName<'a> {
     }
 }
 
-/// The name of one of these that a word was meant to be: the one with the fewest edits, if no other is as near.
+/// The nearest of some names: the one with the fewest edits, if no other is as near.
 pub fn nearest<'a, T: Copy, F: Fn(T) -> &'a [u8]>(
     alloc: Global,
     word: &[u8],

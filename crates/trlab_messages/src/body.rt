@@ -28,8 +28,9 @@ pub fn count(key: &'static str, front: &'static str, count: u64, after: &'static
 #[derive(Drop)]
 pub struct Problem<'a> {
     pub cause: Cause,
-    /// The number of the line, and the line itself unless the input has ended.
+    /// The number of the line.
     pub line: u32,
+    /// The line; `None` at the end of the input.
     pub text: Option<&'a [u8]>,
     /// The bytes at fault: how many come before them in the line, and their number. `None` means the whole line.
     pub span: Option<(usize, usize)>,
@@ -38,7 +39,7 @@ pub struct Problem<'a> {
     /// The problem in words; empty if there is no more to say than the cause does.
     pub found: Draft,
     /// Where to look if nothing was found and no repair helps; else empty.
-    pub check: &'static str,
+    pub hint: &'static str,
 }
 
 /// The instruction at which the verifier rejects a program, and why.
@@ -48,8 +49,9 @@ pub struct Rejection {
     pub at: u32,
     /// The number of its line; 1 for a program in bytes.
     pub line: u32,
-    /// The instruction as it is written, and as a line of the text form.
+    /// The instruction as it is written.
     pub text: Draft,
+    /// The instruction after the number of its line, as in the text form.
     pub instruction: Draft,
     pub reason: u32,
     pub meaning: &'static str,
@@ -65,22 +67,24 @@ pub struct Known {
     pub facts: Draft,
 }
 
-/// An explanation below its head.
+/// An explanation without its status, the line that the command prints and the line at fault.
 #[derive(Drop)]
 pub struct Body<'a> {
     pub alloc: Global,
-    /// What the input is read as, and the first line of the text form; it may be empty.
+    /// The kind of input it is read as.
     pub subject: Subject,
+    /// The first line of the text form; may be empty.
     pub intro: &'static str,
     pub problem: Option<Problem<'a>>,
     pub rejection: Option<Rejection>,
-    /// The facts known before the rejected instruction, one per line.
+    /// The facts known before the rejected instruction, and the missing one, one per line.
     pub known: Draft,
     /// The paths to the rejected instruction, or the rules of a valid input, one per line.
     pub facts: Draft,
     pub table: Vec<Known>,
-    /// The numbers of a valid input, and how many of them come above the facts in the text form.
+    /// The numbers of a valid input.
     pub numbers: Vec<Number>,
+    /// How many of them come above the facts in the text form.
     pub numbers_above: usize,
     /// A repair that helps, with the place of the error.
     pub repair: Option<(Place<'a>, Repair)>,
@@ -88,7 +92,7 @@ pub struct Body<'a> {
 }
 
 impl<'a> Body<'a> {
-    /// Without any part yet.
+    /// An empty body.
     pub fn new(alloc: Global, subject: Subject) -> Body<'a> {
         Body {
             alloc,
@@ -106,7 +110,7 @@ impl<'a> Body<'a> {
         }
     }
 
-    /// The value, unless an allocation for it failed.
+    /// Returns the value, or remembers that its allocation failed.
     pub fn value<T>(&mut self, value: Result<T>) -> Option<T> {
         self.has_failed |= value.is_err();
         value.ok()
@@ -116,16 +120,14 @@ impl<'a> Body<'a> {
         self.has_failed |= self.numbers.extend_from_slice(numbers).is_err();
     }
 
-    /// Adds an instruction of an accepted program.
-    pub fn add_known(&mut self, known: Known) {
+    /// Adds a row to the table.
+    pub fn add_row(&mut self, known: Known) {
         self.has_failed |= self.table.push(known).is_err();
     }
 
-    /// Reports whether an allocation failed, except for words, whose drafts report it.
-    ///
     /// # Errors
     ///
-    /// If one failed.
+    /// If an allocation failed, except those of drafts, which report them.
     pub fn outcome(&self) -> Result<()> {
         if self.has_failed {
             Err(AllocError)

@@ -10,7 +10,7 @@ use crate::candidates::bytes::{
 };
 use crate::candidates::line::line_candidates;
 use crate::candidates::number::number_candidates;
-use crate::candidates::program::{label_candidate, operand_candidates, word_candidates};
+use crate::candidates::program::{label_candidate, operand_candidates, unknown_word_candidates};
 use crate::names::line_after;
 use std::alloc::{AllocError, Global};
 use trlab_asm::Why;
@@ -36,7 +36,7 @@ const LATE: &str = "this line belongs elsewhere, or is a duplicate.";
 const WINDOWS: &str =
     "the line ends with a carriage return (Windows line ending): use LF only, in all lines.";
 
-/// The candidates for a fault, as many as are tried at most.
+/// The candidates for a fault, at most `MAX_TRIED`.
 #[derive(Drop)]
 pub struct Candidates<'a> {
     pub alloc: Global,
@@ -59,13 +59,13 @@ impl<'a> Candidates<'a> {
         }
     }
 
-    /// The value, unless an allocation for it failed.
+    /// Returns the value, or remembers that its allocation failed.
     pub fn value<T>(&mut self, value: Result<T>) -> Option<T> {
         self.has_failed |= value.is_err();
         value.ok()
     }
 
-    /// Adds a change, and why it may help.
+    /// Adds a change, and the mistake that it corrects.
     pub fn change(&mut self, mistake: &'static str, change: Change) {
         if self.repairs.len() < MAX_TRIED {
             let pushed = self.repairs.push(Repair { mistake, change });
@@ -73,45 +73,51 @@ impl<'a> Candidates<'a> {
         }
     }
 
-    /// Adds that bytes of the input after position `at` are replaced.
-    pub fn edit(&mut self, why: &'static str, at: usize, removed: usize, put: Result<Vec<u8>>) {
+    /// Adds a candidate that replaces `removed` bytes of the input, from position `at` on.
+    pub fn edit(&mut self, mistake: &'static str, at: usize, removed: usize, put: Result<Vec<u8>>) {
         if let Some(inserted) = self.value(put) {
             let edit = Edit {
                 at,
                 removed,
                 inserted,
             };
-            self.change(why, Change::Edited(edit));
+            self.change(mistake, Change::Edited(edit));
         }
     }
 
-    /// Adds that bytes of the line at fault after position `at` are replaced by new ones.
-    pub fn rewrite(&mut self, why: &'static str, at: usize, removed: usize, put: Result<Vec<u8>>) {
+    /// Adds a candidate that replaces bytes of the line at fault by new ones.
+    pub fn rewrite(
+        &mut self,
+        mistake: &'static str,
+        at: usize,
+        removed: usize,
+        put: Result<Vec<u8>>,
+    ) {
         let start = self.fault.place.start;
-        self.edit(why, start.saturating_add(at), removed, put);
+        self.edit(mistake, start.saturating_add(at), removed, put);
     }
 
-    /// Adds that bytes of the line at fault after position `at` are replaced.
-    pub fn in_line(&mut self, why: &'static str, at: usize, removed: usize, put: &[u8]) {
+    /// Adds a candidate that replaces bytes of the line at fault.
+    pub fn in_line(&mut self, mistake: &'static str, at: usize, removed: usize, put: &[u8]) {
         let put = put.to_vec(self.alloc);
-        self.rewrite(why, at, removed, put);
+        self.rewrite(mistake, at, removed, put);
     }
 
-    /// Adds a new line above the one at fault, or at the end of the input.
-    pub fn above(&mut self, why: &'static str, line: LineName) {
+    /// Adds a candidate that inserts a line above the one at fault, or at the end of the input.
+    pub fn above(&mut self, mistake: &'static str, line: LineName) {
         let inserted = line_after(self.fault.place.above(), line);
-        self.in_line(why, 0, 0, inserted);
+        self.in_line(mistake, 0, 0, inserted);
     }
 
-    /// Adds that the line at fault is deleted.
-    pub fn without_line(&mut self, why: &'static str) {
+    /// Adds a candidate that deletes the line at fault.
+    pub fn without_line(&mut self, mistake: &'static str) {
         let place = self.fault.place;
         let left = place.text.len().saturating_sub(place.start);
         let removed = self.line.len().saturating_add(1).min(left);
-        self.in_line(why, 0, removed, b"");
+        self.in_line(mistake, 0, removed, b"");
     }
 
-    /// Adds that a word of the line at fault after position `at` is replaced by the name that was meant, if any.
+    /// Adds a candidate that replaces a word of the line at fault by the name that was meant, if there is one.
     pub fn misspelled(&mut self, at: usize, word: &[u8], meant: Result<Option<&[u8]>>) {
         if let Some(Some(meant)) = self.value(meant)
             && meant != word
@@ -124,7 +130,7 @@ impl<'a> Candidates<'a> {
 /// Adds the candidates for a fault of a program's lines.
 fn program_candidates(list: &mut Candidates<'_>, why: Why) {
     match why {
-        Why::Word => word_candidates(list),
+        Why::Word => unknown_word_candidates(list),
         Why::Operand | Why::Number => operand_candidates(list, why),
         Why::NoLabel => label_candidate(list),
         Why::LabelTwice | Why::TooLong | Why::Empty | Why::Memory => {}
@@ -150,7 +156,7 @@ fn add_candidates(list: &mut Candidates<'_>) {
     }
 }
 
-/// The repairs of the first fault of an input that may be tried, the most likely first.
+/// The repairs to try for a fault, the most likely first.
 ///
 /// # Errors
 ///

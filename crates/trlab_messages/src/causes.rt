@@ -5,7 +5,6 @@ use trlab_code::CodeFault;
 use trlab_road::RoadFault;
 use trlab_texts::Cause;
 
-/// The meaning of a cause.
 pub fn cause_meaning(cause: Cause) -> &'static str {
     match cause {
         Cause::Line => "Unexpected, malformed or missing line.",
@@ -78,7 +77,7 @@ fn road_meaning(fault: RoadFault) -> &'static str {
 }
 
 /// Where to look if no repair is likely for a cause; empty if the meaning says it.
-pub fn cause_check(cause: Cause) -> &'static str {
+pub fn cause_hint(cause: Cause) -> &'static str {
     match cause {
         Cause::Line => "the keyword, and how many values follow it.",
         Cause::Number | Cause::Program(Why::Number) =>
@@ -99,7 +98,7 @@ pub fn cause_check(cause: Cause) -> &'static str {
             "whether the program can be shorter: the maximum is 128 instructions.",
         Cause::Program(Why::Empty) =>
             "whether the lines of the program are missing, or all comments.",
-        Cause::Code(fault) => code_check(fault),
+        Cause::Code(fault) => code_hint(fault),
         Cause::Road(RoadFault::Length) =>
             "the length of each lane: 1 to 100000 cells, and equal for both lanes.",
         Cause::Road(RoadFault::Character { .. }) =>
@@ -112,7 +111,7 @@ pub fn cause_check(cause: Cause) -> &'static str {
 }
 
 /// Where to look for a fault of a program's bytes.
-fn code_check(fault: CodeFault) -> &'static str {
+fn code_hint(fault: CodeFault) -> &'static str {
     match fault {
         CodeFault::Short | CodeFault::Count | CodeFault::Trailing =>
             "bytes 7 and 8 (low byte first): they give the number of instructions, 8 bytes each.",

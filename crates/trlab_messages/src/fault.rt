@@ -1,12 +1,9 @@
-//! The first error of an input: what was expected and found there, and a repair.
-
-ghost use Rattle.std.specs.Prelude.{IfOk, IfSome};
-ghost use Rattle.trlab_diagnosis.specs.Repairs.{Helps};
+//! The first error of an input: the expected forms, the problem, and a repair.
 
 use crate::body::{Body, Problem};
 use crate::candidates::candidates_for;
-use crate::causes::cause_check;
-use crate::forms::{EXPECTED_OF_CHECK, INSTRUCTIONS, form_of, form_of_line};
+use crate::causes::cause_hint;
+use crate::forms::{EXPECTED_OF_CHECK, INSTRUCTIONS, form_of_instruction, form_of_line};
 use crate::found::{push_found, span_of};
 use crate::names::named;
 use crate::program::add_rejected_part;
@@ -18,8 +15,8 @@ use trlab_diagnosis::{
 use trlab_texts::word::head_word;
 use trlab_texts::{Cause, LineName, LineNames, Wanted};
 
-/// The words for what an input is read as.
-fn read_as(subject: Subject) -> &'static str {
+/// The first line of the explanation of an error.
+fn intro_of(subject: Subject) -> &'static str {
     match subject {
         Subject::Job => "Read as a job (`trlab run`).",
         Subject::Sweep => "Read as a sweep (`trlab sweep`).",
@@ -51,7 +48,11 @@ fn push_forms(forms: &mut Draft, fault: &Fault<'_>) {
         Cause::Program(Why::Word) => writeln!(forms, "{INSTRUCTIONS}"),
         Cause::Program(Why::Operand | Why::Number) => {
             if let Some(name) = mnemonic_named(name_and_operands(fault.line()).0) {
-                writeln!(forms, "{}\nRegisters are r0 to r7.", form_of(name));
+                writeln!(
+                    forms,
+                    "{}\nRegisters are r0 to r7.",
+                    form_of_instruction(name)
+                );
             }
         }
         _ => {}
@@ -59,16 +60,16 @@ fn push_forms(forms: &mut Draft, fault: &Fault<'_>) {
 }
 
 /// Where to look for an error if nothing was found and no repair helps.
-fn check_of(fault: &Fault<'_>) -> &'static str {
+fn hint_of(fault: &Fault<'_>) -> &'static str {
     let may_begin = fault.wants(LineName::Motion) || fault.wants(LineName::Change);
     if may_begin && mnemonic_named(name_and_operands(fault.line()).0).is_some() {
         "the line above. A program begins with `motion` or `change`."
     } else {
-        cause_check(fault.cause)
+        cause_hint(fault.cause)
     }
 }
 
-/// The first error of an input at a place. The body has its repair, if one helps.
+/// The problem at a fault. The repair of the body is set before: a problem without words and repair has a hint.
 fn problem_at<'a>(body: &Body<'a>, place: Place<'a>, fault: &Fault<'_>) -> Problem<'a> {
     let mut found = Draft::new(body.alloc);
     push_found(&mut found, fault);
@@ -82,22 +83,20 @@ fn problem_at<'a>(body: &Body<'a>, place: Place<'a>, fault: &Fault<'_>) -> Probl
         span: span_of(fault),
         expected,
         found,
-        check: if is_clear { "" } else { check_of(fault) },
+        hint: if is_clear { "" } else { hint_of(fault) },
     }
 }
 
-/// The most likely repair that helps: with it, the input is valid or its first error is further down.
-fn likely_repair(alloc: Global, fault: Fault<'_>) -> Result<Option<Repair>>
-    ensures { IfOk result (λ found. IfSome found
-        (λ repair. Helps fault.entry.subject fault.entry.place.text.now fault.entry.place.number repair.change)) }
-{
+/// The most likely repair that helps: with it, the input has no error or its first one is further down. The verifier
+/// may still reject the program of a check.
+fn likely_repair(alloc: Global, fault: Fault<'_>) -> Result<Option<Repair>> {
     first_that_helps(alloc, fault, candidates_for(alloc, fault)?)
 }
 
-/// Adds the first error of an input at a place.
+/// Adds the first error of an input. `place` is that of the fault, for as long as the input lives.
 pub fn add_fault<'a>(body: &mut Body<'a>, place: Place<'a>, fault: &Fault<'_>) {
     if fault.cause != Cause::TooBig {
-        body.intro = read_as(fault.subject);
+        body.intro = intro_of(fault.subject);
     }
     if let Cause::Verdict(reason) = fault.cause {
         add_rejected_part(body, fault, reason);

@@ -41,7 +41,7 @@ pub const INSTRUCTIONS: &str =
      jump, jlt, jle, jtrue, jfalse, go, cross or stay.";
 
 /// The form of an instruction with its operands.
-pub fn form_of(name: Mnemonic) -> &'static str {
+pub fn form_of_instruction(name: Mnemonic) -> &'static str {
     match name {
         Mnemonic::Num => "`num rd, n` (n from 0 to 4294967295).",
         Mnemonic::Get => {

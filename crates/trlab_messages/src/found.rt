@@ -1,4 +1,4 @@
-//! What is wrong at a fault, in words. There are none if the cause says it all.
+//! The problem at a fault, in words; none if the meaning of the cause is enough.
 
 mod line;
 mod program;
@@ -34,7 +34,7 @@ fn push_number_problem(found: &mut Draft, word: &[u8], least: u64, most: u64) {
 }
 
 /// The position of the first character that is not a hexadecimal digit.
-pub fn first_no_digit(word: &[u8]) -> Option<usize> {
+pub fn first_non_digit(word: &[u8]) -> Option<usize> {
     word.iter().position(|byte| !byte.is_ascii_hexdigit())
 }
 
@@ -44,7 +44,7 @@ fn push_digits_problem(found: &mut Draft, word: &[u8], is_key: bool) {
     if is_key && count != KEY_DIGITS {
         return write!(found, "the length of the key is {count}, not 64.");
     }
-    match first_no_digit(word) {
+    match first_non_digit(word) {
         Some(before) => {
             let place = before.saturating_add(1);
             write!(
@@ -56,7 +56,7 @@ fn push_digits_problem(found: &mut Draft, word: &[u8], is_key: bool) {
     }
 }
 
-/// Adds the problem with the length of the lane at fault; `first` is that of the first lane if there is another.
+/// Adds the problem with the length of a lane; `first` is that of the first lane, or 0 if this is the first.
 fn push_cells_problem(found: &mut Draft, line: &[u8], first: u32) {
     let cells = line.len().saturating_sub(BEFORE_CELLS);
     if first == 0 {
@@ -82,7 +82,7 @@ fn push_speed_problem(found: &mut Draft, fault: &Fault<'_>, limit: u32) {
     }
 }
 
-/// The bytes at fault: how many bytes of the line come before them, and their number. `None` means the whole line.
+/// The position and the number of the bytes at fault in their line. `None` means the whole line.
 pub fn span_of(fault: &Fault<'_>) -> Option<(usize, usize)> {
     let line = fault.line();
     match fault.cause {
@@ -98,7 +98,7 @@ pub fn span_of(fault: &Fault<'_>) -> Option<(usize, usize)> {
     }
 }
 
-/// Adds what is wrong at a fault, unless the cause says it all.
+/// Adds the problem at a fault, unless the meaning of the cause is enough.
 pub fn push_found(found: &mut Draft, fault: &Fault<'_>) {
     let line = fault.line();
     let (at, length) = fault.word().unwrap_or((0, 0));

@@ -7,7 +7,7 @@ use trlab_diagnosis::Amount;
 use trlab_jobs::Job;
 use trlab_road::Road;
 
-/// The number of bytes that a run writes: for each step its line and a row per lane.
+/// The number of bytes that a run writes without `--every` and `--from`: for each step its line and a row per lane.
 fn output_bytes(road: &Road, steps: u32) -> u64 {
     let rows = u64::from(road.lanes()).saturating_mul(u64::from(road.length()).saturating_add(1));
     let mut bytes = 0u64;
@@ -18,7 +18,7 @@ fn output_bytes(road: &Road, steps: u32) -> u64 {
     bytes
 }
 
-/// An upper bound on the bytes of memory of a run with one worker, fitted to measurements.
+/// An estimate of the bytes of memory of a run with one worker, fitted to measurements.
 fn memory_bytes(text: &[u8], cars: u64) -> u64 {
     (text.len() as u64)
         .saturating_mul(9)

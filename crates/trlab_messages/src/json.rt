@@ -45,13 +45,13 @@ fn instruction_and_advice(
     match (rejection, problem.cause) {
         (Some(rejection), _) => (Some(u64::from(rejection.at)), rejection.advice),
         (None, Cause::Code(CodeFault::Opcode(pc) | CodeFault::Field(pc))) => {
-            (Some(u64::from(pc)), problem.check)
+            (Some(u64::from(pc)), problem.hint)
         }
-        (None, _) => (None, problem.check),
+        (None, _) => (None, problem.hint),
     }
 }
 
-/// Adds an error that its reader found.
+/// Adds an error that the reader of the input found.
 fn add_cause(out: &mut Object, problem: &Problem<'_>, rejection: Option<&Rejection>) {
     let (pc, advice) = instruction_and_advice(problem, rejection);
     out.begin_object("error");
@@ -99,7 +99,7 @@ fn add_error(out: &mut Object, body: &Body<'_>) {
 fn add_table(out: &mut Object, table: &[Known]) {
     out.begin_array("known");
     for known in table {
-        out.begin();
+        out.begin_item();
         out.member("line", Member::Count(u64::from(known.line)));
         out.member("instruction", Member::Text(&known.instruction));
         out.member("facts", Member::Lines(&known.facts));
@@ -108,26 +108,25 @@ fn add_table(out: &mut Object, table: &[Known]) {
     out.end_array();
 }
 
-/// Adds the change of an input with an error.
-fn add_edit(out: &mut Object, fault: &Place<'_>, edit: &Edit) {
-    let place = place_of(fault, edit.at);
+/// Adds an edit: its line, its span and the replacement.
+fn add_edit(out: &mut Object, error: &Place<'_>, edit: &Edit) {
+    let place = place_of(error, edit.at);
     let before = edit.at.saturating_sub(place.start);
-    out.begin();
+    out.begin_item();
     out.member("line", Member::Count(u64::from(place.number)));
     add_span(out, Some((before, edit.removed)));
     out.member("replacement", Member::Bytes(&edit.inserted));
     out.end_object();
 }
 
-/// Adds a repair of an input with an error.
-fn add_repair(out: &mut Object, fault: &Place<'_>, repair: &Repair) {
-    out.begin();
+fn add_repair(out: &mut Object, error: &Place<'_>, repair: &Repair) {
+    out.begin_item();
     out.member("why", Member::Words(repair.mistake));
     match &repair.change {
         Change::Edited(edit) => {
             out.member("command", Member::Null);
             out.begin_array("edits");
-            add_edit(out, fault, edit);
+            add_edit(out, error, edit);
             out.end_array();
         }
         Change::ReadAs(other) => {
@@ -159,9 +158,9 @@ fn add_numbers(out: &mut Object, numbers: &[Number]) {
     out.end_object();
 }
 
-/// Begins the object of an explanation, with the members that describe the input, its error and its work.
-pub fn add_body(out: &mut Object, body: &Body<'_>) {
-    out.begin();
+/// Begins an object, with a body as its members.
+pub fn add_members(out: &mut Object, body: &Body<'_>) {
+    out.begin_item();
     out.member("format", Member::Count(FORMAT));
     out.member("command", Member::Words(command_of(body.subject)));
     add_error(out, body);

@@ -1,10 +1,10 @@
-//! The words of explanations: the problem at the first error of an input, the forms of the lines that would be valid
-//! there, a repair, why the verifier rejects a program, or the work of a valid input. They are collected in a `Body`,
-//! which is written below the head of an explanation, as text or as members of a JSON object. No contract says which
-//! words these are.
+//! The words of explanations: the problem at the first error of an input, the forms that would be valid there, a
+//! repair, why the verifier rejects a program, and the work of a valid input. They are collected in a `Body`, which is
+//! written as text after the head of an explanation, or as members of a JSON object before the status. No contract
+//! fixes these words.
 //!
 //! ```text
-//! push_body(&mut text, body); // for example "This is a valid job: `trlab run` runs it." and more lines
+//! push_text(&mut text, body); // for example "This is a valid job: `trlab run` runs it." and more lines
 //! ```
 #![tactic(auto)]
 
@@ -24,13 +24,13 @@ mod repairs;
 mod rules;
 mod sweep;
 mod text;
+mod topics;
 
 pub use body::Body;
-pub use causes::{cause_check, cause_meaning};
 pub use fault::add_fault;
 pub use job::add_job;
-pub use json::add_body;
-pub use program::{ProgramVerdict, add_checked};
-pub use reasons::{advice, reason_meaning};
+pub use json::add_members;
+pub use program::{ProgramVerdict, add_program};
 pub use sweep::add_sweep;
-pub use text::push_body;
+pub use text::push_text;
+pub use topics::{push_cause, push_reason};

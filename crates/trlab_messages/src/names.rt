@@ -33,7 +33,7 @@ pub fn is_of(name: LineName, subject: Subject) -> bool {
     }
 }
 
-/// An example of the line, with its LF and that of the line before.
+/// An example of a line, with its LF and that of the line before.
 fn sample(name: LineName) -> &'static [u8] {
     match name {
         LineName::Road => b"\nroad 1\n",
@@ -56,7 +56,7 @@ fn sample(name: LineName) -> &'static [u8] {
     }
 }
 
-/// An example of the line to insert after a text, with an LF first if the last line of the text has none.
+/// An example of a line to insert after a text, with an LF first if the last line of the text has none.
 pub fn line_after(text: &[u8], line: LineName) -> &'static [u8] {
     let sample = sample(line);
     if !text.is_empty() && text.last() != Some(&b'\n') {

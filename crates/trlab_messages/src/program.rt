@@ -25,20 +25,20 @@ pub enum ProgramVerdict {
     Rejected(u32, u32),
 }
 
-/// A program with the lines of its instructions, each with its number in the whole input. A program in bytes is
-/// listed: it has the lines of its canonical form.
+/// A program with the lines of its instructions and their numbers: in the input, or in the canonical form for a program
+/// in bytes.
 #[derive(Clone, Copy)]
 pub struct Listing<'a> {
     code: &'a Code,
     lines: &'a [(u32, &'a [u8])],
-    is_listed: bool,
+    is_in_bytes: bool,
 }
 
 impl Listing<'_> {
     /// The number of an instruction's line: `listed` for a program in bytes.
     fn line_number(&self, pc: u32, listed: u32) -> u32 {
         match self.lines.get(pc as usize) {
-            Some((number, _)) if !self.is_listed => *number,
+            Some((number, _)) if !self.is_in_bytes => *number,
             _ => listed,
         }
     }
@@ -50,10 +50,10 @@ impl Listing<'_> {
         }
     }
 
-    /// Adds the line of an instruction with its number, or that of the instruction for a program in bytes.
+    /// Adds an instruction after `line N: `, or after `instruction N: ` for a program in bytes.
     fn push_instruction(&self, text: &mut Draft, pc: u32) {
         match self.lines.get(pc as usize) {
-            Some((_, line)) if self.is_listed => {
+            Some((_, line)) if self.is_in_bytes => {
                 write!(text, "instruction {pc}: {}", Quoted(*line))
             }
             Some((number, line)) => write!(text, "line {number}: {}", Quoted(*line)),
@@ -122,7 +122,7 @@ fn add_accepted(body: &mut Body<'_>, program: Listing<'_>, budget: u32) {
     };
     let mut pc = 0u32;
     for note in &table {
-        body.add_known(known_at(body.alloc, program, pc, note));
+        body.add_row(known_at(body.alloc, program, pc, note));
         pc = pc.saturating_add(1);
     }
 }
@@ -136,11 +136,11 @@ fn add_verdict(
 ) {
     let (number, line, below) = place;
     let line = without_prefix(b"notes ", line).unwrap_or(line);
-    let is_listed = without_prefix(b"code ", line).is_some();
+    let is_in_bytes = without_prefix(b"code ", line).is_some();
     let Some(listing) = body.value(disassemble(body.alloc, code)) else {
         return;
     };
-    let (above, text) = if is_listed {
+    let (above, text) = if is_in_bytes {
         (0, listing.as_slice())
     } else {
         (number, below)
@@ -152,7 +152,7 @@ fn add_verdict(
     let program = Listing {
         code,
         lines: &lines,
-        is_listed,
+        is_in_bytes,
     };
     match verdict {
         ProgramVerdict::Accepted(budget) => add_accepted(body, program, budget),
@@ -173,7 +173,7 @@ pub fn add_rejected_part(body: &mut Body<'_>, fault: &Fault<'_>, reason: u32) {
 }
 
 /// Adds the verdict on the program of a check.
-pub fn add_checked(body: &mut Body<'_>, text: &[u8], code: &Code, verdict: ProgramVerdict) {
+pub fn add_program(body: &mut Body<'_>, text: &[u8], code: &Code, verdict: ProgramVerdict) {
     let (line, below) = next_line(text).unwrap_or((b"", b""));
     add_verdict(body, code, (1, line, below), verdict);
 }

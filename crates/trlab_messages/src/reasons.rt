@@ -3,7 +3,6 @@
 use trlab_code::Kind;
 use trlab_notes::Reason;
 
-/// The meaning of a reason.
 pub fn reason_meaning(reason: Reason) -> &'static str {
     match reason {
         Reason::Unreachable => "This instruction can never be reached.",

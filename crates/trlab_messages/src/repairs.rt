@@ -11,30 +11,30 @@ pub fn command_of(subject: Subject) -> &'static str {
     }
 }
 
-/// The number of the line of a text with a byte.
+/// The number of the line that has the byte at `at`.
 fn line_of(text: &[u8], at: usize) -> u32 {
     let above = bytes_at(text, 0, at).iter();
     let lines = above.filter(|byte| **byte == b'\n').count();
     u32::try_from(lines).unwrap_or(u32::MAX).saturating_add(1)
 }
 
-/// The line with a byte of an input with an error: mostly that of the error.
-pub fn place_of<'a>(fault: &Place<'a>, at: usize) -> Place<'a> {
-    let length = fault.line.unwrap_or(b"").len();
-    if fault.start <= at && at <= fault.start.saturating_add(length) {
-        *fault
+/// The line that has the byte at `at`: usually that of the error.
+pub fn place_of<'a>(error: &Place<'a>, at: usize) -> Place<'a> {
+    let length = error.line.unwrap_or(b"").len();
+    if error.start <= at && at <= error.start.saturating_add(length) {
+        *error
     } else {
-        Place::at(fault.text, line_of(fault.text, at))
+        Place::at(error.text, line_of(error.text, at))
     }
 }
 
-/// A new line without its end.
-fn new_line(inserted: &[u8]) -> Shown<'_> {
+/// The inserted line without its LFs.
+fn inserted_line(inserted: &[u8]) -> Shown<'_> {
     let line = inserted.strip_prefix(b"\n").unwrap_or(inserted);
     Shown(line.strip_suffix(b"\n").unwrap_or(line))
 }
 
-/// Adds a change within a line, after `before` of its bytes.
+/// Adds an edit within a line, after its first `before` bytes.
 fn push_within(text: &mut Draft, place: &Place<'_>, before: usize, edit: &Edit) {
     let line = place.line.unwrap_or(b"");
     let number = place.number;
@@ -58,13 +58,12 @@ fn push_within(text: &mut Draft, place: &Place<'_>, before: usize, edit: &Edit) 
     }
 }
 
-/// Adds a change of an input with an error.
-fn push_edit(text: &mut Draft, fault: &Place<'_>, edit: &Edit) {
-    let new = new_line(&edit.inserted);
-    if edit.at == fault.text.len() {
+fn push_edit(text: &mut Draft, error: &Place<'_>, edit: &Edit) {
+    let new = inserted_line(&edit.inserted);
+    if edit.at == error.text.len() {
         return writeln!(text, "At the end, add the line `{new}`.");
     }
-    let place = place_of(fault, edit.at);
+    let place = place_of(error, edit.at);
     let number = place.number;
     let before = edit.at.saturating_sub(place.start);
     let length = place.line.unwrap_or(b"").len();
@@ -79,11 +78,11 @@ fn push_edit(text: &mut Draft, fault: &Place<'_>, edit: &Edit) {
     }
 }
 
-/// Adds a repair of an input with an error.
-pub fn push_repair(text: &mut Draft, fault: &Place<'_>, repair: &Repair) {
+/// Adds a repair, and how to make it.
+pub fn push_repair(text: &mut Draft, error: &Place<'_>, repair: &Repair) {
     writeln!(text, "Repair: {}", repair.mistake);
     match &repair.change {
-        Change::Edited(edit) => push_edit(text, fault, edit),
+        Change::Edited(edit) => push_edit(text, error, edit),
         Change::ReadAs(other) => {
             let command = command_of(*other);
             writeln!(text, "Read it with `trlab {command}`.");

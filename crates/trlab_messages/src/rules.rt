@@ -1,4 +1,4 @@
-//! The rules of a valid input, with their probabilities, and counts of its bytes.
+//! The rules of a valid input with their probabilities, and two helpers for sizes.
 
 use crate::names::after_rule;
 use trlab_bounds::programs::CERTAIN;
@@ -9,7 +9,7 @@ use trlab_texts::word::{head_word, number_from};
 /// A rule has at most this many probabilities.
 const MAX_CHANCES: u32 = 2;
 
-/// A probability of at most this many parts of 2^31, one in a million, may be meant as another number.
+/// A probability of at most this many parts of 2^31, one in a million, is probably a mistake.
 const SMALL: u32 = 2147;
 
 /// Adds a probability, which a file writes as p x 2^31.

@@ -4,8 +4,8 @@ use crate::body::{Body, count};
 use crate::rules::{count_digits, megabytes, push_rules};
 use trlab_jobs::Sweep;
 
-/// The fewest and the most cars of a point, and all cars of all points.
-fn span_of(cars: &[u32]) -> (u32, u32, u64) {
+/// The minimum and the maximum number of cars of a point, and their sum over all points.
+fn car_counts(cars: &[u32]) -> (u32, u32, u64) {
     let mut fewest = u32::MAX;
     let mut most = 0;
     let mut all = 0u64;
@@ -17,8 +17,8 @@ fn span_of(cars: &[u32]) -> (u32, u32, u64) {
     (fewest, most, all)
 }
 
-/// How many of some cars start on lane 0 of two: they are spread evenly over the cells, which count across the
-/// lanes.
+/// How many of these cars start on lane 0 of two lanes: they are spread evenly over the cells, which alternate between
+/// the lanes.
 fn cars_of_first_lane(cells: u64, cars: u32) -> u64 {
     let mut first = 0u64;
     for car in 0..cars {
@@ -30,7 +30,7 @@ fn cars_of_first_lane(cells: u64, cars: u32) -> u64 {
     first
 }
 
-/// Adds how many of some cars start on lane 0.
+/// Adds how many of these cars start on lane 0.
 fn add_start(body: &mut Body<'_>, key: &'static str, cells: u64, cars: u32) {
     let first = cars_of_first_lane(cells, cars);
     body.add_numbers(&[
@@ -39,9 +39,10 @@ fn add_start(body: &mut Body<'_>, key: &'static str, cells: u64, cars: u32) {
     ]);
 }
 
-/// The bytes of the heading of a table, and for each row those of the commas, the end and the longest flow.
+/// The bytes of the heading of a table.
 const HEADING_BYTES: u64 = 49;
 
+/// The bytes of a row besides its numbers: the commas, the end and the longest flow.
 const ROW_BYTES: u64 = 15;
 
 /// The maximum number of bytes of the table of a sweep.
@@ -64,8 +65,8 @@ fn output_bytes(sweep: &Sweep) -> u64 {
 /// The maximum number of cars of the roads that a sweep keeps at once.
 const MAX_AT_ONCE: u64 = 6_400_000;
 
-/// An upper bound on the bytes of memory of a sweep with one runner, fitted to measurements: by its file, the cars
-/// of all points and of the largest one, and the steps.
+/// An estimate of the bytes of memory of a sweep with one runner, fitted to measurements: by the size of its file, the
+/// cars of all points and of the largest one, and the steps.
 fn memory_bytes(text: &[u8], all: u64, most: u32, steps: u64) -> u64 {
     (text.len() as u64)
         .saturating_mul(9)
@@ -80,7 +81,7 @@ fn add_roads(body: &mut Body<'_>, sweep: &Sweep) {
     let (lanes, length) = (u64::from(sweep.lanes), u64::from(sweep.length));
     let cells = lanes.saturating_mul(length);
     let limit = u64::from(sweep.limit);
-    let (fewest, most, _) = span_of(&sweep.cars);
+    let (fewest, most, _) = car_counts(&sweep.cars);
     body.add_numbers(&[
         count("lanes", "Lanes: ", lanes, "."),
         count("cells", "Cells per lane: ", length, "."),
@@ -99,7 +100,7 @@ fn add_roads(body: &mut Body<'_>, sweep: &Sweep) {
 
 /// Adds the points of a sweep, and their work.
 fn add_points(body: &mut Body<'_>, text: &[u8], sweep: &Sweep) {
-    let (_, most, all) = span_of(&sweep.cars);
+    let (_, most, all) = car_counts(&sweep.cars);
     let points = sweep.cars.len() as u64;
     let (warm, measure) = (u64::from(sweep.warm), u64::from(sweep.measure));
     let steps = warm.saturating_add(measure);

@@ -17,7 +17,7 @@ fn push_problem(text: &mut Draft, problem: &Problem<'_>) {
         Cause::Program(_) => "",
         _ => "or ",
     };
-    text.add_lines("Expected: ", later, &problem.expected);
+    text.push_lines("Expected: ", later, &problem.expected);
     match problem.cause {
         Cause::Code(CodeFault::Opcode(pc) | CodeFault::Field(pc)) => {
             writeln!(text, "Instruction {pc}, counted from 0.")
@@ -40,12 +40,12 @@ fn push_numbers(text: &mut Draft, numbers: &[Number]) {
     }
 }
 
-/// Adds the facts known before each instruction. An empty line comes first, because they do not follow from the
-/// instruction above if this one is the target of a jump.
+/// Adds the facts known before each instruction. An empty line separates them from the instruction above, from which
+/// they do not follow at the target of a jump.
 fn push_table(text: &mut Draft, table: &[Known]) {
     for known in table {
         writeln!(text);
-        text.add_lines("    ", "    ", &known.facts);
+        text.push_lines("    ", "    ", &known.facts);
         writeln!(text, "{}", known.instruction);
     }
 }
@@ -70,8 +70,8 @@ fn push_help(text: &mut Draft, body: &Body<'_>) {
         if !problem.found.is_empty() {
             writeln!(text, "Found: {}", problem.found);
         }
-        if !problem.check.is_empty() {
-            writeln!(text, "Check: {}", problem.check);
+        if !problem.hint.is_empty() {
+            writeln!(text, "Check: {}", problem.hint);
         }
     }
     if let Some((place, repair)) = &body.repair {
@@ -79,8 +79,8 @@ fn push_help(text: &mut Draft, body: &Body<'_>) {
     }
 }
 
-/// Adds an explanation below its head.
-pub fn push_body(text: &mut Draft, body: &Body<'_>) {
+/// Adds a body as text.
+pub fn push_text(text: &mut Draft, body: &Body<'_>) {
     if !body.intro.is_empty() {
         writeln!(text, "{}", body.intro);
     }

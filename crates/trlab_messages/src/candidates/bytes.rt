@@ -1,21 +1,20 @@
 //! Candidates for keys, programs in bytes and lanes.
 
 use crate::candidates::{Candidates, DIGITS};
-use crate::found::{BEFORE_CELLS, KEY_DIGITS, first_no_digit};
+use crate::found::{BEFORE_CELLS, KEY_DIGITS, first_non_digit};
 use std::alloc::Global;
 use trlab_diagnosis::{Place, Result, bytes_at};
 use trlab_texts::word::without_prefix;
 use trlab_texts::{Cause, Wanted};
 
-/// A key with leading zeros, of a word with fewer digits.
+/// A key that is a word with fewer digits after leading zeros.
 fn long_key(alloc: Global, word: &[u8]) -> Result<Vec<u8>> {
     let mut key = vec![in alloc; b'0'; KEY_DIGITS.saturating_sub(word.len())]?;
     key.extend_from_slice(word)?;
     Ok(key)
 }
 
-/// Adds that `0x` is deleted, that a letter is replaced by the digit it was meant to be, or that a short key gets
-/// leading zeros.
+/// Adds candidates that delete `0x`, replace a letter by the digit that was meant, or put zeros before a short key.
 pub fn hex_candidates(list: &mut Candidates<'_>) {
     let Some((at, length)) = list.fault.word() else {
         return;
@@ -24,7 +23,7 @@ pub fn hex_candidates(list: &mut Candidates<'_>) {
     if word.starts_with(b"0x") {
         list.in_line(DIGITS, at, 2, b"");
     }
-    if let Some(place) = first_no_digit(word) {
+    if let Some(place) = first_non_digit(word) {
         let digit_at = at.saturating_add(place);
         match word.get(place) {
             Some(b'o' | b'O') => list.in_line(DIGITS, digit_at, 1, b"0"),
@@ -37,7 +36,7 @@ pub fn hex_candidates(list: &mut Candidates<'_>) {
     }
 }
 
-/// Adds that the version is 1, because no instruction of the program needs version 2.
+/// Adds a candidate that writes version 1, because no instruction of the program needs version 2.
 pub fn version_candidate(list: &mut Candidates<'_>) {
     if let Some(space) = list.line.iter().rposition(|byte| *byte == b' ') {
         let mistake = "the version is 1 if no instruction reads `headspeed`.";
@@ -48,7 +47,7 @@ pub fn version_candidate(list: &mut Candidates<'_>) {
 /// The maximum length of a lane next to which an empty one is inserted.
 const LONGEST_LANE: usize = 100;
 
-/// Adds that a capital letter in a cell becomes a small one.
+/// Adds a candidate that writes a capital letter in a cell as a small one.
 pub fn cell_candidate(list: &mut Candidates<'_>, cell: u32) {
     let at = BEFORE_CELLS.saturating_add(cell as usize);
     let mistake = "a car is a digit or a lower-case letter.";
@@ -63,12 +62,12 @@ pub fn cell_candidate(list: &mut Candidates<'_>, cell: u32) {
 /// The line of an empty lane with this number of cells.
 fn empty_lane(alloc: Global, cells: usize) -> Result<Vec<u8>> {
     let mut line = b"lane ".to_vec(alloc)?;
-    line.resize(cells.saturating_add(5), b'.')?;
+    line.resize(cells.saturating_add(BEFORE_CELLS), b'.')?;
     line.push(b'\n')?;
     Ok(line)
 }
 
-/// Adds the second lane that a rule needs: an empty one below the first, or the line `lanes 2`.
+/// Adds a candidate for the second lane that a rule needs: an empty one below the first, or the line `lanes 2`.
 pub fn lanes_candidate(list: &mut Candidates<'_>) {
     let Wanted::SecondLane { line: number } = list.fault.wanted else {
         return;

@@ -1,4 +1,4 @@
-//! Candidates for a line that is not one of those that would be valid there.
+//! Candidates for an unexpected line.
 
 use crate::alike::{NearestName, nearest};
 use crate::candidates::number::density_candidate;
@@ -33,7 +33,7 @@ const OTHER_WORDS: [(&[u8], LineName); 14] = [
     (b"sample", LineName::Measure),
 ];
 
-/// Whether a byte separates words, also where it must not.
+/// Whether a byte separates words, also if no line may have it.
 fn separates(byte: u8) -> bool {
     byte == b' ' || byte == b'\t' || byte == b'\r'
 }
@@ -57,7 +57,7 @@ pub fn joined(alloc: Global, words: &[u8], separator: &[u8]) -> Result<Vec<u8>> 
     Ok(bytes)
 }
 
-/// Adds that words are separated by single spaces, with none at either end of the line.
+/// Adds a candidate with single spaces between words, and none at either end of the line.
 fn blanks_candidate(list: &mut Candidates<'_>) {
     if list.line.len() > LONGEST_LINE {
         return;
@@ -69,7 +69,7 @@ fn blanks_candidate(list: &mut Candidates<'_>) {
     }
 }
 
-/// Adds that the first such byte, all bytes after it and the blanks before it are deleted.
+/// Adds a candidate that deletes a comment: the first `byte`, everything after it, and the blanks before it.
 fn comment_candidate(list: &mut Candidates<'_>, byte: u8) {
     let Some((front, _)) = cut(list.line, byte) else {
         return;
@@ -101,7 +101,7 @@ fn odd_candidates(list: &mut Candidates<'_>) {
     comment_candidate(list, b'#');
 }
 
-/// The name of a wanted line that is most like a word.
+/// The name of a valid line that is most like a word.
 fn nearest_wanted(list: &Candidates<'_>, word: &[u8]) -> Result<Option<&'static [u8]>> {
     let mut best = NearestName::to(word);
     for name in &LineName::ALL {
@@ -112,7 +112,7 @@ fn nearest_wanted(list: &Candidates<'_>, word: &[u8]) -> Result<Option<&'static 
     Ok(best.found)
 }
 
-/// Adds the names of wanted lines that the first word may mean.
+/// Adds the names of valid lines that the first word may mean.
 fn name_candidates(list: &mut Candidates<'_>, word: &[u8]) {
     list.misspelled(0, word, nearest_wanted(list, word));
     if is_named(word, b"density") && list.fault.wants(LineName::Cars) {
@@ -135,7 +135,7 @@ fn rule_candidate(list: &mut Candidates<'_>) {
     }
 }
 
-/// Adds that the first line of a program is inserted above an instruction.
+/// Adds candidates that insert the first line of a program above an instruction.
 fn heading_candidates(list: &mut Candidates<'_>) {
     for line in &[LineName::Motion, LineName::Change] {
         if list.fault.subject == Subject::Check || list.fault.wants(*line) {
@@ -144,18 +144,18 @@ fn heading_candidates(list: &mut Candidates<'_>) {
     }
 }
 
-/// Adds that a wanted line is inserted, for each that is never left out and that no program follows.
-fn missing_candidates(list: &mut Candidates<'_>, why: &'static str) {
+/// Adds a candidate that inserts a valid line, for each that is required and that no program follows.
+fn missing_candidates(list: &mut Candidates<'_>, mistake: &'static str) {
     for line in &LineName::ALL {
         match line {
             LineName::Motion | LineName::Change | LineName::At | LineName::End => {}
-            _ if list.fault.wants(*line) => list.above(why, *line),
+            _ if list.fault.wants(*line) => list.above(mistake, *line),
             _ => {}
         }
     }
 }
 
-/// Adds the command that reads a text with this first word, if it is another one.
+/// Adds the command that reads an input with this first word, if it is another one.
 fn command_candidate(list: &mut Candidates<'_>, word: &[u8]) {
     match subject_named(word) {
         Some(other) if list.fault.place.number == 1 && other != list.fault.subject => {
@@ -165,7 +165,7 @@ fn command_candidate(list: &mut Candidates<'_>, word: &[u8]) {
     }
 }
 
-/// Adds the lines that are missing at the end of a text.
+/// Adds the lines that may be missing at the end of an input.
 fn ended_candidates(list: &mut Candidates<'_>) {
     if list.fault.wants(LineName::End) {
         end_candidates(list);
@@ -175,7 +175,7 @@ fn ended_candidates(list: &mut Candidates<'_>) {
     }
 }
 
-/// Adds the heading of a program that the first word may mean, and that the line is deleted.
+/// Adds the heading of a program that the first word may mean, and a candidate that deletes the line.
 fn check_candidates(list: &mut Candidates<'_>, word: &[u8]) {
     let meant = nearest(list.alloc, word, &CHECK_NAMES, |name| name);
     list.misspelled(0, word, meant);
@@ -193,7 +193,7 @@ fn word_candidates(list: &mut Candidates<'_>, word: &[u8]) {
     }
 }
 
-/// Adds candidates for a line that is not one of those that would be valid there.
+/// Adds candidates for an unexpected line.
 pub fn line_candidates(list: &mut Candidates<'_>) {
     let word = head_word(list.line);
     if list.fault.place.line.is_none() {

@@ -99,7 +99,7 @@ impl Fraction {
     }
 }
 
-/// The number of some digits, unless there are too many; 0 if there are none.
+/// The value of these digits: 0 if there are none, `None` if there are too many.
 fn value_of(digits: &[u8]) -> Option<u128> {
     if digits.is_empty() {
         return Some(0);
@@ -114,7 +114,7 @@ fn power_of_ten(exponent: u128) -> u128 {
     10u128.saturating_pow(exponent.min(18) as u32)
 }
 
-/// The fraction that a word writes, with or without a decimal point.
+/// The fraction of a word with or without a decimal point.
 fn decimal_of(word: &[u8]) -> Option<Fraction> {
     let (whole, digits) = cut(word, b'.').unwrap_or((word, b""));
     if whole.is_empty() && digits.is_empty() {
@@ -127,7 +127,7 @@ fn decimal_of(word: &[u8]) -> Option<Fraction> {
     Some(Fraction { over, under })
 }
 
-/// The fraction that a word writes, also with an exponent after `e`.
+/// The fraction of a word that may have an exponent after `e`.
 fn power_form_of(word: &[u8]) -> Option<Fraction> {
     let Some((front, power)) = cut(word, b'e').or(cut(word, b'E')) else {
         return decimal_of(word);
@@ -141,7 +141,7 @@ fn power_form_of(word: &[u8]) -> Option<Fraction> {
     Some(Fraction { over, under })
 }
 
-/// The fraction that a word writes, for example `0.25`, `.25`, `25%`, `1/4`, `1e4` or `007`.
+/// The fraction of a word, for example `0.25`, `.25`, `25%`, `1/4`, `1e4` or `007`.
 fn fraction_of(word: &[u8]) -> Option<Fraction> {
     let word = word.strip_prefix(b"+").unwrap_or(word);
     if let Some(front) = word.strip_suffix(b"%") {

@@ -34,8 +34,8 @@ fn is_like_end(alloc: Global, line: &[u8]) -> Result<bool> {
     Ok(edits_within(alloc, name, b"end", 1)?.is_some())
 }
 
-/// Where the line `end` may be missing in the last program of a text: a line that may be `end` with something after
-/// it, by its position and length, and the position of the first other line that may follow a program.
+/// Places for a missing line `end` in the last program of a text: the position and length of a line that may be `end`
+/// with something after it, and the position of the first other line that may follow a program.
 fn end_places(alloc: Global, text: &[u8]) -> Result<(Option<(usize, usize)>, Option<usize>)> {
     let mut like_end: Option<(usize, usize)> = None;
     let mut next: Option<usize> = None;
@@ -58,7 +58,7 @@ fn end_places(alloc: Global, text: &[u8]) -> Result<(Option<(usize, usize)>, Opt
     Ok((like_end, next))
 }
 
-/// Adds the line `end` where it may be missing in the last program of an input that has ended.
+/// Adds candidates with the line `end` in the last program of an input that has ended.
 pub fn end_candidates(list: &mut Candidates<'_>) {
     let places = end_places(list.alloc, list.fault.place.text);
     let (like_end, next) = list.value(places).unwrap_or((None, None));
@@ -71,7 +71,7 @@ pub fn end_candidates(list: &mut Candidates<'_>) {
     list.above(ENDLESS, LineName::End);
 }
 
-/// Adds that a comment begins with `;` and not as in other languages.
+/// Adds candidates that write `;` instead of the comment mark of other languages.
 fn other_comment_candidates(list: &mut Candidates<'_>) {
     let line = without_comment(list.line);
     if let Some((front, _)) = cut(line, b'#') {
@@ -83,7 +83,7 @@ fn other_comment_candidates(list: &mut Candidates<'_>) {
     }
 }
 
-/// Adds that the line is `end`, or that it is deleted, because a driver program has no such line.
+/// Adds a candidate that writes the line as `end`, or deletes it because a driver program has no such line.
 fn like_end_candidate(list: &mut Candidates<'_>) {
     if list.fault.subject == Subject::Check {
         let mistake = "`trlab check` takes no line `end`: the program ends where the input ends.";
@@ -94,7 +94,7 @@ fn like_end_candidate(list: &mut Candidates<'_>) {
 }
 
 /// Adds candidates for a line whose first word is not an instruction.
-pub fn word_candidates(list: &mut Candidates<'_>) {
+pub fn unknown_word_candidates(list: &mut Candidates<'_>) {
     other_comment_candidates(list);
     let (label, _) = label_and_rest(without_comment(list.line));
     let (name, _) = name_and_operands(list.line);
@@ -168,7 +168,7 @@ fn word_candidate(list: &mut Candidates<'_>, found: OperandWord<'_>) {
     }
 }
 
-/// Adds that operands are separated by commas.
+/// Adds a candidate with commas between the operands.
 fn comma_candidate(list: &mut Candidates<'_>) {
     let (name, operands) = name_and_operands(list.line);
     let words = without_indent(operands);

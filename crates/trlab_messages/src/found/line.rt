@@ -1,4 +1,4 @@
-//! The problem with a line that is not one of those that would be valid there.
+//! The problem with an unexpected line.
 
 use crate::names::{RULES, after_rule, is_of, named};
 use trlab_diagnosis::{Draft, Fault, Oddity, Quoted, Subject, oddity_of};
@@ -8,7 +8,7 @@ use trlab_texts::{LineName, LineNames};
 /// Adds the problem with the words after `rule`: an unknown name, or too many or too few values.
 fn push_rule_problem(problem: &mut Draft, words: &[u8]) {
     let rule = head_word(words);
-    let found = words.iter().filter(|byte| **byte == b' ').count();
+    let count = words.iter().filter(|byte| **byte == b' ').count();
     let name = Quoted(rule);
     let takes = match RULES.iter().find(|form| form.0 == rule) {
         None => {
@@ -17,15 +17,15 @@ fn push_rule_problem(problem: &mut Draft, words: &[u8]) {
                 "unknown rule `{name}`. The rules are nasch, vdr, rickert and own."
             );
         }
-        Some((_, takes)) if *takes == found => return,
+        Some((_, takes)) if *takes == count => return,
         Some((_, 0)) => "no values",
         Some((_, 1)) => "one value",
         Some(_) => "two values",
     };
-    write!(problem, "`rule {name}` takes {takes}, found {found}.");
+    write!(problem, "`rule {name}` takes {takes}, found {count}.");
 }
 
-/// Adds the problem with a line that begins with this word, although lines of other names are valid there.
+/// Adds the problem with a line whose first word is not valid there.
 fn push_name_problem(problem: &mut Draft, subject: Subject, word: &[u8]) {
     match named(word) {
         Some(name) if !is_of(name, subject) => {
@@ -75,7 +75,7 @@ fn odd_words(oddity: Oddity) -> &'static str {
     }
 }
 
-/// Adds the problem with a line that is not one of those that would be valid there.
+/// Adds the problem with an unexpected line.
 pub fn push_line_problem(problem: &mut Draft, fault: &Fault<'_>, names: LineNames) {
     let Some(line) = fault.place.line else {
         let missing = if names.has(LineName::End) {

@@ -13,7 +13,7 @@ fn count_operands(operands: &[u8]) -> usize {
         .count()
 }
 
-/// The words for an operand of another form, after the word itself.
+/// The message for an operand of the wrong form; it follows the operand.
 fn wrong_operand(operand: OperandKind) -> &'static str {
     match operand {
         OperandKind::Register =>
@@ -28,16 +28,16 @@ fn wrong_operand(operand: OperandKind) -> &'static str {
     }
 }
 
-/// Adds the operand of another form, or that there are too many or too few operands.
+/// Adds the first operand of the wrong form, or the wrong number of operands.
 fn push_operand_problem(problem: &mut Draft, line: &[u8]) {
     let (name, operands) = name_and_operands(line);
     let Some(name) = mnemonic_named(name) else {
         return;
     };
-    let found = count_operands(operands);
+    let count = count_operands(operands);
     let wanted = operand_kinds(name).len();
-    if found != wanted {
-        return write!(problem, "{found} operands; the instruction takes {wanted}.");
+    if count != wanted {
+        return write!(problem, "{count} operands; the instruction takes {wanted}.");
     }
     if let Some(found) = operand_at_fault(line, Why::Operand) {
         let word = Quoted(found.word);
@@ -45,7 +45,7 @@ fn push_operand_problem(problem: &mut Draft, line: &[u8]) {
     }
 }
 
-/// Adds that the label of a line is not one.
+/// Adds the problem with an invalid label.
 fn push_label_problem(problem: &mut Draft, line: &[u8]) {
     match label_and_rest(without_comment(line)) {
         (Some(label), _) if !is_label(label) => {
@@ -60,7 +60,7 @@ fn push_label_problem(problem: &mut Draft, line: &[u8]) {
     }
 }
 
-/// Adds the problem with a line of a program, unless the cause says it all.
+/// Adds the problem with a line of a program, unless the meaning of the cause is enough.
 pub fn push_program_problem(problem: &mut Draft, line: &[u8], why: Why) {
     match why {
         Why::Word => push_label_problem(problem, line),
@@ -76,8 +76,7 @@ pub fn push_program_problem(problem: &mut Draft, line: &[u8], why: Why) {
     }
 }
 
-/// The label of a line if it is not one, else the name of its instruction: how many bytes come before it, and its
-/// length.
+/// The position and length of an invalid label, else of the name of the instruction.
 pub fn word_span(line: &[u8]) -> Option<(usize, usize)> {
     let (before, length) = match label_and_rest(without_comment(line)) {
         (Some(label), _) if !is_label(label) => (0, label.len()),

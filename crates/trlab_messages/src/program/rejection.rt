@@ -32,7 +32,7 @@ fn maximum_of(note: &Note, register: Register) -> u64 {
     }
 }
 
-/// Adds a fact that is not known about the operands, which is why the instruction is rejected, if there is one.
+/// Adds the missing fact for which an instruction is rejected, if it can be named.
 fn push_missing(known: &mut Draft, reason: Reason, note: &Note, instr: Instr) {
     match (reason, instr) {
         (Reason::MaybeTooLarge, Instr::Add(_, a, b)) => {
