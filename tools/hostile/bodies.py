@@ -267,7 +267,10 @@ class Crate:
         blamed, is_refused, _ = status.partition("which antt refuses")
         # (a lemma is refused for what is stated, the answers of another function for that function)
         refused = [name for name in re.findall(rf"`Rattle\.{self.name}\.proofs\.([^`]+)`", blamed) if is_refused]
-        is_own = any(name.startswith(f"{path.replace('/', '.')}.") or ".Answers." not in name for name in refused)
+        module, _, last = path.replace("/", ".").rpartition(".")
+        # Its own answers, or those of the cycle of calls in which it is.
+        own = re.compile(rf"{re.escape(module)}\.?(?:\+(?:\S+[-+])?)?{re.escape(last)}\.")
+        is_own = any(own.match(name) or ".Answers." not in name for name in refused)
         return status if is_own or "did not prove" in status else None
 
     def refusal_of(self, lines, body):
