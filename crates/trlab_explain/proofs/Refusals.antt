@@ -10,7 +10,7 @@ use Rattle.trlab_explain.specs.Explanations.{IsRefusedText, IsHeadAs, IsFaultHea
 pub refusal_has_head : {U E : Type 0} (r : Result U E) (subject : Subject) (text : List ℕ) (line : ℕ) (cause : Cause) (refused : Bool) (answer quote : List ℕ)
     → IsRefusedText subject text (At line cause) → OnOk r (IsFaultHead text (record { line = line; cause = cause }) refused answer quote)
     → OnOk r (IsHeadAs subject text refused answer quote)
-refusal_has_head (Ok x) Job text line cause refused answer quote says tells = (Err (record { line = line; cause = cause }), says, tells)
-refusal_has_head (Ok x) Sweep text line cause refused answer quote says tells = (Err (record { line = line; cause = cause }), says, tells)
-refusal_has_head (Ok x) Check text line cause refused answer quote says tells = (Err (record { line = line; cause = cause }), says, tells)
-refusal_has_head (Err x) subject text line cause refused answer quote says tells = tt
+refusal_has_head (Ok x) Job text line cause refused answer quote reads head = (Err (record { line = line; cause = cause }), reads, head)
+refusal_has_head (Ok x) Sweep text line cause refused answer quote reads head = (Err (record { line = line; cause = cause }), reads, head)
+refusal_has_head (Ok x) Check text line cause refused answer quote reads head = (Err (record { line = line; cause = cause }), reads, head)
+refusal_has_head (Err x) subject text line cause refused answer quote reads head = tt

@@ -36,7 +36,7 @@ pub struct Problem<'a> {
     pub span: Option<(usize, usize)>,
     /// The forms that would be valid, one per line.
     pub expected: Draft,
-    /// The problem in words; empty if there is no more to say than the cause does.
+    /// The problem in words; empty if the meaning of the cause is enough.
     pub found: Draft,
     /// Where to look if nothing was found and no repair helps; else empty.
     pub hint: &'static str,

@@ -1,5 +1,8 @@
 //! The first error of an input: the expected forms, the problem, and a repair.
 
+ghost use Rattle.std.specs.Prelude.{IfOk, IfSome};
+ghost use Rattle.trlab_diagnosis.specs.Repairs.{Helps};
+
 use crate::body::{Body, Problem};
 use crate::candidates::candidates_for;
 use crate::causes::cause_hint;
@@ -89,7 +92,14 @@ fn problem_at<'a>(body: &Body<'a>, place: Place<'a>, fault: &Fault<'_>) -> Probl
 
 /// The most likely repair that helps: with it, the input has no error or its first one is further down. The verifier
 /// may still reject the program of a check.
-fn likely_repair(alloc: Global, fault: Fault<'_>) -> Result<Option<Repair>> {
+///
+/// # Errors
+///
+/// If an allocation fails.
+pub fn likely_repair(alloc: Global, fault: Fault<'_>) -> Result<Option<Repair>>
+    ensures { IfOk result (λ found. IfSome found
+        (λ repair. Helps fault.entry.subject fault.entry.place.text.now fault.entry.place.number repair.change)) }
+{
     first_that_helps(alloc, fault, candidates_for(alloc, fault)?)
 }
 

@@ -1,7 +1,7 @@
 //! The words of explanations: the problem at the first error of an input, the forms that would be valid there, a
 //! repair, why the verifier rejects a program, and the work of a valid input. They are collected in a `Body`, which is
-//! written as text after the head of an explanation, or as members of a JSON object before the status. No contract
-//! fixes these words.
+//! written as text after the head of an explanation, or as members of a JSON object before the status. The only
+//! contract is that a repair from `likely_repair` helps.
 //!
 //! ```text
 //! push_text(&mut text, body); // for example "This is a valid job: `trlab run` runs it." and more lines
@@ -27,7 +27,7 @@ mod text;
 mod topics;
 
 pub use body::Body;
-pub use fault::add_fault;
+pub use fault::{add_fault, likely_repair};
 pub use job::add_job;
 pub use json::add_members;
 pub use program::{ProgramVerdict, add_program};
