@@ -67,7 +67,7 @@ def memory(programs, folder):
 
 def rows(programs, is_quick, folder):
     """All rows of series and of the memory of a sweep; something is wanted of each."""
-    times = 3 if is_quick else 5
+    times = 3 if is_quick else 10
     for rule, lanes in RULES.items():
         yield one_window(programs, rule, lanes, times, folder)
     yield many_windows(programs, times, folder)

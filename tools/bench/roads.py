@@ -5,7 +5,7 @@ from typing import NamedTuple
 import tools
 from rows import Row, a_move, wish
 
-SECONDS = 0.2
+SECONDS = 0.05  # of a run: on a shared machine a short one is more often undisturbed
 BYTES = 30_000_000  # of an output that is compared
 MAX_STEPS = 500_000  # of a job text
 LANES = {
@@ -93,7 +93,7 @@ def fitting_steps(road, path, seconds_of, most=MAX_STEPS):
 
 
 def by_numba(command, path):
-    """The runs in numba, which print their own times."""
+    """The runs in numba, which tell their own times."""
     return {"numba": (command, path, tools.told), TUNED + "numba": ([*command, "tuned"], path, tools.told)}
 
 
@@ -104,7 +104,8 @@ def by_numpy(programs, road, folder, times):
     road.write(path, steps)
     if not road.draws():
         tools.compare([[programs.trlab, "run"], command], path, folder)
-    return a_move(tools.best([tools.told(command, path) for _ in range(times)]), (0, 0), road.cars() * steps)
+    best = tools.best_of({"NumPy": (command, path, tools.told)}, times // tools.TOLD)["NumPy"]
+    return a_move(best, (0, 0), road.cars() * steps)
 
 
 def commands_of(programs, road):
@@ -131,12 +132,11 @@ def measure(programs, road, times, folder):
     road.write(at_start, 0)
     road.write(path, steps)
     idle = tools.best_of({name: (command, at_start) for name, command in commands.items()}, times)
-    runs = {name: (command, path) for name, command in commands.items()}
+    whole = tools.best_of({name: (command, path) for name, command in commands.items()}, times)
     if programs.numba and road.rule.startswith("nasch"):
-        runs |= by_numba(programs.numba, path)
+        whole |= tools.best_of(by_numba(programs.numba, path), times // tools.TOLD)
         idle |= {"numba": (0, 0), TUNED + "numba": (0, 0)}
-    whole = tools.best_of(runs, times)
-    took = {name: a_move(whole[name], idle[name], road.cars() * steps) for name in runs}
+    took = {name: a_move(whole[name], idle[name], road.cars() * steps) for name in whole}
     if programs.numpy and road.rule.startswith("nasch"):
         took["NumPy"] = by_numpy(programs, road, folder, times)
     return row_of(road, took)
@@ -189,7 +189,7 @@ def memory(programs, times, folder):
 
 def rows(programs, is_quick, folder):
     """All rows of one road."""
-    times = 3 if is_quick else 5
+    times = 10 if is_quick else 20
     for road in roads(is_quick):
         yield measure(programs, road, times, folder)
     yield growth(programs, times, folder)

@@ -1,7 +1,7 @@
 -- The output for an accepted program is that of a check.
 use Rattle.std.proofs.Common.{◌≡◌, ℕ, List, Bool, false, ◌∙◌, ap, subst, sym}
 use Rattle.std.specs.Prelude.{Result, Ok, Err, IfOk}
-use Rattle.trlab_code.specs.declared.kind.Kind.{Kind}
+use Rattle.trlab_code.specs.declared.program.Kind.{Kind}
 use Rattle.trlab_code.specs.Program.{Program}
 use Rattle.trlab_verify.specs.Longest.{IsLongest}
 use Rattle.trlab_verify.specs.Verdict.{IsAccepted}

@@ -2,7 +2,7 @@
 
 ghost use Rattle.std.specs.Prelude.{◌≡◌, [], ◌∷◌, ◌++◌, flat_map, length, OnOk};
 ghost use Rattle.std.specs.List.{range_with_len};
-ghost use Rattle.trlab_code.specs.declared.kind.Kind.{Kind};
+ghost use Rattle.trlab_code.specs.declared.program.Kind.{Kind};
 ghost use Rattle.trlab_notes.specs.Notes.{with_side};
 ghost use Rattle.trlab_verify.specs.TableForm.{said_of, meaning, meaning_at};
 ghost use Rattle.trlab_verify.specs.Verdict.{IsAccepted};

@@ -3,8 +3,8 @@ use Rattle.std.proofs.Common.{◌≡◌, ◌∙◌, ℕ, ◌+◌, ◌*◌, ◌/�
 use Rattle.std.specs.List.{flat_map}
 use Rattle.std.specs.Bool.{Decides}
 use Rattle.std.proofs.lemmas.Bool.{eqb-true, eq-eqb}
-use Rattle.trlab_code.specs.declared.kind.Kind.{Kind}
-use Rattle.trlab_code.specs.declared.kind.Kind.TheVariants.{Motion, Change}
+use Rattle.trlab_code.specs.declared.program.Kind.{Kind}
+use Rattle.trlab_code.specs.declared.program.Kind.TheVariants.{Motion, Change}
 use Rattle.trlab_code.specs.declared.instruction.Register.{Register}
 use Rattle.trlab_code.specs.declared.instruction.Register.TheVariants.{R0, R1, R2, R3, R4, R5, R6, R7}
 use Rattle.trlab_code.specs.declared.instruction.Input.{Input}

@@ -9,8 +9,7 @@ ghost use Rattle.trlab_code.specs.declared.fault.CodeFault.{CodeFault};
 
 use crate::fault::CodeFault;
 use crate::instruction::Instr;
-use crate::kind::Kind;
-use crate::program::Code;
+use crate::program::{Code, Kind};
 use crate::row::{self, InstructionRow};
 use std::alloc::{AllocError, Global};
 use trlab_bounds::programs::{

@@ -11,7 +11,6 @@
 mod encoding;
 mod fault;
 mod instruction;
-mod kind;
 pub mod laws;
 mod program;
 mod row;
@@ -20,8 +19,7 @@ mod view;
 pub use encoding::{decode, encode};
 pub use fault::CodeFault;
 pub use instruction::{Input, Instr, Register, Variable};
-pub use kind::Kind;
-pub use program::Code;
+pub use program::{Code, Kind};
 pub use trlab_bounds::programs::{CERTAIN, MAX_INSTRUCTIONS, VARIABLES, WORDS};
 pub use trlab_bounds::roads::{MAX_GAP, MAX_LIMIT};
 pub use view::{ChangeView, MotionView, View};

@@ -5,9 +5,17 @@ ghost use Rattle.std.specs.List.{list_any};
 ghost use Rattle.trlab_code.specs.Program.{Program, IsInRange, IsProgram, IsOfVersion, reads_headspeed, version_of};
 
 use crate::instruction::{Input, Instr};
-use crate::kind::Kind;
 use std::marker::Model;
 use trlab_bounds::programs::{CERTAIN, HEADSPEED_VERSION, MAX_INSTRUCTIONS, PLAIN_VERSION, WORDS};
+
+/// The two kinds of driver programs, by what they decide.
+#[derive(Clone, Copy, Debug, PartialEq, Eq)]
+pub enum Kind {
+    /// The speed of a car, and with it how far the car goes in this step.
+    Motion,
+    /// Whether a car crosses to the other lane.
+    Change,
+}
 
 /// A program of 1 to 128 instructions whose fields are in range.
 pub struct Code {

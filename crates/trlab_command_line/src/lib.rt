@@ -10,9 +10,7 @@ mod arguments;
 mod engines;
 mod help;
 mod printing;
-mod status;
 
 pub use arguments::{Explaining, Request, read_words};
 pub use engines::execute;
-pub use printing::print_help_or_error;
-pub use status::{REFUSED_ARGUMENTS, status_of_end};
+pub use printing::{REFUSED_ARGUMENTS, print_help_or_error, status_of_end};

@@ -1,4 +1,5 @@
-//! Help, and messages for arguments that are rejected.
+//! Help, messages for arguments that are rejected, and the exit statuses: the numbers of `End`, and 2 for arguments
+//! that are rejected.
 
 ghost use Rattle.std.specs.Prelude.{◌≡◌, ◌↔◌, ◌⊎◌, true, false};
 ghost use Rattle.clap.specs.Words.{kind_of};
@@ -7,13 +8,34 @@ ghost use Rattle.trlab_campaign.specs.Flushes.{HandedOnce};
 ghost use Rattle.trlab_campaign.specs.Writers.{AddsNone, bytes_of};
 ghost use Rattle.trlab_campaign.specs.declared.end.End.TheVariants.{Memory};
 ghost use Rattle.trlab_command_line.specs.Outputs.{IsHelp};
-ghost use Rattle.trlab_command_line.specs.Statuses.{asks_for_help, status_of_print};
+ghost use Rattle.trlab_command_line.specs.Statuses.{asks_for_help, status_of_end, status_of_error, status_of_print};
 
-use crate::status::{status_of_end, status_of_error};
 use clap::Error;
 use clap::error::ErrorKind;
 use std::alloc::{AllocGlobal, Global};
 use trlab_campaign::{End, Sink, write_output};
+
+/// The exit status of arguments that are rejected.
+pub const REFUSED_ARGUMENTS: u8 = 2;
+
+/// The exit status of a command, by how it ended.
+pub fn status_of_end(end: End) -> u8
+    ensures { result ≡ status_of_end end }
+{
+    end as u8
+}
+
+/// The exit status of arguments that `clap` does not accept as a command: 0 if they ask for help, 3 if an allocation
+/// failed, and otherwise 2.
+pub fn status_of_error(error: &Error) -> u8
+    ensures { result ≡ status_of_error (kind_of error.now) }
+{
+    match error.kind() {
+        ErrorKind::DisplayHelp | ErrorKind::DisplayVersion => status_of_end(End::Done),
+        ErrorKind::OutOfMemory => status_of_end(End::Memory),
+        _ => REFUSED_ARGUMENTS,
+    }
+}
 
 /// Writes the requested help or version, and flushes the writer.
 fn write_help<K: Sink>(alloc: Global, error: &Error, writer: &mut K) -> End

@@ -100,7 +100,7 @@ abbrev pub topic_front : Topic → ℕ → List ℕ
 topic_front Cause number = codes "Cause " ++ (decimal number ++ codes ": ")
 topic_front Reason number = codes "Reason " ++ (decimal number ++ codes ": ")
 
--- a page on a number; it is a rejection exactly if there is no such number
+-- the page for a number, which is rejected exactly if it is unknown
 abbrev pub IsNumberPage : Topic → ℕ → Outputs
 IsNumberPage topic number refused out =
     (refused ≡ not (is_known topic number)) × BeginsWith (topic_front topic number) out × All IsPlain out

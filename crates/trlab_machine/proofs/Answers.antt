@@ -1,6 +1,6 @@
 -- Programs have one answer.
 use Rattle.std.proofs.Common.{◌≡◌, ℕ, zero, suc, refl, ap, List}
-use Rattle.trlab_code.specs.declared.kind.Kind.{Kind}
+use Rattle.trlab_code.specs.declared.program.Kind.{Kind}
 use Rattle.trlab_code.specs.declared.instruction.Instr.{Instr}
 use Rattle.trlab_code.specs.declared.view.View.{View}
 use Rattle.trlab_code.specs.Machine.{Answer, MachineState, At, Done, Stuck, start, step, EndsFrom, EndsWith}

@@ -4,8 +4,8 @@
 //! Each law is the contract of a function with an empty body.
 
 ghost use Rattle.std.specs.Prelude.{◌≡◌, ℕ, Bool, IsTrue, List, length};
-ghost use Rattle.trlab_code.specs.declared.kind.Kind.{Kind};
-ghost use Rattle.trlab_code.specs.declared.kind.Kind.TheVariants.{Motion, Change};
+ghost use Rattle.trlab_code.specs.declared.program.Kind.{Kind};
+ghost use Rattle.trlab_code.specs.declared.program.Kind.TheVariants.{Motion, Change};
 ghost use Rattle.trlab_code.specs.declared.instruction.Instr.{Instr};
 ghost use Rattle.trlab_bounds.specs.declared.programs.TheConstants.{WORDS};
 ghost use Rattle.trlab_code.specs.declared.view.View.{View};

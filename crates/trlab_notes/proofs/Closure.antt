@@ -1,7 +1,7 @@
 -- The closure of a note is as strong as the note: nothing that is made of it differs.
 use Rattle.std.proofs.Common.{◌≡◌, ◌∙◌, ℕ, ◌-◌, ◌&&◌, refl, sym, ap, subst, arith, min, max, [], ◌∷◌, ◌++◌, Bool, true, false, Option, Some, None, nat_eq, cond}
 use mathlib.Core.Path.{fun_ext}
-use Rattle.trlab_code.specs.declared.kind.Kind.{Kind}
+use Rattle.trlab_code.specs.declared.program.Kind.{Kind}
 use Rattle.trlab_code.specs.declared.instruction.Input.TheVariants.{Limit, Gap}
 use Rattle.trlab_code.specs.declared.instruction.Instr.{Instr}
 use Rattle.trlab_code.specs.declared.instruction.Instr.TheVariants.{Get, Copy, Add, Sub, Div, Min, Max, JumpLess, JumpAtMost, JumpTrue, JumpFalse, Go}

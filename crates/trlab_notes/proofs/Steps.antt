@@ -3,8 +3,8 @@
 use Rattle.std.proofs.Common.{◌≡◌, ◌≢◌, ℕ, zero, suc, ◌+◌, ◌-◌, ◌*◌, ◌/◌, ◌<◌, ◌≤◌, ◌&&◌, ◌||◌, not, min, max, refl, sym, ap, subst, arith, List, [], ◌∷◌, Bool, true, false, IsTrue, Option, Some, None, nat_eq, nat_lt, nat_le, cond, ◌∙◌}
 use Rattle.std.proofs.lemmas.Bool.{or_parts, le-leb, ltb-true, ltb-false, leb-true, leb-false}
 use Rattle.std.proofs.Math.Nat.{mul-le-mul_right, div-le_self}
-use Rattle.trlab_code.specs.declared.kind.Kind.{Kind}
-use Rattle.trlab_code.specs.declared.kind.Kind.TheVariants.{Motion, Change}
+use Rattle.trlab_code.specs.declared.program.Kind.{Kind}
+use Rattle.trlab_code.specs.declared.program.Kind.TheVariants.{Motion, Change}
 use Rattle.trlab_code.specs.declared.instruction.Register.{Register}
 use Rattle.trlab_code.specs.declared.instruction.Input.{Input}
 use Rattle.trlab_code.specs.declared.instruction.Input.TheVariants.{Limit, Gap}

@@ -1,13 +1,13 @@
 -- Two notes are one where they say the same of the variables.
 use Rattle.std.proofs.Common.{◌≡◌, ℕ, zero, suc, ◌<◌, ◌≤◌, refl, sym, ap, subst, arith, List, [], length, Bool, true, false, IsTrue, nat_eq, cond, ◌&&◌, ◌||◌, get_or, ◌∙◌, min, max, set, get_or-set_same, get_or-set_other}
 use Rattle.std.proofs.lemmas.Nat.Bits.{bit_at-lt}
-use Rattle.trlab_code.specs.declared.kind.Kind.{Kind}
+use Rattle.trlab_code.specs.declared.program.Kind.{Kind}
 use mathlib.Core.Path.{fun_ext}
 use Rattle.trlab_notes.proofs.Variables.{below as below_variables, at_numbers}
 use Rattle.std.proofs.lemmas.Bool.{eqb-true, eqb-false}
 use Rattle.trlab_notes.specs.declared.note.AbstractValue.{AbstractValue}
 use Rattle.trlab_notes.specs.declared.note.AbstractValue.TheVariants.{Nothing, Between, Implies}
-use Rattle.trlab_notes.specs.declared.stored.Stored.{Stored}
+use Rattle.trlab_notes.specs.declared.rows.Stored.{Stored}
 use Rattle.trlab_notes.specs.declared.rows.LevelRow.{LevelRow}
 use Rattle.trlab_notes.specs.Notes.{Note, same_variable, with_side, said_with_side, level_between, known_level, range_level, implies, closure, entry, entry_said, entry_level}
 use Rattle.trlab_notes.specs.Transfer.{assign, chain, refine_order, refine_flag}

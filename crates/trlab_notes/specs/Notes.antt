@@ -1,6 +1,6 @@
 -- Notes: the verifier's knowledge of the values before an instruction, on every path that leads there.
 use Rattle.std.specs.Prelude.{ℕ, ◌||◌, max, Bool, true, false, Option, Some, None, nat_eq, nat_lt, nat_le, if◌then◌else◌}
-use Rattle.trlab_code.specs.declared.kind.Kind.{Kind}
+use Rattle.trlab_code.specs.declared.program.Kind.{Kind}
 use Rattle.trlab_code.specs.declared.instruction.Input.{Input}
 use Rattle.trlab_code.specs.declared.instruction.Input.TheVariants.{Speed, Limit, Gap, SideGap, SideBack, Lane, Headspeed}
 use Rattle.trlab_code.specs.declared.instruction.Variable.{Variable}

@@ -1,7 +1,7 @@
 -- How the code keeps notes.
 use Rattle.std.specs.Prelude.{ℕ, List, Option, Some, None, slice_index_or}
 use Rattle.trlab_code.specs.Machine.{variable_number}
-use Rattle.trlab_notes.specs.declared.stored.Stored.{Stored}
+use Rattle.trlab_notes.specs.declared.rows.Stored.{Stored}
 use Rattle.trlab_notes.specs.Notes.{Note}
 use Rattle.trlab_notes.specs.Rows.{level_of, said_in}
 

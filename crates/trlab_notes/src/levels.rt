@@ -9,8 +9,7 @@ ghost use Rattle.trlab_notes.specs.Rows.{AreLevels, known_with, level_at, level_
 ghost use Rattle.trlab_notes.specs.Stored.{note_of};
 
 use crate::note::{AbstractValue, entry_levels, entry_said, level_between};
-use crate::rows::{LevelRow, columns};
-use crate::stored::Stored;
+use crate::rows::{LevelRow, Stored, columns};
 use trlab_code::{Kind, VARIABLES, Variable};
 
 /// The known levels of the variable x to each, if x has these levels.

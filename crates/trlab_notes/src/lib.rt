@@ -15,12 +15,11 @@ mod note;
 mod reasons;
 mod result;
 mod rows;
-mod stored;
 mod strength;
 mod transfer;
 
 pub use note::{AbstractValue, entry_levels, entry_said, level_between};
 pub use reasons::{Operands, Reason, reason_against};
-pub use stored::Stored;
+pub use rows::Stored;
 pub use strength::{is_no_stronger, join, join_itself};
 pub use transfer::{jump_note, next_note};

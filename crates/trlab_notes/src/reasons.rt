@@ -8,7 +8,7 @@ ghost use Rattle.trlab_notes.specs.Stored.{note_of};
 ghost use Rattle.trlab_notes.specs.Transfer.{register_said};
 
 use crate::note::AbstractValue;
-use crate::stored::Stored;
+use crate::rows::Stored;
 use trlab_bounds::programs::MAX_NUMBER;
 use trlab_code::{Input, Instr, Kind, Register, Variable};
 

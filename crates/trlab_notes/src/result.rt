@@ -13,8 +13,7 @@ ghost use Rattle.trlab_notes.specs.Stored.{note_of};
 ghost use Rattle.trlab_notes.specs.Transfer.{assign_result, flag_implies, least_difference, register_level, register_said, result_said, result_to, to_result};
 
 use crate::note::{AbstractValue, BELOW, level_between};
-use crate::rows::{LevelRow, with_variable};
-use crate::stored::Stored;
+use crate::rows::{LevelRow, Stored, with_variable};
 use trlab_code::{Instr, Register, VARIABLES, Variable};
 
 /// The range of a sum.

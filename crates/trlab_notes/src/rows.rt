@@ -1,11 +1,12 @@
-//! The levels of a variable to all variables, as bits. The rows of all variables are their order.
+//! The levels of a variable to all variables, as bits. The rows of all variables are their order, and a note is
+//! stored with them.
 
 ghost use Rattle.std.specs.Prelude.{◌≡◌, ◌↔◌, ℕ, ◌*◌, ◌<◌, ◌≤◌, IsTrue, min, max, nat_eq, if◌then◌else◌, slice_index};
 ghost use Rattle.std.specs.Int.{bit_at};
 ghost use Rattle.trlab_notes.specs.Transfer.{chain, slacken, sharpen};
-ghost use Rattle.trlab_notes.specs.Rows.{level_in, level_of};
+ghost use Rattle.trlab_notes.specs.Rows.{IsTransposed, TellsRanges, level_in, level_of};
 
-use crate::note::{AT_MOST, BELOW};
+use crate::note::{AT_MOST, AbstractValue, BELOW};
 use trlab_code::VARIABLES;
 
 /// The levels of one variable to all: bit y of `at_most` and `below` is for the variable with the number y.
@@ -238,4 +239,18 @@ pub fn columns(rows: &[LevelRow; VARIABLES]) -> [LevelRow; VARIABLES]
         columns[y] = column(rows, y);
     }
     columns
+}
+
+/// A note: the abstract value of each variable, and all that is known of their order.
+#[derive(Clone, Copy)]
+pub struct Stored {
+    pub said: [AbstractValue; VARIABLES],
+    /// The row of x has the levels of x to each variable.
+    pub rows: [LevelRow; VARIABLES],
+    /// The column of y has the levels of each variable to y.
+    pub columns: [LevelRow; VARIABLES],
+    /// Is the side cell known to be empty?
+    pub side: bool,
+    pub ghost ranges: { TellsRanges said rows },
+    pub ghost transposed: { IsTransposed rows columns },
 }

@@ -8,8 +8,7 @@ ghost use Rattle.trlab_notes.specs.Rows.{level_of};
 ghost use Rattle.trlab_notes.specs.Stored.{note_of};
 
 use crate::note::AbstractValue;
-use crate::rows::join_rows;
-use crate::stored::Stored;
+use crate::rows::{Stored, join_rows};
 use trlab_code::VARIABLES;
 
 /// Whether `s` says no more than `t`.

@@ -8,8 +8,7 @@ ghost use Rattle.trlab_code.specs.Program.{IsInRange};
 ghost use Rattle.trlab_notes.specs.Reasons.{may_be_too_large};
 
 use crate::note::{AT_MOST, BELOW};
-use crate::rows::refine_rows;
-use crate::stored::Stored;
+use crate::rows::{Stored, refine_rows};
 use trlab_code::{Instr, Register, Variable};
 
 impl Stored {

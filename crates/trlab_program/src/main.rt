@@ -118,7 +118,7 @@ fn act<R: AllocGlobal + Threads + Wait + Sync + Eprint, S: Source, K: Sink>(
     requires counts { IfOk request FitsEngines }
     requires reader_works { S.failed reader.old ≡ false }
     requires writer_works { K.failed writer.old ≡ false }
-    // 4 exactly if a device has failed, whatever the arguments.
+    // 4 exactly if a device has failed, for valid and invalid arguments alike.
     ensures { (result ≡ 4) ↔ ((S.failed reader.new || K.failed writer.new) ≡ true) }
 {
     match request {

@@ -2,7 +2,7 @@
 -- each program, and no note depends on a probability.
 use Rattle.std.proofs.Common.{ℕ, ◌+◌, refl, List, [], ◌∷◌, true, false}
 use Rattle.trlab_bounds.specs.declared.roads.TheConstants.{MAX_LIMIT, MAX_GAP}
-use Rattle.trlab_code.specs.declared.kind.Kind.TheVariants.{Motion, Change}
+use Rattle.trlab_code.specs.declared.program.Kind.TheVariants.{Motion, Change}
 use Rattle.trlab_code.specs.declared.instruction.Register.{Register}
 use Rattle.trlab_code.specs.declared.instruction.Register.TheVariants.{R0, R1, R2}
 use Rattle.trlab_code.specs.declared.instruction.Input.{Input}

@@ -1,6 +1,6 @@
 -- The motion program of 1992 answers the published speed.
 use Rattle.std.proofs.Common.{◌≡◌, ℕ, ◌+◌, ◌-◌, ◌<◌, ◌^◌, min, refl, subst, arith, List, Bool, true, false}
-use Rattle.trlab_code.specs.declared.kind.Kind.TheVariants.{Motion}
+use Rattle.trlab_code.specs.declared.program.Kind.TheVariants.{Motion}
 use Rattle.trlab_code.specs.declared.instruction.Register.TheVariants.{R0, R1, R2, R3}
 use Rattle.trlab_code.specs.declared.instruction.Input.TheVariants.{Speed, Limit, Gap}
 use Rattle.trlab_code.specs.declared.view.View.{View}

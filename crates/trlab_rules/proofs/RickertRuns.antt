@@ -1,7 +1,7 @@
 -- The change program of 1996 answers who crosses.
 use Rattle.std.proofs.Common.{◌≡◌, ℕ, ◌+◌, ◌&&◌, refl, List, Bool, true, false, nat_lt, nat_le, cond}
 use Rattle.std.proofs.lemmas.Bool.{ltb-true, ltb-false, lt-leb, le-leb}
-use Rattle.trlab_code.specs.declared.kind.Kind.TheVariants.{Change}
+use Rattle.trlab_code.specs.declared.program.Kind.TheVariants.{Change}
 use Rattle.trlab_code.specs.declared.instruction.Register.TheVariants.{R0, R1, R2, R3}
 use Rattle.trlab_code.specs.declared.instruction.Variable.TheVariants as variable
 use Rattle.trlab_code.specs.declared.instruction.Input.TheVariants.{Speed, Limit, Gap, SideGap, SideBack}

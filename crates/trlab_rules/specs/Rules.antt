@@ -1,6 +1,6 @@
 -- Rules: the accepted programs that drive the cars of a road.
 use Rattle.std.specs.Prelude.{Option, IfSome}
-use Rattle.trlab_code.specs.declared.kind.Kind.TheVariants.{Motion, Change}
+use Rattle.trlab_code.specs.declared.program.Kind.TheVariants.{Motion, Change}
 use Rattle.trlab_verify.specs.CheckedProgram.{CheckedProgram, IsChecked}
 
 -- a motion program, and possibly a change program

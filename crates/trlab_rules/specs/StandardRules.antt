@@ -1,6 +1,6 @@
 -- Definitions of the standard rules.
 use Rattle.std.specs.Prelude.{◌≡◌, ℕ, Bool, List, None, MatchOption}
-use Rattle.trlab_code.specs.declared.kind.Kind.TheVariants.{Motion, Change}
+use Rattle.trlab_code.specs.declared.program.Kind.TheVariants.{Motion, Change}
 use Rattle.trlab_code.specs.declared.view.View.{View}
 use Rattle.trlab_code.specs.Program.{Program}
 use Rattle.trlab_verify.specs.CheckedProgram.{CheckedProgram}

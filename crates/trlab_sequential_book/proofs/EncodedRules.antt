@@ -1,8 +1,8 @@
 -- Rules with the same encodings are equal.
 use Rattle.std.proofs.Common.{◌≡◌, ◌∙◌, ℕ, ◌≤◌, [], refl, sym, ap, subst, arith}
 use Rattle.std.specs.Prelude.{List, Option, Some, None, IfSome}
-use Rattle.trlab_code.specs.declared.kind.Kind.{Kind}
-use Rattle.trlab_code.specs.declared.kind.Kind.TheVariants.{Motion, Change}
+use Rattle.trlab_code.specs.declared.program.Kind.{Kind}
+use Rattle.trlab_code.specs.declared.program.Kind.TheVariants.{Motion, Change}
 use Rattle.trlab_code.specs.declared.instruction.Instr.{Instr}
 use Rattle.trlab_code.specs.Program.{Program}
 use Rattle.trlab_code.specs.Encoding.{encoding}

@@ -4,7 +4,7 @@ use Rattle.std.specs.Prelude.{is_none, nat_lt, slice_index, MatchOption}
 use Rattle.trlab_words.specs.Chances.{happens_on}
 use Rattle.trlab_words.specs.Words.{random_word}
 use Rattle.trlab_words.proofs.RandomWords.{slice_index-random_words}
-use Rattle.trlab_code.specs.declared.kind.Kind.TheVariants.{Change}
+use Rattle.trlab_code.specs.declared.program.Kind.TheVariants.{Change}
 use Rattle.trlab_code.specs.declared.view.View.{View}
 use Rattle.trlab_code.specs.Machine.{Answer, Crosses as EndsAcross, Stays, EndsWith}
 use Rattle.trlab_machine.specs.Crossings.{crossing_answer}

@@ -1,6 +1,6 @@
 -- The answers of programs for the cars of a road.
 use Rattle.std.specs.Prelude.{◌≡◌, ◌+◌, ◌<◌, ◌≤◌, ℕ, Bool, true, false, Some, List, length, slice_get, slice_index, slice_index_or}
-use Rattle.trlab_code.specs.declared.kind.Kind.TheVariants.{Motion, Change}
+use Rattle.trlab_code.specs.declared.program.Kind.TheVariants.{Motion, Change}
 use Rattle.trlab_code.specs.declared.view.View.{View}
 use Rattle.trlab_code.specs.Views.{motion_view, change_view}
 use Rattle.trlab_code.specs.Machine.{Goes, EndsWith}

@@ -1,8 +1,8 @@
 -- The calls of programs in a step: each is safe. Its view is one that a car on a road can have, and it ends with an
 -- answer within its budget.
 use Rattle.std.specs.Prelude.{IfSome}
-use Rattle.trlab_code.specs.declared.kind.Kind.{Kind}
-use Rattle.trlab_code.specs.declared.kind.Kind.TheVariants.{Motion, Change}
+use Rattle.trlab_code.specs.declared.program.Kind.{Kind}
+use Rattle.trlab_code.specs.declared.program.Kind.TheVariants.{Motion, Change}
 use Rattle.trlab_code.specs.Machine.{EndsWithin}
 use Rattle.trlab_code.specs.Views.{IsView}
 use Rattle.trlab_verify.specs.CheckedProgram.{CheckedProgram}

@@ -1,7 +1,7 @@
 -- Laws of answers, steps and runs, whatever code computes the answers and moves the cars.
 use Rattle.std.specs.Prelude.{◌≡◌, ◌≤◌, ◌++◌, ℕ, suc, Bool, Option, Some, None, List, [], All, IfSome, IsSome, length, sum, count_by, nat_eq, nat_le, if◌then◌else◌}
-use Rattle.trlab_code.specs.declared.kind.Kind.{Kind}
-use Rattle.trlab_code.specs.declared.kind.Kind.TheVariants.{Motion, Change}
+use Rattle.trlab_code.specs.declared.program.Kind.{Kind}
+use Rattle.trlab_code.specs.declared.program.Kind.TheVariants.{Motion, Change}
 use Rattle.trlab_code.specs.Views.{IsView}
 use Rattle.trlab_verify.specs.CheckedProgram.{CheckedProgram, IsChecked}
 use Rattle.trlab_road.specs.declared.car.Car.{Car}

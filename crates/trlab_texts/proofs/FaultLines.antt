@@ -1,7 +1,7 @@
 -- A fault of a program's lines stands at one of them, or at the line 0.
 use Rattle.std.proofs.Common.{◌≡◌, ◌==◌, ℕ, suc, ◌+◌, ◌≤◌, List, [], ◌∷◌, ◌++◌, length, subst, ap, arith, inl, inr, Bool, true, false, cond}
 use Rattle.std.specs.Prelude.{◌⊎◌, Option, None, Some, Result, Ok, Err}
-use Rattle.trlab_code.specs.declared.kind.Kind.{Kind}
+use Rattle.trlab_code.specs.declared.program.Kind.{Kind}
 use Rattle.trlab_code.specs.declared.instruction.Instr.{Instr}
 use Rattle.trlab_code.specs.Program.{Program}
 use Rattle.trlab_asm.specs.declared.fault.Why.{Why}

@@ -6,7 +6,7 @@ use Rattle.trlab_road.specs.declared.fault.RoadFault.{RoadFault}
 use Rattle.trlab_road.specs.declared.fault.RoadFault.TheVariants.{Lanes}
 use Rattle.trlab_code.specs.declared.fault.CodeFault.{CodeFault}
 use Rattle.trlab_code.specs.declared.fault.CodeFault.TheVariants.{Short}
-use Rattle.trlab_code.specs.declared.kind.Kind.{Kind}
+use Rattle.trlab_code.specs.declared.program.Kind.{Kind}
 use Rattle.trlab_code.specs.Program.{Program}
 use Rattle.trlab_lines.specs.Cutting.{without_prefix}
 use Rattle.trlab_asm.specs.declared.fault.Why.{Why}

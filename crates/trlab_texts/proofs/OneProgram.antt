@@ -7,8 +7,8 @@ use Rattle.std.specs.Str.{bytes_eq}
 use Rattle.hex.specs.Hex.{decode_of}
 use Rattle.hex.specs.declared.error.FromHexError.{FromHexError}
 use Rattle.hex.proofs.HexLemmas.{decode_of-ok}
-use Rattle.trlab_code.specs.declared.kind.Kind.{Kind}
-use Rattle.trlab_code.specs.declared.kind.Kind.TheVariants.{Motion, Change}
+use Rattle.trlab_code.specs.declared.program.Kind.{Kind}
+use Rattle.trlab_code.specs.declared.program.Kind.TheVariants.{Motion, Change}
 use Rattle.trlab_code.specs.declared.instruction.Instr.{Instr}
 use Rattle.trlab_code.specs.declared.fault.CodeFault.{CodeFault}
 use Rattle.trlab_code.specs.declared.fault.CodeFault.TheVariants.{Kind as OtherKind}

@@ -1,6 +1,6 @@
 -- The input that a reader wanted when it rejected a file.
 use Rattle.std.specs.Prelude.{◌≡◌, ℕ, ◌≤◌, List, length, Err}
-use Rattle.trlab_code.specs.declared.kind.Kind.{Kind}
+use Rattle.trlab_code.specs.declared.program.Kind.{Kind}
 use Rattle.trlab_road.specs.declared.fault.RoadFault.TheVariants.{Length, SpeedAboveLimit}
 use Rattle.trlab_verify.specs.Verdict.{IsRefused}
 use Rattle.trlab_texts.specs.declared.fault.Cause.{Cause}

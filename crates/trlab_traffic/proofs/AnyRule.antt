@@ -1,7 +1,7 @@
 -- Steps under any rule, whether its programs were accepted or not: what its cars answer on a legal road is
 -- allowed, so the road stays legal.
 use Rattle.std.proofs.Common.{◌≡◌, ℕ, Bool, Option, Some, None, length, sym, subst}
-use Rattle.trlab_code.specs.declared.kind.Kind.TheVariants.{Change}
+use Rattle.trlab_code.specs.declared.program.Kind.TheVariants.{Change}
 use Rattle.trlab_code.specs.Machine.{EndsWith}
 use Rattle.trlab_verify.specs.CheckedProgram.{CheckedProgram}
 use Rattle.trlab_machine.specs.declared.dice.Dice.{Dice}

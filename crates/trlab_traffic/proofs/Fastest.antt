@@ -5,7 +5,7 @@ use Rattle.std.proofs.lemmas.Bool.{cases_lt}
 use Rattle.trlab_words.specs.Chances.{happens_on}
 use Rattle.trlab_code.specs.declared.instruction.Input.TheVariants.{Limit, Gap}
 use Rattle.trlab_code.specs.declared.instruction.Register.TheVariants.{R0, R1}
-use Rattle.trlab_code.specs.declared.kind.Kind.TheVariants.{Motion}
+use Rattle.trlab_code.specs.declared.program.Kind.TheVariants.{Motion}
 use Rattle.trlab_code.specs.declared.view.View.{View}
 use Rattle.trlab_code.specs.Machine.{At, Goes, start, update}
 use Rattle.trlab_machine.specs.declared.dice.Dice.{Dice}

@@ -2,7 +2,7 @@
 use Rattle.std.proofs.Common.{◌≡◌, ℕ, zero, suc, Some, [], length, refl, sym, ◌∙◌, ap, subst, inl, inr, arith}
 use Rattle.std.proofs.lemmas.Bool.{cases_lt}
 use Rattle.std.proofs.lemmas.List.{get_or_past}
-use Rattle.trlab_code.specs.declared.kind.Kind.TheVariants.{Motion}
+use Rattle.trlab_code.specs.declared.program.Kind.TheVariants.{Motion}
 use Rattle.trlab_code.specs.declared.view.View.{View}
 use Rattle.trlab_code.specs.Machine.{EndsWith, Goes}
 use Rattle.trlab_machine.specs.Blocks.{words_of}

@@ -2,7 +2,7 @@
 use Rattle.std.proofs.Common.{◌≡◌, ℕ, zero, suc, ◌+◌, ◌<◌, ◌&&◌, Bool, true, false, cond, Option, Some, None, List, [], ◌∷◌, length, get_or, refl, sym, ◌∙◌, ap, subst, arith, if◌then◌else◌}
 use Rattle.std.specs.Prelude.{MatchOption, count_by, nat_eq, nat_lt, slice_index}
 use Rattle.std.proofs.lemmas.List.Sums.{sum_by-cons}
-use Rattle.trlab_code.specs.declared.kind.Kind.TheVariants.{Change}
+use Rattle.trlab_code.specs.declared.program.Kind.TheVariants.{Change}
 use Rattle.trlab_code.specs.declared.view.View.{View}
 use Rattle.trlab_code.specs.Machine.{Crosses as EndsAcross, Stays, EndsWith}
 use Rattle.trlab_verify.specs.CheckedProgram.{CheckedProgram}

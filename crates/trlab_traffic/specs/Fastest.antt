@@ -3,7 +3,7 @@ use Rattle.std.specs.Prelude.{◌≡◌, ℕ, ◌+◌, ◌≤◌, List, [], ◌�
 use Rattle.trlab_code.specs.declared.instruction.Input.TheVariants.{Limit, Gap}
 use Rattle.trlab_code.specs.declared.instruction.Instr.TheVariants.{Get, Min, Go}
 use Rattle.trlab_code.specs.declared.instruction.Register.TheVariants.{R0, R1}
-use Rattle.trlab_code.specs.declared.kind.Kind.TheVariants.{Motion}
+use Rattle.trlab_code.specs.declared.program.Kind.TheVariants.{Motion}
 use Rattle.trlab_code.specs.declared.view.View.{View}
 use Rattle.trlab_code.specs.Program.{Program}
 use Rattle.trlab_code.specs.Views.{IsView}

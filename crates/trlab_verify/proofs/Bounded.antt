@@ -1,7 +1,7 @@
 -- No level above 2 is ever known.
 use Rattle.std.proofs.Common.{ℕ, zero, suc, ◌<◌, ◌≤◌, max, subst, arith, List, length, Bool, true, false, Option, Some, None, nat_eq, cond}
 use Rattle.std.specs.Prelude.{slice_get, IfSome}
-use Rattle.trlab_code.specs.declared.kind.Kind.{Kind}
+use Rattle.trlab_code.specs.declared.program.Kind.{Kind}
 use Rattle.trlab_code.specs.declared.instruction.Input.TheVariants.{Speed, Limit, Headspeed}
 use Rattle.trlab_code.specs.declared.instruction.Instr.{Instr}
 use Rattle.trlab_code.specs.declared.instruction.Instr.TheVariants.{Get, Copy, Add, Sub, Div, Min, Max, JumpLess, JumpAtMost, JumpTrue, JumpFalse}

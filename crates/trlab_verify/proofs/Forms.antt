@@ -1,7 +1,7 @@
 -- What the tests of a table in its form show.
 use Rattle.std.proofs.Common.{◌≡◌, ℕ, suc, ◌<◌, ◌≤◌, ap, refl, sym, subst, List, length, Option, Some, None, ◌∙◌, get_or}
 use Rattle.std.specs.Prelude.{slice_get, IfSome}
-use Rattle.trlab_code.specs.declared.kind.Kind.{Kind}
+use Rattle.trlab_code.specs.declared.program.Kind.{Kind}
 use Rattle.trlab_code.specs.declared.instruction.Instr.{Instr}
 use Rattle.trlab_code.specs.Flow.{target}
 use Rattle.trlab_notes.specs.Notes.{Note, level_between, known_level, same_variable, entry, entry_said, entry_level, closure, maybe_closure}

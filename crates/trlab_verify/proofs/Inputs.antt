@@ -1,7 +1,7 @@
 -- The notes say of the inputs what the start says.
 use Rattle.std.proofs.Common.{◌≡◌, ℕ, zero, suc, ◌+◌, ◌<◌, min, max, refl, sym, subst, arith, List, Bool, true, false, Option, Some, None, nat_eq}
 use Rattle.std.specs.Prelude.{slice_get, IfSome}
-use Rattle.trlab_code.specs.declared.kind.Kind.{Kind}
+use Rattle.trlab_code.specs.declared.program.Kind.{Kind}
 use Rattle.trlab_code.specs.declared.instruction.Input.{Input}
 use Rattle.trlab_code.specs.declared.instruction.Input.TheVariants.{Speed, Limit, Gap, SideGap, SideBack, Lane, Headspeed}
 use Rattle.trlab_code.specs.declared.instruction.Instr.{Instr}
@@ -13,7 +13,7 @@ use Rattle.trlab_code.specs.Machine.{update, register_number, input_number, allo
 use Rattle.trlab_code.specs.Flow.{target, destination}
 use Rattle.trlab_notes.specs.declared.note.AbstractValue.{AbstractValue}
 use Rattle.trlab_notes.specs.declared.note.AbstractValue.TheVariants.{Nothing, Between, Implies}
-use Rattle.trlab_notes.specs.declared.stored.Stored.{Stored}
+use Rattle.trlab_notes.specs.declared.rows.Stored.{Stored}
 use Rattle.trlab_notes.specs.Notes.{Note, with_side, said_with_side, entry, entry_said, input_range, closure}
 use Rattle.trlab_notes.specs.Order.{join, join_said}
 use Rattle.trlab_notes.specs.Reasons.{is_flag}

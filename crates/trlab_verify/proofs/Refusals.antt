@@ -1,7 +1,7 @@
 -- Where a program is refused no table of notes checks.
 use Rattle.std.proofs.Common.{◌≡◌, ◌≢◌, ◌∙◌, ◌⊎◌, ℕ, refl, sym, subst, inl, inr, Option, Some, None}
-use Rattle.trlab_code.specs.declared.kind.Kind.{Kind}
-use Rattle.trlab_code.specs.declared.kind.Kind.TheVariants.{Motion, Change}
+use Rattle.trlab_code.specs.declared.program.Kind.{Kind}
+use Rattle.trlab_code.specs.declared.program.Kind.TheVariants.{Motion, Change}
 use Rattle.trlab_code.specs.Program.{Program}
 use Rattle.trlab_verify.specs.Tables.{SomeTableChecks, note_in}
 use Rattle.trlab_verify.specs.Verdict.{IsRefused}

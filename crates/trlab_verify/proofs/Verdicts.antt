@@ -3,9 +3,9 @@ use Rattle.std.proofs.Common.{◌≡◌, ℕ, zero, suc, ◌<◌, ◌≤◌, ref
 use Rattle.std.specs.Prelude.{slice_get, slice_set}
 use Rattle.std.proofs.lemmas.Bool.{eqb-true, eqb-false, leb-false}
 use Rattle.trlab_code.specs.Flow.{target, on_target}
-use Rattle.trlab_code.specs.declared.kind.Kind.{Kind}
+use Rattle.trlab_code.specs.declared.program.Kind.{Kind}
 use Rattle.trlab_code.specs.declared.instruction.Instr.{Instr}
-use Rattle.trlab_notes.specs.declared.stored.Stored.{Stored}
+use Rattle.trlab_notes.specs.declared.rows.Stored.{Stored}
 use Rattle.trlab_notes.proofs.Closure.{joined_settled, settled_joins, join_is_settled, fall_settled, jump_settled, reason_settled}
 use Rattle.trlab_notes.specs.Reasons.{reason_against}
 use Rattle.trlab_notes.specs.Notes.{Note, entry, closure, maybe_closure}

@@ -1,6 +1,6 @@
 -- Programs that the verifier has accepted.
 use Rattle.std.specs.Prelude.{◌≡◌, ℕ}
-use Rattle.trlab_code.specs.declared.kind.Kind.{Kind}
+use Rattle.trlab_code.specs.declared.program.Kind.{Kind}
 use Rattle.trlab_code.specs.Program.{Program, IsProgram}
 use Rattle.trlab_code.specs.Machine.{IsSafe}
 use Rattle.trlab_verify.specs.Longest.{IsLongest, IsForward}

@@ -1,6 +1,6 @@
 -- The meaning of the verifier's faults for a program.
 use Rattle.std.specs.Prelude.{◌≢◌}
-use Rattle.trlab_code.specs.declared.kind.Kind.{Kind}
+use Rattle.trlab_code.specs.declared.program.Kind.{Kind}
 use Rattle.trlab_code.specs.Program.{Program}
 use Rattle.trlab_verify.specs.declared.verify.VerifyFault.{VerifyFault}
 use Rattle.trlab_verify.specs.declared.verify.VerifyFault.TheVariants.{Why, Memory}

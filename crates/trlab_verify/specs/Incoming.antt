@@ -1,7 +1,7 @@
 -- Incoming notes: the notes that a program's paths bring to an instruction, joined, as in abstract
 -- interpretation; docs/PROGRAMS.md explains them in sentences.
 use Rattle.std.specs.Prelude.{◌≡◌, ◌⊎◌, ℕ, zero, suc, ◌<◌, List, Bool, true, false, Option, Some, None, nat_eq, slice_get}
-use Rattle.trlab_code.specs.declared.kind.Kind.{Kind}
+use Rattle.trlab_code.specs.declared.program.Kind.{Kind}
 use Rattle.trlab_code.specs.declared.instruction.Instr.{Instr}
 use Rattle.trlab_code.specs.Flow.{target}
 use Rattle.trlab_notes.specs.Notes.{Note, entry}

@@ -1,6 +1,6 @@
 -- The results of the verifier's calls for a code, as a program of a kind.
 use Rattle.std.specs.Prelude.{◌≡◌}
-use Rattle.trlab_code.specs.declared.kind.Kind.{Kind}
+use Rattle.trlab_code.specs.declared.program.Kind.{Kind}
 use Rattle.trlab_code.specs.Program.{Program}
 use Rattle.trlab_code.specs.Machine.{IsSafe}
 use Rattle.trlab_verify.specs.declared.verify.VerifyFault.{VerifyFault}

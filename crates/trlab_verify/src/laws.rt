@@ -4,7 +4,7 @@
 
 ghost use Rattle.std.specs.Prelude.{◌≡◌, ◌≢◌, ◌⊎◌, ℕ, ◌<◌, ◌≤◌, List, Some, length};
 ghost use Rattle.trlab_code.specs.declared.instruction.Variable.{Variable};
-ghost use Rattle.trlab_code.specs.declared.kind.Kind.{Kind};
+ghost use Rattle.trlab_code.specs.declared.program.Kind.{Kind};
 ghost use Rattle.trlab_code.specs.Machine.{IsSafe};
 ghost use Rattle.trlab_code.specs.Program.{Program, IsProgram};
 ghost use Rattle.trlab_notes.specs.Notes.{Note, known_level};

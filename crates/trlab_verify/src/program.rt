@@ -2,8 +2,8 @@
 //! program is run as a change program.
 
 ghost use Rattle.std.specs.Prelude.{◌≡◌, ◌↔◌, IsTrue, IfOk};
-ghost use Rattle.trlab_code.specs.declared.kind.Kind.{Kind as AKind};
-ghost use Rattle.trlab_code.specs.declared.kind.Kind.TheVariants.{Motion as OfMotion, Change as OfChange};
+ghost use Rattle.trlab_code.specs.declared.program.Kind.{Kind as AKind};
+ghost use Rattle.trlab_code.specs.declared.program.Kind.TheVariants.{Motion as OfMotion, Change as OfChange};
 ghost use Rattle.trlab_code.specs.Machine.{IsSafe};
 ghost use Rattle.trlab_verify.specs.CheckedProgram.{IsChecked};
 ghost use Rattle.trlab_verify.specs.Longest.{IsLongest};

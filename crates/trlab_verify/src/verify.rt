@@ -5,7 +5,7 @@ ghost use Rattle.std.specs.Prelude.{◌≡◌, ℕ, ◌+◌, ◌<◌, ◌≤◌,
 ghost use Rattle.std.specs.Option.{option_map_or};
 ghost use Rattle.trlab_code.specs.Flow.{falls, target};
 ghost use Rattle.trlab_verify.specs.Longest.{IsLongest, IsForward};
-ghost use Rattle.trlab_code.specs.declared.kind.Kind.TheVariants.{Motion as OfMotion, Change as OfChange};
+ghost use Rattle.trlab_code.specs.declared.program.Kind.TheVariants.{Motion as OfMotion, Change as OfChange};
 ghost use Rattle.trlab_verify.specs.Verified.{IsAcceptedAs, IsRefusedAs};
 
 use crate::program::{AcceptedProgram, Change, Motion, ProgramKind};

@@ -1,4 +1,5 @@
 """What the Python programs of the benchmark share: reading a job of one lane, and printing how long a run took."""
+import os
 import sys
 import time
 
@@ -16,8 +17,12 @@ def read_job(text):
 
 
 def measured(call):
-    """Prints on standard error how long a call took: wall-clock time and CPU time, in seconds."""
-    clock, cpu = time.perf_counter(), time.process_time()
-    call()
-    sys.stdout.buffer.flush()
-    print(time.perf_counter() - clock, time.process_time() - cpu, file=sys.stderr)
+    """Prints on standard error how long a call took at best: wall-clock time and CPU time, in seconds. The variable TURNS
+    says how often it is called, since Python starts slowly."""
+    took = []
+    for _ in range(int(os.environ.get("TURNS", 1))):
+        clock, cpu = time.perf_counter(), time.process_time()
+        call()
+        sys.stdout.buffer.flush()
+        took.append((time.perf_counter() - clock, time.process_time() - cpu))
+    print(*map(min, zip(*took)), file=sys.stderr)

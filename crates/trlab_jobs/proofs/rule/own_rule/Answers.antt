@@ -1,6 +1,6 @@
 use Rattle.std.proofs.Common.{ℕ, Option, refl}
 use Rattle.std.specs.Prelude.{Ok, Err}
-use Rattle.trlab_code.specs.declared.kind.Kind.TheVariants.{Motion}
+use Rattle.trlab_code.specs.declared.program.Kind.TheVariants.{Motion}
 use Rattle.trlab_verify.specs.CheckedProgram.{CheckedProgram}
 use Rattle.trlab_rules.specs.Rules.{Programs}
 use Rattle.trlab_texts.specs.Programs.{part}

@@ -1,6 +1,6 @@
 use Rattle.std.proofs.Common.{rules, ◌≡◌, ◌≢◌, ◌∙◌, sym, true, false}
 use denote.Enum.Bare.{same_true, true_same}
-use Rattle.trlab_code.specs.contracts.kind.Kind.{the_type as kinds}
+use Rattle.trlab_code.specs.contracts.program.Kind.{the_type as kinds}
 use Rattle.trlab_texts.proofs.Programs.{code_of_kind, code_of_other, code_of_none}
 use Rattle.trlab_texts.proofs.program.parse_code_of.Goals as goal
 

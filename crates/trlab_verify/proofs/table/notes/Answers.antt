@@ -1,5 +1,5 @@
 use Rattle.std.specs.Prelude.{List, Result, Ok, Err, IfOk}
-use Rattle.trlab_code.specs.declared.kind.Kind.{Kind}
+use Rattle.trlab_code.specs.declared.program.Kind.{Kind}
 use Rattle.trlab_code.specs.Program.{Program}
 use Rattle.trlab_notes.specs.Notes.{Note}
 use Rattle.trlab_verify.specs.Tables.{Checks, AreVerdictNotes}

@@ -2,7 +2,7 @@ use Rattle.std.proofs.Common.{◌∙◌, sym, arith}
 use Rattle.trlab_code.specs.Machine.{variable_number}
 use Rattle.trlab_notes.proofs.Variables.{below}
 use Rattle.trlab_notes.proofs.Tables.{known_is}
-use Rattle.trlab_notes.proofs.stored.Stored.levels.Goals as goal
+use Rattle.trlab_notes.proofs.rows.Stored.levels.Goals as goal
 
 pub returns : goal.returns
 returns c =

@@ -3,7 +3,7 @@ use Rattle.trlab_code.specs.Machine.{variable_number}
 use Rattle.trlab_notes.specs.Rows.{level_of}
 use Rattle.trlab_notes.proofs.Variables.{below}
 use Rattle.trlab_notes.proofs.Tables.{known_is}
-use Rattle.trlab_notes.proofs.stored.Stored.column.Goals as goal
+use Rattle.trlab_notes.proofs.rows.Stored.column.Goals as goal
 
 pub returns : goal.returns
 returns c =

@@ -5,7 +5,7 @@ use Rattle.trlab_notes.specs.Transfer.{assign, result_to, to_result}
 use Rattle.trlab_notes.specs.Rows.{level_in}
 use Rattle.trlab_notes.specs.Stored.{note_of}
 use Rattle.trlab_notes.proofs.Tables.{after_is, after_tells, after_back, corner}
-use Rattle.trlab_notes.proofs.stored.Stored.assign_result.Goals as goal
+use Rattle.trlab_notes.proofs.rows.Stored.assign_result.Goals as goal
 
 pub invariant_of-result : goal.invariant_of-result
 invariant_of-result c =

@@ -1,6 +1,6 @@
 use Rattle.std.proofs.Common.{◌∙◌}
 use Rattle.trlab_notes.proofs.Tables.{entry_is, entry_fits}
-use Rattle.trlab_notes.proofs.stored.Stored.entry.Goals as goal
+use Rattle.trlab_notes.proofs.rows.Stored.entry.Goals as goal
 
 pub returns : goal.returns
 returns c = c.new.ensures ∙ entry_is c.args.kind c.entry_said.result c.entry_levels.result c.entry_said.ensures c.entry_levels.ensures

@@ -1,7 +1,7 @@
 use Rattle.std.proofs.Common.{◌≡◌, ℕ, ◌<◌, [], length, get_or}
 use Rattle.trlab_bounds.specs.declared.programs.TheConstants.{VARIABLES}
 use Rattle.trlab_notes.specs.Rows.{level_of}
-use Rattle.trlab_notes.proofs.stored.Stored.levels.Given as goal
+use Rattle.trlab_notes.proofs.rows.Stored.levels.Given as goal
 
 abbrev pub invariant-loop-x : goal.invariant-loop-x
 invariant-loop-x l = record {

@@ -1,6 +1,6 @@
 use Rattle.trlab_notes.proofs.Tables.{trust_is}
-use Rattle.trlab_notes.proofs.stored.Stored.refine_flag.Goals as goal
-use Rattle.trlab_notes.proofs.stored.Stored.refine_flag.Goals.{then-self, else-self}
+use Rattle.trlab_notes.proofs.rows.Stored.refine_flag.Goals as goal
+use Rattle.trlab_notes.proofs.rows.Stored.refine_flag.Goals.{then-self, else-self}
 
 pub returns : goal.returns
 returns c = trust_is c.args.self.now c.args.register c.if-self.result (elim c.if-self.branch [

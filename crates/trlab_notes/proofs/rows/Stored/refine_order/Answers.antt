@@ -1,5 +1,5 @@
 use Rattle.trlab_notes.proofs.Tables.{learn_is, learn_tells, learn_back}
-use Rattle.trlab_notes.proofs.stored.Stored.refine_order.Goals as goal
+use Rattle.trlab_notes.proofs.rows.Stored.refine_order.Goals as goal
 
 pub invariant_of-result : goal.invariant_of-result
 invariant_of-result c = record {

@@ -1,6 +1,6 @@
 use Rattle.std.proofs.Common.{[], get_or}
 use Rattle.trlab_notes.proofs.Tables.{new_is, rows_tell}
-use Rattle.trlab_notes.proofs.stored.Stored.new.Goals as goal
+use Rattle.trlab_notes.proofs.rows.Stored.new.Goals as goal
 
 pub invariant_of-result : goal.invariant_of-result
 invariant_of-result c = record {
