@@ -93,7 +93,7 @@ def fitting_steps(road, path, seconds_of, most=MAX_STEPS):
 
 
 def by_numba(command, path):
-    """The runs in numba, which tell their own times."""
+    """The runs in numba, which measure their own times."""
     return {"numba": (command, path, tools.told), TUNED + "numba": ([*command, "tuned"], path, tools.told)}
 
 
@@ -104,7 +104,7 @@ def by_numpy(programs, road, folder, times):
     road.write(path, steps)
     if not road.draws():
         tools.compare([[programs.trlab, "run"], command], path, folder)
-    best = tools.best_of({"NumPy": (command, path, tools.told)}, times // tools.TOLD)["NumPy"]
+    best = tools.best_of({"NumPy": (command, path, tools.told)}, times // tools.REPEATS)["NumPy"]
     return a_move(best, (0, 0), road.cars() * steps)
 
 
@@ -134,7 +134,7 @@ def measure(programs, road, times, folder):
     idle = tools.best_of({name: (command, at_start) for name, command in commands.items()}, times)
     whole = tools.best_of({name: (command, path) for name, command in commands.items()}, times)
     if programs.numba and road.rule.startswith("nasch"):
-        whole |= tools.best_of(by_numba(programs.numba, path), times // tools.TOLD)
+        whole |= tools.best_of(by_numba(programs.numba, path), times // tools.REPEATS)
         idle |= {"numba": (0, 0), TUNED + "numba": (0, 0)}
     took = {name: a_move(whole[name], idle[name], road.cars() * steps) for name in whole}
     if programs.numpy and road.rule.startswith("nasch"):

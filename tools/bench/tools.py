@@ -18,7 +18,7 @@ from finder import TOP, fastest
 BENCH = os.path.join(TOP, "tools", "bench")
 WITHOUT_PROOFS = ["plain", "interpreter"]
 LONGEST = 2  # times as many turns as planned, at most
-TOLD = 5  # turns of a run that tells its own time
+REPEATS = 5  # of a run that measures its own time
 SETTLED = []  # whether each best time was found twice
 
 
@@ -115,8 +115,8 @@ def timed(command, path):
 
 
 def told(command, path):
-    """The best time of `TOLD` turns that a run on the text in a file prints of itself on standard error, in seconds."""
-    env = {**os.environ, "TURNS": str(TOLD)}
+    """The best time of `REPEATS` turns that a run on the text in a file prints of itself on standard error, in seconds."""
+    env = {**os.environ, "TURNS": str(REPEATS)}
     with open(path, "rb") as text:
         ran = subprocess.run(command, stdin=text, stdout=subprocess.DEVNULL, stderr=subprocess.PIPE, check=True, env=env)
     return Time(*map(float, ran.stderr.split()))
