@@ -2,10 +2,8 @@
 count at the end.
 
 The program is the one that tools/finder.py finds: what TRLAB names, or the built one."""
-import glob
 import os
 import select
-import shutil
 import signal
 import subprocess
 import sys
@@ -57,22 +55,6 @@ def run(words, text=b"", env=None, program=None):
     finally:
         os.close(source)
         os.close(sink)
-
-
-def copy_of_sources(to):
-    """The files of the crates that git knows or would take, in a new folder."""
-    words = ["git", "ls-files", "-z", "--cached", "--others", "--exclude-standard", "crates", "crates.txt", "HANDLES"]
-    told = subprocess.run(words, cwd=TOP, capture_output=True, check=True).stdout.decode()
-    for name in filter(None, told.split("\0")):
-        if os.path.isfile(os.path.join(TOP, name)):
-            os.makedirs(os.path.dirname(os.path.join(to, name)), exist_ok=True)
-            shutil.copyfile(os.path.join(TOP, name), os.path.join(to, name))
-
-
-def copy_of_libraries(to):
-    """The libraries that were proved here, beside a copy of the sources, so that they are not proved again."""
-    for library in glob.glob(os.path.join(TOP, "crates", "*", "out", "rlib")):
-        shutil.copytree(library, os.path.join(to, os.path.relpath(library, TOP)))
 
 
 class Count:
