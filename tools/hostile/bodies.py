@@ -296,6 +296,8 @@ def alone(crate, body):
 
 def together(crate):
     """The verdicts on the bodies of a crate that are tried together, and where that settles nothing alone."""
+    if not crate.together:
+        return []
     try:
         lines = crate.try_bodies(crate.together)
     except ValueError:
