@@ -149,8 +149,8 @@ def settled(times):
 
 
 def best_of(runs, count):
-    """The best times of runs by their names. They alternate `count` times; those whose two least times differ go on, up
-    to `LONGEST` times as often, since on a shared machine a single best time may be of any speed."""
+    """The best times of runs by their names. They alternate `count` times, and those whose two least times differ up to
+    `LONGEST` times as often: on a shared machine even the best of a few runs may be disturbed."""
     took = turns(runs, count)
     for _ in range((LONGEST - 1) * count):
         more = {name: run for name, run in runs.items() if not settled(took[name])}
@@ -162,7 +162,7 @@ def best_of(runs, count):
 
 def agreement():
     """How many of the best times so far were found twice."""
-    return f"{sum(SETTLED)} of {len(SETTLED)} best times were found twice, to 2 percent"
+    return f"{sum(SETTLED)} of {len(SETTLED)} best times were found twice, to 2 percent or 0.5 ms"
 
 
 def memory(command, path, output=os.devnull):

@@ -17,8 +17,8 @@ def read_job(text):
 
 
 def measured(call):
-    """Prints on standard error how long a call took at best: wall-clock time and CPU time, in seconds. The variable TURNS
-    says how often it is called, since Python starts slowly."""
+    """Prints on standard error how long a call took at best: wall-clock time and CPU time, in seconds. The
+    environment variable TURNS says how often to call it, because Python starts slowly."""
     took = []
     for _ in range(int(os.environ.get("TURNS", 1))):
         clock, cpu = time.perf_counter(), time.process_time()
