@@ -17,7 +17,7 @@ use Rattle.trlab_campaign.proofs.WrittenBytes.{adds_more}
 use Rattle.trlab_campaign.proofs.Sheets.{plain_sheet}
 use Rattle.trlab_campaign.proofs.Owed.{Owes, owes_all, owes_prefix, owes_less}
 
--- the lines of so many windows from window k on
+-- the lines of `count` windows from window k on
 abbrev pub lines_from : (ℕ → Cells) → (ℕ → StepTally) → ℕ → ℕ → ℕ → ℕ → List ℕ
 lines_from roads tallies every from k count = flat_map window_text (map (nth_window roads tallies every from) (range_with_len k count))
 

@@ -124,10 +124,19 @@ pub fn series_heading(alloc: Global) -> Result<Vec<u8>, DiagramFault>
 }
 
 /// Makes the lines of windows, and reuses its memory from line to line.
-#[derive(Drop)]
 pub struct SeriesLines {
     writer: Writer<Vec<u8>>,
     row: ByteRecord,
+}
+
+// Not derived: a derived drop is proved again, field by field, wherever the value goes out of scope.
+impl Drop for SeriesLines {
+    fn drop(self) {
+        let SeriesLines {
+            writer: _writer,
+            row: _row,
+        } = self;
+    }
 }
 
 impl Model for SeriesLines {

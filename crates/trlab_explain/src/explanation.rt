@@ -11,7 +11,6 @@ use trlab_lines::Page;
 use trlab_messages::{Body, add_members, push_text};
 
 /// An explanation of an input: its head and its body.
-#[derive(Drop)]
 pub struct Explanation<'a> {
     /// Whether the input or its program is rejected.
     pub refused: bool,
@@ -20,6 +19,18 @@ pub struct Explanation<'a> {
     /// The line at fault with its number, if there is one.
     pub quote: Page,
     pub body: Body<'a>,
+}
+
+// Not derived: a derived drop is proved again, field by field, wherever the value goes out of scope.
+impl Drop for Explanation<'_> {
+    fn drop(self) {
+        let Explanation {
+            refused: _refused,
+            answer: _answer,
+            quote: _quote,
+            body: _body,
+        } = self;
+    }
 }
 
 impl<'a> Explanation<'a> {

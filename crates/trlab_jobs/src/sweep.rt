@@ -122,7 +122,6 @@ pub struct Span {
 }
 
 /// The number from `low` to `high` of a line with this name.
-#[tactic(auto, using(crate::proofs::Ranges::number_low, crate::proofs::Ranges::number_high))]
 fn number_line(name: LineName, low: u32, high: u32, line: &[u8]) -> Result<u32, Objection<'_>>
     ensures value { result ≡ number_within low high (word_after (name_and_space name) line.now) }
     ensures low { IfOk result (λ n. low ≤ n) }

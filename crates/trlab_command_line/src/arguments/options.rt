@@ -1,13 +1,22 @@
 //! The options and the other arguments of the commands.
 
-ghost use Rattle.std.specs.Prelude.{◌≡◌, false};
+ghost use Rattle.std.specs.Prelude.{◌≡◌, false, pos};
 ghost use Rattle.clap.specs.Words.{rule_of};
+ghost use Rattle.clap.specs.declared.builder.value_parser.ValueParser.TheVariants.{Signed};
 ghost use Rattle.trlab_command_line.specs.CommandLine.{count_option, flag, number_argument, number_option, progress_flag, what_argument, workers_option};
 
 use crate::help::{NUMBER_HELP, PROGRESS_HELP, WHAT_HELP, WORKERS_HELP};
+use clap::builder::ValueParser;
 use clap::{Arg, ArgAction, value_parser};
 use std::alloc::Global;
 use trlab_bounds::runs::MAX_WORKERS;
+
+/// The parser of a number from `least` to `most`.
+fn number_parser<'a>(least: u32, most: u32) -> ValueParser<'a>
+    ensures { result ≡ Signed (pos least) (pos most) }
+{
+    value_parser!(u32).range(i64::from(least)..=i64::from(most))
+}
 
 /// The option `--name n`, with the range of n and its default.
 pub fn number_option<'a>(
@@ -24,7 +33,7 @@ pub fn number_option<'a>(
     Arg::new(alloc, name)
         .long(name)
         .value_name("n")
-        .value_parser(value_parser!(u32).range(i64::from(least)..=i64::from(most)))
+        .value_parser(number_parser(least, most))
         .default_value(default)
         .help(help)
 }

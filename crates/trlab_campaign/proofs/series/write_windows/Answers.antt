@@ -1,6 +1,8 @@
-use Rattle.std.proofs.Common.{◌≡◌, ◌∙◌, ◌+◌, ◌-◌, arith}
+use Rattle.std.proofs.Common.{◌≡◌, ◌∙◌, ◌+◌, ◌-◌, ap, arith}
 use Rattle.std.proofs.lemmas.Result.{err_from_is_err_and}
 use Rattle.trlab_campaign.specs.SeriesOutput.{IsCourse}
+use Rattle.trlab_step.specs.Run.{Seed}
+use Rattle.trlab_campaign.proofs.Owed.{owes_none}
 use Rattle.trlab_campaign.proofs.SeriesLines.{line_on, line_stops, lines_from, next_at}
 use Rattle.trlab_campaign.proofs.series.write_windows.Goals as goal
 
@@ -33,4 +35,31 @@ loop-preserved g c =
           (rw left at (inv.owes roads tallies course)) (c.in_ok-write_window.ensures.wrote roads tallies (rw (inv.seed, inv.sheet) course));
       works = c.in_ok-write_window.ensures.writer.works;
       flushed = c.in_ok-write_window.ensures.writer.flushed ∙ inv.flushed;
+    }
+
+pub skip_steps-requires : goal.skip_steps-requires
+skip_steps-requires g c = record { ready = c.requires.ready; room = omega (arith, c.requires.start, c.args.windows.now.within) }
+
+pub write_window-requires : goal.write_window-requires
+write_window-requires g c =
+    let inv = c.loop.invariant in
+    let windows = c.args.windows.now in
+    record {
+      ready = c.requires.ready;
+      works = inv.works;
+      some = windows.some_steps;
+      few = windows.few_steps;
+      room = omega (arith, inv.at, c.requires.room c.loop.counter c.loop-test.true);
+      counts = ap (λ (s : Seed). s.warm) inv.seed ∙ c.requires.counts;
+    }
+
+pub returns : goal.returns
+returns g c =
+    let inv = c.loop.invariant in
+    let windows = c.args.windows.now in
+    let none : c.args.count - c.loop.counter ≡ 0 = omega (arith, c.loop-test.false) in
+    record {
+      wrote = λ roads tallies course.
+          owes_none (lines_from roads tallies windows.every windows.from 0 c.args.count) _ _ (rw none at (inv.owes roads tallies course));
+      writer = record { works = inv.works; fails = tt; flushed = inv.flushed };
     }
