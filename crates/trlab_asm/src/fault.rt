@@ -13,19 +13,19 @@ use thiserror::Error;
 /// `NoLabel`, again in the order of lines.
 #[derive(Clone, Copy, Debug, PartialEq, Eq, Error)]
 pub enum Why {
-    #[error("no instruction has this name, or no label can")]
+    #[error("unknown instruction, or invalid label")]
     Word = 1,
-    #[error("an operand has another form, or there are more or fewer")]
+    #[error("invalid operand, or the wrong number of operands")]
     Operand = 2,
-    #[error("a number is out of its range, or has more than 10 digits")]
+    #[error("a number is out of range, or has more than 10 digits")]
     Number = 3,
-    #[error("the label stands in an earlier line")]
+    #[error("the label is defined in an earlier line")]
     LabelTwice = 4,
     #[error("no line has this label")]
     NoLabel = 5,
     #[error("a program has at most 128 instructions")]
     TooLong = 6,
-    #[error("there is no instruction")]
+    #[error("the program has no instruction")]
     Empty = 7,
     #[error("out of memory")]
     Memory = 8,

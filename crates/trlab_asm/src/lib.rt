@@ -18,7 +18,7 @@ mod reading;
 pub use assembly::{assemble, instruction_lines};
 pub use fault::{AsmFault, Why};
 pub use names::{
-    INPUTS, MNEMONICS, Mnemonic, REGISTERS, input_text, mnemonic_named, mnemonic_text,
+    HasText, INPUTS, MNEMONICS, Mnemonic, REGISTERS, input_text, mnemonic_named, mnemonic_text,
     register_text,
 };
 pub use operands::{OperandKind, is_label, operand_kinds};

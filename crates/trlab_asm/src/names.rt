@@ -144,7 +144,7 @@ pub fn mnemonic_text(name: Mnemonic) -> &'static [u8]
 }
 
 /// A value whose name has a text.
-trait HasText: Copy {
+pub trait HasText: Copy {
     ghost said: { Self → List ℕ };
 
     fn text(self) -> &'static [u8]

@@ -4,8 +4,8 @@ use Rattle.std.specs.Str.{bytes_eq}
 use Rattle.clap.specs.Words.{Kinds, Row, Text as Word, first_of}
 use Rattle.clap.specs.declared.error.kind.ErrorKind.{ErrorKind}
 use Rattle.clap.specs.declared.error.kind.ErrorKind.TheVariants.{ArgumentConflict, InvalidValue, MissingRequiredArgument, UnknownArgument}
-use Rattle.trlab_diagnosis.specs.declared.subject.Subject.{Subject}
-use Rattle.trlab_diagnosis.specs.declared.subject.Subject.TheVariants.{Job, Sweep, Check}
+use Rattle.trlab_jobs.specs.declared.subject.Subject.{Subject}
+use Rattle.trlab_jobs.specs.declared.subject.Subject.TheVariants.{Job, Sweep, Check}
 use Rattle.trlab_explain.specs.declared.explain.Form.{Form}
 use Rattle.trlab_explain.specs.declared.explain.Form.TheVariants.{Json, Text as Lines}
 use Rattle.trlab_explain.specs.declared.topics.Topic.{Topic}

@@ -15,7 +15,7 @@ use thiserror::Error;
 #[derive(Clone, Copy, Debug, PartialEq, Eq, Error)]
 pub enum DiagramFault {
     /// An allocation failed.
-    #[error("memory ran out")]
+    #[error("out of memory")]
     Memory,
 }
 

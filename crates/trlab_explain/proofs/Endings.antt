@@ -17,9 +17,10 @@ use Rattle.trlab_campaign.specs.Device.{IsReadOf}
 use Rattle.trlab_campaign.specs.Refusal.{Outputs, fault_line}
 use Rattle.trlab_campaign.specs.Writers.{SinkBytes, AddsNone}
 use Rattle.trlab_campaign.proofs.Endings.{output_ends, kept_at_memory}
-use Rattle.trlab_diagnosis.specs.Subjects.{IsMeant, MayBe, subject_named}
-use Rattle.trlab_diagnosis.specs.declared.subject.Subject.{Subject}
-use Rattle.trlab_diagnosis.specs.declared.subject.Subject.TheVariants.{Job, Sweep, Check}
+use Rattle.trlab_jobs.specs.Subjects.{subject_named}
+use Rattle.trlab_explain.specs.Meant.{IsMeant, MayBe}
+use Rattle.trlab_jobs.specs.declared.subject.Subject.{Subject}
+use Rattle.trlab_jobs.specs.declared.subject.Subject.TheVariants.{Job, Sweep, Check}
 use Rattle.trlab_explain.specs.Explanations.{Explains, IsReadAs, IsHeadAs, IsCheckHead, IsTextHead}
 use Rattle.trlab_explain.specs.declared.explain.Form.{Form}
 

@@ -3,8 +3,8 @@ use Rattle.std.proofs.Common.{ℕ, List, Bool}
 use Rattle.std.specs.Prelude.{Result, Ok, Err, OnOk}
 use Rattle.trlab_texts.specs.declared.fault.Cause.{Cause}
 use Rattle.trlab_texts.specs.declared.fault.TextFault.TheVariants.{At}
-use Rattle.trlab_diagnosis.specs.declared.subject.Subject.{Subject}
-use Rattle.trlab_diagnosis.specs.declared.subject.Subject.TheVariants.{Job, Sweep, Check}
+use Rattle.trlab_jobs.specs.declared.subject.Subject.{Subject}
+use Rattle.trlab_jobs.specs.declared.subject.Subject.TheVariants.{Job, Sweep, Check}
 use Rattle.trlab_explain.specs.Explanations.{IsRefusedText, IsHeadAs, IsFaultHead}
 
 pub refusal_has_head : {U E : Type 0} (r : Result U E) (subject : Subject) (text : List ℕ) (line : ℕ) (cause : Cause) (refused : Bool) (answer quote : List ℕ)

@@ -10,8 +10,8 @@ use Rattle.trlab_jobs.proofs.OneCheck.{something as check_says}
 use Rattle.trlab_lines.specs.Lines.{lines_of}
 use Rattle.trlab_campaign.specs.CheckOutput.{refused_line}
 use Rattle.trlab_campaign.specs.Refusal.{fault_line}
-use Rattle.trlab_diagnosis.specs.Quoting.{line_at}
-use Rattle.trlab_diagnosis.specs.declared.subject.Subject.TheVariants.{Job, Sweep, Check}
+use Rattle.trlab_lines.specs.Lines.{line_at}
+use Rattle.trlab_jobs.specs.declared.subject.Subject.TheVariants.{Job, Sweep, Check}
 use Rattle.trlab_explain.specs.Quotes.{quote_line}
 use Rattle.trlab_explain.specs.Explanations.{IsCheckHead, IsFaultHead, IsProgramHead, IsTextHead}
 use Rattle.trlab_explain.specs.Laws.{EveryTextHasAHead}

@@ -10,12 +10,12 @@ use Rattle.trlab_jobs.specs.Check.{Check as CheckSaid, CheckText}
 use Rattle.trlab_jobs.specs.Sweep.{Sweep as SweepSaid, SweepText}
 use Rattle.trlab_campaign.specs.CheckOutput.{refused_line}
 use Rattle.trlab_campaign.specs.Refusal.{Outputs, fault_line}
-use Rattle.trlab_diagnosis.specs.Quoting.{line_at}
-use Rattle.trlab_diagnosis.specs.Subjects.{IsMeant}
-use Rattle.trlab_diagnosis.specs.declared.subject.Subject.{Subject}
-use Rattle.trlab_diagnosis.specs.declared.subject.Subject.TheVariants.{Job, Sweep, Check}
+use Rattle.trlab_lines.specs.Lines.{line_at}
+use Rattle.trlab_explain.specs.Meant.{IsMeant}
+use Rattle.trlab_jobs.specs.declared.subject.Subject.{Subject}
+use Rattle.trlab_jobs.specs.declared.subject.Subject.TheVariants.{Job, Sweep, Check}
 use Rattle.trlab_explain.specs.Quotes.{quote_line}
-use Rattle.trlab_diagnosis.specs.Json.{EndsObject}
+use Rattle.trlab_explain.specs.Json.{EndsObject}
 use Rattle.trlab_explain.specs.Numbers.{is_known}
 use Rattle.trlab_explain.specs.declared.explain.Form.{Form}
 use Rattle.trlab_explain.specs.declared.explain.Form.TheVariants.{Text, Json}

@@ -1,6 +1,6 @@
 -- Laws of explanations.
 use Rattle.std.specs.Prelude.{ℕ, Bool, List}
-use Rattle.trlab_diagnosis.specs.declared.subject.Subject.{Subject}
+use Rattle.trlab_jobs.specs.declared.subject.Subject.{Subject}
 use Rattle.trlab_explain.specs.Explanations.{IsHeadAs}
 
 -- every text has the head of an explanation, whichever kind of input it is read as

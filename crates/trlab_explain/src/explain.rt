@@ -11,15 +11,16 @@ ghost use Rattle.trlab_explain.specs.Quotes.{quote_line};
 ghost use Rattle.trlab_explain.specs.Explanations.{Explains, HasHead, IsBlankHead, IsReadAs, IsRefusedText, IsHeadAs, IsFaultHead, IsProgramHead};
 
 use crate::explanation::{Explanation, json_form, text_form};
+use crate::meant::subject_of;
+use crate::repair::likely_repair;
 use std::alloc::{AllocError, AllocGlobal, Global};
 use trlab_campaign::{
     Cause, End, Engine, Sink, Source, push_fault_line, push_refused_line, run_engine, write_output,
 };
 use trlab_code::{Code, Kind};
-use trlab_diagnosis::{Fault, Place, Result, Subject, subject_of};
-use trlab_jobs::{Check, parse_check, parse_job, parse_sweep};
-use trlab_lines::Page;
-use trlab_messages::{ProgramVerdict, add_fault, add_job, add_program, add_sweep};
+use trlab_jobs::{Check, Subject, parse_check, parse_job, parse_sweep};
+use trlab_lines::{Page, Place};
+use trlab_messages::{Fault, ProgramVerdict, Result, add_fault, add_job, add_program, add_sweep};
 use trlab_texts::{Refusal, TextFault, Wanted};
 use trlab_verify::{VerifyFault, verify_change, verify_motion};
 
@@ -49,9 +50,9 @@ fn push_quote(page: &mut Page, number: u32, line: Option<&[u8]>) -> Result<()>
 
 /// Explains a rejected input, by its first fault. `at_fault` is the rest of the line, in which positions are counted,
 /// and the lines or values that were wanted there.
-fn explain_fault<'a>(
-    explanation: &mut Explanation<'a>,
-    text: &'a [u8],
+fn explain_fault(
+    explanation: &mut Explanation,
+    text: &[u8],
     line: u32,
     cause: Cause,
     at_fault: (&[u8], &Wanted),
@@ -65,6 +66,7 @@ fn explain_fault<'a>(
     let fault = Fault {
         subject: explanation.body.subject,
         place,
+        line: place.line.unwrap_or(b""),
         cause,
         wanted,
         within,
@@ -72,16 +74,17 @@ fn explain_fault<'a>(
     explanation.refused = true;
     push_fault_line(&mut explanation.answer, line, cause)?;
     push_quote(&mut explanation.quote, line, place.line)?;
-    add_fault(&mut explanation.body, place, &fault);
+    let repair = likely_repair(explanation.body.alloc, fault)?;
+    add_fault(&mut explanation.body, &fault, repair);
     Ok(())
 }
 
 /// Explains an input that its reader rejects.
 #[tactic(auto, using(crate::proofs::Refusals::refusal_has_head))]
-fn explain_refusal<'a>(
-    explanation: &mut Explanation<'a>,
+fn explain_refusal(
+    explanation: &mut Explanation,
     subject: Subject,
-    text: &'a [u8],
+    text: &[u8],
     refusal: Refusal<'_>,
 ) -> Result<()>
     requires new { IsBlankHead explanation.old.refused explanation.old.answer explanation.old.quote }
@@ -98,7 +101,7 @@ fn explain_refusal<'a>(
 }
 
 /// Explains an input that is read as a job.
-fn explain_job<'a>(explanation: &mut Explanation<'a>, text: &'a [u8]) -> Result<()>
+fn explain_job(explanation: &mut Explanation, text: &[u8]) -> Result<()>
     requires { IsBlankHead explanation.old.refused explanation.old.answer explanation.old.quote }
     ensures { OnOk result (IsHeadAs Subject.Job text.now
         explanation.new.refused explanation.new.answer explanation.new.quote) }
@@ -113,7 +116,7 @@ fn explain_job<'a>(explanation: &mut Explanation<'a>, text: &'a [u8]) -> Result<
 }
 
 /// Explains an input that is read as a sweep.
-fn explain_sweep<'a>(explanation: &mut Explanation<'a>, text: &'a [u8]) -> Result<()>
+fn explain_sweep(explanation: &mut Explanation, text: &[u8]) -> Result<()>
     requires { IsBlankHead explanation.old.refused explanation.old.answer explanation.old.quote }
     ensures { OnOk result (IsHeadAs Subject.Sweep text.now
         explanation.new.refused explanation.new.answer explanation.new.quote) }
@@ -129,7 +132,7 @@ fn explain_sweep<'a>(explanation: &mut Explanation<'a>, text: &'a [u8]) -> Resul
 
 /// Explains a program that the verifier accepts with a budget.
 fn explain_accepted(
-    explanation: &mut Explanation<'_>,
+    explanation: &mut Explanation,
     text: &[u8],
     code: &Code,
     budget: u32,
@@ -150,7 +153,7 @@ fn explain_accepted(
 
 /// Explains a program that the verifier does not accept.
 fn explain_rejected(
-    explanation: &mut Explanation<'_>,
+    explanation: &mut Explanation,
     text: &[u8],
     code: &Code,
     fault: VerifyFault,
@@ -174,7 +177,7 @@ fn explain_rejected(
 }
 
 /// Explains the program of a check.
-fn explain_program(explanation: &mut Explanation<'_>, text: &[u8], check: Check) -> Result<()>
+fn explain_program(explanation: &mut Explanation, text: &[u8], check: Check) -> Result<()>
     requires { IsBlankHead explanation.old.refused explanation.old.answer explanation.old.quote }
     ensures { OnOk result (IsProgramHead check explanation.new.refused explanation.new.answer explanation.new.quote) }
 {
@@ -193,7 +196,7 @@ fn explain_program(explanation: &mut Explanation<'_>, text: &[u8], check: Check)
 }
 
 /// Explains an input that is read as a check.
-fn explain_check<'a>(explanation: &mut Explanation<'a>, text: &'a [u8]) -> Result<()>
+fn explain_check(explanation: &mut Explanation, text: &[u8]) -> Result<()>
     requires { IsBlankHead explanation.old.refused explanation.old.answer explanation.old.quote }
     ensures { OnOk result (IsHeadAs Subject.Check text.now
         explanation.new.refused explanation.new.answer explanation.new.quote) }
@@ -205,7 +208,7 @@ fn explain_check<'a>(explanation: &mut Explanation<'a>, text: &'a [u8]) -> Resul
 }
 
 /// Explains an input that is read as this kind.
-fn explain_as<'a>(explanation: &mut Explanation<'a>, subject: Subject, text: &'a [u8]) -> Result<()>
+fn explain_as(explanation: &mut Explanation, subject: Subject, text: &[u8]) -> Result<()>
     requires { IsBlankHead explanation.old.refused explanation.old.answer explanation.old.quote }
     ensures { OnOk result (IsHeadAs subject text.now
         explanation.new.refused explanation.new.answer explanation.new.quote) }
@@ -239,11 +242,7 @@ pub fn plain_bytes(alloc: Global, page: &Page) -> Result<Vec<u8>>
 }
 
 /// Whether an explanation is a rejection, and its bytes in this form.
-fn bytes_in_form(
-    alloc: Global,
-    form: Form,
-    explanation: &Explanation<'_>,
-) -> Result<(bool, Vec<u8>)>
+fn bytes_in_form(alloc: Global, form: Form, explanation: &Explanation) -> Result<(bool, Vec<u8>)>
     ensures refused { IfOk result (λ output. output.0 ≡ explanation.now.refused) }
     ensures head { IfOk result (λ output.
         HasHead form explanation.now.refused explanation.now.answer explanation.now.quote output.1.items) }

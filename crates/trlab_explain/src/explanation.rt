@@ -2,27 +2,28 @@
 
 ghost use Rattle.std.specs.Prelude.{◌≡◌, [], false, All, IfOk};
 ghost use Rattle.trlab_lines.specs.Plain.{IsPlain};
-ghost use Rattle.trlab_diagnosis.specs.Json.{EndsObject};
+ghost use Rattle.trlab_explain.specs.Json.{EndsObject};
 ghost use Rattle.trlab_explain.specs.Explanations.{BeginsWith, text_front};
 
+use crate::object::Object;
 use std::alloc::Global;
-use trlab_diagnosis::{Draft, Object, Result, Subject, page_of};
+use trlab_jobs::Subject;
 use trlab_lines::Page;
-use trlab_messages::{Body, add_members, push_text};
+use trlab_messages::{Body, Draft, Result, add_body, page_of, push_text};
 
 /// An explanation of an input: its head and its body.
-pub struct Explanation<'a> {
+pub struct Explanation {
     /// Whether the input or its program is rejected.
     pub refused: bool,
     /// The line that the command prints for a rejected input or for a program; else empty.
     pub answer: Page,
     /// The line at fault with its number, if there is one.
     pub quote: Page,
-    pub body: Body<'a>,
+    pub body: Body,
 }
 
 // Not derived: a derived drop is proved again, field by field, wherever the value goes out of scope.
-impl Drop for Explanation<'_> {
+impl Drop for Explanation {
     fn drop(self) {
         let Explanation {
             refused: _refused,
@@ -33,9 +34,9 @@ impl Drop for Explanation<'_> {
     }
 }
 
-impl<'a> Explanation<'a> {
+impl Explanation {
     /// A blank explanation of an input that is not rejected.
-    pub fn new(alloc: Global, subject: Subject) -> Explanation<'a>
+    pub fn new(alloc: Global, subject: Subject) -> Explanation
         ensures refused { result.refused ≡ false }
         ensures answer { result.answer ≡ [] }
         ensures quote { result.quote ≡ [] }
@@ -50,13 +51,13 @@ impl<'a> Explanation<'a> {
 }
 
 /// The text form of an explanation below its head.
-fn body_page(alloc: Global, body: &Body<'_>) -> Result<Page> {
+fn body_page(alloc: Global, body: &Body) -> Result<Page> {
     let mut text = Draft::new(alloc);
     push_text(&mut text, body);
     page_of(alloc, text.text()?)
 }
 
-pub fn text_form(alloc: Global, explanation: &Explanation<'_>) -> Result<Page>
+pub fn text_form(alloc: Global, explanation: &Explanation) -> Result<Page>
     ensures { IfOk result (BeginsWith
         (text_front explanation.now.refused explanation.now.answer explanation.now.quote)) }
 {
@@ -71,12 +72,12 @@ pub fn text_form(alloc: Global, explanation: &Explanation<'_>) -> Result<Page>
 }
 
 /// The JSON form of an explanation: one object on one line.
-pub fn json_form(alloc: Global, explanation: &Explanation<'_>) -> Result<Vec<u8>>
+pub fn json_form(alloc: Global, explanation: &Explanation) -> Result<Vec<u8>>
     ensures plain { IfOk result (λ text. All IsPlain text.items) }
     ensures object { IfOk result (λ text. EndsObject explanation.now.refused explanation.now.answer text.items) }
 {
     let mut out = Object::new(alloc);
-    add_members(&mut out, &explanation.body);
+    add_body(&mut out, &explanation.body);
     out.finish(explanation.refused, &explanation.answer)?;
     out.into_line()
 }

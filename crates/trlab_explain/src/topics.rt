@@ -9,9 +9,8 @@ use crate::explain::{plain_bytes, write_explanation};
 use crate::numbers::cause_numbered;
 use std::alloc::{AllocGlobal, Global};
 use trlab_campaign::{End, Sink};
-use trlab_diagnosis::{Draft, Result, page_of};
 use trlab_lines::Page;
-use trlab_messages::{push_cause, push_reason};
+use trlab_messages::{Draft, Result, page_of, push_cause, push_reason};
 use trlab_notes::Reason;
 
 /// The kinds of numbers in the answers to rejected inputs.
@@ -23,7 +22,7 @@ pub enum Topic {
     Reason,
 }
 
-/// Adds the words for a number, and returns whether there is no such number.
+/// Adds the words for a number, and returns whether it is unknown.
 fn push_number(text: &mut Draft, topic: Topic, number: u32) -> bool
     ensures { result ≡ not (is_known topic number) }
 {
@@ -57,7 +56,7 @@ fn push_topic(page: &mut Page, topic: Topic, number: u32) -> Result<()>
     page.say(": ")
 }
 
-/// Whether there is no such number, and the words on it.
+/// Whether a number is unknown, and the words on it.
 fn number_words(alloc: Global, topic: Topic, number: u32) -> Result<(bool, Page)>
     ensures { IfOk result (λ words. words.0 ≡ not (is_known topic number)) }
 {
@@ -66,7 +65,7 @@ fn number_words(alloc: Global, topic: Topic, number: u32) -> Result<(bool, Page)
     Ok((is_none, page_of(alloc, text.text()?)?))
 }
 
-/// Whether there is no such number, and the page on it.
+/// Whether a number is unknown, and the page on it.
 fn number_page(alloc: Global, topic: Topic, number: u32) -> Result<(bool, Vec<u8>)>
     ensures { IfOk result (λ page. IsNumberPage topic number page.0 page.1.items) }
 {

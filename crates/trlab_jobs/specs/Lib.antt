@@ -11,5 +11,6 @@ pub mod Counts
 pub mod Shapes
 pub mod Sweep
 -- all texts
+pub mod Subjects
 pub mod Stored
 pub mod Laws

@@ -67,3 +67,7 @@ split_label text (Some parts) = (Some parts.0, parts.1)
 -- the bytes before the first `:` of a text, if it has one, and the bytes after it
 abbrev pub label_and_rest : List ℕ → Option (List ℕ) × List ℕ
 label_and_rest text = split_label text (cut 58 text)
+
+-- the first word after the label of a line and before its comment, and the bytes after that word
+abbrev pub name_and_operands : List ℕ → List ℕ × List ℕ
+name_and_operands line = first_word (label_and_rest (without_comment line)).1

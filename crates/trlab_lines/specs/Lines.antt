@@ -1,5 +1,5 @@
 -- The lines of a text.
-use Rattle.std.specs.Prelude.{◌≡◌, ◌≢◌, ℕ, ◌==◌, ◌⊎◌, List, [], ◌∷◌, ◌++◌, All, if◌then◌else◌}
+use Rattle.std.specs.Prelude.{◌≡◌, ◌≢◌, ℕ, zero, suc, ◌==◌, ◌⊎◌, List, [], ◌∷◌, ◌++◌, All, Option, None, slice_get, if◌then◌else◌}
 use Rattle.std.specs.List.{onto_first}
 
 -- the lines of a text: LF ends each, and may be missing at the last
@@ -14,3 +14,8 @@ BeginsWithLine text line rest = (text ≡ line ++ (10 ∷ rest)) ⊎ ((text ≡ 
 -- no byte of a line is an LF
 abbrev pub HasNoEnd : List ℕ → Type 0
 HasNoEnd line = All (λ byte. byte ≢ 10) line
+
+-- the line with a number, counted from 1, if there is one
+abbrev pub line_at : ℕ → List (List ℕ) → Option (List ℕ)
+line_at zero lines = None
+line_at (suc n) lines = slice_get lines n

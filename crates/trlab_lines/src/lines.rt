@@ -3,7 +3,7 @@
 ghost use Rattle.std.specs.Prelude.{◌≡◌, ◌<◌, [], ◌∷◌, length, MatchOption, IfSome, ◌==◌, not, option_map, ◌≤◌, true};
 ghost use Rattle.trlab_lines.specs.Lines.{lines_of, BeginsWithLine, HasNoEnd};
 ghost use Rattle.std.specs.List.{position};
-ghost use Rattle.trlab_lines.specs.Cutting.{cut, is_blank, without_indent, up_to_blank, only_word, without_comment, label_and_rest};
+ghost use Rattle.trlab_lines.specs.Cutting.{cut, is_blank, without_indent, up_to_blank, only_word, without_comment, label_and_rest, name_and_operands};
 ghost use Rattle.std.specs.Str.Parse.{digits_value};
 ghost use Rattle.trlab_lines.specs.Numbers.{all_digits, is_numeral};
 
@@ -123,6 +123,15 @@ pub fn label_and_rest(text: &[u8]) -> (Option<&[u8]>, &[u8])
         None => (None, text),
         Some((label, body)) => (Some(label), body),
     }
+}
+
+/// The first word after a label and before a comment, for example the name of an instruction, and the bytes after it:
+/// both are empty if there is no such word.
+pub fn name_and_operands(line: &[u8]) -> (&[u8], &[u8])
+    ensures { (result.0.now, result.1.now) ≡ name_and_operands line.now }
+{
+    let (_, body) = label_and_rest(without_comment(line));
+    up_to_blank(without_indent(body))
 }
 
 fn all_digits(text: &[u8]) -> bool

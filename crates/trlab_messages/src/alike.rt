@@ -1,8 +1,9 @@
 //! Misspelled names.
 
+use crate::Result;
 use std::alloc::Global;
 use strsim::generic_damerau_levenshtein;
-use trlab_diagnosis::{Result, is_named};
+use trlab_asm::HasText;
 
 /// The maximum length of a word that is compared with names: no name is longer.
 const LONGEST_WORD: usize = 32;
@@ -21,7 +22,7 @@ pub fn edits_within(
     other: &[u8],
     most: usize,
 ) -> Result<Option<usize>> {
-    if is_named(word, other) {
+    if word.eq_ignore_ascii_case(other) {
         return Ok(Some(0));
     }
     if word.len() > LONGEST_WORD || word.len().abs_diff(other.len()) > most {
@@ -73,18 +74,28 @@ impl<'a> NearestName<'a> {
     }
 }
 
-/// The nearest of some names: the one with the fewest edits, if no other is as near.
-pub fn nearest<'a, T: Copy, F: Fn(T) -> &'a [u8]>(
+/// The nearest of some words: the one with the fewest edits, if no other is as near.
+pub fn nearest_word(
+    alloc: Global,
+    word: &[u8],
+    all: &[&'static [u8]],
+) -> Result<Option<&'static [u8]>> {
+    let mut best = NearestName::to(word);
+    for one in all {
+        best.compare(alloc, word, *one)?;
+    }
+    Ok(best.found)
+}
+
+/// The nearest of some names of programs.
+pub fn nearest_name<T: HasText>(
     alloc: Global,
     word: &[u8],
     all: &[T],
-    name_of: F,
-) -> Result<Option<&'a [u8]>>
-    requires { F.IsAlwaysCallable name_of }
-{
+) -> Result<Option<&'static [u8]>> {
     let mut best = NearestName::to(word);
     for one in all {
-        best.compare(alloc, word, name_of(*one))?;
+        best.compare(alloc, word, one.text())?;
     }
     Ok(best.found)
 }

@@ -1,7 +1,11 @@
 //! The parts of an explanation, of which both the text and the JSON object are written.
 
+use crate::Result;
+use crate::amount::Amount;
+use crate::repairs::RepairInWords;
+use crate::sentence::Draft;
 use std::alloc::{AllocError, Global};
-use trlab_diagnosis::{Amount, Draft, Place, Repair, Result, Subject};
+use trlab_jobs::Subject;
 use trlab_texts::Cause;
 
 /// A number that a valid input determines. The text form puts it between two phrases, on a line of its own. A
@@ -26,12 +30,12 @@ pub fn count(key: &'static str, front: &'static str, count: u64, after: &'static
 
 /// The first error of an input, as its reader found it.
 #[derive(Drop)]
-pub struct Problem<'a> {
+pub struct Problem {
     pub cause: Cause,
     /// The number of the line.
     pub line: u32,
-    /// The line; `None` at the end of the input.
-    pub text: Option<&'a [u8]>,
+    /// The line, as the text form quotes it; `None` at the end of the input.
+    pub text: Option<Draft>,
     /// The bytes at fault: how many come before them in the line, and their number. `None` means the whole line.
     pub span: Option<(usize, usize)>,
     /// The forms that would be valid, one per line.
@@ -69,13 +73,13 @@ pub struct Known {
 
 /// An explanation without its status, the line that the command prints and the line at fault.
 #[derive(Drop)]
-pub struct Body<'a> {
+pub struct Body {
     pub alloc: Global,
     /// The kind of input it is read as.
     pub subject: Subject,
     /// The first line of the text form; may be empty.
     pub intro: &'static str,
-    pub problem: Option<Problem<'a>>,
+    pub problem: Option<Problem>,
     pub rejection: Option<Rejection>,
     /// The facts known before the rejected instruction, and the missing one, one per line.
     pub known: Draft,
@@ -86,14 +90,14 @@ pub struct Body<'a> {
     pub numbers: Vec<Number>,
     /// How many of them come above the facts in the text form.
     pub numbers_above: usize,
-    /// A repair that helps, with the place of the error.
-    pub repair: Option<(Place<'a>, Repair)>,
+    /// A repair that helps.
+    pub repair: Option<RepairInWords>,
     has_failed: bool,
 }
 
-impl<'a> Body<'a> {
+impl Body {
     /// An empty body.
-    pub fn new(alloc: Global, subject: Subject) -> Body<'a> {
+    pub fn new(alloc: Global, subject: Subject) -> Body {
         Body {
             alloc,
             subject,

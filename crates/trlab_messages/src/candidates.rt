@@ -5,17 +5,19 @@ mod line;
 mod number;
 mod program;
 
+use crate::Result;
 use crate::candidates::bytes::{
     cell_candidate, hex_candidates, lanes_candidate, version_candidate,
 };
 use crate::candidates::line::line_candidates;
 use crate::candidates::number::number_candidates;
 use crate::candidates::program::{label_candidate, operand_candidates, unknown_word_candidates};
+use crate::fault::Fault;
 use crate::names::line_after;
+use crate::repairs::{Change, Edit, Repair};
 use std::alloc::{AllocError, Global};
 use trlab_asm::Why;
 use trlab_code::CodeFault;
-use trlab_diagnosis::{Change, Edit, Fault, MAX_TRIED, Repair, Result};
 use trlab_road::RoadFault;
 use trlab_texts::{Cause, LineName};
 
@@ -36,29 +38,21 @@ const LATE: &str = "this line belongs elsewhere, or is a duplicate.";
 const WINDOWS: &str =
     "the line ends with a carriage return (Windows line ending): use LF only, in all lines.";
 
+/// The maximum number of repairs that are tried. Each one is a reading of the whole text.
+pub const MAX_TRIED: usize = 5;
+
 /// The candidates for a fault, at most `MAX_TRIED`.
 #[derive(Drop)]
-pub struct Candidates<'a> {
+pub struct Candidates {
     pub alloc: Global,
-    pub fault: Fault<'a>,
-    /// The line at fault, empty if the input has ended.
-    pub line: &'a [u8],
+    /// The number of bytes before the line at fault.
+    start: usize,
     repairs: Vec<Repair>,
     /// Whether an allocation failed. It is reported once, after all candidates were added.
     has_failed: bool,
 }
 
-impl<'a> Candidates<'a> {
-    fn new(alloc: Global, fault: Fault<'a>) -> Candidates<'a> {
-        Candidates {
-            alloc,
-            fault,
-            line: fault.line(),
-            repairs: Vec::new(alloc),
-            has_failed: false,
-        }
-    }
-
+impl Candidates {
     /// Returns the value, or remembers that its allocation failed.
     pub fn value<T>(&mut self, value: Result<T>) -> Option<T> {
         self.has_failed |= value.is_err();
@@ -93,8 +87,7 @@ impl<'a> Candidates<'a> {
         removed: usize,
         put: Result<Vec<u8>>,
     ) {
-        let start = self.fault.place.start;
-        self.edit(mistake, start.saturating_add(at), removed, put);
+        self.edit(mistake, self.start.saturating_add(at), removed, put);
     }
 
     /// Adds a candidate that replaces bytes of the line at fault.
@@ -104,16 +97,15 @@ impl<'a> Candidates<'a> {
     }
 
     /// Adds a candidate that inserts a line above the one at fault, or at the end of the input.
-    pub fn above(&mut self, mistake: &'static str, line: LineName) {
-        let inserted = line_after(self.fault.place.above(), line);
+    pub fn above(&mut self, fault: &Fault<'_>, mistake: &'static str, line: LineName) {
+        let inserted = line_after(fault.place.above(), line);
         self.in_line(mistake, 0, 0, inserted);
     }
 
     /// Adds a candidate that deletes the line at fault.
-    pub fn without_line(&mut self, mistake: &'static str) {
-        let place = self.fault.place;
-        let left = place.text.len().saturating_sub(place.start);
-        let removed = self.line.len().saturating_add(1).min(left);
+    pub fn without_line(&mut self, fault: &Fault<'_>, mistake: &'static str) {
+        let left = fault.place.text.len().saturating_sub(self.start);
+        let removed = fault.line.len().saturating_add(1).min(left);
         self.in_line(mistake, 0, removed, b"");
     }
 
@@ -128,28 +120,28 @@ impl<'a> Candidates<'a> {
 }
 
 /// Adds the candidates for a fault of a program's lines.
-fn program_candidates(list: &mut Candidates<'_>, why: Why) {
+fn program_candidates(list: &mut Candidates, fault: &Fault<'_>, why: Why) {
     match why {
-        Why::Word => unknown_word_candidates(list),
-        Why::Operand | Why::Number => operand_candidates(list, why),
-        Why::NoLabel => label_candidate(list),
+        Why::Word => unknown_word_candidates(list, fault),
+        Why::Operand | Why::Number => operand_candidates(list, fault, why),
+        Why::NoLabel => label_candidate(list, fault),
         Why::LabelTwice | Why::TooLong | Why::Empty | Why::Memory => {}
     }
 }
 
 /// Adds the candidates for a fault.
-fn add_candidates(list: &mut Candidates<'_>) {
-    if let Some(front) = list.line.strip_suffix(b"\r") {
+fn add_candidates(list: &mut Candidates, fault: &Fault<'_>) {
+    if let Some(front) = fault.line.strip_suffix(b"\r") {
         list.in_line(WINDOWS, front.len(), 1, b"");
     }
-    match list.fault.cause {
-        Cause::Line => line_candidates(list),
-        Cause::Program(why) => program_candidates(list, why),
-        Cause::Number => number_candidates(list),
-        Cause::Key | Cause::Hex => hex_candidates(list),
-        Cause::OneLane => lanes_candidate(list),
-        Cause::Code(CodeFault::NeedlessVersion) => version_candidate(list),
-        Cause::Road(RoadFault::Character { place, .. }) => cell_candidate(list, place),
+    match fault.cause {
+        Cause::Line => line_candidates(list, fault),
+        Cause::Program(why) => program_candidates(list, fault, why),
+        Cause::Number => number_candidates(list, fault),
+        Cause::Key | Cause::Hex => hex_candidates(list, fault),
+        Cause::OneLane => lanes_candidate(list, fault),
+        Cause::Code(CodeFault::NeedlessVersion) => version_candidate(list, fault),
+        Cause::Road(RoadFault::Character { place, .. }) => cell_candidate(list, fault, place),
         Cause::Code(_) | Cause::Road(_) => {}
         Cause::Order | Cause::TooMany | Cause::Work | Cause::TooBig => {}
         Cause::StandardRefused | Cause::Verdict(_) => {}
@@ -161,9 +153,14 @@ fn add_candidates(list: &mut Candidates<'_>) {
 /// # Errors
 ///
 /// If an allocation fails.
-pub fn candidates_for(alloc: Global, fault: Fault<'_>) -> Result<Vec<Repair>> {
-    let mut list = Candidates::new(alloc, fault);
-    add_candidates(&mut list);
+pub fn candidates_for(alloc: Global, fault: &Fault<'_>) -> Result<Vec<Repair>> {
+    let mut list = Candidates {
+        alloc,
+        start: fault.place.start,
+        repairs: Vec::new(alloc),
+        has_failed: false,
+    };
+    add_candidates(&mut list, fault);
     let Candidates {
         repairs,
         has_failed,

@@ -1,23 +1,54 @@
 //! The first error of an input: the expected forms, the problem, and a repair.
 
-ghost use Rattle.std.specs.Prelude.{IfOk, IfSome};
-ghost use Rattle.trlab_diagnosis.specs.Repairs.{Helps};
-
 use crate::body::{Body, Problem};
-use crate::candidates::candidates_for;
 use crate::causes::cause_hint;
 use crate::forms::{EXPECTED_OF_CHECK, INSTRUCTIONS, form_of_instruction, form_of_line};
 use crate::found::{push_found, span_of};
 use crate::names::named;
 use crate::program::add_rejected_part;
-use std::alloc::Global;
+use crate::repairs::{Repair, RepairInWords};
+use crate::sentence::{Draft, Quoted};
 use trlab_asm::{Why, mnemonic_named};
-use trlab_diagnosis::{
-    Draft, Fault, Place, Repair, Result, Subject, first_that_helps, name_and_operands,
-};
+use trlab_jobs::Subject;
+use trlab_lines::{Place, name_and_operands};
 use trlab_texts::word::head_word;
 use trlab_texts::{Cause, LineName, LineNames, Wanted};
 
+/// The first fault of an input.
+#[derive(Clone, Copy)]
+pub struct Fault<'a> {
+    /// The kind of input it is read as.
+    pub subject: Subject,
+    /// Where the fault is.
+    pub place: Place<'a>,
+    /// The line at fault, which is empty at the end of the input.
+    pub line: &'a [u8],
+    pub cause: Cause,
+    /// The lines or values that its reader wanted there.
+    pub wanted: &'a Wanted,
+    /// The rest of the line, in which the positions in `wanted` are counted.
+    pub within: &'a [u8],
+}
+
+impl<'a> Fault<'a> {
+    /// Whether a line of this name would be valid instead of the one at fault.
+    pub fn wants(&self, name: LineName) -> bool {
+        matches!(self.wanted, Wanted::Lines(names) if names.has(name))
+    }
+
+    /// The word at fault, if its reader names one: the number of bytes before it, and its length.
+    pub fn word(&self) -> Option<(usize, usize)> {
+        let before = self.line.len().saturating_sub(self.within.len());
+        match self.wanted {
+            Wanted::Number { at, length, .. } => Some((before.saturating_add(*at), *length)),
+            Wanted::Digits { at } => Some((
+                before.saturating_add(*at),
+                self.within.len().saturating_sub(*at),
+            )),
+            _ => None,
+        }
+    }
+}
 /// The first line of the explanation of an error.
 fn intro_of(subject: Subject) -> &'static str {
     match subject {
@@ -29,14 +60,14 @@ fn intro_of(subject: Subject) -> &'static str {
 
 /// Adds the forms of the lines of a job or sweep that would be valid at a fault.
 fn push_line_forms(forms: &mut Draft, fault: &Fault<'_>) {
-    let names = match (fault.wanted, named(head_word(fault.line()))) {
+    let names = match (fault.wanted, named(head_word(fault.line))) {
         (Wanted::Lines(names), _) => *names,
         (_, Some(name)) => LineNames::none().with(name),
         (_, None) => LineNames::none(),
     };
     for line in &LineName::ALL {
         if names.has(*line) {
-            writeln!(forms, "{}", form_of_line(*line));
+            forms.line(form_of_line(*line));
         }
     }
 }
@@ -45,17 +76,14 @@ fn push_line_forms(forms: &mut Draft, fault: &Fault<'_>) {
 fn push_forms(forms: &mut Draft, fault: &Fault<'_>) {
     match fault.cause {
         Cause::Line | Cause::Number | Cause::Key | Cause::Order => match fault.subject {
-            Subject::Check => writeln!(forms, "{EXPECTED_OF_CHECK}"),
+            Subject::Check => forms.line(EXPECTED_OF_CHECK),
             Subject::Job | Subject::Sweep => push_line_forms(forms, fault),
         },
-        Cause::Program(Why::Word) => writeln!(forms, "{INSTRUCTIONS}"),
+        Cause::Program(Why::Word) => forms.line(INSTRUCTIONS),
         Cause::Program(Why::Operand | Why::Number) => {
-            if let Some(name) = mnemonic_named(name_and_operands(fault.line()).0) {
-                writeln!(
-                    forms,
-                    "{}\nRegisters are r0 to r7.",
-                    form_of_instruction(name)
-                );
+            if let Some(name) = mnemonic_named(name_and_operands(fault.line).0) {
+                forms.line(form_of_instruction(name));
+                forms.line("Registers are r0 to r7.");
             }
         }
         _ => {}
@@ -65,7 +93,7 @@ fn push_forms(forms: &mut Draft, fault: &Fault<'_>) {
 /// Where to look for an error if nothing was found and no repair helps.
 fn hint_of(fault: &Fault<'_>) -> &'static str {
     let may_begin = fault.wants(LineName::Motion) || fault.wants(LineName::Change);
-    if may_begin && mnemonic_named(name_and_operands(fault.line()).0).is_some() {
+    if may_begin && mnemonic_named(name_and_operands(fault.line).0).is_some() {
         "the line above. A program begins with `motion` or `change`."
     } else {
         cause_hint(fault.cause)
@@ -73,16 +101,22 @@ fn hint_of(fault: &Fault<'_>) -> &'static str {
 }
 
 /// The problem at a fault. The repair of the body is set before: a problem without words and repair has a hint.
-fn problem_at<'a>(body: &Body<'a>, place: Place<'a>, fault: &Fault<'_>) -> Problem<'a> {
+fn problem_at(body: &Body, fault: &Fault<'_>) -> Problem {
     let mut found = Draft::new(body.alloc);
     push_found(&mut found, fault);
     let mut expected = Draft::new(body.alloc);
     push_forms(&mut expected, fault);
+    let mut text = Draft::new(body.alloc);
+    write!(text, "{}", Quoted(fault.line));
     let is_clear = body.repair.is_some() || !found.is_empty();
     Problem {
         cause: fault.cause,
-        line: place.number,
-        text: place.line,
+        line: fault.place.number,
+        text: if fault.place.line.is_some() {
+            Some(text)
+        } else {
+            None
+        },
         span: span_of(fault),
         expected,
         found,
@@ -90,30 +124,16 @@ fn problem_at<'a>(body: &Body<'a>, place: Place<'a>, fault: &Fault<'_>) -> Probl
     }
 }
 
-/// The most likely repair that helps: with it, the input has no error or its first one is further down. The verifier
-/// may still reject the program of a check.
-///
-/// # Errors
-///
-/// If an allocation fails.
-pub fn likely_repair(alloc: Global, fault: Fault<'_>) -> Result<Option<Repair>>
-    ensures { IfOk result (λ found. IfSome found
-        (λ repair. Helps fault.entry.subject fault.entry.place.text.now fault.entry.place.number repair.change)) }
-{
-    first_that_helps(alloc, fault, candidates_for(alloc, fault)?)
-}
-
-/// Adds the first error of an input. `place` is that of the fault, for as long as the input lives.
-pub fn add_fault<'a>(body: &mut Body<'a>, place: Place<'a>, fault: &Fault<'_>) {
+/// Adds the first error of an input, and a repair if one helps.
+pub fn add_fault(body: &mut Body, fault: &Fault<'_>, repair: Option<Repair>) {
     if fault.cause != Cause::TooBig {
         body.intro = intro_of(fault.subject);
     }
     if let Cause::Verdict(reason) = fault.cause {
         add_rejected_part(body, fault, reason);
     }
-    let repair = likely_repair(body.alloc, *fault);
-    if let Some(Some(repair)) = body.value(repair) {
-        body.repair = Some((place, repair));
+    if let Some(repair) = repair {
+        body.repair = Some(RepairInWords::new(body.alloc, &fault.place, repair));
     }
-    body.problem = Some(problem_at(body, place, fault));
+    body.problem = Some(problem_at(body, fault));
 }

@@ -3,10 +3,13 @@
 mod line;
 mod program;
 
+use crate::fault::Fault;
 use crate::found::line::push_line_problem;
 use crate::found::program::{push_program_problem, word_span};
+use crate::instruction::operand_at_fault;
+use crate::sentence::{Draft, Quoted};
 use trlab_asm::Why;
-use trlab_diagnosis::{Draft, Fault, Quoted, bytes_at, operand_at_fault};
+use trlab_lines::bytes_at;
 use trlab_road::RoadFault;
 use trlab_texts::word::long_number;
 use trlab_texts::{Cause, Wanted};
@@ -72,7 +75,7 @@ fn push_cells_problem(found: &mut Draft, line: &[u8], first: u32) {
 /// Adds the speed of a car that is faster than the maximum speed.
 fn push_speed_problem(found: &mut Draft, fault: &Fault<'_>, limit: u32) {
     if let Some((at, _)) = span_of(fault)
-        && let Some(car) = fault.line().get(at)
+        && let Some(car) = fault.line.get(at)
         && let Some(speed) = char::from(*car).to_digit(36)
     {
         write!(
@@ -84,7 +87,7 @@ fn push_speed_problem(found: &mut Draft, fault: &Fault<'_>, limit: u32) {
 
 /// The position and the number of the bytes at fault in their line. `None` means the whole line.
 pub fn span_of(fault: &Fault<'_>) -> Option<(usize, usize)> {
-    let line = fault.line();
+    let line = fault.line;
     match fault.cause {
         Cause::Road(
             RoadFault::Character { place, .. } | RoadFault::SpeedAboveLimit { place, .. },
@@ -100,7 +103,7 @@ pub fn span_of(fault: &Fault<'_>) -> Option<(usize, usize)> {
 
 /// Adds the problem at a fault, unless the meaning of the cause is enough.
 pub fn push_found(found: &mut Draft, fault: &Fault<'_>) {
-    let line = fault.line();
+    let line = fault.line;
     let (at, length) = fault.word().unwrap_or((0, 0));
     let word = bytes_at(line, at, length);
     match fault.wanted {

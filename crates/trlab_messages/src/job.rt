@@ -1,9 +1,9 @@
 //! The work of a valid job.
 
+use crate::amount::Amount;
 use crate::body::{Body, Number, count};
 use crate::rules::{count_digits, megabytes, push_rules};
 use trlab_bounds::runs::MAX_LATER;
-use trlab_diagnosis::Amount;
 use trlab_jobs::Job;
 use trlab_road::Road;
 
@@ -60,7 +60,7 @@ fn run_numbers(text: &[u8], job: &Job) -> [Number; 4] {
 }
 
 /// Adds the road, the rules and the work of a valid job.
-pub fn add_job(body: &mut Body<'_>, text: &[u8], job: &Job) {
+pub fn add_job(body: &mut Body, text: &[u8], job: &Job) {
     body.intro = "This is a valid job: `trlab run` runs it.";
     body.add_numbers(&road_numbers(&job.road));
     body.numbers_above = body.numbers.len();

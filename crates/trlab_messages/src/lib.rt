@@ -1,7 +1,7 @@
-//! The words of explanations: the problem at the first error of an input, the forms that would be valid there, a
-//! repair, why the verifier rejects a program, and the work of a valid input. They are collected in a `Body`, which is
-//! written as text after the head of an explanation, or as members of a JSON object before the status. The only
-//! contract is that a repair from `likely_repair` helps.
+//! The words of explanations: the problem at the first error of an input, the forms that would be valid there, the
+//! repairs to try, why the verifier rejects a program, and the work of a valid input. They are collected in a `Body`,
+//! which is written as text after the head of an explanation, or as members of a JSON object before the status.
+//! Sentences are drafts, which may quote any bytes of the input; pages of plain text are made of them.
 //!
 //! ```text
 //! push_text(&mut text, body); // for example "This is a valid job: `trlab run` runs it." and more lines
@@ -9,28 +9,39 @@
 #![tactic(auto)]
 
 mod alike;
+mod amount;
 mod body;
 mod candidates;
 mod causes;
 mod fault;
 mod forms;
 mod found;
+mod instruction;
 mod job;
-mod json;
+mod members;
 mod names;
+mod oddity;
 mod program;
 mod reasons;
 mod repairs;
 mod rules;
+mod sentence;
 mod sweep;
 mod text;
 mod topics;
 
 pub use body::Body;
-pub use fault::{add_fault, likely_repair};
+pub use candidates::candidates_for;
+pub use fault::{Fault, add_fault};
 pub use job::add_job;
-pub use json::add_members;
+pub use members::{ObjectWriter, add_body};
 pub use program::{ProgramVerdict, add_program};
+pub use repairs::{Change, Edit, Repair};
+pub use sentence::{Draft, page_of};
+use std::alloc::AllocError;
 pub use sweep::add_sweep;
 pub use text::push_text;
 pub use topics::{push_cause, push_reason};
+
+/// A result that is an error only if an allocation fails.
+pub type Result<T> = std::result::Result<T, AllocError>;

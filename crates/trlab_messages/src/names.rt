@@ -1,6 +1,6 @@
 //! The names of lines and of rules, and the samples of lines that repairs insert.
 
-use trlab_diagnosis::{Subject, is_named};
+use trlab_jobs::Subject;
 use trlab_lines::cut;
 use trlab_texts::LineName;
 
@@ -68,13 +68,23 @@ pub fn line_after(text: &[u8], line: LineName) -> &'static [u8] {
 /// Whether a line of any input begins with this word, in any case.
 pub fn is_name_of_line(word: &[u8]) -> bool {
     let mut names = LineName::ALL.iter();
-    names.any(|name| is_named(word, name.word()))
-        || is_named(word, b"code")
-        || is_named(word, b"notes")
+    names.any(|name| word.eq_ignore_ascii_case(name.word()))
+        || word.eq_ignore_ascii_case(b"code")
+        || word.eq_ignore_ascii_case(b"notes")
 }
 
-/// The standard rules and `own`: the word after `rule`, and the number of probabilities after it.
-pub const RULES: [(&[u8], usize); 4] = [(b"nasch", 1), (b"vdr", 2), (b"rickert", 2), (b"own", 0)];
+/// The words after `rule`: the standard rules and `own`.
+pub const RULE_NAMES: [&[u8]; 4] = [b"nasch", b"vdr", b"rickert", b"own"];
+
+/// How many probabilities follow the name of a rule; `None` if there is no such rule.
+pub fn count_probabilities(rule: &[u8]) -> Option<usize> {
+    match rule {
+        b"own" => Some(0),
+        b"nasch" => Some(1),
+        b"vdr" | b"rickert" => Some(2),
+        _ => None,
+    }
+}
 
 /// The rest of a line after the word `rule`, if that is one of its first three words.
 pub fn after_rule(line: &[u8]) -> Option<&[u8]> {

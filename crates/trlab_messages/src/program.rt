@@ -3,14 +3,16 @@
 mod marks;
 mod rejection;
 
+use crate::Result;
 use crate::body::{Body, Known, count};
+use crate::fault::Fault;
 use crate::program::marks::push_fact;
 use crate::program::rejection::add_rejection;
+use crate::sentence::{Draft, Quoted};
 use std::alloc::{AllocError, Global};
 use trlab_asm::{REGISTERS, disassemble};
 use trlab_code::Code;
-use trlab_diagnosis::{Draft, Fault, Quoted, Result, name_and_operands};
-use trlab_lines::next_line;
+use trlab_lines::{name_and_operands, next_line};
 use trlab_notes::Reason;
 use trlab_texts::Wanted;
 use trlab_texts::word::without_prefix;
@@ -97,7 +99,7 @@ fn known_at(alloc: Global, program: Listing<'_>, pc: u32, note: &Note) -> Known 
         }
     }
     if note.side {
-        writeln!(facts, "the side cell is empty");
+        facts.line("the side cell is empty");
     }
     Known {
         line: program.line_number(pc, 0),
@@ -107,7 +109,7 @@ fn known_at(alloc: Global, program: Listing<'_>, pc: u32, note: &Note) -> Known 
 }
 
 /// Adds the budget of an accepted program, and the facts known before each instruction.
-fn add_accepted(body: &mut Body<'_>, program: Listing<'_>, budget: u32) {
+fn add_accepted(body: &mut Body, program: Listing<'_>, budget: u32) {
     let runs = "Accepted: a car runs at most ";
     let number = count("budget", runs, u64::from(budget), " instructions per step.");
     body.add_numbers(&[number]);
@@ -128,12 +130,7 @@ fn add_accepted(body: &mut Body<'_>, program: Listing<'_>, budget: u32) {
 }
 
 /// Adds the verdict on a program that begins at a line of the input, whose other lines are below it.
-fn add_verdict(
-    body: &mut Body<'_>,
-    code: &Code,
-    place: (u32, &[u8], &[u8]),
-    verdict: ProgramVerdict,
-) {
+fn add_verdict(body: &mut Body, code: &Code, place: (u32, &[u8], &[u8]), verdict: ProgramVerdict) {
     let (number, line, below) = place;
     let line = without_prefix(b"notes ", line).unwrap_or(line);
     let is_in_bytes = without_prefix(b"code ", line).is_some();
@@ -165,15 +162,15 @@ fn add_verdict(
 }
 
 /// Adds why the verifier rejects a program of a job or sweep, which begins at the fault.
-pub fn add_rejected_part(body: &mut Body<'_>, fault: &Fault<'_>, reason: u32) {
+pub fn add_rejected_part(body: &mut Body, fault: &Fault<'_>, reason: u32) {
     if let Wanted::Program { code, at } = fault.wanted {
-        let place = (fault.place.number, fault.line(), fault.place.below());
+        let place = (fault.place.number, fault.line, fault.place.below());
         add_verdict(body, code, place, ProgramVerdict::Rejected(*at, reason));
     }
 }
 
 /// Adds the verdict on the program of a check.
-pub fn add_program(body: &mut Body<'_>, text: &[u8], code: &Code, verdict: ProgramVerdict) {
+pub fn add_program(body: &mut Body, text: &[u8], code: &Code, verdict: ProgramVerdict) {
     let (line, below) = next_line(text).unwrap_or((b"", b""));
     add_verdict(body, code, (1, line, below), verdict);
 }

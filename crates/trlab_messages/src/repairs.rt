@@ -1,6 +1,56 @@
 //! Repairs: where they change the input, and how the text form says so.
 
-use trlab_diagnosis::{Change, Draft, Edit, Place, Repair, Shown, Subject, bytes_at};
+use crate::sentence::Draft;
+use std::alloc::Global;
+use trlab_jobs::Subject;
+use trlab_lines::{Place, bytes_at};
+
+/// A change of a text: some bytes are replaced.
+pub struct Edit {
+    /// The number of bytes before the change.
+    pub at: usize,
+    /// The number of bytes that are removed.
+    pub removed: usize,
+    /// The bytes in their place.
+    pub inserted: Vec<u8>,
+}
+
+// Not derived: a derived drop is proved again, field by field, wherever the value goes out of scope.
+impl Drop for Edit {
+    fn drop(self) {
+        let Edit {
+            at: _at,
+            removed: _removed,
+            inserted: _inserted,
+        } = self;
+    }
+}
+
+/// A change by a repair.
+#[derive(Drop)]
+pub enum Change {
+    /// The input is edited.
+    Edited(Edit),
+    /// The input is read as this kind.
+    ReadAs(Subject),
+}
+
+/// A likely mistake, and the change that corrects it.
+pub struct Repair {
+    /// The mistake in words.
+    pub mistake: &'static str,
+    pub change: Change,
+}
+
+// Not derived: a derived drop is proved again, field by field, wherever the value goes out of scope.
+impl Drop for Repair {
+    fn drop(self) {
+        let Repair {
+            mistake: _mistake,
+            change: _change,
+        } = self;
+    }
+}
 
 /// The command that reads an input.
 pub fn command_of(subject: Subject) -> &'static str {
@@ -19,7 +69,7 @@ fn line_of(text: &[u8], at: usize) -> u32 {
 }
 
 /// The line that has the byte at `at`: usually that of the error.
-pub fn place_of<'a>(error: &Place<'a>, at: usize) -> Place<'a> {
+fn place_of<'a>(error: &Place<'a>, at: usize) -> Place<'a> {
     let length = error.line.unwrap_or(b"").len();
     if error.start <= at && at <= error.start.saturating_add(length) {
         *error
@@ -28,64 +78,85 @@ pub fn place_of<'a>(error: &Place<'a>, at: usize) -> Place<'a> {
     }
 }
 
-/// The inserted line without its LFs.
-fn inserted_line(inserted: &[u8]) -> Shown<'_> {
-    let line = inserted.strip_prefix(b"\n").unwrap_or(inserted);
-    Shown(line.strip_suffix(b"\n").unwrap_or(line))
-}
-
-/// Adds an edit within a line, after its first `before` bytes.
-fn push_within(text: &mut Draft, place: &Place<'_>, before: usize, edit: &Edit) {
+/// Adds how to edit a line after its first `before` bytes.
+fn push_within(how: &mut Draft, place: &Place<'_>, before: usize, edit: &Edit) {
     let line = place.line.unwrap_or(b"");
-    let number = place.number;
     let column = before.saturating_add(1);
     let removed = bytes_at(line, before, edit.removed);
-    let (old, new) = (Shown(removed), Shown(&edit.inserted));
+    write!(how, "Line {}", place.number);
     if edit.inserted.is_empty() && before.saturating_add(edit.removed) == line.len() {
-        writeln!(
-            text,
-            "Line {number}: delete everything from column {column} on."
-        );
-    } else if removed.is_empty() {
-        writeln!(text, "Line {number}, column {column}: insert `{new}`.");
+        return write!(how, ": delete everything from column {column} on.");
+    }
+    write!(how, ", column {column}: ");
+    if removed.is_empty() {
+        how.say("insert `");
     } else if edit.inserted.is_empty() {
-        writeln!(text, "Line {number}, column {column}: delete `{old}`.");
+        how.say("delete `");
     } else {
-        writeln!(
-            text,
-            "Line {number}, column {column}: replace `{old}` with `{new}`."
-        );
+        how.say("replace `");
     }
+    how.show(removed);
+    if !removed.is_empty() && !edit.inserted.is_empty() {
+        how.say("` with `");
+    }
+    how.show(&edit.inserted);
+    how.say("`.");
 }
 
-fn push_edit(text: &mut Draft, error: &Place<'_>, edit: &Edit) {
-    let new = inserted_line(&edit.inserted);
-    if edit.at == error.text.len() {
-        return writeln!(text, "At the end, add the line `{new}`.");
-    }
-    let place = place_of(error, edit.at);
+/// Adds how to edit lines as a whole, or else a part of one.
+fn push_edit(how: &mut Draft, place: &Place<'_>, before: usize, edit: &Edit) {
     let number = place.number;
-    let before = edit.at.saturating_sub(place.start);
     let length = place.line.unwrap_or(b"").len();
-    if edit.removed == 0 && edit.inserted.last() == Some(&b'\n') {
-        writeln!(text, "Above line {number}, add the line `{new}`.");
+    if edit.at == place.text.len() {
+        how.say("At the end, add the line `");
+    } else if edit.removed == 0 && edit.inserted.last() == Some(&b'\n') {
+        write!(how, "Above line {number}, add the line `");
     } else if edit.inserted.is_empty() && before == 0 && edit.removed >= length.max(1) {
-        writeln!(text, "Delete line {number}.");
+        return write!(how, "Delete line {number}.");
     } else if before == 0 && edit.removed == length {
-        writeln!(text, "Replace line {number} with `{new}`.");
+        write!(how, "Replace line {number} with `");
     } else {
-        push_within(text, &place, before, edit);
+        return push_within(how, place, before, edit);
     }
+    let line = edit.inserted.strip_prefix(b"\n").unwrap_or(&edit.inserted);
+    how.show(line.strip_suffix(b"\n").unwrap_or(line));
+    how.say("`.");
 }
 
-/// Adds a repair, and how to make it.
-pub fn push_repair(text: &mut Draft, error: &Place<'_>, repair: &Repair) {
-    writeln!(text, "Repair: {}", repair.mistake);
-    match &repair.change {
-        Change::Edited(edit) => push_edit(text, error, edit),
-        Change::ReadAs(other) => {
-            let command = command_of(*other);
-            writeln!(text, "Read it with `trlab {command}`.");
+/// A repair, and how to make it.
+#[derive(Drop)]
+pub struct RepairInWords {
+    pub repair: Repair,
+    /// How to make it, in one line.
+    pub how: Draft,
+    /// The number of the line that is edited.
+    pub line: u32,
+    /// The number of bytes of this line before the edit.
+    pub before: usize,
+}
+
+impl RepairInWords {
+    pub fn new(alloc: Global, error: &Place<'_>, repair: Repair) -> RepairInWords {
+        let mut how = Draft::new(alloc);
+        let (line, before) = match &repair.change {
+            Change::Edited(edit) => {
+                let place = place_of(error, edit.at);
+                let before = edit.at.saturating_sub(place.start);
+                push_edit(&mut how, &place, before, edit);
+                (place.number, before)
+            }
+            Change::ReadAs(other) => {
+                how.say("Read it with `trlab ");
+                how.say(command_of(*other));
+                how.say("`.");
+                (error.number, 0)
+            }
+        };
+        RepairInWords {
+            repair,
+            how,
+            line,
+            before,
         }
     }
 }

@@ -1,8 +1,9 @@
 //! The rules of a valid input with their probabilities, and two helpers for sizes.
 
+use crate::amount::Amount;
 use crate::names::after_rule;
+use crate::sentence::{Draft, Quoted};
 use trlab_bounds::programs::CERTAIN;
-use trlab_diagnosis::{Amount, Draft, Quoted};
 use trlab_lines::{cut, next_line};
 use trlab_texts::word::{head_word, number_from};
 
@@ -40,7 +41,7 @@ fn push_rule(facts: &mut Draft, number: u32, line: &[u8]) {
 
 /// Adds a heading, and the first `most` lines of the input with this first word, which are rules.
 pub fn push_rules(facts: &mut Draft, heading: &str, text: &[u8], name: &[u8], most: u32) {
-    writeln!(facts, "{heading}");
+    facts.line(heading);
     let mut left = text;
     let mut number = 1u32;
     let mut found = 0u32;

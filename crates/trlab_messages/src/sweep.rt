@@ -31,7 +31,7 @@ fn cars_of_first_lane(cells: u64, cars: u32) -> u64 {
 }
 
 /// Adds how many of these cars start on lane 0.
-fn add_start(body: &mut Body<'_>, key: &'static str, cells: u64, cars: u32) {
+fn add_start(body: &mut Body, key: &'static str, cells: u64, cars: u32) {
     let first = cars_of_first_lane(cells, cars);
     body.add_numbers(&[
         count("", "With ", u64::from(cars), " cars, "),
@@ -77,7 +77,7 @@ fn memory_bytes(text: &[u8], all: u64, most: u32, steps: u64) -> u64 {
 }
 
 /// Adds the roads of a sweep, and how their cars start if they have two lanes.
-fn add_roads(body: &mut Body<'_>, sweep: &Sweep) {
+fn add_roads(body: &mut Body, sweep: &Sweep) {
     let (lanes, length) = (u64::from(sweep.lanes), u64::from(sweep.length));
     let cells = lanes.saturating_mul(length);
     let limit = u64::from(sweep.limit);
@@ -99,7 +99,7 @@ fn add_roads(body: &mut Body<'_>, sweep: &Sweep) {
 }
 
 /// Adds the points of a sweep, and their work.
-fn add_points(body: &mut Body<'_>, text: &[u8], sweep: &Sweep) {
+fn add_points(body: &mut Body, text: &[u8], sweep: &Sweep) {
     let (_, most, all) = car_counts(&sweep.cars);
     let points = sweep.cars.len() as u64;
     let (warm, measure) = (u64::from(sweep.warm), u64::from(sweep.measure));
@@ -126,7 +126,7 @@ fn add_points(body: &mut Body<'_>, text: &[u8], sweep: &Sweep) {
 }
 
 /// Adds the roads, the rule and the work of a valid sweep.
-pub fn add_sweep(body: &mut Body<'_>, text: &[u8], sweep: &Sweep) {
+pub fn add_sweep(body: &mut Body, text: &[u8], sweep: &Sweep) {
     body.intro = "This is a valid sweep: `trlab sweep` runs it.";
     add_roads(body, sweep);
     body.numbers_above = body.numbers.len();

@@ -2,14 +2,13 @@
 
 use crate::body::{Body, Known, Number, Problem};
 use crate::causes::cause_meaning;
-use crate::repairs::push_repair;
+use crate::sentence::Draft;
 use trlab_code::CodeFault;
-use trlab_diagnosis::Draft;
 use trlab_road::RoadFault;
 use trlab_texts::Cause;
 
 /// Adds the cause of an error, what was expected, and the instruction of a program in bytes or the cell of a lane.
-fn push_problem(text: &mut Draft, problem: &Problem<'_>) {
+fn push_problem(text: &mut Draft, problem: &Problem) {
     let number = problem.cause.number();
     let meaning = cause_meaning(problem.cause);
     writeln!(text, "Cause {number}: {meaning}");
@@ -31,12 +30,11 @@ fn push_problem(text: &mut Draft, problem: &Problem<'_>) {
 
 fn push_numbers(text: &mut Draft, numbers: &[Number]) {
     for number in numbers {
-        let end = if number.key.is_empty() { "" } else { "\n" };
-        write!(
-            text,
-            "{}{}{}{end}",
-            number.front, number.amount, number.after
-        );
+        write!(text, "{}{}", number.front, number.amount);
+        text.say(number.after);
+        if !number.key.is_empty() {
+            text.say("\n");
+        }
     }
 }
 
@@ -44,53 +42,55 @@ fn push_numbers(text: &mut Draft, numbers: &[Number]) {
 /// they do not follow at the target of a jump.
 fn push_table(text: &mut Draft, table: &[Known]) {
     for known in table {
-        writeln!(text);
+        text.say("\n");
         text.push_lines("    ", "    ", &known.facts);
-        writeln!(text, "{}", known.instruction);
+        text.push_lines("", "", &known.instruction);
     }
 }
 
-fn push_facts(text: &mut Draft, body: &Body<'_>) {
+fn push_facts(text: &mut Draft, body: &Body) {
     if !body.known.is_empty() {
-        writeln!(text, "Known before it:");
+        text.line("Known before it:");
     }
-    write!(text, "{}{}", body.known, body.facts);
+    text.push_lines("", "", &body.known);
+    text.push_lines("", "", &body.facts);
     if !body.table.is_empty() {
-        writeln!(text, "What the verifier knows before each instruction:");
+        text.line("What the verifier knows before each instruction:");
         push_table(text, &body.table);
     }
 }
 
 /// Adds advice, the problem that was found, and a repair or where to look.
-fn push_help(text: &mut Draft, body: &Body<'_>) {
+fn push_help(text: &mut Draft, body: &Body) {
     if let Some(rejection) = &body.rejection {
-        writeln!(text, "Advice: {}", rejection.advice);
+        text.say("Advice: ");
+        text.line(rejection.advice);
     }
     if let Some(problem) = &body.problem {
-        if !problem.found.is_empty() {
-            writeln!(text, "Found: {}", problem.found);
-        }
+        text.push_lines("Found: ", "", &problem.found);
         if !problem.hint.is_empty() {
-            writeln!(text, "Check: {}", problem.hint);
+            text.say("Check: ");
+            text.line(problem.hint);
         }
     }
-    if let Some((place, repair)) = &body.repair {
-        push_repair(text, place, repair);
+    if let Some(found) = &body.repair {
+        text.say("Repair: ");
+        text.line(found.repair.mistake);
+        text.push_lines("", "", &found.how);
     }
 }
 
 /// Adds a body as text.
-pub fn push_text(text: &mut Draft, body: &Body<'_>) {
+pub fn push_text(text: &mut Draft, body: &Body) {
     if !body.intro.is_empty() {
-        writeln!(text, "{}", body.intro);
+        text.line(body.intro);
     }
     if let Some(problem) = &body.problem {
         push_problem(text, problem);
     }
     if let Some(rejection) = &body.rejection {
-        let instruction = &rejection.instruction;
-        let (reason, meaning) = (rejection.reason, rejection.meaning);
-        writeln!(text, "{instruction}\nReason {reason}: {meaning}");
+        text.push_lines("", "", &rejection.instruction);
+        writeln!(text, "Reason {}: {}", rejection.reason, rejection.meaning);
     }
     let numbers = body.numbers.as_slice();
     let (above, below) = numbers.split_at(body.numbers_above.min(numbers.len()));

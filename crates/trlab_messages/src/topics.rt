@@ -2,49 +2,53 @@
 
 use crate::causes::{cause_hint, cause_meaning};
 use crate::reasons::{advice, reason_meaning};
+use crate::sentence::Draft;
 use trlab_code::Kind;
-use trlab_diagnosis::Draft;
 use trlab_notes::Reason;
 use trlab_texts::Cause;
 
 /// Adds the last line of a page.
 fn push_end(text: &mut Draft, all: &str) {
-    writeln!(
-        text,
-        "To find it in your file: `trlab explain < FILE`. All {all}: docs/ERRORS.md."
-    );
+    text.say("To find it in your file: `trlab explain < FILE`. All ");
+    text.say(all);
+    text.line(": docs/ERRORS.md.");
 }
 
 fn push_advice(text: &mut Draft, reason: Reason) {
     let motion = advice(reason, Kind::Motion);
     let change = advice(reason, Kind::Change);
     if motion == change {
-        writeln!(text, "Advice: {motion}");
+        text.say("Advice: ");
+        text.line(motion);
     } else {
-        writeln!(text, "Advice for a motion program: {motion}");
-        writeln!(text, "Advice for a change program: {change}");
+        text.say("Advice for a motion program: ");
+        text.line(motion);
+        text.say("Advice for a change program: ");
+        text.line(change);
     }
 }
 
 /// Adds the page of a cause, after its number.
 pub fn push_cause(text: &mut Draft, cause: Cause) {
-    writeln!(text, "{}", cause_meaning(cause));
+    text.line(cause_meaning(cause));
     if let Cause::Verdict(number) = cause
         && let Some(reason) = Reason::from_number(number)
     {
-        writeln!(text, "The reason: {}", reason_meaning(reason));
+        text.say("The reason: ");
+        text.line(reason_meaning(reason));
         push_advice(text, reason);
     }
     let check = cause_hint(cause);
     if !check.is_empty() {
-        writeln!(text, "Check: {check}");
+        text.say("Check: ");
+        text.line(check);
     }
     push_end(text, "causes");
 }
 
 /// Adds the page of a reason, after its number.
 pub fn push_reason(text: &mut Draft, reason: Reason) {
-    writeln!(text, "{}", reason_meaning(reason));
+    text.line(reason_meaning(reason));
     push_advice(text, reason);
     push_end(text, "reasons");
 }

@@ -19,13 +19,13 @@ pub enum RoadFault {
     #[error("the speed limit is out of range")]
     Limit,
     /// The character at a lane and a place is neither a point nor that of a speed.
-    #[error("no cell is written like that on lane {lane} at place {place}")]
+    #[error("invalid character in lane {lane}, cell {place}")]
     Character { lane: u32, place: u32 },
     /// The speed at a lane and a place is above the limit.
-    #[error("the speed on lane {lane} at place {place} is above the limit")]
+    #[error("the speed in lane {lane}, cell {place} is above the limit")]
     SpeedAboveLimit { lane: u32, place: u32 },
     /// An allocation failed.
-    #[error("memory ran out")]
+    #[error("out of memory")]
     Memory,
     /// More cars than cells.
     #[error("more cars than cells")]

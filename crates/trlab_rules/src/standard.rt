@@ -21,7 +21,7 @@ use trlab_words::Chance;
 #[derive(Clone, Copy, Debug, PartialEq, Eq, Error)]
 pub enum StandardFault {
     /// An allocation failed.
-    #[error("memory ran out")]
+    #[error("out of memory")]
     Memory,
     /// The verifier refuses a program of the rule. No call returns this, because the verifier accepts these
     /// programs (law `standard_programs_are_accepted`).

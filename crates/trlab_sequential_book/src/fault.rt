@@ -32,7 +32,7 @@ pub enum BookFault {
     #[error("the history is full")]
     HistoryFull,
     /// An allocation failed.
-    #[error("memory ran out")]
+    #[error("out of memory")]
     Memory,
 }
 

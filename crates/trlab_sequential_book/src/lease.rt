@@ -29,7 +29,7 @@ pub enum LeaseFault {
     #[error("the order is not for this lease")]
     WrongOrder,
     /// An allocation failed.
-    #[error("memory ran out")]
+    #[error("out of memory")]
     Memory,
 }
 

@@ -25,7 +25,7 @@ pub enum StepFault {
     #[error("a change program needs two lanes")]
     LanesMismatch,
     /// An allocation failed.
-    #[error("memory ran out")]
+    #[error("out of memory")]
     Memory,
 }
 

@@ -13,10 +13,10 @@ use trlab_road::RoadFault;
 #[derive(Clone, Copy, Debug, PartialEq, Eq, Error)]
 pub enum Cause {
     /// Not a line that may come here, a wrong number of words, or the end of the text.
-    #[error("not the line that must stand here")]
+    #[error("unexpected line")]
     Line,
     /// Not a number, or a number outside its range.
-    #[error("not a number in its range")]
+    #[error("malformed number, or a number out of range")]
     Number,
     /// The key is not 64 hexadecimal digits.
     #[error("not a key of 64 hexadecimal digits")]
@@ -25,10 +25,10 @@ pub enum Cause {
     #[error("a change program needs two lanes")]
     OneLane,
     /// The step is not above the step before it, or not below the number of steps.
-    #[error("the step does not rise, or is not below the count of steps")]
+    #[error("the step is not above the last one, or not below the number of steps")]
     Order,
     /// More rules of later steps than a job may have, or more points than a sweep may have.
-    #[error("too many rules of later steps, or too many points")]
+    #[error("too many `at` lines, or too many points")]
     TooMany,
     /// The points so far take more steps together than a sweep may take.
     #[error("too many steps for one sweep")]

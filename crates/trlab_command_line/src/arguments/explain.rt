@@ -10,8 +10,8 @@ use crate::arguments::matches::{flag_of, given_number};
 use clap::error::ErrorKind;
 use clap::{ArgMatches, Error};
 use std::alloc::{AllocError, Global};
-use trlab_diagnosis::Subject;
 use trlab_explain::{Form, Topic};
+use trlab_jobs::Subject;
 
 /// The subject of an explanation.
 #[derive(Clone, Copy)]

@@ -1,9 +1,11 @@
 //! Candidates for keys, programs in bytes and lanes.
 
+use crate::Result;
 use crate::candidates::{Candidates, DIGITS};
+use crate::fault::Fault;
 use crate::found::{BEFORE_CELLS, KEY_DIGITS, first_non_digit};
 use std::alloc::Global;
-use trlab_diagnosis::{Place, Result, bytes_at};
+use trlab_lines::{Place, bytes_at};
 use trlab_texts::word::without_prefix;
 use trlab_texts::{Cause, Wanted};
 
@@ -15,11 +17,11 @@ fn long_key(alloc: Global, word: &[u8]) -> Result<Vec<u8>> {
 }
 
 /// Adds candidates that delete `0x`, replace a letter by the digit that was meant, or put zeros before a short key.
-pub fn hex_candidates(list: &mut Candidates<'_>) {
-    let Some((at, length)) = list.fault.word() else {
+pub fn hex_candidates(list: &mut Candidates, fault: &Fault<'_>) {
+    let Some((at, length)) = fault.word() else {
         return;
     };
-    let word = bytes_at(list.line, at, length);
+    let word = bytes_at(fault.line, at, length);
     if word.starts_with(b"0x") {
         list.in_line(DIGITS, at, 2, b"");
     }
@@ -30,15 +32,15 @@ pub fn hex_candidates(list: &mut Candidates<'_>) {
             Some(b'l' | b'I') => list.in_line(DIGITS, digit_at, 1, b"1"),
             _ => {}
         }
-    } else if list.fault.cause == Cause::Key && length < KEY_DIGITS {
+    } else if fault.cause == Cause::Key && length < KEY_DIGITS {
         let mistake = "a key has 64 hexadecimal digits; leading zeros count.";
         list.rewrite(mistake, at, length, long_key(list.alloc, word));
     }
 }
 
 /// Adds a candidate that writes version 1, because no instruction of the program needs version 2.
-pub fn version_candidate(list: &mut Candidates<'_>) {
-    if let Some(space) = list.line.iter().rposition(|byte| *byte == b' ') {
+pub fn version_candidate(list: &mut Candidates, fault: &Fault<'_>) {
+    if let Some(space) = fault.line.iter().rposition(|byte| *byte == b' ') {
         let mistake = "the version is 1 if no instruction reads `headspeed`.";
         list.in_line(mistake, space.saturating_add(9), 2, b"01");
     }
@@ -48,10 +50,10 @@ pub fn version_candidate(list: &mut Candidates<'_>) {
 const LONGEST_LANE: usize = 100;
 
 /// Adds a candidate that writes a capital letter in a cell as a small one.
-pub fn cell_candidate(list: &mut Candidates<'_>, cell: u32) {
+pub fn cell_candidate(list: &mut Candidates, fault: &Fault<'_>, cell: u32) {
     let at = BEFORE_CELLS.saturating_add(cell as usize);
     let mistake = "a car is a digit or a lower-case letter.";
-    match list.line.get(at) {
+    match fault.line.get(at) {
         Some(letter) if letter.is_ascii_uppercase() => {
             list.in_line(mistake, at, 1, &[letter.to_ascii_lowercase()])
         }
@@ -68,12 +70,12 @@ fn empty_lane(alloc: Global, cells: usize) -> Result<Vec<u8>> {
 }
 
 /// Adds a candidate for the second lane that a rule needs: an empty one below the first, or the line `lanes 2`.
-pub fn lanes_candidate(list: &mut Candidates<'_>) {
-    let Wanted::SecondLane { line: number } = list.fault.wanted else {
+pub fn lanes_candidate(list: &mut Candidates, fault: &Fault<'_>) {
+    let Wanted::SecondLane { line: number } = fault.wanted else {
         return;
     };
     let mistake = "this rule needs a second lane. (Or use a rule without lane changes.)";
-    let Place { start, line, .. } = Place::at(list.fault.place.above(), *number);
+    let Place { start, line, .. } = Place::at(fault.place.above(), *number);
     let line = line.unwrap_or(b"");
     match without_prefix(b"lane ", line) {
         None => list.edit(mistake, start, line.len(), b"lanes 2".to_vec(list.alloc)),

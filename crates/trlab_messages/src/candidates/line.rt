@@ -1,14 +1,17 @@
 //! Candidates for an unexpected line.
 
-use crate::alike::{NearestName, nearest};
+use crate::Result;
+use crate::alike::{NearestName, nearest_word};
 use crate::candidates::number::density_candidate;
 use crate::candidates::program::end_candidates;
 use crate::candidates::{COMMENT, Candidates, LATE};
-use crate::names::{CHECK_NAMES, RULES, after_rule, is_name_of_line};
+use crate::fault::Fault;
+use crate::names::{CHECK_NAMES, RULE_NAMES, after_rule, is_name_of_line};
+use crate::repairs::Change;
 use std::alloc::Global;
 use trlab_asm::mnemonic_named;
-use trlab_diagnosis::{Change, Result, Subject, is_named, name_and_operands, subject_named};
-use trlab_lines::cut;
+use trlab_jobs::{Subject, subject_named};
+use trlab_lines::{cut, name_and_operands};
 use trlab_texts::LineName;
 use trlab_texts::word::{head_word, without_prefix};
 
@@ -58,20 +61,20 @@ pub fn joined(alloc: Global, words: &[u8], separator: &[u8]) -> Result<Vec<u8>> 
 }
 
 /// Adds a candidate with single spaces between words, and none at either end of the line.
-fn blanks_candidate(list: &mut Candidates<'_>) {
-    if list.line.len() > LONGEST_LINE {
+fn blanks_candidate(list: &mut Candidates, fault: &Fault<'_>) {
+    if fault.line.len() > LONGEST_LINE {
         return;
     }
     let mistake = "separate words with one space, with none at either end of the line.";
-    match joined(list.alloc, list.line, b" ") {
-        Ok(words) if words.is_empty() || words.as_slice() == list.line => {}
-        words => list.rewrite(mistake, 0, list.line.len(), words),
+    match joined(list.alloc, fault.line, b" ") {
+        Ok(words) if words.is_empty() || words.as_slice() == fault.line => {}
+        words => list.rewrite(mistake, 0, fault.line.len(), words),
     }
 }
 
 /// Adds a candidate that deletes a comment: the first `byte`, everything after it, and the blanks before it.
-fn comment_candidate(list: &mut Candidates<'_>, byte: u8) {
-    let Some((front, _)) = cut(list.line, byte) else {
+fn comment_candidate(list: &mut Candidates, fault: &Fault<'_>, byte: u8) {
+    let Some((front, _)) = cut(fault.line, byte) else {
         return;
     };
     let end = front
@@ -80,85 +83,85 @@ fn comment_candidate(list: &mut Candidates<'_>, byte: u8) {
     match end {
         Some(end) => {
             let kept = end.saturating_add(1);
-            let removed = list.line.len().saturating_sub(kept);
+            let removed = fault.line.len().saturating_sub(kept);
             list.in_line(COMMENT, kept, removed, b"");
         }
-        None => list.without_line(COMMENT),
+        None => list.without_line(fault, COMMENT),
     }
 }
 
 /// Adds candidates for characters that are not allowed in any line.
-fn odd_candidates(list: &mut Candidates<'_>) {
-    if without_prefix(b"\xef\xbb\xbf", list.line).is_some() {
+fn odd_candidates(list: &mut Candidates, fault: &Fault<'_>) {
+    if without_prefix(b"\xef\xbb\xbf", fault.line).is_some() {
         let mistake = "the file begins with a byte order mark: save it as plain ASCII.";
         list.in_line(mistake, 0, 3, b"");
     }
-    if list.line.is_empty() {
-        list.without_line("empty lines are allowed only inside programs.");
+    if fault.line.is_empty() {
+        list.without_line(fault, "empty lines are allowed only inside programs.");
     }
-    blanks_candidate(list);
-    comment_candidate(list, b';');
-    comment_candidate(list, b'#');
+    blanks_candidate(list, fault);
+    comment_candidate(list, fault, b';');
+    comment_candidate(list, fault, b'#');
 }
 
 /// The name of a valid line that is most like a word.
-fn nearest_wanted(list: &Candidates<'_>, word: &[u8]) -> Result<Option<&'static [u8]>> {
+fn nearest_wanted(alloc: Global, fault: &Fault<'_>, word: &[u8]) -> Result<Option<&'static [u8]>> {
     let mut best = NearestName::to(word);
     for name in &LineName::ALL {
-        if list.fault.wants(*name) {
-            best.compare(list.alloc, word, name.word())?;
+        if fault.wants(*name) {
+            best.compare(alloc, word, name.word())?;
         }
     }
     Ok(best.found)
 }
 
 /// Adds the names of valid lines that the first word may mean.
-fn name_candidates(list: &mut Candidates<'_>, word: &[u8]) {
-    list.misspelled(0, word, nearest_wanted(list, word));
-    if is_named(word, b"density") && list.fault.wants(LineName::Cars) {
-        density_candidate(list);
+fn name_candidates(list: &mut Candidates, fault: &Fault<'_>, word: &[u8]) {
+    list.misspelled(0, word, nearest_wanted(list.alloc, fault, word));
+    if word.eq_ignore_ascii_case(b"density") && fault.wants(LineName::Cars) {
+        density_candidate(list, fault);
     }
     for (other, name) in &OTHER_WORDS {
-        if is_named(word, *other) && list.fault.wants(*name) {
+        if word.eq_ignore_ascii_case(*other) && fault.wants(*name) {
             list.misspelled(0, word, Ok(Some(name.word())));
         }
     }
 }
 
 /// Adds the name of a rule that the word after `rule` may mean.
-fn rule_candidate(list: &mut Candidates<'_>) {
-    if let Some(rest) = after_rule(list.line) {
+fn rule_candidate(list: &mut Candidates, fault: &Fault<'_>) {
+    if let Some(rest) = after_rule(fault.line) {
         let name = head_word(rest);
-        let at = list.line.len().saturating_sub(rest.len());
-        let meant = nearest(list.alloc, name, &RULES, |rule| rule.0);
+        let at = fault.line.len().saturating_sub(rest.len());
+        let meant = nearest_word(list.alloc, name, &RULE_NAMES);
         list.misspelled(at, name, meant);
     }
 }
 
 /// Adds candidates that insert the first line of a program above an instruction.
-fn heading_candidates(list: &mut Candidates<'_>) {
+fn heading_candidates(list: &mut Candidates, fault: &Fault<'_>) {
     for line in &[LineName::Motion, LineName::Change] {
-        if list.fault.subject == Subject::Check || list.fault.wants(*line) {
-            list.above("the first line of the program is missing.", *line);
+        if fault.subject == Subject::Check || fault.wants(*line) {
+            list.above(fault, "the first line of the program is missing.", *line);
         }
     }
 }
 
 /// Adds a candidate that inserts a valid line, for each that is required and that no program follows.
-fn missing_candidates(list: &mut Candidates<'_>, mistake: &'static str) {
+fn missing_candidates(list: &mut Candidates, fault: &Fault<'_>, mistake: &'static str) {
     for line in &LineName::ALL {
         match line {
             LineName::Motion | LineName::Change | LineName::At | LineName::End => {}
-            _ if list.fault.wants(*line) => list.above(mistake, *line),
+            _ if fault.wants(*line) => list.above(fault, mistake, *line),
             _ => {}
         }
     }
 }
 
 /// Adds the command that reads an input with this first word, if it is another one.
-fn command_candidate(list: &mut Candidates<'_>, word: &[u8]) {
+fn command_candidate(list: &mut Candidates, fault: &Fault<'_>, word: &[u8]) {
     match subject_named(word) {
-        Some(other) if list.fault.place.number == 1 && other != list.fault.subject => {
+        Some(other) if fault.place.number == 1 && other != fault.subject => {
             list.change("this input is for another command.", Change::ReadAs(other));
         }
         _ => {}
@@ -166,47 +169,47 @@ fn command_candidate(list: &mut Candidates<'_>, word: &[u8]) {
 }
 
 /// Adds the lines that may be missing at the end of an input.
-fn ended_candidates(list: &mut Candidates<'_>) {
-    if list.fault.wants(LineName::End) {
-        end_candidates(list);
+fn ended_candidates(list: &mut Candidates, fault: &Fault<'_>) {
+    if fault.wants(LineName::End) {
+        end_candidates(list, fault);
     } else {
         let mistake = "the file ends too early: a line is missing, for example this one.";
-        missing_candidates(list, mistake);
+        missing_candidates(list, fault, mistake);
     }
 }
 
 /// Adds the heading of a program that the first word may mean, and a candidate that deletes the line.
-fn check_candidates(list: &mut Candidates<'_>, word: &[u8]) {
-    let meant = nearest(list.alloc, word, &CHECK_NAMES, |name| name);
+fn check_candidates(list: &mut Candidates, fault: &Fault<'_>, word: &[u8]) {
+    let meant = nearest_word(list.alloc, word, &CHECK_NAMES);
     list.misspelled(0, word, meant);
-    list.without_line(LATE);
+    list.without_line(fault, LATE);
 }
 
 /// Adds candidates for a line of a job or sweep that begins with this word.
-fn word_candidates(list: &mut Candidates<'_>, word: &[u8]) {
-    name_candidates(list, word);
-    rule_candidate(list);
+fn word_candidates(list: &mut Candidates, fault: &Fault<'_>, word: &[u8]) {
+    name_candidates(list, fault, word);
+    rule_candidate(list, fault);
     if is_name_of_line(word) {
         let missing = "a line is missing above this one, for example this one.";
-        missing_candidates(list, missing);
-        list.without_line(LATE);
+        missing_candidates(list, fault, missing);
+        list.without_line(fault, LATE);
     }
 }
 
 /// Adds candidates for an unexpected line.
-pub fn line_candidates(list: &mut Candidates<'_>) {
-    let word = head_word(list.line);
-    if list.fault.place.line.is_none() {
-        ended_candidates(list);
-    } else if mnemonic_named(name_and_operands(list.line).0).is_some() {
-        heading_candidates(list);
+pub fn line_candidates(list: &mut Candidates, fault: &Fault<'_>) {
+    let word = head_word(fault.line);
+    if fault.place.line.is_none() {
+        ended_candidates(list, fault);
+    } else if mnemonic_named(name_and_operands(fault.line).0).is_some() {
+        heading_candidates(list, fault);
     } else {
-        odd_candidates(list);
-        command_candidate(list, word);
-        if list.fault.subject == Subject::Check {
-            check_candidates(list, word);
+        odd_candidates(list, fault);
+        command_candidate(list, fault, word);
+        if fault.subject == Subject::Check {
+            check_candidates(list, fault, word);
         } else {
-            word_candidates(list, word);
+            word_candidates(list, fault, word);
         }
     }
 }

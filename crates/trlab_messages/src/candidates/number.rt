@@ -1,10 +1,10 @@
 //! Candidates for numbers that are written as fractions, with a sign or with a power of ten.
 
 use crate::candidates::{Candidates, DIGITS};
+use crate::fault::Fault;
 use trlab_bounds::programs::CERTAIN;
 use trlab_bounds::roads::{MAX_LANES, MAX_LENGTH};
-use trlab_diagnosis::bytes_at;
-use trlab_lines::{cut, digits_value, is_numeral, next_line};
+use trlab_lines::{bytes_at, cut, digits_value, is_numeral, next_line};
 use trlab_texts::word::number_after;
 use trlab_texts::{Quantity, Wanted};
 
@@ -15,9 +15,9 @@ const DENSITY: &str =
     "`cars` takes a number of cars, not a density; this is that density on this road.";
 
 /// The number in the first line above the fault with this name, or 0.
-fn number_above(list: &Candidates<'_>, name: &[u8], most: u32) -> u32 {
-    let mut left = list.fault.place.above();
-    for _ in 0..list.fault.place.number {
+fn number_above(fault: &Fault<'_>, name: &[u8], most: u32) -> u32 {
+    let mut left = fault.place.above();
+    for _ in 0..fault.place.number {
         let Some((line, rest)) = next_line(left) else {
             break;
         };
@@ -31,7 +31,7 @@ fn number_above(list: &Candidates<'_>, name: &[u8], most: u32) -> u32 {
 
 /// Adds the number that a word of the line may mean, after `at` bytes: as a part of a whole, or as it is.
 pub fn meanings(
-    list: &mut Candidates<'_>,
+    list: &mut Candidates,
     at: usize,
     word: &[u8],
     of_whole: Option<(&'static str, u32)>,
@@ -51,24 +51,21 @@ pub fn meanings(
 }
 
 /// Adds the line `cars n` for a line `density x`: the density of the cells of a sweep's road.
-pub fn density_candidate(list: &mut Candidates<'_>) {
-    let length = number_above(list, b"length ", MAX_LENGTH);
-    let cells = length.saturating_mul(number_above(list, b"lanes ", MAX_LANES));
-    let (_, word) = cut(list.line, b' ').unwrap_or((b"", b""));
+pub fn density_candidate(list: &mut Candidates, fault: &Fault<'_>) {
+    let length = number_above(fault, b"length ", MAX_LENGTH);
+    let cells = length.saturating_mul(number_above(fault, b"lanes ", MAX_LANES));
+    let (_, word) = cut(fault.line, b' ').unwrap_or((b"", b""));
     if let Some(density) = fraction_of(word)
         && let Some(count) = nearest_part(density, cells)
     {
         let line = format!(in list.alloc; "cars {count}");
-        list.rewrite(DENSITY, 0, list.line.len(), line.map(String::into_bytes));
+        list.rewrite(DENSITY, 0, fault.line.len(), line.map(String::into_bytes));
     }
 }
 
 /// Adds the number that the word at fault in a job or sweep may mean: a part of 2^31 or of the cells, or as it is.
-pub fn number_candidates(list: &mut Candidates<'_>) {
-    let (Some((at, length)), Wanted::Number { quantity, .. }) = (
-        list.fault.word(),
-        list.fault.wanted,
-    ) else {
+pub fn number_candidates(list: &mut Candidates, fault: &Fault<'_>) {
+    let (Some((at, length)), Wanted::Number { quantity, .. }) = (fault.word(), fault.wanted) else {
         return;
     };
     let of_whole = match quantity {
@@ -76,7 +73,7 @@ pub fn number_candidates(list: &mut Candidates<'_>) {
         Quantity::Cars { cells } => Some((DENSITY, *cells)),
         Quantity::Other => None,
     };
-    meanings(list, at, bytes_at(list.line, at, length), of_whole);
+    meanings(list, at, bytes_at(fault.line, at, length), of_whole);
 }
 
 /// The maximum number of digits of a part of a fraction.

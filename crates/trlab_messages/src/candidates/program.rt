@@ -1,18 +1,19 @@
 //! Candidates for the lines of programs: for their words, labels and operands.
 
-use crate::alike::{NearestName, edits_within, nearest};
+use crate::Result;
+use crate::alike::{NearestName, edits_within, nearest_name};
 use crate::candidates::line::joined;
 use crate::candidates::number::{PROBABILITY, meanings};
 use crate::candidates::{Candidates, END, ENDLESS, OTHER_COMMENT};
+use crate::fault::Fault;
+use crate::instruction::{OperandWord, operand_at_fault, start_of_name};
 use std::alloc::Global;
-use trlab_asm::{
-    INPUTS, MNEMONICS, OperandKind, REGISTERS, Why, input_text, is_label, mnemonic_named,
-    mnemonic_text, register_text,
+use trlab_asm::{INPUTS, MNEMONICS, OperandKind, REGISTERS, Why, is_label, mnemonic_named};
+use trlab_jobs::Subject;
+use trlab_lines::{
+    Place, cut, is_numeral, label_and_rest, name_and_operands, next_line, without_comment,
+    without_indent,
 };
-use trlab_diagnosis::{
-    OperandWord, Place, Result, Subject, name_and_operands, operand_at_fault, start_of_name,
-};
-use trlab_lines::{cut, is_numeral, label_and_rest, next_line, without_comment, without_indent};
 use trlab_texts::LineName;
 use trlab_texts::word::{head_word, without_prefix};
 
@@ -59,8 +60,8 @@ fn end_places(alloc: Global, text: &[u8]) -> Result<(Option<(usize, usize)>, Opt
 }
 
 /// Adds candidates with the line `end` in the last program of an input that has ended.
-pub fn end_candidates(list: &mut Candidates<'_>) {
-    let places = end_places(list.alloc, list.fault.place.text);
+pub fn end_candidates(list: &mut Candidates, fault: &Fault<'_>) {
+    let places = end_places(list.alloc, fault.place.text);
     let (like_end, next) = list.value(places).unwrap_or((None, None));
     if let Some((at, length)) = like_end {
         list.edit(END, at, length, b"end".to_vec(list.alloc));
@@ -68,12 +69,12 @@ pub fn end_candidates(list: &mut Candidates<'_>) {
     if let Some(at) = next {
         list.edit(ENDLESS, at, 0, b"end\n".to_vec(list.alloc));
     }
-    list.above(ENDLESS, LineName::End);
+    list.above(fault, ENDLESS, LineName::End);
 }
 
 /// Adds candidates that write `;` instead of the comment mark of other languages.
-fn other_comment_candidates(list: &mut Candidates<'_>) {
-    let line = without_comment(list.line);
+fn other_comment_candidates(list: &mut Candidates, fault: &Fault<'_>) {
+    let line = without_comment(fault.line);
     if let Some((front, _)) = cut(line, b'#') {
         list.in_line(OTHER_COMMENT, front.len(), 1, b";");
     }
@@ -84,29 +85,29 @@ fn other_comment_candidates(list: &mut Candidates<'_>) {
 }
 
 /// Adds a candidate that writes the line as `end`, or deletes it because a driver program has no such line.
-fn like_end_candidate(list: &mut Candidates<'_>) {
-    if list.fault.subject == Subject::Check {
+fn like_end_candidate(list: &mut Candidates, fault: &Fault<'_>) {
+    if fault.subject == Subject::Check {
         let mistake = "`trlab check` takes no line `end`: the program ends where the input ends.";
-        list.without_line(mistake);
+        list.without_line(fault, mistake);
     } else {
-        list.in_line(END, 0, list.line.len(), b"end");
+        list.in_line(END, 0, fault.line.len(), b"end");
     }
 }
 
 /// Adds candidates for a line whose first word is not an instruction.
-pub fn unknown_word_candidates(list: &mut Candidates<'_>) {
-    other_comment_candidates(list);
-    let (label, _) = label_and_rest(without_comment(list.line));
-    let (name, _) = name_and_operands(list.line);
-    if list.fault.subject != Subject::Check && FOLLOWING.contains(&name) {
-        list.above(ENDLESS, LineName::End);
+pub fn unknown_word_candidates(list: &mut Candidates, fault: &Fault<'_>) {
+    other_comment_candidates(list, fault);
+    let (label, _) = label_and_rest(without_comment(fault.line));
+    let (name, _) = name_and_operands(fault.line);
+    if fault.subject != Subject::Check && FOLLOWING.contains(&name) {
+        list.above(fault, ENDLESS, LineName::End);
     }
-    if let Some(true) = list.value(is_like_end(list.alloc, list.line)) {
-        like_end_candidate(list);
+    if let Some(true) = list.value(is_like_end(list.alloc, fault.line)) {
+        like_end_candidate(list, fault);
     }
     if !matches!(label, Some(label) if !is_label(label)) {
-        let meant = nearest(list.alloc, name, &MNEMONICS, |name| mnemonic_text(name));
-        list.misspelled(start_of_name(list.line), name, meant);
+        let meant = nearest_name(list.alloc, name, &MNEMONICS);
+        list.misspelled(start_of_name(fault.line), name, meant);
     }
 }
 
@@ -135,9 +136,9 @@ fn nearest_label<'a>(alloc: Global, place: &Place<'a>, word: &[u8]) -> Result<Op
 }
 
 /// Adds the label that a missing target of a jump may mean.
-pub fn label_candidate(list: &mut Candidates<'_>) {
-    if let Some(OperandWord { at, word, .. }) = operand_at_fault(list.line, Why::NoLabel) {
-        let meant = nearest_label(list.alloc, &list.fault.place, word);
+pub fn label_candidate(list: &mut Candidates, fault: &Fault<'_>) {
+    if let Some(OperandWord { at, word, .. }) = operand_at_fault(fault.line, Why::NoLabel) {
+        let meant = nearest_label(list.alloc, &fault.place, word);
         if let Some(Some(label)) = list.value(meant) {
             list.in_line("probably a misspelled label.", at, word.len(), label);
         }
@@ -145,16 +146,16 @@ pub fn label_candidate(list: &mut Candidates<'_>) {
 }
 
 /// Adds the operand that a word may mean. A number, also after `r`, is not a misspelled name.
-fn word_candidate(list: &mut Candidates<'_>, found: OperandWord<'_>) {
+fn word_candidate(list: &mut Candidates, found: OperandWord<'_>) {
     let OperandWord { operand, at, word } = found;
     let is_number = is_numeral(without_prefix(b"r", word).unwrap_or(word));
     match operand {
         OperandKind::Register | OperandKind::Result if !is_number => {
-            let meant = nearest(list.alloc, word, &REGISTERS, |name| register_text(name));
+            let meant = nearest_name(list.alloc, word, &REGISTERS);
             list.misspelled(at, word, meant);
         }
         OperandKind::Input if !is_number => {
-            let meant = nearest(list.alloc, word, &INPUTS, |name| input_text(name));
+            let meant = nearest_name(list.alloc, word, &INPUTS);
             list.misspelled(at, word, meant);
         }
         OperandKind::Target if is_numeral(word) => {
@@ -169,22 +170,22 @@ fn word_candidate(list: &mut Candidates<'_>, found: OperandWord<'_>) {
 }
 
 /// Adds a candidate with commas between the operands.
-fn comma_candidate(list: &mut Candidates<'_>) {
-    let (name, operands) = name_and_operands(list.line);
+fn comma_candidate(list: &mut Candidates, fault: &Fault<'_>) {
+    let (name, operands) = name_and_operands(fault.line);
     let words = without_indent(operands);
     let before = name
         .len()
         .saturating_add(operands.len().saturating_sub(words.len()));
-    let at = start_of_name(list.line).saturating_add(before);
+    let at = start_of_name(fault.line).saturating_add(before);
     let mistake = "separate operands with commas.";
     list.rewrite(mistake, at, words.len(), joined(list.alloc, words, b", "));
 }
 
 /// Adds candidates for a line whose operands are wrong.
-pub fn operand_candidates(list: &mut Candidates<'_>, why: Why) {
-    other_comment_candidates(list);
-    match operand_at_fault(list.line, why) {
+pub fn operand_candidates(list: &mut Candidates, fault: &Fault<'_>, why: Why) {
+    other_comment_candidates(list, fault);
+    match operand_at_fault(fault.line, why) {
         Some(found) => word_candidate(list, found),
-        None => comma_candidate(list),
+        None => comma_candidate(list, fault),
     }
 }

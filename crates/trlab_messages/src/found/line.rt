@@ -1,7 +1,10 @@
 //! The problem with an unexpected line.
 
-use crate::names::{RULES, after_rule, is_of, named};
-use trlab_diagnosis::{Draft, Fault, Oddity, Quoted, Subject, oddity_of};
+use crate::fault::Fault;
+use crate::names::{after_rule, count_probabilities, is_of, named};
+use crate::oddity::{Oddity, oddity_of};
+use crate::sentence::{Draft, Quoted};
+use trlab_jobs::Subject;
 use trlab_texts::word::head_word;
 use trlab_texts::{LineName, LineNames};
 
@@ -10,16 +13,16 @@ fn push_rule_problem(problem: &mut Draft, words: &[u8]) {
     let rule = head_word(words);
     let count = words.iter().filter(|byte| **byte == b' ').count();
     let name = Quoted(rule);
-    let takes = match RULES.iter().find(|form| form.0 == rule) {
+    let takes = match count_probabilities(rule) {
         None => {
             return write!(
                 problem,
                 "unknown rule `{name}`. The rules are nasch, vdr, rickert and own."
             );
         }
-        Some((_, takes)) if *takes == count => return,
-        Some((_, 0)) => "no values",
-        Some((_, 1)) => "one value",
+        Some(takes) if takes == count => return,
+        Some(0) => "no values",
+        Some(1) => "one value",
         Some(_) => "two values",
     };
     write!(problem, "`rule {name}` takes {takes}, found {count}.");
@@ -39,9 +42,8 @@ fn push_name_problem(problem: &mut Draft, subject: Subject, word: &[u8]) {
         }
         None if word != b"code".as_slice() && word != b"end".as_slice() => {}
         _ if subject == Subject::Check => {}
-        _ => write!(
-            problem,
-            "this line does not belong here: a line above it is missing, or it is a duplicate."
+        _ => problem.say(
+            "this line does not belong here: a line above it is missing, or it is a duplicate.",
         ),
     }
 }
@@ -52,7 +54,7 @@ fn push_word_problem(problem: &mut Draft, subject: Subject, word: &[u8], names: 
     match named(word) {
         Some(name) if names.has(name) => {
             if matches!(name, LineName::Road | LineName::Sweep) {
-                write!(problem, "the format version must be 1.");
+                problem.say("the format version must be 1.");
             }
         }
         None if is_program && word == b"code".as_slice() => {}
@@ -78,15 +80,14 @@ fn odd_words(oddity: Oddity) -> &'static str {
 /// Adds the problem with an unexpected line.
 pub fn push_line_problem(problem: &mut Draft, fault: &Fault<'_>, names: LineNames) {
     let Some(line) = fault.place.line else {
-        let missing = if names.has(LineName::End) {
-            "a program has no line `end`."
+        return problem.say(if names.has(LineName::End) {
+            "the end of the file: a program has no line `end`."
         } else {
-            "a line is missing."
-        };
-        return write!(problem, "the end of the file: {missing}");
+            "the end of the file: a line is missing."
+        });
     };
     if let Some(oddity) = oddity_of(line) {
-        return write!(problem, "{}", odd_words(oddity));
+        return problem.say(odd_words(oddity));
     }
     if let Some(words) = after_rule(line) {
         push_rule_problem(problem, words);

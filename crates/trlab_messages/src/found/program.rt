@@ -1,9 +1,10 @@
 //! The problem with a line of a program.
 
 use crate::found::push_number_problem;
+use crate::instruction::{operand_at_fault, start_of_name};
+use crate::sentence::{Draft, Quoted};
 use trlab_asm::{OperandKind, Why, is_label, mnemonic_named, operand_kinds};
-use trlab_diagnosis::{Draft, Quoted, name_and_operands, operand_at_fault, start_of_name};
-use trlab_lines::{label_and_rest, without_comment};
+use trlab_lines::{label_and_rest, name_and_operands, without_comment};
 
 /// The number of operands after the name of an instruction, separated by commas or blanks.
 fn count_operands(operands: &[u8]) -> usize {

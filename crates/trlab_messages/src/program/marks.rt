@@ -1,8 +1,8 @@
 //! The facts that the verifier knows of a register, in words.
 
+use crate::sentence::{Draft, Shown};
 use trlab_asm::{INPUTS, REGISTERS, input_text, register_text};
 use trlab_code::{Register, VARIABLES};
-use trlab_diagnosis::{Draft, Shown};
 use trlab_verify::{Mark, Note};
 
 /// The name of a variable: a register or an input.
@@ -52,17 +52,17 @@ fn push_orders(fact: &mut Draft, note: &Note, register: Register, high: u32) {
 
 /// Adds a line with the fact that a note has of a register: the range of its number, or that it has a flag.
 pub fn push_fact(facts: &mut Draft, note: &Note, register: Register) {
-    let name = Shown(register_text(register));
+    write!(facts, "{}: ", Shown(register_text(register)));
     match note.regs[register.number()] {
-        Mark::Unset => writeln!(facts, "{name}: not set on every path"),
+        Mark::Unset => facts.line("not set on every path"),
         Mark::Num(low, high) => {
-            write!(facts, "{name}: {low}..{high}");
+            write!(facts, "{low}..{high}");
             push_orders(facts, note, register, high);
-            writeln!(facts);
+            facts.say("\n");
         }
         Mark::Flag(implies_side) if implies_side || note.side => {
-            writeln!(facts, "{name}: a flag; if true, the side cell is empty")
+            facts.line("a flag; if true, the side cell is empty")
         }
-        Mark::Flag(_) => writeln!(facts, "{name}: a flag"),
+        Mark::Flag(_) => facts.line("a flag"),
     }
 }

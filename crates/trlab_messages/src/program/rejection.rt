@@ -4,10 +4,10 @@ use crate::body::{Body, Rejection};
 use crate::program::Listing;
 use crate::program::marks::push_fact;
 use crate::reasons::{advice, reason_meaning};
+use crate::sentence::{Draft, Shown};
 use std::alloc::Global;
 use trlab_asm::register_text;
 use trlab_code::{Instr, Register};
-use trlab_diagnosis::{Draft, Shown};
 use trlab_notes::{Operands, Reason};
 use trlab_verify::{Mark, Note, notes_of_refused};
 
@@ -32,16 +32,21 @@ fn maximum_of(note: &Note, register: Register) -> u64 {
     }
 }
 
+fn push_largest(known: &mut Draft, largest: u64) {
+    writeln!(known, "The result may be as large as {largest}.");
+}
+
 /// Adds the missing fact for which an instruction is rejected, if it can be named.
 fn push_missing(known: &mut Draft, reason: Reason, note: &Note, instr: Instr) {
     match (reason, instr) {
         (Reason::MaybeTooLarge, Instr::Add(_, a, b)) => {
-            let largest = maximum_of(note, a).saturating_add(maximum_of(note, b));
-            writeln!(known, "The result may be as large as {largest}.")
+            push_largest(
+                known,
+                maximum_of(note, a).saturating_add(maximum_of(note, b)),
+            )
         }
         (Reason::MaybeTooLarge, Instr::Mul(_, a, n)) => {
-            let largest = maximum_of(note, a).saturating_mul(u64::from(n));
-            writeln!(known, "The result may be as large as {largest}.")
+            push_largest(known, maximum_of(note, a).saturating_mul(u64::from(n)))
         }
         (Reason::MaybeBelowZero, Instr::Sub(_, a, b)) => {
             let (a, b) = (Shown(register_text(a)), Shown(register_text(b)));
@@ -50,13 +55,14 @@ fn push_missing(known: &mut Draft, reason: Reason, note: &Note, instr: Instr) {
                 "{b} is not known to be at most {a}, so {a} - {b} may be negative."
             )
         }
-        (Reason::MaybeAboveGap, Instr::Go(a)) => {
+        (Reason::MaybeAboveGap | Reason::MaybeAboveLimit, Instr::Go(a)) => {
             let name = Shown(register_text(a));
-            writeln!(known, "{name} is not known to be at most the gap.")
-        }
-        (Reason::MaybeAboveLimit, Instr::Go(a)) => {
-            let name = Shown(register_text(a));
-            writeln!(known, "{name} is not known to be at most the limit.")
+            let most = if reason == Reason::MaybeAboveGap {
+                "gap"
+            } else {
+                "limit"
+            };
+            writeln!(known, "{name} is not known to be at most the {most}.")
         }
         _ => {}
     }
@@ -79,14 +85,11 @@ fn push_paths(facts: &mut Draft, program: Listing<'_>, at: u32) {
     if paths < 2 {
         return;
     }
-    writeln!(
-        facts,
-        "Several paths lead here; only facts that hold on all of them are kept:"
-    );
+    facts.line("Several paths lead here; only facts that hold on all of them are kept:");
     for pc in 0..at {
         if is_followed(program, pc, at) {
             program.push_instruction(facts, pc);
-            writeln!(facts);
+            facts.say("\n");
         }
     }
 }
@@ -111,17 +114,14 @@ fn rejection_at(alloc: Global, program: Listing<'_>, at: u32, reason: Reason) ->
 /// Adds the instruction above one that can never be reached.
 fn push_above(facts: &mut Draft, program: Listing<'_>, at: u32) {
     if let Some(above) = at.checked_sub(1) {
-        writeln!(
-            facts,
-            "The instruction above never continues here, and no jump comes here:"
-        );
+        facts.line("The instruction above never continues here, and no jump comes here:");
         program.push_instruction(facts, above);
-        writeln!(facts);
+        facts.say("\n");
     }
 }
 
 /// Adds why a program with these notes is rejected at an instruction.
-fn add_reason(body: &mut Body<'_>, program: Listing<'_>, notes: &[Note], at: u32, reason: Reason) {
+fn add_reason(body: &mut Body, program: Listing<'_>, notes: &[Note], at: u32, reason: Reason) {
     body.rejection = Some(rejection_at(body.alloc, program, at, reason));
     if reason == Reason::Unreachable {
         return push_above(&mut body.facts, program, at);
@@ -135,7 +135,7 @@ fn add_reason(body: &mut Body<'_>, program: Listing<'_>, notes: &[Note], at: u32
 }
 
 /// Adds why a program is rejected at an instruction.
-pub fn add_rejection(body: &mut Body<'_>, program: Listing<'_>, at: u32, reason: Reason) {
+pub fn add_rejection(body: &mut Body, program: Listing<'_>, at: u32, reason: Reason) {
     let notes = notes_of_refused(body.alloc, program.code);
     if let Some(Some(notes)) = body.value(notes) {
         add_reason(body, program, &notes, at, reason);

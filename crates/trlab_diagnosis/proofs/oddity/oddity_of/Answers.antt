@@ -1,5 +1,0 @@
-use Rattle.std.proofs.Common.{rules}
-use Rattle.trlab_diagnosis.proofs.oddity.oddity_of.Goals as goal
-
-pub returns-then-contains-2 : goal.returns-then-contains-2
-returns-then-contains-2 c = search rules

@@ -1,0 +1,37 @@
+-- Changes of texts, and whether a text gets further by one.
+use Rattle.std.specs.Prelude.{◌≡◌, ℕ, ◌+◌, ◌<◌, List, ◌++◌, drop, length, take, Option, None, Some, Result, Ok, Err}
+use Rattle.trlab_lines.specs.Lines.{lines_of}
+use Rattle.trlab_texts.specs.declared.fault.Cause.{Cause}
+use Rattle.trlab_texts.specs.Reading.{Fault}
+use Rattle.trlab_jobs.specs.Job.{Job as JobSaid, JobText}
+use Rattle.trlab_jobs.specs.Sweep.{Sweep as SweepSaid, SweepText}
+use Rattle.trlab_jobs.specs.Check.{Check as CheckSaid, CheckText}
+use Rattle.trlab_jobs.specs.declared.subject.Subject.{Subject}
+use Rattle.trlab_jobs.specs.declared.subject.Subject.TheVariants.{Job, Sweep, Check}
+
+-- a text in which some bytes at a place are replaced by others
+abbrev pub edited : ℕ → ℕ → List ℕ → List ℕ → List ℕ
+edited at gone put text = take at text ++ (put ++ drop (at + gone) text)
+
+-- the line and the cause of a text's first fault, if its reading found one
+abbrev pub fault_of : {A : Type 0} → Result A Fault → Option (ℕ × Cause)
+fault_of (Ok said) = None
+fault_of (Err fault) = Some (fault.line, fault.cause)
+
+-- the first fault of a text that is read as this kind, if it has one
+abbrev pub HasFirst : Subject → List ℕ → Option (ℕ × Cause) → Type 0
+HasFirst Job text fault = (says : Result JobSaid Fault) × JobText text says × (fault ≡ fault_of says)
+HasFirst Sweep text fault = (says : Result SweepSaid Fault) × SweepText text says × (fault ≡ fault_of says)
+HasFirst Check text fault = (says : Result CheckSaid Fault) × CheckText text says × (fault ≡ fault_of says)
+
+-- a text has no fault, or its first one is after the line of a number, and fewer lines are left there than
+-- another text has from that line on
+abbrev pub IsAfter : List (List ℕ) → ℕ → List (List ℕ) → Option (ℕ × Cause) → Type 0
+IsAfter lines number mended None = Unit {0}
+IsAfter lines number mended (Some fault) =
+    (number < fault.0) × (length mended + number < length lines + fault.0)
+
+-- a text, read as this kind, gets further than another whose first fault is at this line
+abbrev pub GetsFurther : List ℕ → ℕ → Subject → List ℕ → Type 0
+GetsFurther text number subject mended = (fault : Option (ℕ × Cause))
+    × HasFirst subject mended fault × IsAfter (lines_of text) number (lines_of mended) fault

@@ -1,0 +1,23 @@
+-- The kind of input that a text is meant to be.
+use Rattle.std.specs.Prelude.{◌≡◌, ◌≤◌, ℕ, List, [], ◌∷◌, codes, nat_eq, MatchOption}
+use Rattle.strsim.specs.Edits.{damerau}
+use Rattle.trlab_texts.specs.Words.{head_word}
+use Rattle.trlab_jobs.specs.Subjects.{subject_named}
+use Rattle.trlab_jobs.specs.declared.subject.Subject.{Subject}
+use Rattle.trlab_jobs.specs.declared.subject.Subject.TheVariants.{Job, Sweep, Check}
+
+-- a word is at most one edit away from this name
+abbrev pub IsNearly : List ℕ → List ℕ → Type 0
+IsNearly word name = damerau nat_eq word name ≤ 1
+
+-- a text that begins with no such word may be one whose first word is misspelled, or else it is a check
+abbrev pub MayBe : List ℕ → Subject → Type 0
+MayBe word Job = IsNearly word (codes "road")
+MayBe word Sweep = IsNearly word (codes "sweep")
+MayBe word Check = Unit {0}
+
+-- the kind of input that a text is meant to be, by its first word
+abbrev pub IsMeant : List (List ℕ) → Subject → Type 0
+IsMeant [] subject = subject ≡ Check
+IsMeant (line ∷ left) subject =
+    MatchOption (subject_named (head_word line)) (MayBe (head_word line) subject) (λ named. subject ≡ named)

@@ -1,0 +1,12 @@
+-- Repairs that help a text.
+use Rattle.std.specs.Prelude.{ℕ, ◌+◌, ◌≤◌, List, length}
+use Rattle.trlab_jobs.specs.declared.subject.Subject.{Subject}
+use Rattle.trlab_messages.specs.declared.repairs.Change.{Change}
+use Rattle.trlab_messages.specs.declared.repairs.Change.TheVariants.{Edited, ReadAs}
+use Rattle.trlab_explain.specs.Edits.{edited, GetsFurther}
+
+-- after this change, a text gets further than its first fault at this line
+abbrev pub Helps : Subject → List ℕ → ℕ → Change → Type 0
+Helps subject text number (Edited edit) = (edit.at + edit.removed ≤ length text)
+    × GetsFurther text number subject (edited edit.at edit.removed edit.inserted.items text)
+Helps subject text number (ReadAs other) = GetsFurther text number other text

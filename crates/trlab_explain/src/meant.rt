@@ -1,0 +1,59 @@
+//! The kind of input that a text is meant to be.
+
+ghost use Rattle.std.specs.Prelude.{◌≡◌, ◌≢◌, [], IfOk, true};
+ghost use Rattle.trlab_lines.specs.Lines.{lines_of};
+ghost use Rattle.trlab_explain.specs.Meant.{IsMeant, IsNearly, MayBe};
+
+use std::alloc::Global;
+use strsim::generic_damerau_levenshtein;
+use trlab_jobs::{Subject, subject_named};
+use trlab_lines::next_line;
+use trlab_messages::Result;
+use trlab_texts::word::head_word;
+
+/// The maximum length of a word that may be a misspelled name.
+const LONGEST_WORD: usize = 16;
+
+/// Whether a word is at most one edit away from this name: a letter inserted, deleted or replaced, or two neighbours
+/// exchanged.
+fn is_nearly(alloc: Global, word: &[u8], name: &[u8]) -> Result<bool>
+    requires { name.now ≢ [] }
+    ensures { IfOk result (λ is_so. is_so ≡ true → IsNearly word.now name.now) }
+{
+    if word.is_empty() || word.len() > LONGEST_WORD {
+        return Ok(false);
+    }
+    let edits = generic_damerau_levenshtein(alloc, word, name)?;
+    Ok(edits <= 1)
+}
+
+/// The kind of an input whose first word is unknown.
+fn misspelled_subject(alloc: Global, word: &[u8]) -> Result<Subject>
+    ensures { IfOk result (MayBe word.now) }
+{
+    if is_nearly(alloc, word, b"road")? {
+        Ok(Subject::Job)
+    } else if is_nearly(alloc, word, b"sweep")? {
+        Ok(Subject::Sweep)
+    } else {
+        Ok(Subject::Check)
+    }
+}
+
+/// The kind that an input is meant to be, by its first word, also if that is misspelled; else a check.
+///
+/// # Errors
+///
+/// If an allocation fails.
+pub fn subject_of(alloc: Global, text: &[u8]) -> Result<Subject>
+    ensures { IfOk result (IsMeant (lines_of text.now)) }
+{
+    let Some((line, _)) = next_line(text) else {
+        return Ok(Subject::Check);
+    };
+    let word = head_word(line);
+    match subject_named(word) {
+        Some(subject) => Ok(subject),
+        None => misspelled_subject(alloc, word),
+    }
+}

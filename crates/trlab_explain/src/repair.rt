@@ -1,0 +1,114 @@
+//! Repairs are tried before they are shown: with each, an input gets further than its first error.
+
+ghost use Rattle.std.specs.Prelude.{◌≡◌, ◌+◌, ◌≤◌, IfOk, length, IfSome, true};
+ghost use Rattle.trlab_explain.specs.Edits.{edited, GetsFurther, HasFirst, IsAfter};
+ghost use Rattle.trlab_explain.specs.Repairs.{Helps};
+ghost use Rattle.trlab_lines.specs.Lines.{lines_of};
+
+use std::alloc::{AllocError, Global};
+use trlab_jobs::{Subject, read_check, read_job, read_sweep};
+use trlab_lines::count_lines;
+use trlab_messages::{Change, Fault, Repair, Result, candidates_for};
+use trlab_texts::{Cause, TextFault};
+
+/// The text after a change.
+fn edited(alloc: Global, text: &[u8], at: usize, gone: usize, put: &[u8]) -> Result<Vec<u8>>
+    requires { at + gone ≤ length text.now }
+    ensures { IfOk result (λ mended. mended.items ≡ edited at gone put.now text.now) }
+{
+    let (above, _) = text.split_at(at);
+    let (_, after) = text.split_at(at + gone);
+    let mut mended = Vec::new(alloc);
+    mended.extend_from_slice(above)?;
+    mended.extend_from_slice(put)?;
+    mended.extend_from_slice(after)?;
+    Ok(mended)
+}
+
+/// The first fault of a text that is read as `subject`, if it has one: its line and its cause.
+fn first_fault(alloc: Global, subject: Subject, text: &[u8]) -> Result<Option<(u32, Cause)>>
+    ensures { IfOk result (λ fault. HasFirst subject text.now fault) }
+{
+    match subject {
+        Subject::Job => match read_job(alloc, text) {
+            Ok(_) => Ok(None),
+            Err(TextFault::At { line, cause }) => Ok(Some((line, cause))),
+            Err(TextFault::Memory) => Err(AllocError),
+        },
+        Subject::Sweep => match read_sweep(alloc, text) {
+            Ok(_) => Ok(None),
+            Err(TextFault::At { line, cause }) => Ok(Some((line, cause))),
+            Err(TextFault::Memory) => Err(AllocError),
+        },
+        Subject::Check => match read_check(alloc, text) {
+            Ok(_) => Ok(None),
+            Err(TextFault::At { line, cause }) => Ok(Some((line, cause))),
+            Err(TextFault::Memory) => Err(AllocError),
+        },
+    }
+}
+
+/// Whether a text has no fault, or its first one is after line `number` and fewer lines follow it than `text` has
+/// from that line on.
+fn is_after(text: &[u8], number: u32, mended: &[u8], fault: Option<(u32, Cause)>) -> bool
+    ensures { result ≡ true → IsAfter (lines_of text.now) number (lines_of mended.now) fault }
+{
+    match fault {
+        None => true,
+        Some((line, _)) => {
+            let left = count_lines(mended) as u128 + u128::from(number);
+            number < line && left < count_lines(text) as u128 + u128::from(line)
+        }
+    }
+}
+
+/// Whether a text, read as `subject`, gets further than one with its first fault at this place.
+fn gets_further(alloc: Global, fault: Fault<'_>, subject: Subject, mended: &[u8]) -> Result<bool>
+    ensures { IfOk result (λ is_so. is_so ≡ true
+        → GetsFurther fault.entry.place.text.now fault.entry.place.number subject mended.now) }
+{
+    let found = first_fault(alloc, subject, mended)?;
+    Ok(is_after(fault.place.text, fault.place.number, mended, found))
+}
+
+/// Whether an input gets further than its first fault by a change.
+fn helps(alloc: Global, fault: Fault<'_>, change: &Change) -> Result<bool>
+    ensures { IfOk result (λ is_so. is_so ≡ true
+        → Helps fault.entry.subject fault.entry.place.text.now fault.entry.place.number change.now) }
+{
+    let text = fault.place.text;
+    match change {
+        Change::Edited(edit) => {
+            if edit.at > text.len() || edit.removed > text.len() - edit.at {
+                return Ok(false);
+            }
+            let mended = edited(alloc, text, edit.at, edit.removed, &edit.inserted)?;
+            gets_further(alloc, fault, fault.subject, &mended)
+        }
+        Change::ReadAs(other) => gets_further(alloc, fault, *other, text),
+    }
+}
+
+/// The maximum length of a text that is read several times, so that no explanation takes long.
+const LONGEST_REREAD: usize = 524288;
+
+/// The most likely repair that helps: with it, the input has no error or its first one is further down. The verifier
+/// may still reject the program of a check. If the input is long, only one repair is tried.
+///
+/// # Errors
+///
+/// If an allocation fails.
+pub fn likely_repair(alloc: Global, fault: Fault<'_>) -> Result<Option<Repair>>
+    ensures { IfOk result (λ found. IfSome found (λ repair.
+        Helps fault.entry.subject fault.entry.place.text.now fault.entry.place.number repair.change)) }
+{
+    for repair in candidates_for(alloc, &fault)? {
+        if helps(alloc, fault, &repair.change)? {
+            return Ok(Some(repair));
+        }
+        if fault.place.text.len() > LONGEST_REREAD {
+            break;
+        }
+    }
+    Ok(None)
+}

@@ -1,0 +1,22 @@
+-- The kinds of inputs, and their first words.
+use Rattle.std.specs.Prelude.{ℕ, Bool, List, [], ◌∷◌, codes, map, Option, None, Some, if◌then◌else◌}
+use Rattle.std.specs.List.{list_any}
+use Rattle.std.specs.Str.{bytes_eq}
+use Rattle.std.specs.Char.{to_ascii_lowercase}
+use Rattle.trlab_jobs.specs.declared.subject.Subject.{Subject}
+use Rattle.trlab_jobs.specs.declared.subject.Subject.TheVariants.{Job, Sweep, Check}
+
+-- a word is this name, in small letters or capitals
+abbrev pub is_named : List ℕ → List ℕ → Bool
+is_named word name = bytes_eq (map to_ascii_lowercase word) (map to_ascii_lowercase name)
+
+-- the first words of programs
+abbrev pub program_words : List (List ℕ)
+program_words = codes "motion" ∷ codes "change" ∷ codes "code" ∷ codes "notes" ∷ []
+
+-- the kind of input that begins with this word: a job with `road`, a sweep with `sweep`, a check with a program
+abbrev pub subject_named : List ℕ → Option Subject
+subject_named word =
+    if is_named word (codes "road") then Some Job
+    else if is_named word (codes "sweep") then Some Sweep
+    else if list_any (is_named word) program_words then Some Check else None

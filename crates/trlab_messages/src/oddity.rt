@@ -1,0 +1,41 @@
+//! Oddities: characters that lines outside programs may not have.
+
+ghost use Rattle.std.specs.Prelude.{IfSome};
+ghost use Rattle.trlab_messages.specs.Oddities.{Shows};
+
+use trlab_texts::word::without_prefix;
+
+/// A character that is not allowed in any line outside programs, or an empty line.
+#[derive(Clone, Copy)]
+pub enum Oddity {
+    ByteOrderMark,
+    CarriageReturn,
+    Empty,
+    Tab,
+    FirstSpace,
+    FinalSpace,
+    Comment,
+}
+
+/// The first oddity of a line, in the order of the list.
+pub fn oddity_of(line: &[u8]) -> Option<Oddity>
+    ensures { IfSome result (Shows line.now) }
+{
+    if without_prefix(b"\xef\xbb\xbf", line).is_some() {
+        Some(Oddity::ByteOrderMark)
+    } else if line.contains(&b'\r') {
+        Some(Oddity::CarriageReturn)
+    } else if line.is_empty() {
+        Some(Oddity::Empty)
+    } else if line.contains(&b'\t') {
+        Some(Oddity::Tab)
+    } else if line.first() == Some(&b' ') {
+        Some(Oddity::FirstSpace)
+    } else if line.last() == Some(&b' ') {
+        Some(Oddity::FinalSpace)
+    } else if line.contains(&b';') || line.contains(&b'#') {
+        Some(Oddity::Comment)
+    } else {
+        None
+    }
+}
