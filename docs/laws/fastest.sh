@@ -1,10 +1,10 @@
 # Draws docs/fastest.svg: how far twelve cars go from one initial road under rules that accelerate by at most one.
-# Run it at the top of the repository, after the script study/job of docs/LAWS.md is there:
+# Run it at the top of the repository, where the folder study is:
 #
-#   sh docs/fastest.sh > study/fastest.svg
+#   sh docs/laws/fastest.sh > study/fastest.svg
 set -e
 mkdir -p study/fan
-job() { sh study/job 5 "$1" 60 000000000000................................................; }
+job() { sh docs/laws/job.sh 5 "$1" 60 000000000000................................................; }
 job 'nasch 0' > 'study/fan/nasch, p = 0.job'
 job "own
 $(cat examples/keep_distance.rule)
