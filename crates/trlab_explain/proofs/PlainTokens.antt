@@ -1,6 +1,6 @@
 -- The text of plain tokens is plain.
-use Rattle.std.proofs.Common.{◌≡◌, ◌≤◌, ◌<◌, ◌++◌, ◌&&◌, ◌||◌, ◌==◌, ℕ, zero, suc, nat_le, List, [], ◌∷◌, Bool, cond, true, false, refl, arith, inl, inr, eqb-true}
-use Rattle.std.specs.Prelude.{All, ◌^◌, decimal, Result, Ok, Err, OnOk, OnErr, IsUtf8}
+use Rattle.std.proofs.Common.{◌≡◌, ◌∙◌, ◌≤◌, ◌<◌, ◌++◌, ◌&&◌, ◌||◌, ◌==◌, ap, ℕ, zero, suc, nat_le, List, [], ◌∷◌, Bool, cond, true, false, refl, arith, inl, inr, eqb-true}
+use Rattle.std.specs.Prelude.{All, ◌^◌, decimal, Result, Ok, Err, IfOk, OnOk, OnErr, IsUtf8}
 use Rattle.std.proofs.lemmas.Bool.{and_parts, cases_eq, leb-true}
 use Rattle.std.proofs.lemmas.List.Elements.{All-append, All-cons, All-head, All-nil, All-push, All-same, All-tail, All-weaker}
 use Rattle.std.proofs.lemmas.Str.{IsUtf8-from_ascii}
@@ -9,7 +9,7 @@ use Rattle.json.specs.Print.{begins, ends, escape, escape_byte, print, print_fro
 use Rattle.json.specs.Token.{Token, begin_object, end_object, begin_array, end_array, key, string, number, boolean, null, bad}
 use Rattle.trlab_lines.specs.Plain.{IsPlain}
 use Rattle.trlab_lines.proofs.PlainDigits.{plain_digits}
-use Rattle.trlab_explain.specs.Json.{HasPlainText}
+use Rattle.trlab_explain.specs.Json.{EndsObject, HasPlainText, object_end}
 
 -- printable characters, by a test
 abbrev are_printable : List ℕ → Bool
@@ -97,3 +97,9 @@ number_stays (Err x) old new n fits ok err all = All-same HasPlainText new old e
 pub plain_line : (ts : List Token) (text : List ℕ) → text ≡ print ts ++ 10 ∷ [] → All HasPlainText ts → All IsPlain text
 plain_line ts text is all =
     All-same IsPlain text (print ts ++ 10 ∷ []) is (All-push IsPlain (print ts) 10 (plain_print ts all) (inl refl))
+
+-- the line of an object ends as its last tokens do
+pub object_line : {A E : Type 0} (told : Result A E) (bytes : A → List ℕ) (first tokens : List Token) (refused : Bool) (answer : List ℕ)
+    → tokens ≡ first ++ object_end refused answer → IfOk told (λ t. bytes t ≡ print tokens ++ 10 ∷ []) → IfOk told (λ t. EndsObject refused answer (bytes t))
+object_line (Ok t) bytes first tokens refused answer is line = (first, line ∙ ap (λ ts. print ts ++ 10 ∷ []) is)
+object_line (Err x) bytes first tokens refused answer is line = tt

@@ -107,6 +107,7 @@ impl Object {
                     self.put(Token::String(digits))
                 }
             }
+            // Only a reader of JSON makes such a token.
             Token::Bad => Ok(()),
             Token::BeginObject
             | Token::EndObject

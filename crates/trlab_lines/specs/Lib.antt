@@ -2,3 +2,4 @@ pub mod Lines
 pub mod Cutting
 pub mod Numbers
 pub mod Plain
+pub mod Oddities

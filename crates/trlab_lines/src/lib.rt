@@ -8,6 +8,7 @@
 
 pub mod laws;
 mod lines;
+mod oddity;
 mod page;
 mod place;
 
@@ -15,5 +16,6 @@ pub use lines::{
     cut, digits_value, is_numeral, label_and_rest, name_and_operands, next_line, only_word,
     up_to_blank, without_comment, without_indent,
 };
+pub use oddity::{Oddity, oddity_of};
 pub use page::{MAX_QUOTED, Page};
 pub use place::{Place, bytes_at, count_lines};

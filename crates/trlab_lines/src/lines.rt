@@ -125,8 +125,8 @@ pub fn label_and_rest(text: &[u8]) -> (Option<&[u8]>, &[u8])
     }
 }
 
-/// The first word after a label and before a comment, for example the name of an instruction, and the bytes after it:
-/// both are empty if there is no such word.
+/// The first word after a label and before a comment, for example the name of an instruction, and the bytes after it.
+/// If the line has no word there, both are empty.
 pub fn name_and_operands(line: &[u8]) -> (&[u8], &[u8])
     ensures { (result.0.now, result.1.now) ≡ name_and_operands line.now }
 {

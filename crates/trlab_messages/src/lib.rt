@@ -20,7 +20,6 @@ mod instruction;
 mod job;
 mod members;
 mod names;
-mod oddity;
 mod program;
 mod reasons;
 mod repairs;

@@ -76,7 +76,7 @@ pub fn is_name_of_line(word: &[u8]) -> bool {
 /// The words after `rule`: the standard rules and `own`.
 pub const RULE_NAMES: [&[u8]; 4] = [b"nasch", b"vdr", b"rickert", b"own"];
 
-/// How many probabilities follow the name of a rule; `None` if there is no such rule.
+/// How many probabilities follow the name of a rule; `None` if the name is unknown.
 pub fn count_probabilities(rule: &[u8]) -> Option<usize> {
     match rule {
         b"own" => Some(0),

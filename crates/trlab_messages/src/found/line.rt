@@ -2,9 +2,9 @@
 
 use crate::fault::Fault;
 use crate::names::{after_rule, count_probabilities, is_of, named};
-use crate::oddity::{Oddity, oddity_of};
 use crate::sentence::{Draft, Quoted};
 use trlab_jobs::Subject;
+use trlab_lines::{Oddity, oddity_of};
 use trlab_texts::word::head_word;
 use trlab_texts::{LineName, LineNames};
 

@@ -1,4 +1,4 @@
-use Rattle.std.proofs.Common.{arith, inl, inr, refl, subst, codes}
+use Rattle.std.proofs.Common.{arith, inl, inr, refl, subst, codes, rules}
 use Rattle.trlab_bounds.specs.declared.runs.TheConstants.{MAX_RUNNERS, MAX_STEPS, MAX_WORKERS}
 use Rattle.clap.specs.Words.{found_of, rows_of}
 use Rattle.trlab_command_line.specs.Requests.{IsEntered}
@@ -124,3 +124,6 @@ unreachable-requires c = elim (entered_name c.args.name.now (rows_of (found_of c
     ]
   ]
 ]
+
+pub returns-in-check-clause-answer : goal.returns-in-check-clause-answer
+returns-in-check-clause-answer c = search rules

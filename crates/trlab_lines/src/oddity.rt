@@ -1,9 +1,7 @@
 //! Oddities: characters that lines outside programs may not have.
 
 ghost use Rattle.std.specs.Prelude.{IfSome};
-ghost use Rattle.trlab_messages.specs.Oddities.{Shows};
-
-use trlab_texts::word::without_prefix;
+ghost use Rattle.trlab_lines.specs.Oddities.{Shows};
 
 /// A character that is not allowed in any line outside programs, or an empty line.
 #[derive(Clone, Copy)]
@@ -21,7 +19,7 @@ pub enum Oddity {
 pub fn oddity_of(line: &[u8]) -> Option<Oddity>
     ensures { IfSome result (Shows line.now) }
 {
-    if without_prefix(b"\xef\xbb\xbf", line).is_some() {
+    if line.strip_prefix(b"\xef\xbb\xbf").is_some() {
         Some(Oddity::ByteOrderMark)
     } else if line.contains(&b'\r') {
         Some(Oddity::CarriageReturn)

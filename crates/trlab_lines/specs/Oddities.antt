@@ -3,8 +3,8 @@ use Rattle.std.specs.Prelude.{◌≡◌, ◌⊎◌, ℕ, ◌-◌, ◌==◌, IsTr
 use Rattle.std.specs.List.{list_any}
 use Rattle.std.specs.Option.{is_some}
 use Rattle.trlab_lines.specs.Cutting.{without_prefix}
-use Rattle.trlab_messages.specs.declared.oddity.Oddity.{Oddity}
-use Rattle.trlab_messages.specs.declared.oddity.Oddity.TheVariants.{ByteOrderMark, CarriageReturn, Empty, Tab, FirstSpace, FinalSpace, Comment}
+use Rattle.trlab_lines.specs.declared.oddity.Oddity.{Oddity}
+use Rattle.trlab_lines.specs.declared.oddity.Oddity.TheVariants.{ByteOrderMark, CarriageReturn, Empty, Tab, FirstSpace, FinalSpace, Comment}
 
 -- a line has this byte
 abbrev pub Has : ℕ → List ℕ → Type 0
