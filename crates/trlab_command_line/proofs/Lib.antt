@@ -1,5 +1,6 @@
 mod Alone
 mod CommandLine
+mod Commands
 mod Levels
 mod Matches
 mod Options

@@ -1,7 +1,7 @@
 //! The commands.
 
-ghost use Rattle.std.specs.Prelude.{◌≡◌, IfOk, false};
-ghost use Rattle.clap.specs.Words.{app_of, new_app};
+ghost use Rattle.std.specs.Prelude.{◌≡◌, IfOk, MatchResult, false};
+ghost use Rattle.clap.specs.Words.{app_of, new_app, with_subcommand};
 ghost use Rattle.clap.specs.declared.builder.command.Command.TheViews.{out-Command as fields_of};
 ghost use Rattle.trlab_command_line.specs.CommandLine.{command_line, explain_command, job_command, program, sweep_command};
 
@@ -80,14 +80,27 @@ fn program<'a>(alloc: Global) -> Result<Command<'a>, AllocError>
         .bin_name("trlab")
 }
 
+/// Adds a command to the program.
+fn with_command<'a>(
+    program: Command<'a>,
+    command: Result<Command<'a>, AllocError>,
+) -> Result<Command<'a>, AllocError>
+    requires { IfOk command (λ command. (fields_of command).has_globals ≡ false) }
+    ensures { IfOk result (λ new. MatchResult command.entry
+        (λ command. app_of new ≡ with_subcommand (app_of program.entry) (app_of command).top) (λ _. ⊥)) }
+{
+    program.subcommand(command?)
+}
+
 /// The command line of `trlab`: the program with its commands.
 pub fn command_line<'a>(alloc: Global) -> Result<Command<'a>, AllocError>
     ensures { IfOk result (λ command. app_of command ≡ command_line) }
 {
-    program(alloc)?
-        .subcommand(bare_command(alloc, "check", CHECK))?
-        .subcommand(job_command(alloc, "run", RUN, SHOWN_EVERY_HELP, SHOWN_FROM_HELP)?)?
-        .subcommand(sweep_command(alloc)?)?
-        .subcommand(job_command(alloc, "series", SERIES, EVERY_HELP, FROM_HELP)?)?
-        .subcommand(explain_command(alloc)?)
+    let first = with_command(program(alloc)?, Ok(bare_command(alloc, "check", CHECK)))?;
+    let run = job_command(alloc, "run", RUN, SHOWN_EVERY_HELP, SHOWN_FROM_HELP);
+    let second = with_command(first, run)?;
+    let third = with_command(second, sweep_command(alloc))?;
+    let series = job_command(alloc, "series", SERIES, EVERY_HELP, FROM_HELP);
+    let fourth = with_command(third, series)?;
+    with_command(fourth, explain_command(alloc))
 }

@@ -1,13 +1,14 @@
 use Rattle.std.proofs.Common.{◌∙◌, ap, ap₂}
 use Rattle.std.proofs.lemmas.Result.{IfOk-weaker}
-use Rattle.clap.specs.Words.{App, with_subcommand}
+use Rattle.clap.specs.Words.{App, app_of, with_subcommand}
+use Rattle.trlab_command_line.specs.CommandLine.{explain_command, run_command, series_command, sweep_command}
+use Rattle.trlab_command_line.proofs.Commands.{added}
 use Rattle.trlab_command_line.proofs.arguments.commands.command_line.Goals as goal
 
 pub returns : goal.returns
 returns c =
-    let checks = c.in_ok-subcommand.ensures.shape c.bare_command.ensures.local ∙ ap₂ with_subcommand c.in_ok-program.ensures (ap (λ (a : App). a.top) c.bare_command.ensures.app) in
-    let runs = c.in_ok-subcommand-2.ensures.shape c.in_ok-job_command.ensures.local ∙ ap₂ with_subcommand checks (ap (λ (a : App). a.top) c.in_ok-job_command.ensures.app) in
-    let sweeps = c.in_ok-subcommand-3.ensures.shape c.in_ok-sweep_command.ensures.local ∙ ap₂ with_subcommand runs (ap (λ (a : App). a.top) c.in_ok-sweep_command.ensures.app) in
-    let lists = c.in_ok-subcommand-4.ensures.shape c.in_ok-job_command-2.ensures.local ∙ ap₂ with_subcommand sweeps (ap (λ (a : App). a.top) c.in_ok-job_command-2.ensures.app) in
-    IfOk-weaker c.subcommand-5.result _ _ (λ command added. added.shape c.in_ok-explain_command.ensures.local
-    ∙ ap₂ with_subcommand lists (ap (λ (a : App). a.top) c.in_ok-explain_command.ensures.app)) c.subcommand-5.ensures
+    let checks = c.in_ok-first.ensures ∙ ap₂ with_subcommand c.in_ok-program.ensures (ap (λ (a : App). a.top) c.bare_command.ensures.app) in
+    let runs = added c.job_command-run.result app_of _ run_command _ checks c.in_ok-second.ensures c.job_command-run.ensures.app in
+    let sweeps = added c.sweep_command.result app_of _ sweep_command _ runs c.in_ok-third.ensures c.sweep_command.ensures.app in
+    let lists = added c.job_command-series.result app_of _ series_command _ sweeps c.in_ok-fourth.ensures c.job_command-series.ensures.app in
+    IfOk-weaker c.with_command-5.result _ _ (λ command is. added c.explain_command.result app_of _ explain_command _ lists is c.explain_command.ensures.app) c.with_command-5.ensures
