@@ -71,8 +71,8 @@ pub record LeavesWriter {K : Type 0} (sink : Sink.Ghosts K)
   pub handed : HandsOn end (sink.handed_on new) (sink.flushes old) (sink.flushes new)
   pub device : (end ≡ DeviceFault) ↔ (sink.failed new ≡ true)
 
--- the end of an engine that reads an input and writes one of the possible outputs for it: `before` and `after`
--- are the reader, `old` and `new` the writer
+-- the end of an engine that reads an input and writes one of the possible outputs for it: `before` and
+-- `after` are the reader, `old` and `new` the writer
 pub record EngineEnds {S K : Type 0} (source : Source.Ghosts S) (sink : Sink.Ghosts K)
     (outputs : List ℕ → Outputs) (end : End) (before after : S) (old new : K) : Type 0 where
   -- the writer's calls took the output for exactly the bytes that the reader's calls gave, or a prefix of the
