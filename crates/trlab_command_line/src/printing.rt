@@ -79,8 +79,8 @@ fn suggest_redirection<R: AllocGlobal + Eprint>(rt: &R, arguments: &[String]) {
     }
 }
 
-/// Prints help or the version on the writer if the arguments ask for it, otherwise on standard error why they are
-/// rejected; returns the exit status. If an allocation fails, nothing is printed.
+/// Prints help or the version to `writer` if the arguments ask for it; otherwise prints to standard error why they are
+/// rejected. Returns the exit status. If that is 3 (an allocation failed), nothing was written to `writer`.
 pub fn print_help_or_error<R: AllocGlobal + Eprint, K: Sink>(
     rt: &R,
     arguments: &[String],
