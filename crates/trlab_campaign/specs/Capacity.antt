@@ -52,7 +52,7 @@ SweepsKeepBelowPeak =
     → SweepText text (Ok sweep) → ArePoints sweep points
     → All (IsBelowPeak sweep.setup.shape.limit) points
 
--- the moving cars of a point, counted in each step, went at least one cell each, and at most the limit
+-- the moving cars of a point, counted once per step, went on average at least one cell, and at most the limit
 pub record PointGoesByMovingCars (limit : ℕ) (point : Point) : Type 0 where
   pub cell_each : point.steps * point.cars ≤ point.distance + point.stopped
   pub limit_each : point.distance + limit * point.stopped ≤ point.steps * (limit * point.cars)

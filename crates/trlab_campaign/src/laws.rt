@@ -50,11 +50,11 @@ pub fn sweep_has_one_output()
     ensures one_output { HasOneOutput IsSweepOutput }
 {}
 
-/// Each point of the table for a sweep text is below a triangle: the flow is at most 1 minus the density, and
-/// at most the limit times the density. So it is at most limit / (limit + 1), the peak of the triangle. The
-/// cars that are not stopped in a step go at least one cell each, and at most the limit. On one lane, in the
-/// Nagel-Schreckenberg model without randomization, the fundamental diagram is the triangle itself, if no step
-/// is counted before cars can reach the limit.
+/// Each point of the table for a sweep text is on or below a triangle: the flow is at most 1 minus the density, and at
+/// most the limit times the density. So the flow is at most limit / (limit + 1), the peak of the triangle. On average,
+/// a moving car goes at least one cell per step, and at most the limit. On one lane, in the Nagel-Schreckenberg model
+/// without randomization, the fundamental diagram is the triangle itself, if no step is counted before cars can reach
+/// the limit.
 pub fn sweeps_keep_to_capacity()
     ensures within { SweepsKeepToCapacity }
     ensures peak { SweepsKeepBelowPeak }
