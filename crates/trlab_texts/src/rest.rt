@@ -16,7 +16,7 @@ use crate::word::head_word;
 use std::marker::Model;
 use trlab_lines::next_line;
 
-/// The lines of a text that are left, and the number of the first of them, counted from 1.
+/// The unread lines of a text, and the number of the first, counted from 1.
 #[derive(Drop)]
 pub struct Rest<'a> {
     left: &'a [u8],
