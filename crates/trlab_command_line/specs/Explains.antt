@@ -53,7 +53,7 @@ explained_in rows =
     explained (first_of (codes "what") rows) (argument_number (codes "number") rows)
     (is_given (codes "json") rows)
 
--- the kinds of error that an answer has
+-- the kinds of error of a request: none if it is accepted
 abbrev pub error_kinds : Result Explaining ErrorKind → Kinds
 error_kinds (Ok asked) = []
 error_kinds (Err kind) = kind ∷ []

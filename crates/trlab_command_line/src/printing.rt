@@ -25,8 +25,8 @@ pub fn status_of_end(end: End) -> u8
     end as u8
 }
 
-/// The exit status of arguments that `clap` does not accept as a command: 0 if they ask for help, 3 if an allocation
-/// failed, and otherwise 2.
+/// The exit status of arguments that `clap` does not accept as a command: 0 if they ask for help or the version, 3 if
+/// an allocation failed, and otherwise 2.
 pub fn status_of_error(error: &Error) -> u8
     ensures { result ≡ status_of_error (kind_of error.now) }
 {
