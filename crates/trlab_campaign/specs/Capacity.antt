@@ -14,8 +14,8 @@ use Rattle.trlab_campaign.specs.SweepOutput.{ArePoints}
 abbrev pub empty_cells_at : Point → ℕ
 empty_cells_at point = point.cells - point.cars
 
--- the capacity at a point, which is the largest distance of a step: each car moves at the limit, or a car
--- passes each empty cell
+-- the capacity at a point, which is the largest distance of a step: either each car moves at the limit, or a
+-- car passes each empty cell, whichever gives less
 abbrev pub capacity_at : ℕ → Point → ℕ
 capacity_at limit point = min (limit * point.cars) (empty_cells_at point)
 
@@ -23,9 +23,9 @@ capacity_at limit point = min (limit * point.cars) (empty_cells_at point)
 abbrev pub steady_flow : Point → ℕ → ℕ
 steady_flow point distance = distance * 1000000 / point.cells
 
--- a point under the triangle: as a mean over its steps, the cars went over no more cells than the road has
--- empty cells, and each no further than the limit; so the flow is at most 1 minus the density, and at most
--- the limit times the density
+-- a point under the triangle: its mean distance per step is at most the number of empty cells, and at most
+-- the limit times the number of cars; so the flow is at most 1 minus the density, and at most the limit times
+-- the density
 pub record IsUnderTriangle (limit : ℕ) (point : Point) : Type 0 where
   pub room : point.cars ≤ point.cells
   pub by_empty_cells : point.distance ≤ point.steps * empty_cells_at point
@@ -52,7 +52,7 @@ SweepsKeepBelowPeak =
     → SweepText text (Ok sweep) → ArePoints sweep points
     → All (IsBelowPeak sweep.setup.shape.limit) points
 
--- the moving cars of a point, counted in each step, went at least one cell each, and at most the limit
+-- the moving cars of a point, counted once per step, went on average at least one cell, and at most the limit
 pub record PointGoesByMovingCars (limit : ℕ) (point : Point) : Type 0 where
   pub cell_each : point.steps * point.cars ≤ point.distance + point.stopped
   pub limit_each : point.distance + limit * point.stopped ≤ point.steps * (limit * point.cars)
@@ -64,12 +64,12 @@ SweepsGoByMovingCars =
     → SweepText text (Ok sweep) → ArePoints sweep points
     → All (PointGoesByMovingCars sweep.setup.shape.limit) points
 
--- a point on the triangle: its distance is the capacity for each of its steps
+-- a point on the triangle: its distance is the capacity times its number of steps
 pub record IsOnTriangle (limit : ℕ) (point : Point) : Type 0 where
   pub distance : point.distance ≡ point.steps * capacity_at limit point
   pub flow : flow_of point ≡ steady_flow point (capacity_at limit point)
 
--- the rule that a sweep text states, by its sixth line
+-- the rule on the sixth line of a sweep text
 abbrev pub rule_stated : List ℕ → Result (RuleLine ℕ) Cause
 rule_stated text = rule_line (slice_index_or (lines_of text) 5 [])
 
@@ -80,7 +80,7 @@ pub record AsksForTriangle (text : List ℕ) (common : Setup) : Type 0 where
   pub lanes : common.shape.lanes ≡ 1
   pub warm : common.shape.limit ≤ common.span.warm + 1
 
--- then each point of its table is on the triangle
+-- each point of the table for such a text is on the triangle
 abbrev pub DiagramIsTriangle : Type 0
 DiagramIsTriangle =
     (text : List ℕ) (sweep : Sweep) (points : List Point)

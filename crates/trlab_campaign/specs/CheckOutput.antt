@@ -24,7 +24,7 @@ abbrev pub refused_line : ℕ → ℕ → List ℕ
 refused_line at reason =
     codes "refused at " ++ (decimal at ++ (codes " reason " ++ (decimal reason ++ (10 ∷ []))))
 
--- the output for a check, by the verdict on its program as a program of its own kind
+-- the output for a check; its program is judged as a program of its own kind
 abbrev pub VerdictOutput : Check → Outputs
 VerdictOutput check false out = IsAccepted check.program.kind check.program × ((budget : ℕ)
     × (IsLongest check.program.instrs 0 budget × (out ≡ answer_text check.question budget check.program)))

@@ -11,7 +11,7 @@ pub record IsStepsOn (count : ℕ) (old new : Progress) : Type 0 where
   pub same_sheet : new.sheet ≡ old.sheet
   pub later : new.step ≡ old.step + count
 
--- no more than a lane can have, summed over the roads after `steps` steps
+-- bounds for the counts of a lane, summed over the roads after `steps` steps
 pub record IsFewCars (steps : ℕ) (count : LaneCount) : Type 0 where
   pub cars : count.cars ≤ MAX_LENGTH * steps
   pub distance : count.distance ≤ MAX_LIMIT * MAX_LENGTH * steps

@@ -3,12 +3,12 @@ use Rattle.std.specs.Prelude.{◌≡◌, ◌⊎◌, ℕ, ◌<◌, ◌≤◌, Lis
 use Rattle.std.specs.Io.KnownBytes.{Consumes}
 use Rattle.trlab_bounds.specs.declared.texts.TheConstants.{TEXT_LIMIT}
 
--- the bytes that a call transferred: the first ones, as many as it returns, and none if it failed
+-- the bytes that a call transferred: as many of the first bytes as it returns, or none if it failed
 abbrev pub handed_over : {E : Type 0} → Result ℕ E → List ℕ → List ℕ
 handed_over (Ok count) bytes = take count bytes
 handed_over (Err fault) bytes = []
 
--- between these two times the calls of a reader gave exactly some bytes with this property
+-- between `before` and `after`, the calls of a reader gave some bytes with this property, and no others
 abbrev pub Gave : (List ℕ → Type 0) → List ℕ → List ℕ → Type 0
 Gave Holds before after = (bytes : List ℕ) × ((after ≡ before ++ bytes) × Holds bytes)
 

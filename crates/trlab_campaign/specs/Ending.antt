@@ -24,7 +24,8 @@ WrotePrefix IsWhole old new =
     AddsNone old new
     ⊎ ((refused : Bool) × ((out : List ℕ) × (IsWhole refused out × AddsPrefix old new out)))
 
--- by its result, a call wrote a whole output that is not a refusal, or a prefix of an output
+-- a successful call wrote a whole output that is not a refusal; a failed call wrote nothing, or a prefix of
+-- an output
 abbrev pub WroteBy : {A E : Type 0} → Outputs → Result A E
     → SinkBytes → SinkBytes → Type 0
 WroteBy IsWhole (Ok done) old new = WroteAll IsWhole false old new
@@ -46,15 +47,15 @@ HandsOn Refused handed_on old new = HandedOnce handed_on old new
 HandsOn Memory handed_on old new = new ≡ old
 HandsOn DeviceFault handed_on old new = AtMostOnce old new
 
--- the bytes that were written of one whole output, by the end
+-- the bytes of one whole output that were written, depending on the end
 abbrev pub OutputEnds : Bool → List ℕ → End → SinkBytes → SinkBytes → Type 0
 OutputEnds refused out Done old new = (refused ≡ false) × HasWritten old new out
 OutputEnds refused out Refused old new = (refused ≡ true) × HasWritten old new out
 OutputEnds refused out Memory old new = AddsNone old new
 OutputEnds refused out DeviceFault old new = AddsPrefix old new out
 
--- the writer after a call that does not flush it: it works if everything was written, and it has failed
--- exactly if that is the failure
+-- the writer after a call that does not flush it: it still works if the call succeeded, and after a failed
+-- call it has failed exactly if the failure is `Device`
 pub record WritesOn {A K : Type 0} (sink : Sink.Ghosts K) (result : Result A Failure)
     (old new : K) : Type 0 where
   pub works : OnOk result (sink.failed new ≡ false)
@@ -70,21 +71,21 @@ pub record LeavesWriter {K : Type 0} (sink : Sink.Ghosts K)
   pub handed : HandsOn end (sink.handed_on new) (sink.flushes old) (sink.flushes new)
   pub device : (end ≡ DeviceFault) ↔ (sink.failed new ≡ true)
 
--- how an engine ends that reads an input and writes one of the outputs that there may be for it: `before` and
--- `after` are its reader, `old` and `new` its writer
+-- the end of an engine that reads an input and writes one of the possible outputs for it: `before` and
+-- `after` are the reader, `old` and `new` the writer
 pub record EngineEnds {S K : Type 0} (source : Source.Ghosts S) (sink : Sink.Ghosts K)
     (outputs : List ℕ → Outputs) (end : End) (before after : S) (old new : K) : Type 0 where
-  -- the bytes that the calls of the writer took are the output for exactly the bytes that the calls of the
-  -- reader gave, or the prefix of it that the end allows
+  -- the writer's calls took the output for exactly the bytes that the reader's calls gave, or a prefix of the
+  -- output if the end allows it
   pub exact : Gave (λ text. EndsSo (outputs text) end (bytes_of sink old) (bytes_of sink new))
       (source.given before) (source.given after)
-  -- the output is also that for all bytes that were left to read, if they are known
+  -- this is also the output for all bytes that were left to read, if the reader makes them known
   pub answer : IfSome (source.left before)
       (λ text. EndsSo (outputs text) end (bytes_of sink old) (bytes_of sink new))
   -- nothing was written if the input was not read
   pub silent : source.failed after ≡ true → AddsNone (bytes_of sink old) (bytes_of sink new)
   pub handed : HandsOn end (sink.handed_on new) (sink.flushes old) (sink.flushes new)
   pub device : (end ≡ DeviceFault) ↔ ((source.failed after || sink.failed new) ≡ true)
-  -- at most one byte more was read than an input may have
+  -- at most one byte more than the size limit of an input was read
   pub read : ConsumesUpTo (TEXT_LIMIT + 1) (source.left before) (source.left after)
   pub stops : Gave (λ bytes. length bytes ≤ TEXT_LIMIT + 1) (source.given before) (source.given after)

@@ -14,8 +14,8 @@ use Rattle.trlab_campaign.specs.Output.{IsShownOutput, steps_text}
 use Rattle.trlab_campaign.specs.SweepOutput.{IsSweepOutput, point_of}
 use Rattle.trlab_campaign.specs.SweepOutput as sweep
 
--- the output for a job text: the text says a job, one worker drives the job's road, and the pictures show the
--- roads on the way, at the steps that are shown
+-- the output for a job text: the text is a job, one worker drives the job's road, and the pictures show the
+-- roads of this run, at the steps that are shown
 pub record IsDrivenJob (shown : ℕ → Bool) (text out : List ℕ) : Type 0 where
   pub job : Job
   pub says : JobText text (Ok job)
@@ -23,14 +23,15 @@ pub record IsDrivenJob (shown : ℕ → Bool) (text out : List ℕ) : Type 0 whe
   pub driven : IsDriven (seed_of job) (sheet_of job) job.steps roads
   pub pictures : out ≡ steps_text shown roads (job.steps + 1)
 
--- every output for a job text that is not a refusal is of a driven job, whichever steps are shown
+-- for any choice of shown steps, every output for a job text that is not a refusal is the output of a driven
+-- job
 abbrev pub JobTextsAreDriven : Type 0
 JobTextsAreDriven =
     (shown : ℕ → Bool) (text out : List ℕ)
     → IsShownOutput shown text false out → IsDrivenJob shown text out
 
 -- a point of a sweep: one worker drives its road, whose cars are evenly spread at the start, and its numbers
--- are the counts on the way
+-- are the counts of this run
 pub record IsDrivenPoint (setup : Setup) (number cars : ℕ) (point : Point) : Type 0 where
   pub start : Cells
   pub tally : StepTally
@@ -42,7 +43,7 @@ pub record IsDrivenPoint (setup : Setup) (number cars : ℕ) (point : Point) : T
       (all_steps setup.span) tally
   pub told : point ≡ point_of setup cars tally
 
--- the output for a sweep text: the text says a sweep, and the table has its points, in their order
+-- the output for a sweep text: the text is a sweep, and the table has its points, in their order
 pub record IsDrivenSweep (text out : List ℕ) : Type 0 where
   pub said : Sweep
   pub says : SweepText text (Ok said)
@@ -52,6 +53,6 @@ pub record IsDrivenSweep (text out : List ℕ) : Type 0 where
       → IsDrivenPoint said.setup i (slice_index_or said.cars i cars) (slice_index_or points i point)
   pub table : out ≡ points_text points
 
--- every output for a sweep text that is not a refusal is of a driven sweep
+-- every output for a sweep text that is not a refusal is the output of a driven sweep
 abbrev pub SweepTextsAreDriven : Type 0
 SweepTextsAreDriven = (text out : List ℕ) → IsSweepOutput text false out → IsDrivenSweep text out

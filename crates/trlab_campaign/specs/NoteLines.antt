@@ -1,4 +1,4 @@
--- The lines of the notes of an accepted program.
+-- The lines with the notes of an accepted program.
 use Rattle.std.specs.Prelude.{ℕ, Bool, true, false, List, [], ◌∷◌, ◌++◌, length, flat_map}
 use Rattle.std.specs.Prelude.{decimal, codes, Option, None, Some, if◌then◌else◌}
 use Rattle.std.specs.List.{range_with_len}

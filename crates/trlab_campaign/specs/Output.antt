@@ -28,7 +28,7 @@ every_from every from step = nat_le from step && nat_eq ((step - from) % every) 
 abbrev pub shown_text : (ℕ → Bool) → ℕ → Cells → List ℕ
 shown_text shown step road = if shown step then step_text step road else []
 
--- the text of a run's first steps, as far as they are shown, by its road at each step
+-- the text of the shown steps among a run's first `count` steps, from its road at each step
 abbrev pub steps_text : (ℕ → Bool) → (ℕ → Cells) → ℕ → List ℕ
 steps_text shown roads count = flat_map (λ step. shown_text shown step (roads step)) (range_with_len 0 count)
 

@@ -9,16 +9,16 @@ fault_line fault =
     codes "fault line " ++ (decimal fault.line
     ++ (codes " cause " ++ (decimal (cause_number fault.cause) ++ (10 ∷ []))))
 
--- the whole outputs that there may be, and whether each is a refusal
+-- the possible whole outputs, each marked as a refusal or not
 abbrev pub Outputs : Type 1
 Outputs = Bool → List ℕ → Type 0
 
--- the output by the result for a text: the line of the fault if the text has one
+-- the output for the result of a text: the fault line if the text has a fault
 abbrev pub OutputFor : {A : Type 0} → (A → Outputs) → Result A Fault → Outputs
 OutputFor Output (Ok x) refused out = Output x refused out
 OutputFor Output (Err fault) refused out = (refused ≡ true) × (out ≡ fault_line fault)
 
--- the whole output for a text, by the result for the text and the output for this result
+-- the whole output for a text: the output for the text's result
 abbrev pub OutputOfText : {A : Type 0} → (List ℕ → Result A Fault → Type 0) → (A → Outputs) → List ℕ → Outputs
 OutputOfText {A} Says Output text refused out =
     (says : Result A Fault) × (Says text says × OutputFor Output says refused out)

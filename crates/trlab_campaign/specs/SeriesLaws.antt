@@ -1,4 +1,4 @@
--- Laws of series, whichever code counts them.
+-- Laws of series, independent of the code that counts them.
 use Rattle.std.specs.Prelude.{◌≡◌, ℕ, ◌+◌, ◌*◌, ◌≤◌, All, List, Ok}
 use Rattle.trlab_diagram.specs.declared.point.Window.{Window}
 use Rattle.trlab_jobs.specs.Job.{Job, JobText}

@@ -28,7 +28,7 @@ pub record IsStepAt (seed : Seed) (sheet : Sheet) (step : ℕ) (before after : C
 abbrev pub AreRoads : Seed → Sheet → (ℕ → Cells) → Type 0
 AreRoads seed sheet roads = (step : ℕ) → IsRoadAt seed sheet step (roads step)
 
--- the course of a run: its roads, and the tally of each step, which leads from a road to the next
+-- the course of a run: its road at each step, and the tally of each step from one road to the next
 pub record IsCourse (seed : Seed) (sheet : Sheet) (roads : ℕ → Cells)
     (tallies : ℕ → StepTally) : Type 0 where
   pub road_at : AreRoads seed sheet roads
@@ -61,7 +61,7 @@ lane_count lane roads = record {
 abbrev pub tallies_from : (ℕ → StepTally) → ℕ → ℕ → List StepTally
 tallies_from tallies first count = map tallies (range_with_len first count)
 
--- the roads after these steps
+-- the roads after these steps, one after each
 abbrev pub roads_after : (ℕ → Cells) → ℕ → ℕ → List Cells
 roads_after roads first count = map roads (range_with_len (first + 1) count)
 
@@ -76,7 +76,8 @@ sum_point road steps tallies = record {
   changes = sum_by (λ (tally : StepTally). tally.changes) tallies;
 }
 
--- the window of these steps: the counts of the road in them, and of each lane after them
+-- the window of these steps: the counts of the road in them, and the counts of each lane, summed over the
+-- roads after each of them
 abbrev pub window_of : (ℕ → Cells) → (ℕ → StepTally) → ℕ → ℕ → Window
 window_of roads tallies first count = record {
   step = first + count;
@@ -89,7 +90,7 @@ window_of roads tallies first count = record {
 abbrev pub nth_window : (ℕ → Cells) → (ℕ → StepTally) → ℕ → ℕ → ℕ → Window
 nth_window roads tallies every from k = window_of roads tallies (from + k * every) every
 
--- the first windows
+-- the first `count` windows
 abbrev pub first_windows : (ℕ → Cells) → (ℕ → StepTally) → ℕ → ℕ → ℕ → List Window
 first_windows roads tallies every from count =
     map (nth_window roads tallies every from) (range_with_len 0 count)

@@ -13,7 +13,7 @@ use Rattle.trlab_jobs.specs.Shapes.{cell_count, all_steps}
 use Rattle.trlab_jobs.specs.Sweep.{Setup, Sweep, SweepText}
 use Rattle.trlab_campaign.specs.Refusal.{Outputs, OutputOfText}
 
--- the start of the run of a point whose road has this number; the first `warm` steps are not counted
+-- the seed of a point's run; the road has this number, and the first `warm` steps are not counted
 abbrev pub point_seed : Setup → ℕ → Cells → Seed
 point_seed setup number road =
     record { road = road; key = setup.key; number = number; warm = setup.span.warm }

@@ -26,7 +26,7 @@ pub record AddsPrefix (old new : SinkBytes) (text : List ℕ) : Type 0 where
   pub count : ℕ
   pub prefix : HasWritten old new (take count text)
 
--- by its result, a call wrote a text or a prefix of it
+-- a successful call wrote the text; a failed call wrote a prefix of it
 abbrev pub AddsBy : {A E : Type 0} → Result A E → SinkBytes → SinkBytes → List ℕ → Type 0
 AddsBy (Ok done) old new text = HasWritten old new text
 AddsBy (Err fault) old new text = AddsPrefix old new text

@@ -26,7 +26,7 @@ fn no_cars() -> LaneCount
     }
 }
 
-/// The count of the cars on a lane.
+/// The number of cars on a lane, the sum of their speeds, and the number of stopped cars.
 fn count_line(line: &[LaneCar]) -> LaneCount
     requires few { length line.now ≤ MAX_LENGTH }
     requires slow { (k : ℕ) → k < length line.now
@@ -48,7 +48,7 @@ fn count_line(line: &[LaneCar]) -> LaneCount
     }
 }
 
-/// The count of the cars on a lane of a road, which is 0 if the road does not have this lane.
+/// The counts of a lane of a road; all are 0 if the road does not have this lane.
 fn count_lane(road: &Road, lane: u32) -> LaneCount
     ensures cars { result.cars ≡ cars_on lane road.now }
     ensures distance { result.distance ≡ speed_on lane road.now }
@@ -121,7 +121,7 @@ fn count_lanes<A: Executor>(
     Ok((lane0, lane1))
 }
 
-/// The counts of a run in its last `steps` steps, before which its sum of tallies was `before`.
+/// The counts of a run's last `steps` steps; `before` is its sum of tallies before them.
 fn point_since(run: &Run, before: StepTally, steps: u32) -> Point
     requires distance { before.distance ≤ run.now.sum.distance }
     requires stopped { before.stopped ≤ run.now.sum.stopped }

@@ -1,4 +1,4 @@
-//! How an engine ends, and the writing of one whole output, with which most engines end.
+//! How an engine ends, and the functions that write a whole output, or the line of a refused input, at the end.
 
 ghost use Rattle.std.specs.Prelude.{◌≡◌, true, false};
 ghost use Rattle.trlab_campaign.specs.Ending.{LeavesWriter, OutputEnds};

@@ -1,4 +1,4 @@
-//! Engines: each makes the output for an input, which is read to its end before the engine begins.
+//! Engines: each makes the output for an input, which is read before the engine begins.
 
 ghost use Rattle.std.specs.Prelude.{◌≡◌, ℕ, List, Bool, true, false};
 ghost use Rattle.trlab_campaign.specs.declared.end.End.TheVariants.{Memory};
@@ -11,15 +11,15 @@ use crate::device::{Sink, Source, read_text};
 use crate::end::{End, Failure};
 use std::alloc::Global;
 
-/// An engine, which makes the output for an input.
+/// An engine, which makes the output for an input and writes it to a `Sink`.
 pub trait Engine: Drop {
     // The condition under which it can write, for example that its workers can be started.
     ghost is_ready: { Self → Type 0 };
 
-    // The whole outputs that there may be for an input.
+    // The possible whole outputs for an input, each marked as a refusal or not.
     ghost outputs: { Self → List ℕ → Outputs };
 
-    // Whether it has a whole output before it writes any of it.
+    // Whether it completes its output before it writes the first byte.
     ghost at_once: { Bool };
 
     /// Writes the output for an input and flushes the writer. `text` is the whole input, or its first
@@ -34,7 +34,7 @@ pub trait Engine: Drop {
             → AddsNone (bytes_of K.Sink writer.old) (bytes_of K.Sink writer.new) };
 }
 
-/// Reads an input, and writes the output that an engine makes for it.
+/// Reads an input, and writes an engine's output for it. If the reader fails, nothing is written.
 pub fn run_engine<E: Engine, S: Source, K: Sink>(
     alloc: Global,
     engine: E,

@@ -1,5 +1,5 @@
-//! Laws of outputs, whichever code writes them: one worker drives the roads, a text has one output, and the
-//! counts in the tables of sweeps and series are consistent.
+//! Laws of outputs, independent of the code that writes them: one worker drives the roads, a text has one output, and
+//! the counts in the tables of sweeps and series are consistent.
 //!
 //! Each law is the contract of a function with an empty body.
 
@@ -12,21 +12,20 @@ ghost use Rattle.trlab_campaign.specs.SeriesLaws.{LanesOfSeriesAddUp, SeriesHasO
 ghost use Rattle.trlab_campaign.specs.ShownLaws.{EverySoManyAreShown, EveryStepFromStartIsEach, ShownHasOneOutput, ShownHasSomeOutput};
 ghost use Rattle.trlab_campaign.specs.SweepOutput.{IsSweepOutput};
 
-/// The output for a job text that is not refused has the pictures of the roads through which one worker drives,
-/// at the steps that are shown, from the road of the text to the road after its last step. Each step is under
-/// the rule in force, its programs end within their budgets, no car goes onto or through another, and none is
-/// lost or made.
+/// The output for a job text that is not refused shows the roads of a driven run, at the steps that are shown, from the
+/// road of the text to the road after the last step. Each step follows the rule in force, its programs end within their
+/// budgets, no car goes onto or through another, and none is lost or made.
 pub fn job_texts_are_driven()
     ensures { JobTextsAreDriven }
 {}
 
-/// The table for a sweep text that is not refused has a point for each number of cars, in their order. One
-/// worker drives the road of a point in this way, and its cars are evenly spread at the start.
+/// The table for a sweep text that is not refused has a point for each number of cars, in the order of the text. Each
+/// point counts a driven run, whose cars are evenly spread at the start.
 pub fn sweep_texts_are_driven()
     ensures { SweepTextsAreDriven }
 {}
 
-/// Any job text has exactly one output, whichever steps are shown, and it is either a refusal or not.
+/// For any choice of shown steps, a job text has exactly one output. The text determines whether that is a refusal.
 pub fn text_has_one_output()
     ensures some_output { ShownHasSomeOutput }
     ensures one_output { ShownHasOneOutput }
@@ -39,23 +38,23 @@ pub fn steps_are_shown_apart()
     ensures each { EveryStepFromStartIsEach }
 {}
 
-/// Any check text has exactly one output, and it is either a refusal or not.
+/// Any check text has exactly one output. The text determines whether that is a refusal.
 pub fn check_has_one_output()
     ensures some_output { HasSomeOutput IsCheckOutput }
     ensures one_output { HasOneOutput IsCheckOutput }
 {}
 
-/// Any sweep text has exactly one output, and it is either a refusal or not.
+/// Any sweep text has exactly one output. The text determines whether that is a refusal.
 pub fn sweep_has_one_output()
     ensures some_output { HasSomeOutput IsSweepOutput }
     ensures one_output { HasOneOutput IsSweepOutput }
 {}
 
-/// Each point of the table for a sweep text is below a triangle: the flow is at most 1 minus the density, and
-/// at most the limit times the density. So it is at most limit / (limit + 1), the peak of the triangle. The
-/// cars that are not stopped in a step go at least one cell each, and at most the limit. On one lane, in the
-/// Nagel-Schreckenberg model without randomization, the fundamental diagram is the triangle itself, if no step
-/// is counted before cars can reach the limit.
+/// Each point of the table for a sweep text is on or below a triangle: the flow is at most 1 minus the density, and at
+/// most the limit times the density. So the flow is at most limit / (limit + 1), the peak of the triangle. On average,
+/// a moving car goes at least one cell per step, and at most the limit. On one lane, in the Nagel-Schreckenberg model
+/// without randomization, the fundamental diagram is the triangle itself, if no step is counted before cars can reach
+/// the limit.
 pub fn sweeps_keep_to_capacity()
     ensures within { SweepsKeepToCapacity }
     ensures peak { SweepsKeepBelowPeak }
@@ -63,15 +62,14 @@ pub fn sweeps_keep_to_capacity()
     ensures triangle { DiagramIsTriangle }
 {}
 
-/// Any job text has exactly one output as a series of windows of one step or more, and it is either a refusal
-/// or not.
+/// For windows of one step or more, a job text has exactly one output. The text determines whether that is a refusal.
 pub fn series_has_one_output()
     ensures some_output { SeriesHasSomeOutput }
     ensures one_output { SeriesHasOneOutput }
 {}
 
-/// In each window of a series, the counts of lane 0 and lane 1 add up to the counts of the road: the cars, once
-/// per step, the cells that they went, and the cars that were stopped.
+/// In each window of a series, the counts of lane 0 and lane 1 add up to the counts of the road: its number of cars
+/// times the number of steps, its distance, and its stopped cars.
 pub fn lanes_of_series_add_up()
     ensures { LanesOfSeriesAddUp }
 {}

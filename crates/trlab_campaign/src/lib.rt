@@ -1,7 +1,7 @@
-//! Engines: each reads an input from a `Source`, checks all of it, and writes its one output to a `Sink`, or
-//! the line of the input's first fault (`engine`). The engine of each command is in the file of its name: `run`
-//! (pictures of a road), `series` (a table of windows), `sweep` (a table of points) and `check` (the verdict on
-//! a program). `run` and `series` share `pooled`, which runs a job.
+//! Engines: each reads an input from a `Source`, checks all of it, and writes either its output or the line of the
+//! input's first fault to a `Sink` (`engine`). Each command's engine is in the module of the same name: `run` (pictures
+//! of a road), `series` (a table of windows), `sweep` (a table of points) and `check` (the verdict on a program). `run`
+//! and `series` share `pooled`, which runs a job.
 //!
 //! ```text
 //! let shown = ShownSteps::new(every, from);

@@ -1,4 +1,4 @@
-//! The lines of the notes of an accepted program.
+//! The lines with the notes of an accepted program.
 
 ghost use Rattle.std.specs.Prelude.{◌≡◌, [], ◌∷◌, ◌++◌, flat_map, length, OnOk};
 ghost use Rattle.std.specs.List.{range_with_len};
@@ -92,7 +92,7 @@ fn push_table(alloc: Global, out: &mut Vec<u8>, table: &[Note]) -> Result<(), Al
     Ok(())
 }
 
-/// Adds the lines of the notes of an accepted program, one for each instruction.
+/// Adds the notes of an accepted program, one line per instruction.
 ///
 /// # Errors
 ///

@@ -1,4 +1,4 @@
-//! The lines of outputs: of a step with its pictures, of a refused text and of a refused program.
+//! Output lines: a step with its pictures, the first fault of a refused text, and the reason for a refused program.
 
 ghost use Rattle.std.specs.Prelude.{◌≡◌, ◌∷◌, ◌++◌, ℕ, List, [], IfOk, OnOk, codes, decimal};
 ghost use Rattle.std.specs.String.{string_bytes};
@@ -12,11 +12,11 @@ use trlab_lines::Page;
 use trlab_road::Road;
 use trlab_texts::Cause;
 
-/// Adds a text, if it was made.
+/// Adds a formatted text, or returns the error of formatting it.
 ///
 /// # Errors
 ///
-/// If it was not made, or an allocation fails.
+/// If formatting the text failed, or an allocation fails.
 pub fn push_text(out: &mut Vec<u8>, text: Result<String, AllocError>) -> Result<(), AllocError>
     ensures { (bytes : List ℕ) → IfOk text (λ text. string_bytes text ≡ bytes)
         → OnOk result (out.new.items ≡ out.old.items ++ bytes) }
@@ -27,7 +27,7 @@ pub fn push_text(out: &mut Vec<u8>, text: Result<String, AllocError>) -> Result<
     }
 }
 
-/// Adds the line of a step. Its digits need no allocation.
+/// Adds the line `step N`. The digits are formatted without an allocation.
 fn push_step_line(out: &mut Vec<u8>, step: u32) -> Result<(), AllocError>
     ensures { OnOk result
         (out.new.items ≡ out.old.items ++ (codes "step " ++ (decimal step ++ (10 ∷ [])))) }

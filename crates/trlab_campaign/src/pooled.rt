@@ -1,5 +1,5 @@
-//! The engine of job texts, which runs and series share: a pool of workers asks the cars of the job's run, and
-//! progress is reported. The output that is written meanwhile is the account.
+//! The engine of job texts, shared by `run` and `series`: a pool of workers asks the cars of the job's run, and
+//! progress is reported. An `Account` writes the output meanwhile.
 
 ghost use Rattle.std.specs.Thread.{IsSync};
 ghost use Rattle.std.specs.Prelude.{◌≡◌, ◌<◌, ◌≤◌, false, IfSome, IsSome};
@@ -28,10 +28,10 @@ use trlab_texts::TextFault;
 
 /// The kind of output that is written for a job: pictures or a series.
 pub trait Account {
-    // The whole outputs that there may be for a job.
+    // The possible whole outputs for a job, each marked as a refusal or not.
     ghost outputs: { Self → Told → Outputs };
 
-    /// The number of steps that it takes of a job's run.
+    /// The number of steps by which it advances a job's run, for reports of progress.
     fn steps(&self, job: &Job) -> u32;
 
     /// Runs a job and writes the output, without flushing the writer.
@@ -119,7 +119,7 @@ fn rule_draws(rule: &Rule) -> bool {
         }
 }
 
-/// Whether a rule of a job draws random numbers, on which the time of its steps depends most.
+/// Whether a rule of a job draws random numbers. The time of a step depends most on this.
 fn some_rule_draws(job: &Job) -> bool {
     rule_draws(&job.first) || job.later.iter().any(|(_, rule)| rule_draws(rule))
 }
@@ -170,7 +170,7 @@ impl<'a, R: Threads + Wait + Sync, C: Account, O: ProgressObserver> Engine
     }
 }
 
-/// The run of a job from step 0 on.
+/// The run of a job, at its start.
 pub fn run_of(alloc: Global, job: Job) -> Run
     ensures { result ≡ at_start (seed_of job) (sheet_of job) }
 {

@@ -1,4 +1,4 @@
-//! Progress: how far a command's work is, and who observes it. It never changes an output.
+//! Progress: how far a command's work is, and the observers of it. They never change an output.
 
 ghost use Rattle.std.specs.Prelude.{◌≡◌, ◌↔◌, ◌-◌, ◌<◌, ◌≤◌, None, IfSome};
 ghost use Rattle.trlab_campaign.specs.Hundredths.{hundredths};
@@ -15,7 +15,7 @@ pub trait ProgressObserver {
     /// Whether it observes the work. If not, nothing is counted.
     fn is_watching(&self) -> bool;
 
-    /// Another hundredth of the work is done. Any worker may call this.
+    /// Called when the work has reached another hundredth. Any worker may call it.
     fn reached(&self, milestone: Milestone);
 }
 
@@ -57,8 +57,8 @@ fn hundredths(done: u64, whole: u64) -> u32
     }
 }
 
-/// The milestone that the work has reached with its parts from `before` to `after`, if that is another
-/// hundredth than before. `number` is the current step or point of `count`.
+/// The milestone after `after` of the work's `whole` parts, if its hundredth differs from the hundredth after `before`
+/// parts. `number` is the current step or point, of `count`.
 pub fn newly_reached(
     before: u64,
     after: u64,
@@ -86,8 +86,8 @@ pub fn newly_reached(
     }
 }
 
-/// An executor that reports progress: before the motion of each step the steps before it, and all steps once
-/// the run has ended well.
+/// An executor that reports progress. Before the motion of each step it reports the steps taken so far, and when the
+/// run has ended with `Done` it reports all steps.
 #[derive(Drop)]
 pub struct WithProgress<'a, A, O> {
     executor: &'a A,
@@ -110,8 +110,7 @@ impl<'a, A, O: ProgressObserver> WithProgress<'a, A, O> {
         }
     }
 
-    /// The milestone that the run has reached with the last of `taken` steps, if that is another hundredth than
-    /// before.
+    /// The milestone after `taken` steps, if its hundredth differs from the hundredth one step earlier.
     fn milestone(&self, taken: u32) -> Option<Milestone>
         ensures hundredths { IfSome result (λ milestone. milestone.hundredths ≡ hundredths taken self.now.steps) }
         ensures number { IfSome result (λ milestone. milestone.number ≡ taken) }
@@ -138,7 +137,7 @@ impl<'a, A, O: ProgressObserver> WithProgress<'a, A, O> {
         }
     }
 
-    /// Reports the end of the run.
+    /// Reports all steps, if the run ended with `Done`.
     pub fn ended(&self, end: End) {
         if end == End::Done {
             self.report_step(self.steps);

@@ -32,7 +32,7 @@ pub struct ShownSteps {
 }
 
 impl ShownSteps {
-    /// Every `every` steps, 1 or more, from the step `from` on.
+    /// The steps `from`, `from` + `every` and so on; `every` is at least 1.
     pub fn new(every: u32, from: u32) -> ShownSteps
         requires some_steps { 1 ≤ every }
         ensures every { result.every ≡ every }
@@ -69,7 +69,7 @@ struct StepText {
     /// Whether the step is shown. The text of any other step is empty, and no picture is made of its road.
     is_shown: bool,
     bytes: Vec<u8>,
-    /// Whether the bytes are the whole text.
+    /// `Ok` if the bytes are the whole text, `Err` if an allocation failed.
     made: Result<(), AllocError>,
 }
 
@@ -99,7 +99,7 @@ impl StepObserver for StepText {
     }
 }
 
-/// Writes the text of a step, if it was made.
+/// Writes the text of a step. Returns `Memory` if it could not be made.
 fn write_made<K: Sink>(text: &StepText, writer: &mut K) -> Result<(), Failure>
     requires { K.failed writer.old ≡ false }
     ensures wrote { (bytes : List ℕ) → OnOk text.now.made (text.now.bytes.items ≡ bytes)
@@ -188,7 +188,7 @@ fn write_run<A: Executor, K: Sink>(
     show_last(shown, &mut text, run, writer)
 }
 
-/// The pictures of a run.
+/// The account of `run`: the pictures at the steps that are shown.
 #[derive(Drop)]
 struct StepPictures<'a> {
     shown: &'a ShownSteps,
@@ -244,10 +244,10 @@ pub fn run_job_text<R: AllocGlobal + Threads + Wait + Sync, S: Source, K: Sink>(
 /// Reads a job text, and writes the picture of its road at each step that is `shown`, or the line of the text's
 /// first fault. Steps after the last shown step are not taken. `progress` observes the steps.
 ///
-/// The whole text is read and checked before a byte is written. If an allocation fails, or a call of the reader
-/// or writer fails, a prefix of the whole output has been written. The output does not depend on `workers`, 1
-/// to 16: the most threads that ask the cars. Only those that make the run faster are started, once for the
-/// whole run.
+/// The whole text is read and checked before a byte is written. If an allocation fails, or a call of the reader or
+/// writer fails, a prefix of the whole output has been written. `workers`, 1 to 16, is the maximum number of threads
+/// that compute the cars. Only as many as help are started, once for the whole run. The output does not depend on
+/// `workers`.
 pub fn run_shown_text<
     R: AllocGlobal + Threads + Wait + Sync,
     S: Source,

@@ -37,7 +37,7 @@ pub struct Windows {
 }
 
 impl Windows {
-    /// Windows of `every` steps each, 1 to 500,000, from the step `from` on, 0 to 500,000.
+    /// Windows of `every` steps (1 to 500,000) each, from the step `from` (0 to 500,000) on.
     pub fn new(every: u32, from: u32) -> Windows
         requires some_steps { 1 ≤ every }
         requires few_steps { every ≤ MAX_STEPS }
@@ -91,7 +91,7 @@ fn next_line<A: Executor>(
     lines.window_text(alloc, &window)
 }
 
-/// Writes a line, if it was made.
+/// Writes a line. Returns `Memory` if it could not be made.
 fn write_line<K: Sink>(line: Result<Vec<u8>, DiagramFault>, writer: &mut K) -> Result<(), Failure>
     requires { K.failed writer.old ≡ false }
     ensures wrote { (bytes : List ℕ) → IfOk line (λ line. line.items ≡ bytes)
@@ -189,7 +189,7 @@ fn write_series<A: Executor, K: Sink>(
     written
 }
 
-/// The windows of a run.
+/// The account of `series`: the table of a run's windows.
 #[derive(Drop)]
 struct Series<'a> {
     windows: &'a Windows,
@@ -216,10 +216,10 @@ impl<'a> Account for Series<'a> {
 /// Reads a job text, and writes the table of its windows, or the line of the text's first fault. Steps after
 /// the last window are not taken. `progress` observes the steps.
 ///
-/// The whole text is read and checked before a byte is written, and the line of a window is written once the
-/// steps of the window are taken. If an allocation fails, or a call of the reader or writer fails, a prefix of
-/// the whole output has been written. The output does not depend on `workers`, 1 to 16: the most threads that
-/// ask the cars. Only those that make the run faster are started, once for the whole run.
+/// The whole text is read and checked before a byte is written, and the line of a window is written once the steps of
+/// the window are taken. If an allocation fails, or a call of the reader or writer fails, a prefix of the whole output
+/// has been written. `workers`, 1 to 16, is the maximum number of threads that compute the cars. Only as many as help
+/// are started, once for the whole run. The output does not depend on `workers`.
 pub fn run_series_text<
     R: AllocGlobal + Threads + Wait + Sync,
     S: Source,

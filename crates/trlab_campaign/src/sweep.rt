@@ -1,4 +1,4 @@
-//! The engine of sweeps: sweep texts in, tables of points out. All points are there before the first line of their
+//! The engine of sweeps: sweep texts in, tables of points out. All points are complete before the first line of the
 //! table is written.
 
 mod points;
@@ -25,7 +25,7 @@ use trlab_diagram::points_text;
 use trlab_jobs::{Sweep, read_sweep};
 use trlab_texts::TextFault;
 
-/// The table of a sweep, made once all its points are there.
+/// Computes the points of a sweep, and returns its table.
 ///
 /// # Errors
 ///
@@ -59,7 +59,7 @@ fn table<R: Threads + Wait + Sync, O: ProgressObserver + Sync>(
     }
 }
 
-/// Writes the table of a sweep, if it was made.
+/// Writes the table of a sweep. Returns `Memory` if it could not be made.
 fn write_table<K: Sink>(sweep: &Sweep, table: Result<Vec<u8>, AllocError>, writer: &mut K) -> End
     requires made { IfOk table (λ table. SweepOutput sweep.now false table.items) }
     requires works { K.failed writer.old ≡ false }
@@ -124,10 +124,10 @@ pub fn run_sweep_text<R: AllocGlobal + Threads + Wait + Sync, S: Source, K: Sink
 /// Reads a sweep text, and writes the table of its points, or the line of the text's first fault. `progress`
 /// observes the work on the points.
 ///
-/// The whole text is read and checked, and all points are there, before a byte is written. If an allocation
-/// fails, nothing is written; if a call of the reader or writer fails, a prefix of the whole output. The roads
-/// are the jobs of a book, which `runners` runners take, 1 to 16, each with `workers` workers, 1 to 16. The
-/// output depends on neither number.
+/// The whole text is read and checked, and all points are complete, before a byte is written. If an allocation fails,
+/// nothing is written; if a call of the reader or writer fails, a prefix of the whole output. Each road is a job of a
+/// book. `runners` runners, 1 to 16, take the jobs, each with `workers` workers, 1 to 16. The output does not depend on
+/// these numbers.
 pub fn run_sweep_with_progress<
     R: AllocGlobal + Threads + Wait + Sync,
     S: Source,

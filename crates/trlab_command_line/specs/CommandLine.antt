@@ -84,8 +84,8 @@ series_command = job_command (codes "series")
 abbrev pub explain_command : App
 explain_command = command (codes "explain") (what_argument ∷ number_argument ∷ json_flag ∷ [])
 
--- the program, which has a version, and which no command line may call without a command; its arguments
--- begin after its name
+-- the program without its commands: it has a version and requires a command, and its arguments begin after
+-- its name
 abbrev pub program : App
 program = on_top (λ s. record s {
   no_binary_name = true;

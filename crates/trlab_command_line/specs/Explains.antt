@@ -32,8 +32,8 @@ abbrev pub form_by : Bool → Form
 form_by false = Lines
 form_by true = Json
 
--- the request, by the name in the first argument, a command or a topic, by the second, a number, and by
--- whether `--json` is given, or why the arguments are refused
+-- the request, or why the arguments are refused: the first argument names this command or this topic, the
+-- second is a number, and the flag is `--json`
 abbrev pub asked_by : Option Subject → Option Topic → Option ℕ → Bool → Result Explaining ErrorKind
 asked_by (Some subject) topic None json = Ok (Text (Some subject) (form_by json))
 asked_by (Some subject) topic (Some number) json = Err UnknownArgument
@@ -42,7 +42,7 @@ asked_by None (Some topic) (Some number) false = Ok (Number topic number)
 asked_by None (Some topic) None false = Err MissingRequiredArgument
 asked_by None None number json = Err InvalidValue
 
--- the request of the two arguments of `explain`, if they are given, and of whether `--json` is given
+-- the request of `explain`, by its two optional arguments and by whether `--json` is given
 abbrev pub explained : Option Word → Option ℕ → Bool → Result Explaining ErrorKind
 explained None number json = Ok (Text None (form_by json))
 explained (Some name) number json = asked_by (subject_of_command name) (topic_named name) number json
@@ -53,7 +53,7 @@ explained_in rows =
     explained (first_of (codes "what") rows) (argument_number (codes "number") rows)
     (is_given (codes "json") rows)
 
--- the kinds of error that an answer has
+-- the kinds of error of a request: none if it is accepted
 abbrev pub error_kinds : Result Explaining ErrorKind → Kinds
 error_kinds (Ok asked) = []
 error_kinds (Err kind) = kind ∷ []

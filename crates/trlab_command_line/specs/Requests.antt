@@ -61,14 +61,14 @@ abbrev pub arguments_fault : List Text → Kinds
 arguments_fault arguments =
     or_else (fault_of command_line arguments) (pair_fault (subcommand_of command_line arguments))
 
--- a command of this name has no fault at these arguments, and has these matches there
+-- a command of this name accepts these arguments, with these matches
 abbrev pub Takes : Text → List Text → List Row → Type 0
 Takes name arguments rows = (level : Shape)
     × (find (λ s. answers_to name (label_of s)) (built command_line).subs ≡ Some level)
     × (level_fault level [] nothing_held arguments false [] ≡ [])
     × (rows ≡ rows_after level.rules [] arguments)
 
--- these are the matches of a command of this name, which is not `help`, at some arguments without a fault
+-- a command of this name, which is not `help`, accepts some arguments with these matches
 abbrev pub IsEntered : Text → List Row → Type 0
 IsEntered name rows =
     (name ≡ codes "help" → ⊥) × ((arguments : List Text) × Takes name arguments rows)

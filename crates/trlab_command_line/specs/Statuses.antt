@@ -12,21 +12,21 @@ status_of_end Refused = 1
 status_of_end Memory = 3
 status_of_end DeviceFault = 4
 
--- by the answer of `clap`, the arguments ask for help or for the version
+-- whether the arguments ask for help or the version, by the answer of `clap`
 abbrev pub asks_for_help : ErrorKind → Bool
 asks_for_help DisplayHelp = true
 asks_for_help DisplayVersion = true
 asks_for_help _ = false
 
--- the exit status by the answer of `clap`: 0 for help, 3 if an allocation fails, or 2, the
--- arguments are refused
+-- the exit status by the answer of `clap`: 0 for help or the version, 3 if an allocation fails, and otherwise
+-- 2, because the arguments are refused
 abbrev pub status_of_error : ErrorKind → ℕ
 status_of_error DisplayHelp = 0
 status_of_error DisplayVersion = 0
 status_of_error OutOfMemory = 3
 status_of_error _ = 2
 
--- the exit status once `clap`'s text was to be printed: 4 if help was asked for and its writer failed
+-- the exit status after printing `clap`'s text: 4 if help or the version was asked for and the writer failed
 abbrev pub status_of_print : ErrorKind → Bool → ℕ
 status_of_print DisplayHelp failed = if failed then 4 else 0
 status_of_print DisplayVersion failed = if failed then 4 else 0

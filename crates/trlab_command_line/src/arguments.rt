@@ -98,8 +98,8 @@ fn request_of(alloc: Global, name: &str, matches: &ArgMatches) -> Result<Request
 ///
 /// # Errors
 ///
-/// The error of `clap` if the arguments ask for help or are rejected, also if the arguments of `explain` do not go
-/// together, or if an allocation fails.
+/// An error of `clap` if the arguments ask for help or the version, if they are rejected (also because the arguments of
+/// `explain` do not go together), or if an allocation fails.
 pub fn read_words(alloc: Global, arguments: &[String]) -> Result<Request, Error>
     ensures answer { IfOk result (Asks (subcommand_of command_line (map string_bytes arguments.now))) }
     ensures fault { FailsBy (arguments_fault (map string_bytes arguments.now)) result }

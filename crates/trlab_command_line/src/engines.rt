@@ -15,8 +15,8 @@ use trlab_campaign::{
 };
 use trlab_explain::{explain_number, explain_text};
 
-/// Carries out a request, from a reader to a writer. To explain a number, nothing is read. The observer gets the
-/// milestones of a run, a sweep or a series.
+/// Carries out a request: reads the input from `reader`, and writes the output to `writer`. A request to explain a
+/// number reads nothing. `progress` observes a run, a sweep or a series.
 pub fn execute<
     R: AllocGlobal + Threads + Wait + Sync,
     S: Source,

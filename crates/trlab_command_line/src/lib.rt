@@ -1,5 +1,4 @@
-//! The command line of `trlab`: the request of its arguments, as `clap` reads them, its execution, and the exit
-//! statuses.
+//! The command line of `trlab`: reading its arguments with `clap`, executing the request, and the exit statuses.
 //!
 //! ```text
 //! let request = read_words(rt.alloc(), &arguments);

@@ -25,8 +25,8 @@ pub fn status_of_end(end: End) -> u8
     end as u8
 }
 
-/// The exit status of arguments that `clap` does not accept as a command: 0 if they ask for help, 3 if an allocation
-/// failed, and otherwise 2.
+/// The exit status of arguments that `clap` does not accept as a command: 0 if they ask for help or the version, 3 if
+/// an allocation failed, and otherwise 2.
 pub fn status_of_error(error: &Error) -> u8
     ensures { result ≡ status_of_error (kind_of error.now) }
 {
@@ -79,8 +79,8 @@ fn suggest_redirection<R: AllocGlobal + Eprint>(rt: &R, arguments: &[String]) {
     }
 }
 
-/// Prints help or the version on the writer if the arguments ask for it, otherwise on standard error why they are
-/// rejected; returns the exit status. If an allocation fails, nothing is printed.
+/// Prints help or the version to `writer` if the arguments ask for it; otherwise prints to standard error why they are
+/// rejected. Returns the exit status. If that is 3 (an allocation failed), nothing was written to `writer`.
 pub fn print_help_or_error<R: AllocGlobal + Eprint, K: Sink>(
     rt: &R,
     arguments: &[String],

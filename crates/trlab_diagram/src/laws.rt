@@ -1,10 +1,10 @@
-//! Laws of tables, whichever code writes them.
+//! Laws of tables, independent of the code that writes them.
 //!
 //! Each law is the contract of a function with an empty body.
 
 ghost use Rattle.trlab_diagram.specs.Laws.{TableTellsPoints};
 
-/// A table determines its points: no two lists of points have the same table.
+/// A table determines its points: different lists of points have different tables.
 pub fn table_tells_points()
     ensures { TableTellsPoints }
 {}

@@ -47,12 +47,12 @@ pub struct LaneCount {
 /// A window of a series: the counts over consecutive steps, of the whole road and of each lane.
 #[derive(Clone, Copy, Debug, PartialEq, Eq)]
 pub struct Window {
-    /// The number of the picture after the last of the steps.
+    /// The step at the end of the window, as pictures are numbered.
     pub step: u64,
     /// The counts of the road.
     pub point: Point,
     /// The counts of lane 0.
     pub lane0: LaneCount,
-    /// The counts of lane 1, which are 0 if there is no such lane.
+    /// The counts of lane 1; all are 0 if the road has only one lane.
     pub lane1: LaneCount,
 }

@@ -15,7 +15,7 @@ use itoa::Buffer;
 use std::alloc::{AllocError, Global};
 use std::marker::Model;
 
-/// The bytes above which a writer is replaced, because it keeps the bytes of all its lines.
+/// A writer keeps the bytes of all its lines. Above this number of bytes it is replaced.
 const MAX_KEPT: usize = 16384;
 
 /// The fields of the first line.

@@ -11,7 +11,7 @@ use csv::{ByteRecord, Writer};
 use std::alloc::{AllocError, Global};
 use thiserror::Error;
 
-/// Why there is no table of points or of windows.
+/// Why a table of points or windows could not be made.
 #[derive(Clone, Copy, Debug, PartialEq, Eq, Error)]
 pub enum DiagramFault {
     /// An allocation failed.
@@ -25,7 +25,7 @@ impl From<AllocError> for DiagramFault {
     }
 }
 
-// A table is written to memory, which can fail only by an allocation.
+// A table is written to memory, so writing fails only if an allocation fails.
 impl From<csv::Error> for DiagramFault {
     fn from(_: csv::Error) -> DiagramFault {
         DiagramFault::Memory

@@ -45,7 +45,8 @@ abbrev pub LoneCodeSays : List ℕ → List (List ℕ) → Result Program Fault 
 LoneCodeSays text left says =
     (any : Result Program Cause) × (code_line text any × (says ≡ lone_program left any))
 
--- the program that begins with a line: if the line begins a block, all lines after it are the program's
+-- the result for a program, by the kind of block that its first line begins: all lines after it belong to the
+-- block; without a block, the line is `code X`
 abbrev pub HeadedLinesSay : Option Kind → List ℕ → List (List ℕ) → Result Program Fault → Type 0
 HeadedLinesSay (Some kind) text left says = says ≡ program_after kind 1 left
 HeadedLinesSay None text left says = LoneCodeSays text left says

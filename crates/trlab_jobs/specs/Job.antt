@@ -68,7 +68,7 @@ job = do
   road ← lanes limit
   job_after key road
 
--- the result for the lines from a place on; the last lines may stay unread
+-- the result of a reading from a place on, without the rest that it leaves
 abbrev pub UpToTheEnd : {A : Type 0} → Reading A → Rest → Result A Fault → Type 0
 UpToTheEnd reading place (Ok say) = (rest : Rest) × reading place (Ok (say, rest))
 UpToTheEnd reading place (Err fault) = reading place (Err fault)

@@ -23,7 +23,7 @@ abbrev pub last_line : ℕ → Option (List ℕ) → ℕ
 last_line first None = first
 last_line first (Some second) = first + 1
 
--- the line of a lane, of which there is one or two
+-- the line of a lane: `first` for lane 0, and `last` for lane 1
 abbrev pub line_of_lane : ℕ → ℕ → ℕ → ℕ
 line_of_lane first last lane = if lane == 0 then first else last
 

@@ -13,7 +13,7 @@ later_rule room lanes steps least rest out =
     (line (exactly (later_line room steps least)) >>= λ at.
     rule_from lanes rest.number at.1 >>= λ rule. say (at.0, rule)) rest out
 
--- reads the rules on the lines that are left; without lines there are no rules
+-- a reading of rules on the lines that are left; if no lines are left, there are no rules
 abbrev pub to_the_end : List (List ℕ) → Reading Sheet → Reading Sheet
 to_the_end [] reading = say []
 to_the_end (text ∷ left) reading = reading

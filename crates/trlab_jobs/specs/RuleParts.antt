@@ -19,7 +19,7 @@ use Rattle.trlab_texts.specs.Reading.{Fault, Reading, say, ◌>>=◌, line, exac
 use Rattle.trlab_texts.specs.Programs.{Part, part, part_of, heading_line}
 use Rattle.trlab_jobs.specs.RuleLines.{rule_line}
 
--- the verifier accepts this program of a kind, with its budget
+-- the verifier accepts this program of a kind, and `checked` is the program with its budget
 abbrev pub Accepts : Kind → Program → CheckedProgram → Type 0
 Accepts kind program checked =
     (checked.program ≡ program) × (IsAccepted kind program × IsChecked kind checked)
@@ -36,7 +36,7 @@ BothSay motion change (Ok rule) =
     Accepts Motion motion rule.motion × MatchOption rule.change ⊥ (Accepts Change change)
 BothSay motion change (Err cause) = ⊥
 
--- the result for these programs on a road with one lane, which is a fault, and with two lanes
+-- the result for these programs: a fault on a road with one lane, and the rule on a road with two lanes
 abbrev pub ExchangeSays : Bool → Program → Program → Result Programs Cause → Type 0
 ExchangeSays true motion change says = says ≡ Err OneLane
 ExchangeSays false motion change says = BothSay motion change says
@@ -56,14 +56,14 @@ abbrev pub block_misplacement : ℕ → List (List ℕ) → Option Part → Faul
 block_misplacement first left None = record { line = first + 1 + length left; cause = Line }
 block_misplacement first left (Some parts) = record { line = first; cause = OneLane }
 
--- the fault of a change program on a road with one lane, if it is a block, and if it is not
+-- the fault of a change program on a road with one lane, by whether the program is a block
 abbrev pub part_misplacement : Bool → ℕ → List ℕ → List (List ℕ) → Fault
 part_misplacement true first text left = block_misplacement first left (part_of left)
 part_misplacement false first text left =
     record { line = first; cause = code_misplacement (word_after (codes "code ") text) }
 
--- the fault of a change part on a road with one lane, from a line on: its words or a missing line `end`, then
--- digits that are not hexadecimal, then the one lane
+-- the first fault of a change part on a road with one lane, from a line on: wrong words or a missing line
+-- `end` come first, then digits that are not hexadecimal, then the missing lane
 abbrev pub misplacement : ℕ → List (List ℕ) → Fault
 misplacement first [] = record { line = first; cause = Line }
 misplacement first (text ∷ left) = part_misplacement (bytes_eq text (heading_line Change)) first text left
@@ -88,7 +88,7 @@ own_rule lanes = do
   change ← change_part lanes
   say (record { motion = motion; change = change })
 
--- a rule for a road with `lanes` lanes, whose line was read
+-- a rule for a road with `lanes` lanes, by its line, which was read already
 abbrev pub rule_from : ℕ → ℕ → RuleLine ℕ → Reading Programs
 rule_from lanes number (Nasch p) = of_line number (MotionSays (nasch_program p))
 rule_from lanes number (Vdr p p0) = of_line number (MotionSays (vdr_program p p0))

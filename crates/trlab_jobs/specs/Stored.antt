@@ -27,8 +27,8 @@ pub record IsStoredJob (job : Job) : Type 0 where
 abbrev pub Spreads : Shape → ℕ → Type 0
 Spreads shape count = CanSpread shape.lanes shape.cells shape.limit count
 
--- a sweep as the code keeps it: a rule for its lanes, room for the cars of each point, steps that are
--- counted, and at most MAX_POINTS points and MAX_WORK steps
+-- a sweep as the code keeps it: a rule for its lanes, room for the cars of each point, at most MAX_POINTS
+-- points, at least one counted step, and at most MAX_WORK steps per point
 pub record IsStoredSweep (sweep : Sweep) : Type 0 where
   pub rule : IsRuleFor sweep.setup.shape.lanes sweep.setup.rule
   pub spreads : All (Spreads sweep.setup.shape) sweep.cars

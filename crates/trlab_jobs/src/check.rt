@@ -113,7 +113,7 @@ fn read_lines(alloc: Global, text: &[u8]) -> Result<Check, Refusal<'_>>
     }
 }
 
-/// Reads a check text. A refusal has the wanted input.
+/// Reads a check text. A refusal includes the input that was wanted at the fault.
 ///
 /// # Errors
 ///
@@ -132,7 +132,7 @@ pub fn parse_check(alloc: Global, text: &[u8]) -> Result<Check, Refusal<'_>>
     read_lines(alloc, text)
 }
 
-/// Reads a check text.
+/// Reads a check text like [`parse_check`]. The error does not include the wanted input.
 ///
 /// # Errors
 ///

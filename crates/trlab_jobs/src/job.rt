@@ -19,7 +19,7 @@ use trlab_rules::Rule;
 use trlab_texts::{Cause, Excerpt, LineName, Objection, Quantity, Refusal, Rest, TextFault};
 use trlab_words::Key;
 
-/// A job, which can be run: the road is legal, and the rules are for its number of lanes.
+/// A job that can be run: its road is legal, and its rules suit the number of lanes.
 #[derive(Drop)]
 pub struct Job {
     /// The seed of the random numbers.
@@ -128,7 +128,7 @@ fn read_lines(alloc: Global, text: &[u8]) -> Result<Job, Refusal<'_>>
     read_rules(alloc, key, road, rest)
 }
 
-/// Reads a job text. A refusal has the wanted input.
+/// Reads a job text. A refusal includes the input that was wanted at the fault.
 ///
 /// # Errors
 ///
@@ -148,7 +148,7 @@ pub fn parse_job(alloc: Global, text: &[u8]) -> Result<Job, Refusal<'_>>
     read_lines(alloc, text)
 }
 
-/// Reads a job text.
+/// Reads a job text like [`parse_job`]. The error does not include the wanted input.
 ///
 /// # Errors
 ///

@@ -56,7 +56,7 @@ fn line_of_fault(first: u32, last: u32, fault: RoadFault) -> u32
     }
 }
 
-/// The input that is wanted instead of lanes with this fault; the first lane has `first` cells.
+/// The input that is wanted instead of lanes with this fault; the first lane has `cells` cells.
 fn wanted_by(limit: u32, cells: usize, fault: RoadFault) -> Wanted
     ensures { IsWantedIn [] (Cause.Road fault) result }
 {
@@ -113,7 +113,7 @@ fn shown<'a>(
     }
 }
 
-/// The road that one or two pictures show, on the lines from `first` up to, but not including, `after`.
+/// The road that one or two pictures show: one on the line `first`, and the second, if any, on the line `after`.
 fn road_of<'a>(
     alloc: Global,
     first: u32,

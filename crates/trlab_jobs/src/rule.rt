@@ -34,7 +34,7 @@ pub struct Lanes {
 }
 
 impl Lanes {
-    /// The refusal of a rule for two lanes.
+    /// The refusal of a rule that needs two lanes.
     fn too_few<'a>(self) -> LineRefusal<'a>
         ensures { result ≡ LineFault.Wrong Cause.OneLane }
     {
@@ -169,7 +169,7 @@ fn own_rule(alloc: Global, lanes: Lanes, rest: Rest<'_>) -> Result<(Rule, Rest<'
     Ok((Rule::new(motion, change), rest))
 }
 
-/// The rule of the line `number`, which has been read, and the rest after it.
+/// Returns the rule of the line `number`, which has been read, with the rest after it. A refusal gets this line number.
 fn of_line<'a>(
     number: u32,
     say: Result<Rule, LineRefusal<'a>>,
@@ -185,7 +185,7 @@ fn of_line<'a>(
     }
 }
 
-/// The rule of the line `number`, which has been read, or of the programs after it.
+/// Returns the rule of the line `number`, which has been read. If it is `rule own`, reads the programs after it.
 pub fn rule_from(
     alloc: Global,
     lanes: Lanes,

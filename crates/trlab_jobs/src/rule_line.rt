@@ -6,7 +6,7 @@ ghost use Rattle.trlab_jobs.specs.RuleLines.{rule_words, chance_of, rule_numbers
 use trlab_texts::{Cause, Excerpt, Objection, Quantity, Wanted};
 use trlab_words::{CERTAIN, Chance};
 
-/// A rule as a line states it. `T` is a word, or the probability that it writes.
+/// A rule as a line states it. `T` is the type of its parameters: words, or the probabilities that they write.
 #[derive(Drop)]
 pub enum RuleLine<T> {
     /// `rule nasch t`.
@@ -102,8 +102,8 @@ fn later_words<'a>(line: &Excerpt<'a>) -> Option<(Excerpt<'a>, RuleLine<Excerpt<
     Some((step, rule))
 }
 
-/// Accepts the step of a later rule if there is room for the rule, and the step is at least `least` and below
-/// `steps`.
+/// Accepts the step of a later rule if it is at least `least` and below `steps`, and if `room`, the number of rules
+/// that may still follow, is not 0.
 fn admit_step<'a>(room: u32, steps: u32, least: u32, step: u64) -> Result<u32, Objection<'a>>
     ensures value { result ≡ admit_step room steps least step }
     ensures room { OnOk result (0 < room) }
@@ -121,7 +121,7 @@ fn admit_step<'a>(room: u32, steps: u32, least: u32, step: u64) -> Result<u32, O
     }
 }
 
-/// Reads a line `at s rule ..`: its words, its numbers, the room for it, and the order of the steps.
+/// Reads a line `at s rule ..`. Checks its words, then its numbers, the room for it, and the order of the steps.
 pub fn later_line(
     room: u32,
     steps: u32,

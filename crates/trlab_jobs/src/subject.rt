@@ -3,10 +3,10 @@
 ghost use Rattle.std.specs.Prelude.{◌≡◌};
 ghost use Rattle.trlab_jobs.specs.Subjects.{is_named, subject_named};
 
-/// The kinds of inputs.
+/// A kind of input, by the commands that read it.
 #[derive(Clone, Copy, PartialEq, Eq)]
 pub enum Subject {
-    /// A job, which `run` reads.
+    /// A job, which `run` and `series` read.
     Job,
     /// A sweep, which `sweep` reads.
     Sweep,

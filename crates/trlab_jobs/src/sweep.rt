@@ -30,7 +30,7 @@ use trlab_texts::{
 };
 use trlab_words::Key;
 
-/// A sweep, which can be run: the rule is for its number of lanes, and each road has room for its cars.
+/// A sweep that can be run: its rule suits the number of lanes, and each road has room for its cars.
 pub struct Sweep {
     /// The seed of the random numbers.
     pub key: Key,
@@ -327,7 +327,7 @@ fn read_lines(alloc: Global, text: &[u8]) -> Result<Sweep, Refusal<'_>>
     })
 }
 
-/// Reads a sweep text. A refusal has the wanted input.
+/// Reads a sweep text. A refusal includes the input that was wanted at the fault.
 ///
 /// # Errors
 ///
@@ -347,7 +347,7 @@ pub fn parse_sweep(alloc: Global, text: &[u8]) -> Result<Sweep, Refusal<'_>>
     read_lines(alloc, text)
 }
 
-/// Reads a sweep text.
+/// Reads a sweep text like [`parse_sweep`]. The error does not include the wanted input.
 ///
 /// # Errors
 ///

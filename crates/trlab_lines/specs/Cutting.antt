@@ -11,7 +11,7 @@ around text (Some i) = Some (take i text, drop (i + 1) text)
 abbrev pub cut : ℕ → List ℕ → Option (List ℕ × List ℕ)
 cut c text = around text (position (λ b. b == c) text)
 
--- what follows a prefix of a text
+-- the text after a prefix, if it has this prefix
 abbrev pub without_prefix : List ℕ → List ℕ → Option (List ℕ)
 without_prefix prefix text =
     if bytes_eq (take (length prefix) text) prefix then Some (drop (length prefix) text) else None

@@ -2,7 +2,7 @@
 use Rattle.std.specs.Prelude.{◌≡◌, ◌≢◌, ℕ, zero, suc, ◌==◌, ◌⊎◌, List, [], ◌∷◌, ◌++◌, All, Option, None, slice_get, if◌then◌else◌}
 use Rattle.std.specs.List.{onto_first}
 
--- the lines of a text: LF ends each, and may be missing at the last
+-- the lines of a text: an LF ends each line, but may be missing after the last
 unfoldable pub lines_of : List ℕ → List (List ℕ)
 lines_of [] = []
 lines_of (c ∷ text) = if c == 10 then [] ∷ lines_of text else onto_first c (lines_of text)

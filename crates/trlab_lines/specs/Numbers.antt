@@ -1,4 +1,4 @@
--- The words with the form of a number. Their value is std's `digits_value 10`.
+-- Words that consist of decimal digits. Their value is std's `digits_value 10`.
 use Rattle.std.specs.Prelude.{ℕ, ◌&&◌, Bool, List, length, nat_lt}
 use Rattle.std.specs.List.{list_all}
 use Rattle.std.specs.Char.{is_ascii_digit}

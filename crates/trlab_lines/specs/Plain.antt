@@ -26,7 +26,7 @@ shown c = if shows_itself c then c ∷ [] else 92 ∷ 120 ∷ hex_digit (c / 16)
 abbrev pub all_shown : List ℕ → List ℕ
 all_shown bytes = flat_map shown bytes
 
--- the mark of a line that continues
+-- the mark after a line that is cut short
 abbrev pub goes_on : Bool → List ℕ
 goes_on more = if more then codes " .." else []
 

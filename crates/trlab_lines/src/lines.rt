@@ -1,4 +1,4 @@
-//! Lines of a text, the words of a line, and the numbers that decimal digits stand for.
+//! Lines of a text, the words of a line, and the values of decimal digits.
 
 ghost use Rattle.std.specs.Prelude.{◌≡◌, ◌<◌, [], ◌∷◌, length, MatchOption, IfSome, ◌==◌, not, option_map, ◌≤◌, true};
 ghost use Rattle.trlab_lines.specs.Lines.{lines_of, BeginsWithLine, HasNoEnd};
@@ -115,7 +115,7 @@ pub fn without_comment(line: &[u8]) -> &[u8]
     }
 }
 
-/// The text before the first colon, if it has one, and the text after that.
+/// Splits a text at its first colon into a label and the rest. Without a colon, the rest is the whole text.
 pub fn label_and_rest(text: &[u8]) -> (Option<&[u8]>, &[u8])
     ensures { (option_map (λ label. label.now) result.0, result.1.now) ≡ label_and_rest text.now }
 {
@@ -140,7 +140,7 @@ fn all_digits(text: &[u8]) -> bool
     text.iter().all(|byte| byte.is_ascii_digit())
 }
 
-/// Whether a word consists of decimal digits, of which it has at least one.
+/// Whether a word consists of one or more decimal digits.
 pub fn is_numeral(text: &[u8]) -> bool
     ensures { result ≡ is_numeral text.now }
 {

@@ -15,7 +15,7 @@ pub enum Oddity {
     Comment,
 }
 
-/// The first oddity of a line, in the order of the list.
+/// The first oddity of a line, in the order of the variants of [`Oddity`].
 pub fn oddity_of(line: &[u8]) -> Option<Oddity>
     ensures { IfSome result (Shows line.now) }
 {

@@ -6,7 +6,7 @@ ghost use Rattle.trlab_lines.specs.Plain.{IsPlain, all_shown, hex_digit, quoted,
 use std::alloc::{AllocError, Global};
 use std::marker::Model;
 
-/// The maximum number of bytes that are quoted of a line.
+/// The maximum number of bytes quoted from a line.
 pub const MAX_QUOTED: usize = 80;
 
 /// Lines of printable ASCII characters.
@@ -82,7 +82,7 @@ impl Page {
         Ok(())
     }
 
-    /// Appends a byte, escaped as `\xNN` unless it is printable.
+    /// Appends a byte. It is escaped as `\xNN` if it is a backslash or not printable ASCII.
     fn show(&mut self, byte: u8) -> Result<(), AllocError>
         ensures { OnOk result (self.new ≡ self.old ++ shown byte) }
     {
@@ -95,7 +95,7 @@ impl Page {
         self.push(hex_digit(byte % 16))
     }
 
-    /// Appends bytes, of which those that are not printable are escaped as `\xNN`.
+    /// Appends bytes. Backslashes and bytes that are not printable ASCII are escaped as `\xNN`.
     ///
     /// # Errors
     ///
@@ -109,7 +109,7 @@ impl Page {
         Ok(())
     }
 
-    /// Appends a text, escaped like bytes.
+    /// Appends a text, escaped like the bytes of [`Page::show_all`].
     ///
     /// # Errors
     ///

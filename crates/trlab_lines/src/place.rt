@@ -32,7 +32,7 @@ pub struct Place<'a> {
 }
 
 impl<'a> Place<'a> {
-    /// The place of the line with a number.
+    /// The place of the line `number`. If the text does not have this line, `line` is `None`.
     pub fn at(text: &'a [u8], number: u32) -> Place<'a>
         ensures { option_map (λ line. line.now) result.line ≡ line_at number (lines_of text.now) }
     {
@@ -75,7 +75,7 @@ impl<'a> Place<'a> {
     }
 }
 
-/// At most `count` bytes of a text, after `at` bytes.
+/// The `count` bytes of a text after its first `at` bytes, or fewer if the text ends before.
 pub fn bytes_at(text: &[u8], at: usize, count: usize) -> &[u8] {
     let (_, after) = text.split_at(at.min(text.len()));
     let (bytes, _) = after.split_at(count.min(after.len()));

@@ -1,4 +1,4 @@
-//! The program `trlab`: it executes the request of its arguments, from standard input to standard output.
+//! The program `trlab`: executes the request of its arguments, with standard input and standard output.
 #![tactic(auto)]
 
 ghost use Rattle.std.specs.Prelude.{◌≡◌, ◌↔◌, ◌||◌, true, false, IfOk};
@@ -49,8 +49,8 @@ fn is_live(request: &Result<Request, Error>) -> bool {
     matches!(request, Ok(Request::Series { .. }))
 }
 
-/// A writer that gathers output before it is written. It gathers nothing if the output `is_live`, or at a terminal,
-/// where each step may be watched. It fails only if an allocation fails.
+/// A writer that gathers output before it is written. It gathers nothing if the output `is_live` or `out` is a
+/// terminal, so that each step can be watched. Making it fails only if an allocation fails.
 fn gathered<W: Write + IsTerminal + Drop>(
     alloc: Global,
     out: W,
@@ -64,8 +64,8 @@ fn gathered<W: Write + IsTerminal + Drop>(
     BufWriter::with_capacity(alloc, most, out)
 }
 
-/// Reports the progress of a command on standard error, in steps or points, if `counted` says which. A line that
-/// cannot be written changes nothing.
+/// Reports the progress of a command on standard error. `counted` is the unit, step or point; if it is `None`, nothing
+/// is reported. A line that cannot be written is ignored.
 #[derive(Drop)]
 struct ProgressPrinter<'a, R> {
     rt: &'a R,
@@ -105,8 +105,8 @@ fn reads_input(request: Request) -> bool {
     !matches!(request, Request::Explain(Explaining::Number(..)))
 }
 
-/// Executes the request of the arguments, and returns the exit status. If the input `is_typed`, a line on standard
-/// error says so first.
+/// Executes the request of the arguments, and returns the exit status. If the request reads input that `is_typed`, a
+/// line on standard error first explains how to end it.
 fn act<R: AllocGlobal + Threads + Wait + Sync + Eprint, S: Source, K: Sink>(
     rt: &R,
     arguments: &[String],

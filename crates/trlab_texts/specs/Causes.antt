@@ -60,8 +60,8 @@ own_cause_number Work = 7
 own_cause_number Hex = 8
 own_cause_number _ = 0
 
--- the number of a cause: 9 for a text that is too long, 10, 20 and 30 plus the number of a fault of a program
--- or of a road, and 40 plus the verifier's reason
+-- the number of a cause: 9 for a text that is too long; 10, 20 or 30 plus the number of a fault in a
+-- program's lines, in its bytes or in a road; 40 plus the verifier's reason
 abbrev pub cause_number : Cause → ℕ
 cause_number (Program why) = 10 + why_number why
 cause_number (Code fault) = 20 + code_fault_number fault

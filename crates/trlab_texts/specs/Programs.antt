@@ -50,7 +50,7 @@ as_kind Motion Change program = Err (Code OtherKind)
 as_kind Change Motion program = Err (Code OtherKind)
 as_kind Change Change program = Ok program
 
--- a result, if its program has to be of a kind
+-- a result; a program that is not of this kind becomes a fault
 abbrev pub of_kind : Kind → Result Program Cause → Result Program Cause
 of_kind kind (Err cause) = Err cause
 of_kind kind (Ok program) = as_kind kind program.kind program
@@ -103,7 +103,7 @@ block kind first left (Some parts) =
     before (record { number = first + length parts.0 + 2; left = parts.1 })
     (program_after kind first parts.0)
 
--- the result for a program, if its first line begins a block, and if it does not
+-- the result for a program, by whether its first line begins a block
 abbrev pub HeadingSays : Kind → Bool → ℕ → List ℕ → List (List ℕ)
     → Result (Program × Rest) Fault → Type 0
 HeadingSays kind true number text left out = out ≡ block kind number left (part_of left)

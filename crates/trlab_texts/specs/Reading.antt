@@ -63,7 +63,7 @@ line rule rest out = LineSays rule rest.number rest.left out
 abbrev pub exactly : {A : Type 0} → (List ℕ → Result A Cause) → Rule A
 exactly rule text says = says ≡ rule text
 
--- the result for a text, if it is too long, and if it is not
+-- the result for a text, by whether it is too long
 abbrev pub SizedTextSays : {A : Type 0} → (List ℕ → Result A Fault → Type 0) → Bool → List ℕ
     → Result A Fault → Type 0
 SizedTextSays Says true text says = says ≡ Err (record { line = 0; cause = TooBig })

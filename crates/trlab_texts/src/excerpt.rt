@@ -1,4 +1,4 @@
-//! Excerpts of lines, with their positions, which explanations of faults name.
+//! Excerpts of lines, with their positions for explanations of faults.
 
 ghost use Rattle.std.specs.Prelude.{◌≡◌, Err};
 ghost use Rattle.trlab_lines.specs.Cutting.{cut, without_prefix};
@@ -190,7 +190,7 @@ impl<'a> Excerpt<'a> {
         Objection::new(Cause::Key, self.line, wanted)
     }
 
-    /// The objection that these bytes are not hexadecimal digits of bytes.
+    /// The objection that these bytes are not hexadecimal digits, two per byte.
     pub fn no_hex(self) -> Objection<'a>
         ensures { result ≡ Cause.Hex }
     {

@@ -12,7 +12,7 @@ use trlab_road::RoadFault;
 /// The cause of a line's fault.
 #[derive(Clone, Copy, Debug, PartialEq, Eq, Error)]
 pub enum Cause {
-    /// Not a line that may come here, a wrong number of words, or the end of the text.
+    /// A line that may not come here, a wrong number of words, or a text that ends too early.
     #[error("unexpected line")]
     Line,
     /// Not a number, or a number outside its range.

@@ -41,7 +41,7 @@ pub fn code_digits(line: &[u8]) -> Result<Excerpt<'_>, Objection<'_>>
     Excerpt::word_after(b"code ", line)
 }
 
-/// Reads the line `code X` of a program of either kind. A rejection has the wanted input.
+/// Reads the line `code X` of a program of either kind. A rejection includes the input that was wanted.
 ///
 /// # Errors
 ///
@@ -61,7 +61,7 @@ pub fn parse_code(alloc: Global, line: &[u8]) -> Result<Code, LineRefusal<'_>>
     }
 }
 
-/// Reads the line `code X` like [`parse_code`].
+/// Reads the line `code X` like [`parse_code`]. The error does not include the wanted input.
 ///
 /// # Errors
 ///

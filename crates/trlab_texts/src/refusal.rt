@@ -62,7 +62,7 @@ pub enum Wanted {
     Speed {
         limit: u32,
     },
-    /// A program without the fault that the verifier finds in this one at an instruction, counted from 0.
+    /// A program without the fault that the verifier found in `code` at the instruction `at`, counted from 0.
     Program {
         code: Code,
         at: u32,
@@ -171,7 +171,7 @@ impl<'a> LineRefusal<'a> {
         }
     }
 
-    /// An allocation failed.
+    /// The refusal because an allocation failed.
     pub fn memory() -> LineRefusal<'a>
         ensures { result ≡ LineFault.Memory }
     {
@@ -263,7 +263,7 @@ impl<'a> Refusal<'a> {
         Refusal::new(fault, b"", Wanted::Nothing)
     }
 
-    /// An allocation failed.
+    /// The refusal because an allocation failed.
     pub fn memory() -> Refusal<'a>
         ensures { result ≡ TextFault.Memory }
     {

@@ -16,7 +16,7 @@ use crate::word::head_word;
 use std::marker::Model;
 use trlab_lines::next_line;
 
-/// The lines of a text that are left, and the number of the first of them, counted from 1.
+/// The unread lines of a text, and the number of the first, counted from 1.
 #[derive(Drop)]
 pub struct Rest<'a> {
     left: &'a [u8],
@@ -66,7 +66,7 @@ impl<'a> Rest<'a> {
         self.left.is_empty()
     }
 
-    /// Notes that the next line may also have this name, for refusals.
+    /// Adds a name that the next line may have; refusals list it.
     pub fn or(self, name: LineName) -> Rest<'a>
         ensures { result ≡ self.entry }
     {
@@ -135,7 +135,8 @@ impl<'a> Rest<'a> {
         self.next().ok_or(ended)
     }
 
-    /// Reads the next line, which has this name, by `read`. Returns the value and the rest after the line.
+    /// Reads the next line with `read`, and returns the value and the rest after the line. The name is for the refusal;
+    /// only `read` tests the line.
     ///
     /// # Errors
     ///

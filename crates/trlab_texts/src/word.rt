@@ -1,4 +1,4 @@
-//! Words of lines, which single spaces separate, and numbers.
+//! Words of lines, separated by single spaces, and numbers.
 
 ghost use Rattle.std.specs.Prelude.{◌≡◌, ◌≢◌, ◌≤◌, ℕ, decimal, MatchOption, option_map};
 ghost use Rattle.trlab_bounds.specs.declared.texts.TheConstants.{LONGEST_NUMBER};

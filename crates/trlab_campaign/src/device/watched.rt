@@ -1,5 +1,5 @@
-//! Readers and writers of std that remember whether a call has failed, and for contracts also the bytes of their
-//! calls.
+//! Wrappers of std's readers and writers that remember whether a call has failed and, only in contracts, the bytes of
+//! the calls.
 
 ghost use Rattle.std.specs.Prelude.{◌≡◌, ℕ, List, [], ◌++◌, false};
 ghost use Rattle.std.specs.Borrow.{ftrue};
@@ -21,7 +21,7 @@ impl Model for Transcript {
 }
 
 impl Transcript {
-    /// The transcript of no calls.
+    /// An empty transcript.
     fn new() -> Transcript
         ensures { result.bytes ≡ [] }
     {
@@ -34,8 +34,8 @@ impl Transcript {
     {}
 }
 
-/// A reader or writer of std as a `Source` or `Sink`. It remembers whether a call has failed, whether everything
-/// written was flushed, and how often; for contracts also the bytes that it gave or took.
+/// A std reader or writer as a `Source` or `Sink`. It remembers whether a call has failed, whether everything written
+/// was flushed, and how often it was flushed. In contracts it also remembers the bytes that it gave or took.
 #[derive(Drop)]
 pub struct Watched<X> {
     inner: X,
@@ -49,7 +49,7 @@ pub struct Watched<X> {
 impl<X> Watched<X> {
     ghost use Rattle.trlab_campaign.specs.Watched.{inner_of, has_failed, given_of, accepted_of, flushes_of};
 
-    /// Wraps a reader or writer, of which no call has been made yet.
+    /// Wraps a reader or writer. The wrapper starts without a failure, a flush or transferred bytes.
     pub fn new(inner: X) -> Watched<X>
         ensures inner { inner_of result ≡ inner }
         ensures fresh { has_failed result ≡ false }
@@ -108,7 +108,7 @@ impl<X: Write> Sink for Watched<X> {
         self.handed_on = false;
         match self.inner.write(bytes) {
             Ok(count) => {
-                // A writer that takes nothing would be called again and again.
+                // Without this error, `write_text` would loop forever if the writer takes no bytes.
                 if count == 0 && !bytes.is_empty() {
                     self.failed = true;
                     return Err(DeviceError);

@@ -1,4 +1,4 @@
-//! Whole texts: an input is read to its end, and an output is written until nothing of it is left.
+//! Whole texts: reading an input to its end, or until it is too long, and writing an output completely.
 
 ghost use Rattle.std.specs.Prelude.{◌≡◌, ◌+◌, ◌≤◌, ◌||◌, ◌↔◌, ◌++◌, length, false, true, IfOk};
 ghost use Rattle.std.specs.Prelude.{OnOk, IfErr, IfSome, is_err};
@@ -12,8 +12,8 @@ use crate::end::Failure;
 use std::alloc::Global;
 use trlab_bounds::texts::TEXT_LIMIT;
 
-/// Reads an input to its end, or its first `TEXT_LIMIT` + 1 bytes if it is longer. Those are enough for a reader of
-/// texts, which refuses any text above `TEXT_LIMIT` bytes.
+/// Reads an input to its end, or its first `TEXT_LIMIT` + 1 bytes if it is longer. These are enough, because every
+/// engine refuses an input above `TEXT_LIMIT` bytes.
 ///
 /// # Errors
 ///
@@ -49,7 +49,7 @@ pub fn read_text<S: Source>(alloc: Global, reader: &mut S) -> Result<Vec<u8>, Fa
 ///
 /// # Errors
 ///
-/// `DeviceError` if the writer fails: a prefix of the text was written.
+/// `DeviceError` if the writer fails; then a prefix of the text was written.
 #[tactic(auto, using(crate::proofs::WrittenBytes::adds_part))]
 pub fn write_text<K: Sink>(writer: &mut K, text: &[u8]) -> Result<(), DeviceError>
     ensures wrote { AddsBy result (bytes_of K.Sink writer.old) (bytes_of K.Sink writer.new) text.now }
@@ -69,7 +69,7 @@ pub fn write_text<K: Sink>(writer: &mut K, text: &[u8]) -> Result<(), DeviceErro
 ///
 /// # Errors
 ///
-/// `DeviceError` if the writer fails: a prefix of the text was written, or all of it was written and not flushed.
+/// `DeviceError` if the writer fails; then a prefix of the text was written, or all of it without a successful flush.
 pub fn write_last<K: Sink>(writer: &mut K, text: &[u8]) -> Result<(), DeviceError>
     ensures wrote { AddsBy result (bytes_of K.Sink writer.old) (bytes_of K.Sink writer.new) text.now }
     ensures handed { OnOk result

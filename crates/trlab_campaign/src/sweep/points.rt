@@ -33,7 +33,7 @@ pub fn even_road(alloc: Global, sweep: &Sweep, cars: u32) -> Result<Road, AllocE
     }
 }
 
-/// The run of the point with this number from step 0 on.
+/// The run of point `number`, at its start.
 fn run_of(alloc: Global, sweep: &Sweep, number: u32, road: Road) -> Result<Run, AllocError>
     requires { length road.lanes ≡ sweep.now.setup.shape.lanes }
     ensures { IfOk result (λ run.
@@ -44,7 +44,7 @@ fn run_of(alloc: Global, sweep: &Sweep, number: u32, road: Road) -> Result<Run, 
     Ok(Run::new(alloc, sweep.key, number, sweep.warm, road, sheet))
 }
 
-/// The sum of the tallies of a run's first `steps` steps.
+/// Takes the first `steps` steps of a run, and returns its sum of tallies.
 fn count_run(alloc: Global, run: &mut Run, steps: u32) -> Result<StepTally, AllocError>
     requires start { run.old.step ≡ 0 }
     ensures { IfOk result (λ tally. IsTallyAt run.old.seed run.old.sheet steps tally) }
@@ -55,7 +55,7 @@ fn count_run(alloc: Global, run: &mut Run, steps: u32) -> Result<StepTally, Allo
     Ok(run.tally())
 }
 
-/// The sum of the tallies of the point with this number, whose road is run from its start.
+/// Runs point `number` from its start, which is `road`, and returns its sum of tallies.
 fn tally_of(alloc: Global, sweep: &Sweep, number: u32, road: Road) -> Result<StepTally, AllocError>
     requires { length road.lanes ≡ sweep.now.setup.shape.lanes }
     ensures { IfOk result (λ tally. IsTallyAt (point_seed sweep.now.setup number road)
@@ -67,7 +67,7 @@ fn tally_of(alloc: Global, sweep: &Sweep, number: u32, road: Road) -> Result<Ste
     tally
 }
 
-/// The point with `cars` cars that have this sum of tallies.
+/// The point of the diagram with `cars` cars and this sum of tallies.
 fn point_of(sweep: &Sweep, cars: u32, tally: StepTally) -> Point
     requires { Spreads sweep.now.setup.shape cars }
     ensures point { result ≡ point_of sweep.now.setup cars tally }
@@ -83,7 +83,7 @@ fn point_of(sweep: &Sweep, cars: u32, tally: StepTally) -> Point
     }
 }
 
-/// The point with this number, whose road the caller runs from its start.
+/// Runs point `number` from its start, which is `road`, in the calling thread.
 pub fn run_point(
     alloc: Global,
     sweep: &Sweep,
@@ -101,7 +101,7 @@ pub fn run_point(
     Ok(point_of(sweep, cars, tally))
 }
 
-/// Whether the point with this number, which starts from `road`, has this seed.
+/// Whether this is the seed of point `number`, which starts from `road`.
 fn is_seed_of(sweep: &Sweep, number: u32, road: &Road, seed: &Seed) -> bool
     ensures { IsTrue result → run_start seed.now ≡ point_seed sweep.now.setup number road.now }
 {
@@ -123,8 +123,8 @@ fn is_sheet_of(sweep: &Sweep, sheet: &BookSheet) -> bool
     from == 0 && rule.equals(&sweep.rule)
 }
 
-/// The point with this number by a snapshot of the book, if the snapshot is of that point after its last step. The
-/// point starts from `road`.
+/// The point `number`, which starts from `road`, from a snapshot of the book; `None` unless the snapshot shows this
+/// point after its last step.
 pub fn point_seen(
     sweep: &Sweep,
     number: u32,

@@ -1,5 +1,5 @@
-//! The roads of a sweep as jobs of a book, one batch after another. The caller runs what the runners of the
-//! book leave undone.
+//! The roads of a sweep as jobs of a book, one batch after another. The caller runs the roads that the runners of the
+//! book leave unfinished.
 
 ghost use Rattle.std.specs.Prelude.{◌≡◌, ◌<◌, ◌≤◌, ◌-◌, All, IfOk, OnOk, get_or, length};
 ghost use Rattle.trlab_bounds.specs.declared.runs.TheConstants.{MAX_RUNNERS, MAX_WORKERS};
@@ -24,7 +24,7 @@ use trlab_strands::{Blank, Ledger};
 /// The maximum number of cars on the roads of a batch together: as many as on 32 roads of the largest size.
 const MAX_AT_ONCE: u32 = 6_400_000;
 
-/// The points `first` up to but not including `end` of a sweep, whose roads are kept at the same time.
+/// The points from `first` up to, but not including, `end` of a sweep, whose roads are in memory at the same time.
 #[derive(Clone, Copy)]
 struct Batch {
     first: u32,
@@ -73,8 +73,8 @@ impl Batch {
         self.end - self.first
     }
 
-    /// The place of a point among the jobs, and of a job among the points, counted from 0. The road that takes
-    /// longest goes first, or one runner would drive it while the others have nothing left.
+    /// Maps the index of a point in the batch to the index of its job, and back. If the numbers of cars rise, the order
+    /// is reversed: a runner that began the slowest road last would drive it while the others have nothing left.
     fn place(self, index: u32) -> u32
         requires { index < self.end - self.first }
         ensures { result < self.end - self.first }
@@ -87,7 +87,7 @@ impl Batch {
     }
 }
 
-/// The runners of a sweep, 1 to 16, each with 1 to 16 workers, which pass its gate.
+/// The 1 to 16 runners of a sweep, each with 1 to 16 workers. The workers pass the gate of the sweep.
 #[derive(Drop)]
 pub struct Runners<'a, R, O> {
     pub rt: &'a R,
@@ -104,7 +104,7 @@ pub struct Runners<'a, R, O> {
 }
 
 impl<'a, R: Threads + Wait + Sync, O: ProgressObserver + Sync> Runners<'a, R, O> {
-    /// Submits the roads of a batch, each at its place among the jobs. If the book is full, the remaining roads
+    /// Submits the roads of a batch in the order of their jobs. If the book does not accept one, the remaining roads
     /// have no job.
     fn submit<L: Ledger>(
         &self,
@@ -135,8 +135,7 @@ impl<'a, R: Threads + Wait + Sync, O: ProgressObserver + Sync> Runners<'a, R, O>
         Ok(())
     }
 
-    /// The point with this number: from the book's job or, if the job has not reached its last step, from a run by
-    /// the caller.
+    /// The point `number`: from the book if its job has reached the last step, otherwise from a run by the caller.
     fn point<L: Ledger>(
         &self,
         book: &SharedBook<L>,
@@ -160,7 +159,7 @@ impl<'a, R: Threads + Wait + Sync, O: ProgressObserver + Sync> Runners<'a, R, O>
         run_point(self.alloc, sweep, number, cars, road)
     }
 
-    /// Adds the points of a batch whose roads were run.
+    /// Adds the points of a batch, whose jobs were run.
     fn collect<L: Ledger>(
         &self,
         book: &SharedBook<L>,
@@ -183,7 +182,7 @@ impl<'a, R: Threads + Wait + Sync, O: ProgressObserver + Sync> Runners<'a, R, O>
         Ok(())
     }
 
-    /// Adds the points of the next batch, whose roads are the jobs of one book.
+    /// Runs the roads of the next batch as the jobs of a new book, and adds their points.
     fn add_batch<L: Ledger + Send + Sync>(
         &self,
         blank: Blank<Event>,
@@ -213,7 +212,7 @@ impl<'a, R: Threads + Wait + Sync, O: ProgressObserver + Sync> Runners<'a, R, O>
         self.collect(&book, &mut desk, batch, points)
     }
 
-    /// The points of the sweep.
+    /// Computes the points of the sweep, batch by batch, and returns them in the order of the text.
     ///
     /// # Errors
     ///

@@ -12,8 +12,8 @@ use trlab_verify::Motion;
 /// A gate that counts the work of a sweep and reports progress. A step counts when its motion begins, and each
 /// hundredth is reported by the worker whose step reaches it.
 ///
-/// Steps of a revoked lease are run again and count again. So the gate does not report the last hundredth, which is
-/// reported once, when all points are there.
+/// Steps of a revoked lease are run again and count again. So the gate itself does not report the last hundredth:
+/// `finished` does, when all points are complete.
 #[derive(Drop)]
 pub struct WorkGate<'a, O> {
     progress: &'a O,
@@ -95,7 +95,7 @@ impl<'a, O: ProgressObserver> WorkGate<'a, O> {
         }
     }
 
-    /// Reports that all points are there.
+    /// Reports the last hundredth, when all points are complete.
     pub fn finished(&self) {
         if self.is_watching && self.count > 0 {
             self.progress.reached(Milestone {

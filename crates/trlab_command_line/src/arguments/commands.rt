@@ -1,4 +1,4 @@
-//! The commands.
+//! The definitions of the commands for `clap`.
 
 ghost use Rattle.std.specs.Prelude.{◌≡◌, IfOk, MatchResult, false};
 ghost use Rattle.clap.specs.Words.{app_of, new_app, with_subcommand};
@@ -66,7 +66,7 @@ pub fn explain_command<'a>(alloc: Global) -> Result<Command<'a>, AllocError>
         .arg(flag(alloc, "json", JSON_HELP))
 }
 
-/// The program without its commands, one of which has to be named.
+/// The program without its commands. Its arguments must name a command.
 fn program<'a>(alloc: Global) -> Result<Command<'a>, AllocError>
     ensures { IfOk result (λ command. app_of command ≡ program) }
 {

@@ -16,9 +16,9 @@ use trlab_jobs::Subject;
 /// The subject of an explanation.
 #[derive(Clone, Copy)]
 pub enum Explaining {
-    /// The input on standard input, read as this, or else as its first word says, in this form.
+    /// The input on standard input, explained in this form. Without a subject, its first word determines its kind.
     Text(Option<Subject>, Form),
-    /// The meaning of the cause or the reason with a number.
+    /// The cause or the reason with this number.
     Number(Topic, u32),
 }
 
@@ -37,7 +37,7 @@ fn subject_of_command(name: &[u8]) -> Option<Subject>
     }
 }
 
-/// The kind of a number by the word before it.
+/// The topic that a word names: `cause` or `reason`.
 fn topic_named(name: &[u8]) -> Option<Topic>
     ensures { result ≡ topic_named name.now }
 {
@@ -73,7 +73,7 @@ fn explained(
     }
 }
 
-/// The message for arguments that begin with a word and do not go together.
+/// The message for arguments of `explain` that do not go together; `what` is the first.
 fn refusal_text(alloc: Global, kind: ErrorKind, what: &str) -> Result<String, AllocError> {
     match kind {
         ErrorKind::UnknownArgument => { format!(in alloc; "`explain {what}` takes no number") }
@@ -91,7 +91,7 @@ fn refusal_text(alloc: Global, kind: ErrorKind, what: &str) -> Result<String, Al
     }
 }
 
-/// The error of a kind, as `clap` prints it of `explain`.
+/// An error of this kind, in the form of `clap`'s own errors for `explain`.
 fn refusal(alloc: Global, kind: ErrorKind, what: Option<&str>) -> Result<Error, AllocError>
     ensures { IfOk result (λ error. kind_of error ≡ kind) }
 {

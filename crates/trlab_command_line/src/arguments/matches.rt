@@ -22,7 +22,7 @@ pub fn number_of(matches: &ArgMatches, option: &str) -> u32
     }
 }
 
-/// The number of an option from 1 to 16.
+/// The number, from 1 to 16, of an option.
 pub fn count_of(matches: &ArgMatches, option: &str) -> u32
     requires { (v : Text) × HasValueFrom (option.now) 1 16 (rows_of (found_of matches.now)) v }
     ensures number { GivesNumber (option.now) (rows_of (found_of matches.now)) result }
