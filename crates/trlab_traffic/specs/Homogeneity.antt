@@ -18,8 +18,8 @@ turned_lane r lane = map (λ x. at lane (ahead (length lane) x r)) (range_with_l
 abbrev pub turned : ℕ → Cells → Cells
 turned r road = record { limit = road.limit; lanes = map (turned_lane r) road.lanes }
 
--- the next road of a rotated road is its next road, rotated as far, with the same tally, for every rule and all
--- dice
+-- if a road is rotated, its next road is rotated by as many cells, with the same tally, for every rule and
+-- all dice
 abbrev pub StepIsHomogeneous : Type 0
 StepIsHomogeneous =
     (rule : Programs) (dice : Dice) (road next : Cells) (tally : StepTally) (r : ℕ)
