@@ -1,5 +1,5 @@
-//! The workers of a single step: the threads of a crew end with each phase, so they borrow the road, and nobody waits
-//! for a lock.
+//! The workers of a single step: the threads of a crew end with each phase, so they borrow the road, and no thread
+//! waits for a lock.
 
 ghost use Rattle.std.specs.Prelude.{◌≡◌, ◌<◌, ◌≤◌, [], IfOk};
 ghost use Rattle.std.specs.Thread.{IsSend, IsSync};

@@ -52,7 +52,7 @@ car_ahead road car speed = record {
 abbrev pub AllGo : (Car → ℕ) → Cells → Cells → Type 0
 AllGo goes old new = (car : Car) → IsAt old car → IsAt new (car_ahead old car (goes car))
 
--- each car that crosses is at its side cell, each other car is where it was
+-- each car that crosses is in its side cell, and each other car is in its old cell
 abbrev pub AllCross : (Car → Bool) → Cells → Cells → Type 0
 AllCross crosses old new =
     (car : Car) → IsAt old car → IsAt new (if crosses car then car_beside car else car)

@@ -22,7 +22,7 @@ EachCarHasGone =
     → IsLegal seed.road → ComesTo seed sheet step road sum → number < cars seed.road
     → (far : ℕ) × HasGone seed sheet step number far
 
--- and only one distance
+-- and no car has gone two different distances
 abbrev pub GoneIsOne : Type 0
 GoneIsOne =
     (seed : Seed) (sheet : Sheet) (step number far other : ℕ)

@@ -1,4 +1,4 @@
--- Homogeneity: all places of a ring are alike. The future of a road does not depend on where cell 0 is.
+-- Homogeneity: all places of a ring are alike. The future of a road does not depend on the choice of cell 0.
 use Rattle.std.specs.Prelude.{ℕ, length, map}
 use Rattle.std.specs.List.{range_with_len}
 use Rattle.trlab_road.specs.Cells.{Cells, Lane, at}

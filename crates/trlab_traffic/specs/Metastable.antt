@@ -26,7 +26,7 @@ SlowStartsKeepFreeFlow =
     → IsVdr 0 p0 rule → IsLegal seed.road → IsFree seed.road → ComesTo seed (always rule) step road sum
     → FlowsFreely seed step road sum
 
--- and such a road moves as one
+-- and the road, which is in free flow, then moves as one
 abbrev pub SlowStartsTurnFreeFlow : Type 0
 SlowStartsTurnFreeFlow =
     (p0 : ℕ) (rule : Programs) (seed : Seed) (step : ℕ) (road : Cells) (sum : StepTally)

@@ -25,7 +25,7 @@ pub record IsNextOf (road : Cells) (number next : ℕ) : Type 0 where
 abbrev pub EachCarHasNext : Type 0
 EachCarHasNext = (road : Cells) (car : Car) → IsAt road car → (next : ℕ) × IsNextOf road car.number next
 
--- and only one
+-- and no car has two different next cars
 abbrev pub NextCarIsOne : Type 0
 NextCarIsOne = (road : Cells) (number next other : ℕ) → IsLegal road
     → IsNextOf road number next → IsNextOf road number other → next ≡ other
