@@ -197,8 +197,8 @@ impl<'a, L: Ledger, R: Threads + Wait + Sync, G: Gate + Sync> Runner<'a, L, R, G
         }
     }
 
-    /// Orders and runs up to `STEPS_PER_TURN` steps, but none beyond the end of the job. No lock is held while a step
-    /// runs.
+    /// Orders and runs up to `STEPS_PER_TURN` steps, but none beyond the end of the job. The book's lock is not held
+    /// while a step runs.
     fn run_steps(&self, desk: &mut Desk<L>, lease: &mut Lease) -> Result<(), BookFault>
         ensures on { AddsRunnerCalls desk.old desk.new }
         ensures full { result ≡ Err HistoryFull → MAX_EVENTS ≤ clock_of desk.new }
