@@ -65,8 +65,8 @@ pub record IsOneEvent {L : Type 0} {ledger : Ghosts L} (old : Desk L ledger) (ca
   pub noted : Adds old.strand before (event call told) new.strand
 
 -- the effect of a call on its desk. The desk keeps its parts. If the reply makes the call an event, the desk
--- has exactly this event more, of a book for which `Holds` is true. If not, nothing changes, except that the
--- desk has seen a full history
+-- gains exactly this event, of a book for which `Holds` is true. If not, nothing changes, except that the
+-- desk has seen a history that is full
 abbrev pub MakesOf : {L : Type 0} {ledger : Ghosts L} → (BookState → Type 0)
     → Desk L ledger → Call → Reply → Desk L ledger → Type 0
 MakesOf Holds old call told new =
@@ -80,8 +80,9 @@ abbrev pub Makes : {L : Type 0} {ledger : Ghosts L}
     → Desk L ledger → Call → Reply → Desk L ledger → Type 0
 Makes old call told new = MakesOf (λ book. Unit {0}) old call told new
 
--- a desk notes a call after the events `before`, if its reply makes it an event, and otherwise nothing; but
--- if the reply says that the history is full, the desk has seen all of `before`
+-- a desk notes a call that was made after the events `before`. If the reply makes the call an event, the desk
+-- adds it. If the reply says that the history is full, the desk has seen all of `before`. Otherwise the desk
+-- is unchanged
 abbrev pub PutsDown : {L : Type 0} {ledger : Ghosts L} → Desk L ledger → List Event → Call → Reply
     → Desk L ledger → Type 0
 PutsDown old before call told new =
@@ -96,7 +97,7 @@ PutsDown old before call told new =
 abbrev pub TellsSame : LeaseState → Bool → BookState → Type 0
 TellsSame lease same book = IsTrue same ↔ comparison.IsSame book.jobs lease
 
--- the lease that went out, if any, is one of the book's jobs
+-- the lease that went out, if any, is a fresh lease of one of the book's jobs
 abbrev pub IsOfLease : Result (Option LeaseState) BookFault → BookState → Type 0
 IsOfLease answer book = IfOk answer (λ lent. IsLent book.jobs book.next lent)
 
@@ -105,7 +106,7 @@ abbrev pub IsOfOrder : LeaseState → Bool → Result Order BookFault → BookSt
 IsOfOrder lease same answer book =
     TellsSame lease same book × IfOk answer (λ order. IsRuleAt book.jobs order)
 
--- the snapshot is one of this job of the book
+-- the snapshot shows this job of the book
 abbrev pub IsOfRead : ℕ → Result Progress BookFault → BookState → Type 0
 IsOfRead job answer book = IfOk answer (λ seen. IsSeen book.jobs job seen)
 
@@ -122,8 +123,8 @@ abbrev pub AreOfRunners : ℕ → ℕ → List (Noted Event) → Type 0
 AreOfRunners from to calls =
     All (λ n. (from ≤ event_number n) × (event_number n < to) × (is_of_runner n.event.call ≡ true)) calls
 
--- a desk through which runners have called: the same parts, and after its events those of the runners,
--- which are in the history after all events that the desk had seen, and before all that are made
+-- a desk through which runners have called: it keeps its parts, and its events are followed by those of the
+-- runners. In the history these come after all events that the desk had seen, and before all that are made
 -- through it from now on
 pub record AddsRunnerCalls {L : Type 0} {ledger : Ghosts L} (old new : Desk L ledger) : Type 0 where
   pub parts : parts_of new ≡ parts_of old

@@ -10,7 +10,7 @@ use Rattle.trlab_sequential_book.specs.Machine.{after, is_full, reply_of}
 use Rattle.trlab_sequential_book.specs.Answers.{is_event}
 use Rattle.trlab_sequential_book.specs.Replay.{event}
 
--- one more event, this call with the reply of the machine, and this reply is the answer
+-- the history has one more event, the call with the machine's reply, and this reply is the answer
 pub record Appends (old : Kept) (c : Call) (told : Reply) (new : Kept) : Type 0 where
   pub history : new.history.items ≡ old.history.items ++ event c (reply_of old.book c) ∷ []
   pub book : new.book ≡ after old.book c

@@ -13,8 +13,8 @@ use trlab_rules::Rule;
 use trlab_sequential_book::{Book, BookFault, Event, Lease, Order, Seed, Snapshot};
 use trlab_strands::{ALL_PARTS, Blank, Keeper, Ledger, Strand, Strands};
 
-/// The value under the lock of a shared book: the book with its history, and the keeper of the strands of its
-/// events, who knows the same events.
+/// The value under the lock of a shared book: the book with its history, and the keeper of the desks' strands, which
+/// knows the same events.
 #[derive(Drop)]
 struct Locked<L: Ledger> {
     kept: Kept,
@@ -22,8 +22,8 @@ struct Locked<L: Ledger> {
     ghost noted: { kept.history.items ≡ list_of keeper },
 }
 
-/// A book that threads share. Each call takes its one lock once, is one event of the history, and is added to the
-/// calls of the desk through which it was made.
+/// A book that threads share. Each call takes the lock once. It becomes one event of the history and of the desk's
+/// subhistory, unless it is refused as `HistoryFull` or `Memory`.
 pub struct SharedBook<L: Ledger> {
     lock: Mutex<Locked<L>>,
     strands: Strands<L, Event>,
@@ -39,8 +39,8 @@ impl<L: Ledger> Drop for SharedBook<L> {
     }
 }
 
-/// The right to call a shared book, of 1 to 1024 parts. A desk counts the calls that were made through it; the calls
-/// and their replies are known to contracts only.
+/// The right to call a shared book, with 1 to 1024 parts. At run time a desk counts the events made through it; only
+/// contracts see the events themselves.
 #[derive(Drop)]
 pub struct Desk<L: Ledger> {
     parts: u32,
@@ -67,10 +67,11 @@ impl<L: Ledger> Desk<L> {
         self.parts
     }
 
-    /// Notes a call that has just been made, when the history had `before` events. If the history has grown, its new
-    /// event is added to the desk's subhistory. If it is full and has not grown, the desk has now seen all of it.
+    /// Notes the call that has just been made; the history had `before` events before it. If the history has grown, the
+    /// new event is added to the desk's subhistory. If it is full and has not grown, the desk has now seen all of it.
     ///
-    /// A call breaks the invariant of `Locked` and this restores it, so it takes the parts of `Locked` one by one.
+    /// A call breaks the invariant of `Locked` and this function restores it. It therefore takes the fields of `Locked`
+    /// one by one.
     fn note_event(
         &mut self,
         keeper: &mut Keeper<L, Event>,
@@ -257,8 +258,8 @@ impl<L: Ledger> SharedBook<L> {
         answer
     }
 
-    /// Lends the job with the smallest number that is not out, not cancelled and has steps to do. Returns `None`
-    /// if there is no such job.
+    /// Lends the free job with the smallest number, or returns `None` if no job is free. A job is free if it is not
+    /// out, not cancelled and has steps to do.
     ///
     /// # Errors
     ///

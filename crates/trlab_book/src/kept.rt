@@ -44,8 +44,8 @@ impl Kept {
         }
     }
 
-    /// Makes room for one more event. It does not test whether the history is full: the book's answer to the call
-    /// says so.
+    /// Makes room for one more event. It does not test whether the history is full, because the book does so in the
+    /// call that follows.
     fn make_room(&mut self) -> Result<(), BookFault>
         ensures unchanged { IsUnchanged self.old self.new }
         ensures room { OnOk result (vec_len self.new.history < vec_capacity self.new.history) }
@@ -59,7 +59,8 @@ impl Kept {
         Ok(())
     }
 
-    /// The fault of a call that was not made because an allocation failed: a full history comes first.
+    /// The fault of a call that was not made because an allocation failed: `HistoryFull` if the history is full,
+    /// otherwise `Memory`.
     pub(crate) fn fault_without_memory(&self) -> BookFault
         ensures none { is_event (Refused result) ≡ false }
         ensures full { (Refused result ≡ Refused HistoryFull) ↔ (is_full self.now.book ≡ true) }
@@ -220,7 +221,7 @@ impl Kept {
     }
 }
 
-/// Adds a call with its reply to the history, if they are an event.
+/// Appends a call and its reply to the history, unless the reply is `HistoryFull` or `Memory`.
 fn put_event(history: &mut Vec<Event>, call: Call, reply: Reply)
     requires { vec_len history.old < vec_capacity history.old }
     ensures { MatchBool (is_event reply)
@@ -232,8 +233,8 @@ fn put_event(history: &mut Vec<Event>, call: Call, reply: Reply)
     }
 }
 
-/// The arguments of `submit`: the seed, which the job and the history share, and the call that the history keeps,
-/// with a copy of the rule.
+/// Returns the seed for the job, in shared memory, and the call for the history, which shares the seed and has a copy
+/// of the rule.
 pub(crate) fn copied_submit(
     alloc: Global,
     seed: Seed,
@@ -249,7 +250,7 @@ pub(crate) fn copied_submit(
     Ok((shared, Call::Submit(kept, rule_kept, steps)))
 }
 
-/// The call `replace` that the history keeps, with a copy of the rule.
+/// The `Replace` call for the history, with a copy of the rule.
 pub(crate) fn copied_replace(alloc: Global, job: u32, rule: &Rule) -> Result<Call, AllocError>
     ensures { IfOk result (λ call. call ≡ Replace job rule.now) }
 {
@@ -270,7 +271,7 @@ fn parts_of_lease(lease: &Lease, same: bool) -> Offered
     }
 }
 
-/// Whether a call with this reply is an event: unless it failed for memory or a full history.
+/// Whether a call with this reply is an event: every call is, unless it is refused as `HistoryFull` or `Memory`.
 fn is_event(reply: Reply) -> bool
     ensures { result ≡ is_event reply }
 {

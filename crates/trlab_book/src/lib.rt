@@ -8,8 +8,8 @@
 //! let seen = book.read(rt, alloc, desk, job).ok()?;
 //! ```
 //!
-//! Each thread calls the book through a [`Desk`] of its own, which knows its own events of the history. The crate
-//! `trlab_embedding` is a whole program with a shared book.
+//! Each thread calls the book through its own [`Desk`], which knows the events made through it. The crate
+//! `trlab_embedding` is a complete program with a shared book.
 #![tactic(auto)]
 
 mod desk;

@@ -30,15 +30,16 @@ pub enum RunFault {
     HistoryFull,
 }
 
-/// Runs the jobs of a book with 1 to 16 runners, each until it finds no free job. Each runner has 1 to 16 workers,
-/// who pass the gate. Returns the desk, with the calls of the runners after its own, one runner after the other.
+/// Runs the jobs of a book with 1 to 16 runners, each until it finds no free job. Each runner has 1 to 16 workers, who
+/// pass the gate. Returns the desk; the runners' calls follow its own, one runner after the other.
 ///
 /// The desk needs a part for each runner. The calling thread is one of the runners. It begins after the others were
-/// started, and does the work of those that cannot be started.
+/// started, and does the work of any that cannot be started.
 ///
 /// # Errors
 ///
-/// The fault that a runner met, `HistoryFull` before `Memory`, with the desk.
+/// `HistoryFull` if any runner found the history full, otherwise `Memory` if an allocation failed. The desk is returned
+/// with the fault.
 pub fn run_jobs<L: Ledger + Send + Sync, R: Threads + Wait + Sync, G: Gate + Sync>(
     rt: &R,
     alloc: Global,
@@ -61,7 +62,8 @@ pub fn run_jobs<L: Ledger + Send + Sync, R: Threads + Wait + Sync, G: Gate + Syn
     }
 }
 
-/// `run_jobs`, with the result apart from the desk. Each other runner takes one part of it, this thread the rest.
+/// `run_jobs`, with the desk and the result as a pair. Each other runner takes one part of the desk; the calling thread
+/// keeps the rest.
 fn run_all<L: Ledger + Send + Sync, R: Threads + Wait + Sync, G: Gate + Sync>(
     rt: &R,
     alloc: Global,
@@ -100,7 +102,7 @@ fn run_all<L: Ledger + Send + Sync, R: Threads + Wait + Sync, G: Gate + Sync>(
     (book.gather(mine, theirs), first_fault(one, other))
 }
 
-/// The result of two runners: the first fault, but `HistoryFull` before `Memory`.
+/// Joins the results of two runners: `HistoryFull` if either has it, otherwise `Memory` if either has it.
 pub fn first_fault(one: Result<(), RunFault>, other: Result<(), RunFault>) -> Result<(), RunFault>
     ensures fine { IsOk result ↔ (IsOk one × IsOk other) }
     ensures full { (result ≡ Err run.HistoryFull) ↔ ((one ≡ Err run.HistoryFull) ⊎ (other ≡ Err run.HistoryFull)) }
@@ -114,7 +116,7 @@ pub fn first_fault(one: Result<(), RunFault>, other: Result<(), RunFault>) -> Re
     }
 }
 
-/// After this many steps a runner gives its lease back.
+/// The maximum number of steps that a runner takes before it gives its lease back.
 const STEPS_PER_TURN: u32 = 32;
 
 /// Runs jobs until none is free. The workers live as long as the runner.
@@ -165,7 +167,8 @@ impl<'a, L: Ledger, R: Threads + Wait + Sync, G: Gate + Sync> Runner<'a, L, R, G
         Ok(())
     }
 
-    /// Leases a free job for one turn. Returns how the runner ends, if no job is free or after a fault.
+    /// Leases a free job for one turn. Returns the result of the runner if it ends, because no job is free or after a
+    /// fault; otherwise `None`.
     fn take_free(&self, desk: &mut Desk<L>) -> Option<Result<(), RunFault>>
         ensures { MatchOption result (AddsRunnerCalls desk.old desk.new) (λ ended. HasEnded 1 ended desk.old desk.new) }
     {
@@ -194,7 +197,8 @@ impl<'a, L: Ledger, R: Threads + Wait + Sync, G: Gate + Sync> Runner<'a, L, R, G
         }
     }
 
-    /// Orders steps and runs them. The lock is free while a step runs.
+    /// Orders and runs up to `STEPS_PER_TURN` steps, but none beyond the end of the job. The book's lock is not held
+    /// while a step runs.
     fn run_steps(&self, desk: &mut Desk<L>, lease: &mut Lease) -> Result<(), BookFault>
         ensures on { AddsRunnerCalls desk.old desk.new }
         ensures full { result ≡ Err HistoryFull → MAX_EVENTS ≤ clock_of desk.new }

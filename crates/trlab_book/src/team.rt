@@ -1,4 +1,4 @@
-//! Who runs the ordered steps of leases: one worker, the team of a runner, or workers that are started for a step.
+//! The executors of ordered steps: a single worker, the team of a runner, or workers that are started for one step.
 
 ghost use Rattle.std.specs.Prelude.{◌≡◌, ◌↔◌, ◌<◌, ◌≤◌, OnOk, OnErr};
 ghost use Rattle.trlab_bounds.specs.declared.runs.TheConstants.{MAX_WORKERS};
@@ -16,12 +16,12 @@ use trlab_sequential_book::{Lease, LeaseFault, Order};
 use trlab_step::{Caller, Executor, StepObserver};
 use trlab_verify::{Change, Motion};
 
-/// Runs the ordered step of a lease with 1 to 16 workers, who pass the gate. It needs no book, and no lock is held
-/// meanwhile.
+/// Runs the ordered step of a lease with 1 to 16 workers, who pass the gate. It needs no book and holds no lock.
 ///
 /// # Errors
 ///
-/// Those of `Lease::advance`. Then nothing changes.
+/// `WrongOrder` if the order is for another job, lease or step, or its rule has a change program and the road has one
+/// lane; `Memory` if an allocation fails. Then nothing changes.
 pub fn advance<R: Threads + Sync, G: Gate + Sync>(
     rt: &R,
     alloc: Global,
@@ -47,8 +47,8 @@ pub fn advance<R: Threads + Sync, G: Gate + Sync>(
     lease.advance(&calls, alloc, order)
 }
 
-/// A single worker and its gate. Before it computes the answers of a phase, it passes the gate for each of the
-/// segments that several workers would take.
+/// A single worker and its gate. It asks all cars of a phase at once, but first passes the gate once for each segment
+/// that a crew of one worker would draw.
 #[derive(Drop)]
 struct Alone<'a, G> {
     gate: &'a G,
@@ -102,7 +102,7 @@ impl<'a, G: Gate> Executor for Alone<'a, G> {
 #[derive(Drop)]
 pub struct Team<'a, R, G> {
     gate: &'a G,
-    /// Its helpers wait for the phases of the steps while `run` runs.
+    /// While `Pool::run` runs, the helpers wait for the phases of the steps.
     pub pool: Pool<'a, R, G>,
     is_one: bool,
 }
@@ -118,7 +118,8 @@ impl<'a, R: Threads + Wait + Sync, G: Gate + Sync> Team<'a, R, G> {
         }
     }
 
-    /// Runs the ordered step of a lease. A single worker passes the gate as well, which it would not in the pool.
+    /// Runs the ordered step of a lease. A single worker does not run it in the pool, because it would pass no gate
+    /// there.
     ///
     /// # Errors
     ///

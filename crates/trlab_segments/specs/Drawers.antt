@@ -20,7 +20,7 @@ passes_of d = d.passes
 abbrev pub tickets_of : Drawer → List ℕ
 tickets_of d = d.seat.me.0.tickets
 
--- no ticket that it draws from now on is below this
+-- the smallest number that the drawer's next ticket may have
 abbrev pub least_of : Drawer → ℕ
 least_of d = d.seat.me.0.least
 

@@ -18,7 +18,7 @@ AsksOf program dice road b = (b.program ≡ program) × (b.dice ≡ dice) × (b.
 abbrev pub IsCutWhole : {P : Type 0} → Brief P → Type 0
 IsCutWhole b = first_car (cars b.road) (count_of b.tickets) (count_of b.tickets) ≡ cars b.road
 
--- a part has the answers to a brief of the cars of its segment
+-- a part has the answers of the brief's program for the cars of its segment
 abbrev pub IsRight : {P A : Type 0} → (P → Dice → Cells → ℕ → ℕ → List A → Type 0)
     → Brief P → Part A → Type 0
 IsRight answers b = AnswersSegment answers b.program b.dice b.road (count_of b.tickets)
@@ -40,7 +40,7 @@ abbrev pub IsDeposited : {P A B E : Type 0} → (P → Dice → Cells → ℕ �
 IsDeposited answers b deposited told =
     MatchOption deposited (IfOk told (λ parts. parts.items ≡ [])) (λ d. TellsDone answers b d told)
 
--- the answers of all cars to a brief
+-- the list has the answers of the brief's program for all cars
 abbrev pub AnswersAll : {P A : Type 0} → (P → Dice → Cells → ℕ → ℕ → List A → Type 0)
     → Brief P → List A → Type 0
 AnswersAll answers b found = answers b.program b.dice b.road 0 (cars b.road) found

@@ -44,8 +44,8 @@ DrawsTicket s old found new =
     × (found < old.0.plan.count → new.0 ≡ with_ticket old.0 found)
     × (old.0.plan.count ≤ found → new.0 ≡ at_end old.0)
 
--- a drawer learns from the counter that it has at most all passes, and with all of them each ticket that the
--- counter has passed; if it has ended, the counter has passed them all
+-- the counter shows that a drawer has at most all passes. If it has all passes, it has each ticket that the
+-- counter has passed; if it has ended, the counter has passed all tickets
 pub record LearnsCounter (counter : ℕ) (k : TicketKnowledge) : Type 0 where
   pub passes : k.passes ≤ k.plan.drawers
   pub drawers : k.plan.drawers ≤ MAX_WORKERS

@@ -1,5 +1,5 @@
-//! The workers of a single step: the threads of a crew end with each phase, so they borrow the road, and nobody waits
-//! for a lock.
+//! The workers of a single step: the threads of a crew end with each phase, so they borrow the road, and no thread
+//! waits for a lock.
 
 ghost use Rattle.std.specs.Prelude.{◌≡◌, ◌<◌, ◌≤◌, [], IfOk};
 ghost use Rattle.std.specs.Thread.{IsSend, IsSync};
@@ -24,7 +24,7 @@ use trlab_verify::{Change, Motion};
 use trlab_words::Key;
 
 /// 1 to 16 workers and their gate. The calling thread is worker 0; the others are started for each phase, and have
-/// ended when its answers are there.
+/// ended when its answers are returned.
 #[derive(Drop)]
 pub struct Crew<'a, R, G> {
     rt: &'a R,
@@ -65,7 +65,7 @@ impl<'a, R: Threads + Sync, G: Gate + Sync> Crew<'a, R, G> {
         let (drawer, parts) = share(self.rt, alloc, phase, &tickets, drawer, self.gate);
         let parts = parts?;
         let mut answers = Vec::new(alloc);
-        // Each worker has returned its pass, and had found no ticket left.
+        // Each worker returned its pass after it had found no ticket left, so all tickets were drawn.
         match tickets.finish(drawer) {
             Ok(()) => line_up(&mut answers, phase, count, &parts)?,
             Err(_) => unreachable!(),
@@ -73,7 +73,7 @@ impl<'a, R: Threads + Sync, G: Gate + Sync> Crew<'a, R, G> {
         Ok(answers)
     }
 
-    /// The speeds that a motion program answers to all cars of a road, in standing order, each in a byte.
+    /// The new speeds of all cars under a motion program, in cells per step and in standing order, each in a byte.
     ///
     /// # Errors
     ///
@@ -98,7 +98,7 @@ impl<'a, R: Threads + Sync, G: Gate + Sync> Crew<'a, R, G> {
         )
     }
 
-    /// Whether the cars of a road of two lanes cross, in standing order, as a change program answers.
+    /// Whether each car of a road of two lanes crosses under a change program, in standing order.
     ///
     /// # Errors
     ///
@@ -125,8 +125,8 @@ impl<'a, R: Threads + Sync, G: Gate + Sync> Crew<'a, R, G> {
     }
 }
 
-/// An executor by two calls: one for speeds, and one for lane changes. A `Crew` is not an `Executor` itself, because
-/// a method of a trait cannot yet start threads that call a gate of any type; a closure can.
+/// An executor made of two closures: one for speeds, and one for lane changes. A `Crew` is not an `Executor` itself,
+/// because a method of a trait cannot yet start threads that call a gate of any type; a closure can.
 #[derive(Drop)]
 pub struct Calls<S, C> {
     speeds: S,
@@ -134,7 +134,7 @@ pub struct Calls<S, C> {
 }
 
 impl<S, C> Calls<S, C> {
-    /// An executor by these calls.
+    /// An executor that calls `speeds` for the motion and `crossings` for the lane change.
     pub fn new(speeds: S, crossings: C) -> Calls<S, C>
         ensures speeds { result.speeds ≡ speeds }
         ensures crossings { result.crossings ≡ crossings }
@@ -179,9 +179,9 @@ impl<
     }
 }
 
-/// Lets as many workers ask the cars as the drawer has passes. Each but the last has a thread of its own; the last is
-/// worker 0, and works on this thread once the others were started. If a thread cannot be started, its work is done
-/// here too.
+/// Asks the cars with one worker per pass of the drawer. Each worker has its own thread, except worker 0: it works on
+/// the calling thread once the others were started. If a thread cannot be started, the calling thread does its work
+/// too.
 ///
 /// # Errors
 ///
@@ -229,10 +229,9 @@ fn share<A: Drop + Send, P: Asked<A> + Sync, R: Threads + Sync, G: Gate + Sync>(
 /// The next road as `step_road` returns it, with 1 to 16 workers. It is the same for every number of workers and
 /// every gate.
 ///
-/// The cars are cut into segments, four per worker but none without a car. In each of the two phases a
-/// worker draws the number of the next segment, passes the gate and asks its cars, until none is left. The
-/// calling thread is worker 0, and draws once the others were started; it also does the work of those that
-/// cannot be started.
+/// The cars are cut into segments, four per worker but none without a car. In each of the two phases a worker draws the
+/// number of the next segment, passes the gate and asks the segment's cars, until no segment is left. The calling
+/// thread is worker 0, and draws once the others were started; it also does the work of any that cannot be started.
 ///
 /// # Errors
 ///

@@ -1,9 +1,9 @@
 //! Workers share the cars of a road: the cars are cut into segments, and a free worker draws the number of the next
-//! segment, its ticket. They share one counter, without a lock, and yet each ticket is drawn once.
+//! segment, its ticket. The workers share one counter without a lock, yet no ticket is drawn twice.
 //!
-//! A crew takes one step, by threads that end with each phase of it (`step_shared`). A pool asks the cars in
-//! all steps of a run, by threads that live as long as the run. Both draw tickets, ask the cars of a segment
-//! and line up the answers of all segments in the same way.
+//! A crew takes one step, with threads that end with each of its phases (`step_shared`). A pool asks the cars in all
+//! steps of a run, with threads that live as long as the run. Both draw tickets, ask the cars of a segment and line up
+//! the answers of all segments in the same way.
 //!
 //! ```text
 //! let key = Key([7; 32]);

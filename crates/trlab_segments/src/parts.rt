@@ -46,7 +46,7 @@ fn add_part<A: Drop, P: Asked<A>>(
     Ok(())
 }
 
-/// Asks the cars of one segment after the other, as their numbers are drawn, until none is left.
+/// Draws one segment after another and asks its cars, until no segment is left.
 ///
 /// # Errors
 ///
@@ -109,8 +109,8 @@ fn place_of<A>(parts: &[Part<A>], number: u32) -> usize
     unreachable!()
 }
 
-/// Replaces a list by the answers of the parts of `count` segments, in the order of their numbers. A list that is
-/// long enough is filled again, without an allocation.
+/// Replaces a list by the answers of the parts of `count` segments, in the order of their numbers. A list with enough
+/// capacity is reused without an allocation.
 ///
 /// # Errors
 ///
@@ -149,8 +149,8 @@ fn ask_whole<A, P: Asked<A>>(answers: &mut Vec<A>, phase: &Phase<P>) -> Result<(
     P::ask(answers, phase, Segment { from: 0, to })
 }
 
-/// Replaces a list by the answers of all cars, in standing order, from the parts of the tickets that a drawer has. If
-/// a ticket is missing, all cars are asked here.
+/// Replaces a list by the answers of all cars, in standing order, from the parts of a drawer's tickets. If a ticket is
+/// missing, all cars are asked here.
 ///
 /// # Errors
 ///

@@ -1,5 +1,5 @@
-//! A phase of a step as all workers see it: a program is run for all cars of a road. A motion program answers each car
-//! a speed, a change program whether it crosses.
+//! A phase of a step as all workers see it: a program runs for all cars of a road. A motion program answers the speed
+//! of each car, a change program whether the car crosses.
 
 ghost use Rattle.std.specs.Prelude.{◌≡◌, ◌≤◌, ◌++◌, [], ℕ, IfOk, OnOk, List, length};
 ghost use Rattle.trlab_machine.specs.declared.dice.Dice.{Dice as TheDice};
@@ -15,7 +15,7 @@ use trlab_road::Road;
 use trlab_step::{compute_crossings, compute_speeds};
 use trlab_verify::{Change, Motion};
 
-/// A program, the road whose cars it is run for, and the dice.
+/// A program, the road for whose cars it runs, and the dice.
 #[derive(Drop)]
 pub struct Phase<'a, P> {
     pub program: &'a P,
@@ -23,15 +23,15 @@ pub struct Phase<'a, P> {
     pub dice: &'a Dice,
 }
 
-/// A program that answers something to each car of a road.
+/// A program that has an answer of type `A` for each car of a road.
 pub trait Asked<A>: Sized {
-    /// The phase in which it is run: 0 is the lane change, 1 the motion.
+    /// The phase in which the program runs: 0 is the lane change, 1 the motion.
     const PHASE: u32;
 
-    // The roads for whose cars it can be run.
+    // The roads for whose cars the program can run.
     ghost can_ask: { Cells → Type 0 };
 
-    // Its answers to the cars from an index of the standing order up to another.
+    // Whether a list has the program's answers for the cars from one index of the standing order up to another.
     ghost answers: { Self → TheDice → Cells → ℕ → ℕ → List A → Type 0 };
 
     /// Replaces a list by the answers to the cars of a segment, in standing order.

@@ -18,9 +18,9 @@ use std::sync::Wait;
 use std::thread;
 use std::thread::{Threads, join_mut};
 
-/// How many cars keep a worker busy for longer than it takes to wake one, if no program draws random numbers.
+/// The number of cars that keep a worker busy for longer than it takes to wake one, if no program draws random numbers.
 pub const CARS_PER_WORKER: u32 = 2000;
-/// The same if a program draws: then most of a car's time goes into random numbers.
+/// The same if a program draws random numbers, which then take most of the time per car.
 pub const DRAWING_CARS_PER_WORKER: u32 = 500;
 
 /// 1 to 16 workers and their gate. The calling thread is worker 0; the others are started once, for a
@@ -53,9 +53,9 @@ impl<'a, R: Threads + Wait + Sync, G: Gate + Sync> Pool<'a, R, G> {
         }
     }
 
-    /// As many of these workers as make the work faster on a road with `cars` cars: at most one per processor, and
-    /// one per 2000 cars, or per 500 cars if a program `draws` random numbers. Between two phases that are close
-    /// they stay awake.
+    /// Keeps only as many workers as save time on a road with `cars` cars: at most one per processor, and at most one
+    /// per 2000 cars, or per 500 cars if a program `draws` random numbers, but at least one. The helpers stay awake for
+    /// a while between two phases.
     pub fn sparing(self, cars: u32, draws: bool) -> Pool<'a, R, G>
         ensures some { 0 < pool_workers result }
         ensures few { pool_workers result ≤ pool_workers self.entry }
@@ -72,8 +72,8 @@ impl<'a, R: Threads + Wait + Sync, G: Gate + Sync> Pool<'a, R, G> {
         }
     }
 
-    /// Drives a run, while helpers wait for its phases. All helpers have ended when it returns, and a second run starts
-    /// none. If no thread can be started, the run goes on without helpers.
+    /// Calls `drive`, which drives a run, while helpers wait for the run's phases. All helpers have ended when `run`
+    /// returns, and a second call has no helpers. If no thread can be started, the run goes on without them.
     pub fn run<T, D: FnMut() -> T>(&self, alloc: Global, drive: &mut D) -> T
         requires { D.pre drive.old }
         ensures { D.step drive.old result drive.new }
@@ -101,7 +101,7 @@ impl<'a, R: Threads + Wait + Sync, G: Gate + Sync> Pool<'a, R, G> {
     }
 }
 
-/// How many cars keep a worker busy, by whether a program draws random numbers.
+/// The number of cars that keep a worker busy, if a program `draws` random numbers or if none does.
 fn cars_per_worker(draws: bool) -> u32
     ensures some { 0 < result }
     ensures value { result ≡ (if draws then DRAWING_CARS_PER_WORKER else CARS_PER_WORKER) }
@@ -113,7 +113,7 @@ fn cars_per_worker(draws: bool) -> u32
     }
 }
 
-/// As many of these workers as there are processors; one if their number is unknown.
+/// The number of workers, but at most one per processor; one if the number of processors is unknown.
 fn within_processors<R: Threads>(rt: &R, workers: u32) -> u32
     requires { 0 < workers }
     ensures some { 0 < result }

@@ -1,11 +1,11 @@
-//! The cars of a road in standing order, cut into segments of nearly one size, and the gate before each segment. There
-//! are more segments than workers, so that none waits long for the last of them.
+//! The cars of a road in standing order, cut into segments of nearly equal size, and the gate before each segment.
+//! There are more segments than workers, so that no worker waits long for the last one.
 
 ghost use Rattle.std.specs.Prelude.{◌≡◌, ◌+◌, ◌<◌, ◌≤◌};
 ghost use Rattle.trlab_bounds.specs.declared.runs.TheConstants.{MAX_WORKERS};
 ghost use Rattle.trlab_segments.specs.Segments.{first_car, segment_count};
 
-/// Successive cars in standing order: `from` up to but not `to`.
+/// Successive cars in standing order: from car `from` up to, but not including, car `to`.
 #[derive(Clone, Copy)]
 pub struct Segment {
     pub from: u32,
@@ -45,8 +45,8 @@ impl Segment {
     }
 }
 
-/// Workers pass it before they ask the cars of a segment. A gate influences no answer; it may hold a worker up, so
-/// that a test sees several at work.
+/// A worker passes the gate before it asks the cars of a segment. A gate influences no answer; it may hold a worker up,
+/// so that a test can observe several workers at once.
 pub trait Gate {
     /// Lets a worker (0 is the calling thread) begin a segment of a phase (0 is the lane change, 1 the
     /// motion) of a step of the road with this number.

@@ -33,7 +33,7 @@ impl TableRule<u8, TicketKnowledge, Plan> for OncePerTicket {
     ghost first = { first_drawer };
 }
 
-/// The step that draws.
+/// The step that draws the next ticket.
 pub struct DrawNext;
 
 impl Play<u8, TicketKnowledge> for DrawNext {

@@ -10,8 +10,8 @@ use crate::ticket_rule::{
 use atomic_table::{Seat, Table};
 use std::alloc::{AllocError, Global};
 
-/// The numbers below a count, each to be drawn once, by any of up to 16 drawers. Threads may share
-/// it by reference: its counter changes in atomic steps, and nothing of it is locked.
+/// The numbers below a count, each to be drawn once, by any of up to 16 drawers. Threads may share the tickets by
+/// reference: their counter changes in atomic steps, without a lock.
 #[derive(Drop)]
 pub struct Tickets {
     pub(crate) plan: Plan,
@@ -40,7 +40,7 @@ impl Tickets {
     ghost use Rattle.trlab_segments.specs.Drawers.{count_of, drawers_of, passes_of, tickets_of, is_ended};
     ghost use Rattle.trlab_segments.specs.Knowledge.{IsWhole};
 
-    /// The tickets 0 up to but not `count`, and their first drawer, with a pass for each of 1 to 16
+    /// The tickets from 0 up to, but not including, `count`, and their first drawer, with a pass for each of 1 to 16
     /// drawers.
     ///
     /// # Errors
@@ -90,8 +90,8 @@ impl Tickets {
         }
     }
 
-    /// Takes one pass from a drawer that has two or more, and returns a drawer with it. The first keeps its tickets;
-    /// if it has ended, both have.
+    /// Takes one pass from a drawer with two or more, and returns it as a new drawer. The old drawer keeps its tickets;
+    /// if it has ended, so has the new one.
     pub fn split(&self, drawer: &mut Drawer) -> Drawer
         requires from { IsFrom self.now drawer.old }
         requires more { 1 < passes_of drawer.old }
@@ -131,7 +131,8 @@ impl Tickets {
         self.table
             .shared
             .join_seat::<JoinDrawers>(&mut seat, joined);
-        // By a look at the counter the passes are at most the drawers, so their sum does not overflow.
+        // For the proof: reading the counter shows that the passes are at most the drawers, so their sum does not
+        // overflow.
         self.table.shared.load::<ReadCounter>(&mut seat, 0);
         Drawer {
             passes: some + more,

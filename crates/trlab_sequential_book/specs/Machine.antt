@@ -104,7 +104,7 @@ revoking job =
     if is_some job.out then record { reply = reply.Done; job = record job { out = None } }
     else refused fault.StrangerLease job
 
--- the job ends and its lease
+-- the job and its lease end
 abbrev pub cancelling : JobState → Outcome
 cancelling job =
     if job.cancelled || (job.done == job.steps) then refused fault.Ended job
@@ -148,7 +148,7 @@ submitting jobs seed rule steps =
     then record { reply = reply.Number (length jobs); jobs = jobs ++ new_job seed rule steps ∷ [] }
     else record { reply = reply.Refused fault.Full; jobs = jobs }
 
--- `lease` lends the first job that is free; the other calls, except `submit`, are on the job that they name
+-- `lease` lends the first job that is free; `submit` adds a job; each other call is on the job that it names
 abbrev pub served : BookState → Call → Served
 served book (call.Submit seed rule steps) = submitting book.jobs seed rule steps
 served book (call.Replace job rule) = on_job book.jobs job (replacing rule)

@@ -26,13 +26,13 @@ use trlab_rules::Rule;
 /// The maximum number of jobs of a book.
 pub const MAX_JOBS: usize = 256;
 
-/// The maximum number of events of a book. After them it refuses each call.
+/// The maximum number of events of a book. After that many it refuses each call.
 pub const MAX_EVENTS: u32 = 1000000;
 
 /// A book of up to 256 jobs, which are numbered from 0 and never removed.
 ///
-/// Each call is an event, also a refused one, unless it is refused as `HistoryFull` or `Memory`: then nothing
-/// changes.
+/// Each call is an event, even if it is refused. Only a call refused as `HistoryFull` or `Memory` is not an event, and
+/// changes nothing.
 pub struct Book {
     /// How many events there were.
     count: u32,
@@ -164,8 +164,8 @@ impl Book {
         answer
     }
 
-    /// Lends the job with the smallest number that is not out, not cancelled and has steps to do. Returns `None`
-    /// if there is no such job.
+    /// Lends the free job with the smallest number, or returns `None` if no job is free. A job is free if it is not
+    /// out, not cancelled and has steps to do.
     ///
     /// # Errors
     ///
@@ -201,8 +201,8 @@ impl Book {
         found.runs(lease)
     }
 
-    /// Orders a lease's next step, and returns the rule in force there. The order shares it with the job's
-    /// sheet, so the allocator is not used.
+    /// Orders a lease's next step, and returns the rule in force there. The order shares the rule with the job's sheet,
+    /// so the allocator is not used.
     ///
     /// # Errors
     ///
@@ -326,7 +326,7 @@ impl Book {
     }
 }
 
-/// How many events there are after a call with this answer, `count` before it.
+/// The number of events after a call with this answer; `count` is the number before the call.
 fn count_after<T>(count: u32, answer: &Result<T, BookFault>) -> u32
     requires { count < 1000000 }
     ensures value { MatchBool (is_memory answer.now) (result ≡ count) (result ≡ count + 1) }
@@ -338,7 +338,7 @@ fn count_after<T>(count: u32, answer: &Result<T, BookFault>) -> u32
     }
 }
 
-// The calls on the list of jobs. They know nothing of the count of events.
+// The calls as functions on the list of jobs. They do not count events.
 
 fn submit_in(
     jobs: &mut Vec<JobRecord>,
@@ -381,7 +381,7 @@ fn make_room(jobs: &mut Vec<JobRecord>, seed: &Seed, rule: &Rule) -> Result<(), 
     Ok(jobs.reserve(1)?)
 }
 
-/// Whether a book of this many jobs takes no more.
+/// Whether a book with this many jobs is full.
 fn has_all_jobs(jobs: usize) -> bool
     ensures { result ≡ not (ltb jobs 256) }
 {
@@ -424,7 +424,7 @@ fn cancel_in(jobs: &mut Vec<JobRecord>, index: u32) -> Result<(), BookFault>
     found.cancel()
 }
 
-/// The smallest number of a job that can go out.
+/// The smallest number of a free job.
 fn free_in(jobs: &[JobRecord]) -> Option<usize>
     ensures place { result ≡ position is_free jobs.now }
     ensures within { IfSome result (λ index. index < length jobs.now) }

@@ -15,7 +15,8 @@ pub struct Offered {
     pub same: bool,
 }
 
-/// A call of the book with its arguments. The `u32` is the number of the job, but in `Submit` the number of steps.
+/// A call of the book with its arguments. The `u32` is the number of the job; only in `Submit` it is the number of
+/// steps.
 #[derive(Drop)]
 pub enum Call {
     Submit(BoxedSeed, BoxedRule, u32),
@@ -32,7 +33,7 @@ pub enum Call {
 #[derive(Clone, Copy, PartialEq, Eq)]
 pub enum Reply {
     Refused(BookFault),
-    /// Of `submit` the number of the job, of `replace` the step from which the rule is in force.
+    /// `submit`: the number of the new job. `replace`: the step from which the rule is in force.
     Number(u32),
     /// A lease went out: its job, its number, its next step, and the steps of the job.
     Leased {
@@ -50,7 +51,7 @@ pub enum Reply {
         step: u32,
         from: u32,
     },
-    /// Of `give_back`, `revoke` and `cancel`.
+    /// `give_back`, `revoke` or `cancel` succeeded.
     Done,
     /// The steps done in a snapshot, and the number of entries of its sheet.
     Seen {

@@ -13,7 +13,7 @@ pub enum BookFault {
     /// The book has 256 jobs.
     #[error("the book is full")]
     Full,
-    /// There is no such job.
+    /// The book has no job with this number.
     #[error("there is no such job")]
     NoSuchJob,
     /// The job was cancelled, or all its steps are ordered or done.
@@ -25,7 +25,8 @@ pub enum BookFault {
     /// The job's sheet has 1024 entries.
     #[error("the sheet is full")]
     SheetFull,
-    /// The lease is not the one that is out, or does not run this job's road under its rules.
+    /// The lease is not the one that is out, or does not run this job's road under its rules. For `revoke`: no lease is
+    /// out.
     #[error("the lease is not for this job")]
     StrangerLease,
     /// The book has had 1,000,000 events.

@@ -73,7 +73,7 @@ impl Model for JobRecord {
 }
 
 impl JobRecord {
-    /// A new job, of which no step is done.
+    /// A new job at step 0. No step has been ordered, and no lease is out.
     pub fn new(
         alloc: Global,
         seed: BoxedSeed,
@@ -159,7 +159,7 @@ impl JobRecord {
         self.out.is_none() && !self.cancelled && self.done < self.steps
     }
 
-    /// Leases the job, whose number is `index`; `number` is the lease's number.
+    /// Lends the job. `index` is the job's number, `number` the lease's.
     pub fn lend(&mut self, alloc: Global, index: u32, number: u32) -> Result<Lease, AllocError>
         ensures lease { IfOk result (λ lease. (lease.job ≡ index) × IsFresh self.old number lease) }
         ensures job { IfOk result (λ _. self.new ≡ (leasing index number self.old).job) }
@@ -190,7 +190,7 @@ impl JobRecord {
     pub fn runs(&self, lease: &Lease) -> bool
         ensures { IsTrue result ↔ IsOwnRun self.now lease.now }
     {
-        // This is a `u32`, so no step up to it overflows.
+        // For the proof: the lease's step is a `u32`, so no step up to it overflows.
         let _end = lease.step();
         let seed = self.seed.get();
         if lease.road_number() != seed.number || !same_key(lease.key(), &seed.key) {
@@ -203,8 +203,7 @@ impl JobRecord {
             .are_in_force(lease.base_step(), lease.applied(), lease.is_steady())
     }
 
-    /// Whether a lease is the one that is out, so that it may be ordered or given back. `same`: it runs the job's
-    /// road.
+    /// Whether a lease is the one that is out, and may be ordered or given back. `same`: the lease runs the job's road.
     fn owns(&self, lease: &Lease, same: bool) -> bool
         ensures { result ≡ is_own (offered lease.now same) self.now }
     {
@@ -248,13 +247,13 @@ impl JobRecord {
         })
     }
 
-    /// The job's tally, with the tallies of a lease's steps added.
+    /// The job's tally plus those of a lease's steps. Steps before the seed's `warm` are not counted.
     fn tally_with(&self, lease: &Lease) -> StepTally
         requires base { lease.now.base.step ≡ self.now.done }
         requires own { IsOwnRun self.now lease.now }
         ensures { IsUnderway (run_of self.now.seed self.now.sheet lease.now.step lease.now.road result) }
     {
-        // This is a `u32`, so no step up to it overflows.
+        // For the proof: the lease's step is a `u32`, so no step up to it overflows.
         let _end = lease.step();
         let mut step = self.done;
         let mut sum = self.tally;

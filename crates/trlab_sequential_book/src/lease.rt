@@ -25,7 +25,7 @@ use trlab_words::Key;
 /// Why a lease ran no step.
 #[derive(Clone, Copy, Debug, PartialEq, Eq, Error)]
 pub enum LeaseFault {
-    /// The order is for another job, lease or step, or it has a change program and the road one lane.
+    /// The order is for another job, lease or step, or its rule has a change program and the road has one lane.
     #[error("the order is not for this lease")]
     WrongOrder,
     /// An allocation failed.
@@ -57,8 +57,8 @@ impl Drop for ExecutedStep {
     }
 }
 
-/// The right to run a job's steps outside the book: the job's road when it went out, the steps that were run
-/// since, and the road there.
+/// The right to run a job's steps outside the book: the job's road when it went out, the steps run since then, and the
+/// road after them.
 #[derive(Drop)]
 pub struct Lease {
     pub(crate) job: u32,
@@ -69,12 +69,12 @@ pub struct Lease {
     pub(crate) base_step: u32,
     pub(crate) base_road: BoxedRoad,
     pub(crate) step: u32,
-    /// Shared with nothing until the job takes it over.
+    /// Not shared until the job takes it over.
     pub(crate) road: Arc<Road, Global>,
     pub(crate) applied: Vec<ExecutedStep>,
     /// If true, all steps that were run had the same rule.
     pub(crate) is_steady: bool,
-    /// Memory that each step uses again.
+    /// Memory that is reused by each step.
     pub(crate) room: StepRoom,
 }
 
@@ -125,7 +125,7 @@ impl Lease {
         &self.key
     }
 
-    /// The number of the road, on which its random numbers depend as well.
+    /// The number of the road, which with the key determines its random numbers.
     pub(crate) fn road_number(&self) -> u32
         ensures { result ≡ self.now.road_number }
     {
@@ -146,7 +146,7 @@ impl Lease {
         self.base_road.get()
     }
 
-    /// The next step to run: `base_step` and the number of steps that were run.
+    /// The next step to run: `base_step` plus the number of steps that were run.
     pub fn step(&self) -> u32
         ensures value { result ≡ self.now.step }
         ensures lease { IsLease self.now }
@@ -177,7 +177,7 @@ impl Lease {
         self.is_steady
     }
 
-    /// Ends the lease, and returns the road to which it has come.
+    /// Ends the lease, and returns the road before its next step.
     pub(crate) fn into_road(self) -> Arc<Road, Global>
         ensures { arc_value result ≡ self.road }
     {
@@ -188,8 +188,8 @@ impl Lease {
     ///
     /// # Errors
     ///
-    /// `WrongOrder` if the order is for another job, lease or step, or has a change program and the road one
-    /// lane; `Memory` if an allocation fails. Then nothing changes.
+    /// `WrongOrder` if the order is for another job, lease or step, or its rule has a change program and the road has
+    /// one lane; `Memory` if an allocation fails. Then nothing changes.
     pub fn advance<A: Executor>(
         &mut self,
         executor: &A,
@@ -275,7 +275,7 @@ fn step_alone<A: Executor>(
     }
 }
 
-/// Whether it is still known that all steps have the same rule, if this rule is the next.
+/// Whether all steps are still known to have the same rule after a step under this one.
 fn stays_steady(applied: &[ExecutedStep], is_steady: bool, rule: &BoxedRule) -> bool
     requires { IsTrue is_steady → IsSteady applied.now }
     ensures { IsTrue result → (tally : StepTally)

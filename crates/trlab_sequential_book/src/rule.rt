@@ -23,8 +23,8 @@ pub(crate) fn suits(rule: &Rule, road: &Road) -> bool
     !(rule.change().is_some() && lanes == 1)
 }
 
-/// A rule with the encodings of its motion program and its change program. Rules are compared by these bytes,
-/// many at once; instructions would be compared one by one.
+/// A rule with the encodings of its motion program and its change program. Rules are compared by these bytes, because
+/// bytes are compared many at a time and instructions one by one.
 pub(crate) struct EncodedRule {
     rule: Rule,
     motion: Vec<u8>,
@@ -54,7 +54,7 @@ impl Model for EncodedRule {
 }
 
 impl EncodedRule {
-    /// Adds to a rule the encodings of its programs.
+    /// Encodes the programs of a rule.
     ///
     /// # Errors
     ///
@@ -95,7 +95,7 @@ fn bytes_of_change(alloc: Global, rule: &Rule) -> Result<Vec<u8>, AllocError>
     }
 }
 
-/// A rule that several owners share and nobody changes.
+/// An immutable rule that several owners share.
 pub struct BoxedRule {
     held: Arc<EncodedRule, Global>,
 }

@@ -51,7 +51,7 @@ impl Seed {
     }
 }
 
-/// A seed that several owners share and nobody changes.
+/// An immutable seed that several owners share.
 pub struct BoxedSeed {
     held: Arc<Seed, Global>,
 }
@@ -104,7 +104,7 @@ impl BoxedSeed {
     }
 }
 
-/// A road of the run of a seed, which several owners share and nobody changes.
+/// An immutable road of a seed's run that several owners share.
 pub(crate) struct BoxedRoad {
     seed: BoxedSeed,
     /// None for the road of the seed itself.

@@ -68,7 +68,7 @@ impl Sheet {
         (from, rule.get())
     }
 
-    /// An entry, with the rule that can be shared.
+    /// An entry, with its rule as a `BoxedRule` that can be shared.
     fn kept_entry(&self, index: usize) -> (u32, &BoxedRule)
         requires { index < length self.now }
         ensures { slice_get self.now index ≡ Some (result.0, result.1.now) }
@@ -98,8 +98,8 @@ impl Sheet {
         Ok(Sheet { entries })
     }
 
-    /// Whether the rules of these steps, the first of which is step `first`, are those in force. If they are all
-    /// the same (`is_steady`) and the last entry begins by then, one comparison decides.
+    /// Whether the steps `applied`, numbered from `first`, were run under the rules in force. If they all have the same
+    /// rule (`is_steady`) and the last entry begins at `first` or before, one comparison decides.
     pub(crate) fn are_in_force(&self, first: u32, applied: &[ExecutedStep], is_steady: bool) -> bool
         requires steps { first + length applied.now < 2 ^ 32 }
         requires steady { IsTrue is_steady → IsSteady applied.now }
@@ -116,7 +116,7 @@ impl Sheet {
         }
     }
 
-    /// `are_in_force`, which compares the rule of each step.
+    /// `are_in_force`, by comparing the rule of each step.
     fn are_each_in_force(&self, first: u32, applied: &[ExecutedStep]) -> bool
         requires { first + length applied.now < 2 ^ 32 }
         ensures { IsTrue result ↔ AreInForce self.now first applied.now }
@@ -132,7 +132,7 @@ impl Sheet {
         true
     }
 
-    /// Adds a rule that is in force from the step `from`, instead of an entry that begins there.
+    /// Adds a rule that is in force from the step `from`. It replaces an entry that begins at the same step.
     ///
     /// # Errors
     ///

@@ -69,7 +69,7 @@ AnswersCrossings change dice road = AreAnswers (AnswersCrossing change dice road
 abbrev pub AnswersSpeedsPart : CheckedProgram → Dice → Cells → ℕ → ℕ → List ℕ → Type 0
 AnswersSpeedsPart motion dice road = AreAnswersPart (AnswersSpeed motion dice road) road
 
--- a change program answers these flags, does a car cross, for the cars `from..to` in standing order
+-- a change program answers for the cars `from..to` in standing order whether each of them crosses
 abbrev pub AnswersCrossingsPart : CheckedProgram → Dice → Cells → ℕ → ℕ → List Bool → Type 0
 AnswersCrossingsPart change dice road = AreAnswersPart (AnswersCrossing change dice road) road
 

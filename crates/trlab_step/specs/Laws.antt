@@ -1,4 +1,4 @@
--- Laws of answers, steps and runs, whatever code computes the answers and moves the cars.
+-- Laws of answers, steps and runs, independent of the code that computes the answers and moves the cars.
 use Rattle.std.specs.Prelude.{◌≡◌, ◌≤◌, ◌++◌, ℕ, suc, Bool, Option, Some, None, List, [], All, IfSome, IsSome, length, sum, count_by, nat_eq, nat_le, if◌then◌else◌}
 use Rattle.trlab_code.specs.declared.program.Kind.{Kind}
 use Rattle.trlab_code.specs.declared.program.Kind.TheVariants.{Motion, Change}
@@ -24,7 +24,7 @@ pub record IsRuleFor (lanes : ℕ) (rule : Programs) : Type 0 where
   pub change : IfSome rule.change (λ change. IsChecked Change change)
   pub two_lanes : IsSome rule.change → lanes ≡ 2
 
--- a sheet for roads of `lanes` lanes: each of its rules is one for them
+-- a sheet for roads of `lanes` lanes: each of its rules is for such roads
 pub record IsSheetFor (lanes : ℕ) (sheet : Sheet) : Type 0 where
   pub is_sheet : IsSheet sheet
   pub rules : All (λ (entry : ℕ × Programs). IsRuleFor lanes entry.1) sheet
@@ -51,7 +51,7 @@ SpeedsJoin =
     → AnswersSpeedsPart motion dice road middle to second
     → AnswersSpeedsPart motion dice road from to (first ++ second)
 
--- each part of the standing order has only one list of flags: does a car cross?
+-- each part of the standing order has only one list of flags that say which cars cross
 abbrev pub CrossingsAreOne : Type 0
 CrossingsAreOne =
     (change : CheckedProgram) (dice : Dice) (road : Cells) (from to : ℕ) (crosses others : List Bool)
@@ -109,7 +109,7 @@ SpeedsComeInTime =
     → IsChecked Motion motion → IsLegal road → IsAt road car
     → (answer : AnswersSpeed motion dice road car speed) → answer.0 ≤ motion.budget
 
--- the same for an accepted change program, on two lanes
+-- on a legal road of two lanes an accepted change program answers within its budget
 abbrev pub CrossingsComeInTime : Type 0
 CrossingsComeInTime =
     (change : CheckedProgram) (dice : Dice) (road : Cells) (car : Car) (crosses : Bool)

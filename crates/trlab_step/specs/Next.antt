@@ -27,8 +27,8 @@ stopped_cars road = count_by (λ (car : Car). nat_eq car.speed 0) (standing road
 abbrev pub crossing_cars : (ℕ → ℕ → Bool) → Cells → ℕ
 crossing_cars crosses road = count_by (λ (car : Car). crosses car.lane car.place) (standing road)
 
--- the lane change: with a change program, which needs two lanes, the cars cross for which it answers so; without one
--- no car crosses
+-- the lane change: a change program needs two lanes, and exactly the cars cross for which it answers so.
+-- Without a change program no car crosses
 abbrev pub IsLaneChangePhase : Option CheckedProgram → Dice → Cells → Cells → ℕ → Type 0
 IsLaneChangePhase None dice road middle changes = (middle ≡ road) × (changes ≡ 0)
 IsLaneChangePhase (Some change) dice road middle changes =

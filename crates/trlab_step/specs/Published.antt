@@ -29,8 +29,9 @@ nasch_goes p dice road car =
 abbrev pub vdr_goes : ℕ → ℕ → Dice → Cells → Car → ℕ
 vdr_goes p p0 dice road car = nasch_goes (vdr_chance p p0 car.speed) dice road car
 
--- does a car cross? Its side cell is empty, its gap is below its speed plus one, the gap ahead on the other lane is
--- above that, the gap behind there is above the limit, and an event of probability c happens (Rickert and others 1996)
+-- does a car cross? Its side cell is empty, its gap is below its speed plus one, its sidegap is above its
+-- speed plus one, its sideback is above the limit, and an event of probability c happens (Rickert and others
+-- 1996)
 abbrev pub rickert_car_crosses : ℕ → Dice → Cells → Car → Bool
 rickert_car_crosses c dice road car =
     let other = lane_of road (other_lane car.lane) in
@@ -51,7 +52,7 @@ car_ahead road car speed = record {
 abbrev pub AllGo : (Car → ℕ) → Cells → Cells → Type 0
 AllGo goes old new = (car : Car) → IsAt old car → IsAt new (car_ahead old car (goes car))
 
--- each car that crosses is at its side cell, each other car is where it was
+-- each car that crosses is in its side cell, and each other car is in its old cell
 abbrev pub AllCross : (Car → Bool) → Cells → Cells → Type 0
 AllCross crosses old new =
     (car : Car) → IsAt old car → IsAt new (if crosses car then car_beside car else car)

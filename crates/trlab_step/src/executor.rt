@@ -15,7 +15,7 @@ use trlab_verify::{Change, Motion};
 /// Sees the road of a step before its cars cross and move. It runs on the calling thread while other threads compute
 /// the answers, so writing a row costs less time.
 pub trait StepObserver {
-    // The observer before it sees a road, the road, and the observer after it.
+    // How an observer changes when it sees a road: the observer before, the road, and the observer after.
     ghost observes: { Self → Cells → Self → Type 0 };
 
     /// Looks at a road.
@@ -38,7 +38,7 @@ impl StepObserver for NoObserver {
 /// The road is borrowed mutably, so that it can be moved to other threads; it comes back unchanged. The observer sees
 /// it once, even if an allocation fails.
 pub trait Executor {
-    // What has to hold before a call. An executor with threads states here what they may share.
+    // The condition for a call, for example the contracts of the closures that an executor calls.
     ghost is_ready: { Self → Type 0 };
 
     /// The new speeds of the cars under a motion program, in cells per step, each in a byte.

@@ -1,4 +1,4 @@
-//! Laws of answers, steps and runs, whatever code computes the answers and moves the cars.
+//! Laws of answers, steps and runs, independent of the code that computes the answers and moves the cars.
 //!
 //! Each law is the contract of a function with an empty body.
 
@@ -16,14 +16,14 @@ pub fn parts_make_the_whole()
     ensures join { SpeedsJoin }
 {}
 
-/// The same for the answers of change programs.
+/// The same holds for the answers of change programs.
 pub fn crossings_make_the_whole()
     ensures one { CrossingsAreOne }
     ensures join { CrossingsJoin }
 {}
 
 /// If all cars cross, and then move, by their answers in standing order, the result is the next road and its tally,
-/// whatever code computed the answers.
+/// regardless of the code that computed the answers.
 pub fn answers_lead_on()
     ensures { AnswersLeadOn }
 {}

@@ -26,7 +26,7 @@ pub struct Run {
     step: u32,
     road: Road,
     sum: StepTally,
-    /// Memory that each step uses again.
+    /// Memory that is reused by each step.
     room: StepRoom,
 }
 

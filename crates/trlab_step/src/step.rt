@@ -69,7 +69,7 @@ impl StepRoom {
     }
 }
 
-/// How the answers of the cars of a step are computed: by which executor, and with which dice.
+/// How the answers of the cars of a step are computed: the executor, its allocator and the dice.
 #[derive(Drop)]
 pub struct Asking<'a, A> {
     pub executor: &'a A,
@@ -77,7 +77,7 @@ pub struct Asking<'a, A> {
     pub dice: &'a Dice,
 }
 
-/// Does the rule have a change program, although the road has one lane?
+/// Whether the rule has a change program, but the road has only one lane.
 fn lanes_mismatch(road: &Road, rule: &Rule) -> bool
     ensures value { IsTrue result ↔ (IsSome rule.now.change × (length road.now.lanes ≡ 1)) }
     ensures legal { IsLegal road.now }
@@ -85,15 +85,15 @@ fn lanes_mismatch(road: &Road, rule: &Rule) -> bool
     road.lanes() == 1 && rule.change().is_some()
 }
 
-/// The next road under a rule, and the tally of the step; the executor computes the answers of the cars.
+/// The next road under a rule, and the tally of the step. The executor computes the answers of the cars.
 ///
-/// If the rule has a change program, it decides on this road which cars cross, and they do so at once. On the road
-/// after that the motion program decides the new speeds, and all cars move at once. A car has the same random words
-/// in both phases.
+/// If the rule has a change program, it decides on this road which cars cross, and these cross at once. On the road
+/// after the lane change the motion program decides the new speeds, and all cars move at once. A car has the same
+/// random words in both phases.
 ///
 /// # Errors
 ///
-/// `LanesMismatch` if the rule has a change program and the road one lane, and `Memory` if an allocation fails.
+/// `LanesMismatch` if the rule has a change program and the road has one lane, and `Memory` if an allocation fails.
 pub fn step_road_by<A: Executor>(
     executor: &A,
     alloc: Global,
@@ -124,7 +124,7 @@ pub fn step_road_by<A: Executor>(
 ///
 /// # Errors
 ///
-/// `LanesMismatch` if the rule has a change program and the road one lane, and `Memory` if an allocation fails.
+/// `LanesMismatch` if the rule has a change program and the road has one lane, and `Memory` if an allocation fails.
 pub fn step_road(
     alloc: Global,
     road: &Road,
@@ -143,7 +143,7 @@ pub fn step_road(
 ///
 /// # Errors
 ///
-/// If an allocation fails; then the road is unchanged. The room may have lost its lists, but can be used again.
+/// If an allocation fails; then the road is unchanged. The room may have lost its memory, but can still be used.
 pub fn take_step<A: Executor, O: StepObserver>(
     asking: &Asking<A>,
     road: &mut Road,
@@ -172,8 +172,8 @@ pub fn take_step<A: Executor, O: StepObserver>(
     }
 }
 
-/// Takes the motion on `middle`, the road after the lane change, and puts the result in the place of the road. Returns
-/// the tally of the motion.
+/// Runs the motion on `middle`, the road after the lane change, and replaces `road` by the result. Returns the tally of
+/// the motion.
 fn move_on<A: Executor>(
     asking: &Asking<A>,
     road: &mut Road,

@@ -14,11 +14,11 @@ once_below k count = cond (ltb k count) 1 0
 abbrev pub noted : {E : Type 0} → List E → E → Noted E
 noted before event = record { before = before; event = event }
 
--- its number in the list: the number of earlier events
+-- the number of an event in the list: how many events came before it
 abbrev pub event_number : {E : Type 0} → Noted E → ℕ
 event_number n = length n.before
 
--- how often this number is among theirs
+-- how many of these events have this number
 abbrev pub times : {E : Type 0} → ℕ → List (Noted E) → ℕ
 times k own = count_by (λ n. eqb (event_number n) k) own
 
@@ -67,7 +67,7 @@ less_a_part k = strand_knowledge (k.parts - 1) k.own k.least k.keeps k.all
 abbrev pub one_part : {E : Type 0} → StrandKnowledge E → StrandKnowledge E
 one_part k = strand_knowledge 1 [] k.least false []
 
--- a strand without the list, and what is known at another seat
+-- the knowledge of a strand without the list, joined with that of another seat
 abbrev pub both_seats : {E : Type 0} → StrandKnowledge E → StrandKnowledge E → StrandKnowledge E
 both_seats k l = strand_knowledge (k.parts + l.parts) (k.own ++ l.own) (max k.least l.least) l.keeps l.all
 

@@ -8,7 +8,7 @@ use Rattle.trlab_strands.specs.declared.tokens.Strand.{Strand}
 use Rattle.trlab_strands.specs.declared.knowledge.Noted.{Noted}
 use Rattle.trlab_strands.specs.Knowledge.{noted}
 
--- the name by which a ledger has the strands of a blank
+-- the name of a blank's strands, which the ledger that opens the blank must have
 abbrev pub name_of : {E : Type 0} → Blank E → TableId
 name_of b = b.table.shared.table_id
 

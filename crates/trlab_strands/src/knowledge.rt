@@ -5,7 +5,7 @@ use atomic_table::{Join, Play, Split, TableRule};
 use std::collections::LinkedList;
 use std::marker::{Brand, PhantomData};
 
-/// The parts of the right to add to a list: there can be as many strands.
+/// The number of parts of the right to add to a list, and so the maximum number of its strands.
 pub const ALL_PARTS: u32 = 1024;
 
 /// Names the strands of one list, so that only strands that belong together are joined. Each call of a program picks

@@ -1,8 +1,8 @@
 //! Records which events each of several threads has added to one list under a lock. A strand has the events of one
 //! thread, each with its number in the list; all strands together have each event exactly once.
 //!
-//! So the owner of all strands knows of a whole history which thread added which event, and in which order.
-//! Strands need no memory but one word, which all of them share and no thread reads.
+//! So the owner of all strands knows which thread added which event of the history, and in which order. All strands of
+//! a list share one word of memory, whose value no result depends on, and need no other memory.
 //!
 //! ```text
 //! let (strands, mut keeper, mut strand) = blank.open::<L>();

@@ -1,5 +1,5 @@
 //! The tokens of a list: its strands, their keeper, and the word that all of them share. Each call is a few atomic
-//! steps, and waits for nobody.
+//! steps, and waits for no other thread.
 
 ghost use Rattle.std.specs.Prelude.{◌≡◌, ◌<◌, ◌≤◌, ◌+◌, max, true, false, [], ◌∷◌, ◌++◌, length, IfOk};
 ghost use Rattle.trlab_strands.specs.Knowledge.{IsLinearization, StandIn, first_seat};
@@ -41,7 +41,7 @@ pub struct Keeper<L: Ledger, E> {
     ghost keeps: { seat.me.0.keeps ≡ true },
 }
 
-/// The events that one thread added to the list, and the right to add more, in one or more of 1024 parts.
+/// The events that one thread added to the list, and the right to add more, with 1 to 1024 parts.
 #[derive(Drop)]
 pub struct Strand<L: Ledger, E> {
     pub(crate) seat: Seat<E, StrandKnowledge<E>>,
@@ -94,7 +94,7 @@ impl<E: Drop> Blank<E> {
 impl<L: Ledger, E: Drop> Keeper<L, E> {
     ghost use Rattle.trlab_strands.specs.Tokens.{Adds, CatchesUp, IsSameStrand, strand_events, list_of, strand_parts};
 
-    /// Adds an event after the list, as one of this strand.
+    /// Notes an event as the next one of the list, and as one of this strand.
     pub fn note(&mut self, strands: &Strands<L, E>, strand: &mut Strand<L, E>, event: &E)
         ensures list { list_of self.new ≡ list_of self.old ++ event.now ∷ [] }
         ensures strand { Adds strand.old (list_of self.old) event.now strand.new }
@@ -142,7 +142,7 @@ impl<L: Ledger, E: Drop> Keeper<L, E> {
 impl<L: Ledger, E: Drop> Strands<L, E> {
     ghost use Rattle.trlab_strands.specs.Tokens.{strand_events, strand_clock, strand_parts};
 
-    /// Takes one part from a strand that has two or more, and returns a strand with it and without events. The first
+    /// Takes one part from a strand with two or more, and returns it as a new strand without events. The old strand
     /// keeps its events.
     pub fn split(&self, strand: &mut Strand<L, E>) -> Strand<L, E>
         requires { 1 < strand_parts strand.old }

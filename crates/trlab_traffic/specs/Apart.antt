@@ -14,7 +14,7 @@ pub record ShareLane (l : ℕ) (road other : Cells) : Type 0 where
   pub same_limit : other.limit ≡ road.limit
   pub same_lane : lane_of other l ≡ lane_of road l
 
--- under any rule without lane changes their next roads, by the same dice, have it in common too
+-- under any rule without lane changes their next roads, with the same dice, also have this lane in common
 abbrev pub StepKeepsLanesApart : Type 0
 StepKeepsLanesApart =
     (rule : Programs) (dice : Dice) (road other next beside : Cells) (tally count : StepTally) (l : ℕ)

@@ -15,7 +15,7 @@ use Rattle.trlab_traffic.specs.Runs.{counted_steps}
 abbrev pub lane_cells : Lane → ℕ
 lane_cells lane = length lane
 
--- those of them that are empty
+-- the empty cells of a lane
 abbrev pub lane_empty_cells : Lane → ℕ
 lane_empty_cells lane = count_by is_none lane
 
@@ -23,7 +23,7 @@ lane_empty_cells lane = count_by is_none lane
 abbrev pub all_cells : Cells → ℕ
 all_cells road = sum_by lane_cells road.lanes
 
--- those of them that are empty
+-- the empty cells of a road
 abbrev pub empty_cells : Cells → ℕ
 empty_cells road = sum_by lane_empty_cells road.lanes
 
@@ -49,14 +49,13 @@ pub record IsWithinCapacity (road : Cells) (steps distance : ℕ) : Type 0 where
   pub by_empty_cells : distance ≤ steps * empty_cells road
   pub by_limit : distance ≤ steps * distance_at_limit road
 
--- the distance of a step, under any rule
+-- the distance of a step is within the capacity, under any rule
 abbrev pub StepKeepsToCapacity : Type 0
 StepKeepsToCapacity =
     (rule : Programs) (dice : Dice) (road next : Cells) (tally : StepTally)
     → IsLegal road → IsNext rule dice road next tally → IsWithinCapacity road 1 tally.distance
 
--- and of the steps of a run that are counted, under any sheet of rules: it is measured by the road of the
--- start
+-- the distance of a run's counted steps is within the capacity of the initial road, under any sheet of rules
 abbrev pub RunKeepsToCapacity : Type 0
 RunKeepsToCapacity =
     (seed : Seed) (sheet : Sheet) (step : ℕ) (road : Cells) (sum : StepTally)

@@ -15,13 +15,13 @@ pub record ChangesFew (road : Cells) (steps changes : ℕ) : Type 0 where
   pub by_cars : changes ≤ steps * cars road
   pub by_empty_cells : changes ≤ steps * empty_cells road
 
--- this holds of every step, under any rule: each car that changes lanes needs an empty cell of its own
+-- this holds for every step, under any rule: each car that changes lanes needs an empty cell of its own
 abbrev pub StepChangesFew : Type 0
 StepChangesFew =
     (rule : Programs) (dice : Dice) (road next : Cells) (tally : StepTally)
     → IsLegal road → IsNext rule dice road next tally → ChangesFew road 1 tally.changes
 
--- and of the counted steps of a run, under any sheet of rules
+-- and for the counted steps of a run, under any sheet of rules
 abbrev pub RunChangesFew : Type 0
 RunChangesFew =
     (seed : Seed) (sheet : Sheet) (step : ℕ) (road : Cells) (sum : StepTally)

@@ -13,15 +13,15 @@ use Rattle.trlab_step.specs.Next.{IsNext}
 use Rattle.trlab_traffic.specs.Rule184.{is_taken}
 use Rattle.trlab_traffic.specs.Runs.{StaysInLane}
 
--- how many cells ahead of one place another is, on a ring of n cells
+-- the number of cells from one place ahead to another, on a ring of n cells
 abbrev pub way : ℕ → ℕ → ℕ → ℕ
 way n from to = ahead n to (n - from)
 
--- the cell from which a car has moved to its cell, by its speed
+-- the cell of a car before it moved by its speed
 abbrev pub start_of : ℕ → Car → ℕ
 start_of n car = behind n car.place car.speed
 
--- on the way from there a car passes the end of cell x, and so the detector there: it goes further than to x
+-- a car has passed the detector at the end of cell x: from its start it moved further than to x
 abbrev pub passes : ℕ → ℕ → Car → Bool
 passes n x car = nat_lt (way n (start_of n car) x) car.speed
 

@@ -55,7 +55,8 @@ DetectorsAgree =
 abbrev pub scarcer : Lane → ℕ
 scarcer lane = min (lane_cars lane) (lane_empty_cells lane)
 
--- if they are at most one lap apart, they differ by no more than the lane has cars, or empty cells
+-- if two detectors are at most one lap apart, their counts differ by no more than the lane has cars, or empty
+-- cells
 abbrev pub DetectorsAgreeByCars : Type 0
 DetectorsAgreeByCars =
     (seed : Seed) (sheet : Sheet) (step : ℕ) (road : Cells) (sum : StepTally) (l x k first second : ℕ)

@@ -12,12 +12,12 @@ use Rattle.trlab_step.specs.Run.{Seed, ComesTo}
 use Rattle.trlab_traffic.specs.Capacity.{all_cells, capacity, lane_capacity}
 use Rattle.trlab_traffic.specs.Runs.{always, counted_steps}
 
--- the distance of the steps of a run that are counted is the capacity of its road for each of them
+-- the distance of a run's counted steps is the capacity of the initial road times the number of these steps
 abbrev pub FlowsAtCapacity : Seed → ℕ → StepTally → Type 0
 FlowsAtCapacity seed step sum = sum.distance ≡ counted_steps seed step * capacity seed.road
 
--- from any initial state, whatever the cars' cells and speeds: if no step is counted before the cars had time
--- to reach the limit and then to go round the ring
+-- from any initial state, with any cells and speeds of the cars, a run flows at capacity if no step is
+-- counted before the cars had time to reach the limit and then to go round the ring
 abbrev pub NaschComesToCapacity : Type 0
 NaschComesToCapacity =
     (rule : Programs) (seed : Seed) (step : ℕ) (road : Cells) (sum : StepTally)

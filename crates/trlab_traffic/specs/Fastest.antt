@@ -51,7 +51,7 @@ pub record GoesAtOnce (rule : Programs) : Type 0 where
   pub motion : MovesBy (λ view words. min view.limit view.gap) rule.motion.program
   pub stays : StaysInLane rule
 
--- a motion program for it: the limit or the gap, whichever is smaller
+-- a motion program for such a rule: the limit or the gap, whichever is smaller
 abbrev pub gap_program : Program
 gap_program = record { kind = Motion; instrs = Get R0 Limit ∷ Get R1 Gap ∷ Min R0 R0 R1 ∷ Go R0 ∷ [] }
 

@@ -27,8 +27,8 @@ FreeFlowGoesOn =
     → IsNasch 0 rule → IsLegal old → IsFree old → IsNext rule dice old new tally
     → AllGo (λ car. old.limit) old new × IsFree new
 
--- a run has come to a road in free flow, and the distance of the steps that are counted is that of all cars
--- at the limit in each of them: the flow is the limit times the density
+-- a run has come to a road in free flow, and the distance of its counted steps is that of all cars driving at
+-- the limit: the flow is the limit times the density
 abbrev pub FlowsFreely : Seed → ℕ → Cells → StepTally → Type 0
 FlowsFreely seed step road sum =
     IsFree road × (sum.distance ≡ counted_steps seed step * distance_at_limit seed.road)
@@ -44,7 +44,7 @@ FreeFlowStaysFree =
 abbrev pub MovesAsOne : Seed → ℕ → Cells → Type 0
 MovesAsOne seed step road = turned (seed.road.limit * step) road ≡ seed.road
 
--- free flow does: all cars keep their distances from one another
+-- free flow moves as one: all cars keep their distances from one another
 abbrev pub FreeFlowTurns : Type 0
 FreeFlowTurns =
     (rule : Programs) (seed : Seed) (step : ℕ) (road : Cells) (sum : StepTally)

@@ -7,8 +7,8 @@ use Rattle.trlab_road.specs.Legal.{IsLegal}
 use Rattle.trlab_step.specs.declared.tally.StepTally.{StepTally}
 use Rattle.trlab_step.specs.Run.{Seed, Sheet, ComesTo, IsRoadAt}
 
--- how far the car of a number has gone in the first steps of a run: the sum of its speeds after each of these
--- steps
+-- how far the car with this number has gone in the first steps of a run: the sum of its speeds after each of
+-- these steps
 abbrev pub HasGone : Seed → Sheet → ℕ → ℕ → ℕ → Type 0
 HasGone seed sheet zero number far = far ≡ 0
 HasGone seed sheet (suc step) number far =
@@ -22,7 +22,7 @@ EachCarHasGone =
     → IsLegal seed.road → ComesTo seed sheet step road sum → number < cars seed.road
     → (far : ℕ) × HasGone seed sheet step number far
 
--- and only one distance
+-- and no car has gone two different distances
 abbrev pub GoneIsOne : Type 0
 GoneIsOne =
     (seed : Seed) (sheet : Sheet) (step number far other : ℕ)

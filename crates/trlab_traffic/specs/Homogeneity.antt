@@ -1,4 +1,4 @@
--- Homogeneity: all places of a ring are alike. The future of a road does not depend on where cell 0 is.
+-- Homogeneity: all places of a ring are alike. The future of a road does not depend on the choice of cell 0.
 use Rattle.std.specs.Prelude.{ℕ, length, map}
 use Rattle.std.specs.List.{range_with_len}
 use Rattle.trlab_road.specs.Cells.{Cells, Lane, at}
@@ -18,8 +18,8 @@ turned_lane r lane = map (λ x. at lane (ahead (length lane) x r)) (range_with_l
 abbrev pub turned : ℕ → Cells → Cells
 turned r road = record { limit = road.limit; lanes = map (turned_lane r) road.lanes }
 
--- the next road of a rotated road is its next road, rotated as far, with the same tally, for every rule and all
--- dice
+-- if a road is rotated, its next road is rotated by as many cells, with the same tally, for every rule and
+-- all dice
 abbrev pub StepIsHomogeneous : Type 0
 StepIsHomogeneous =
     (rule : Programs) (dice : Dice) (road next : Cells) (tally : StepTally) (r : ℕ)

@@ -14,7 +14,8 @@ use Rattle.trlab_traffic.specs.Runs.{EachRule, StaysInLane}
 abbrev pub lane_gaps : Lane → List ℕ
 lane_gaps lane = map (λ (car : Car). gap lane car.place) (standing_from 0 0 lane)
 
--- if the lane has a car, they add up to its empty cells: so the mean gap is the number of empty cells per car
+-- the gaps of a lane with a car add up to its empty cells, so the mean gap is the number of empty cells per
+-- car
 abbrev pub GapsFillLane : Type 0
 GapsFillLane = (lane : Lane) → 1 ≤ lane_cars lane → sum (lane_gaps lane) ≡ lane_empty_cells lane
 

@@ -19,21 +19,21 @@ use Rattle.trlab_traffic.specs.Runs.{always, counted_steps}
 pub record IsStopped (road : Cells) : Type 0 where
   pub stopped : (car : Car) → IsAt road car → car.speed ≡ 0
 
--- with probability 0 for moving cars, and any probability p0 for stopped ones
+-- free flow lasts if moving cars brake with probability 0, and stopped cars with any probability p0
 abbrev pub SlowStartsKeepFreeFlow : Type 0
 SlowStartsKeepFreeFlow =
     (p0 : ℕ) (rule : Programs) (seed : Seed) (step : ℕ) (road : Cells) (sum : StepTally)
     → IsVdr 0 p0 rule → IsLegal seed.road → IsFree seed.road → ComesTo seed (always rule) step road sum
     → FlowsFreely seed step road sum
 
--- and such a road moves as one
+-- and the road, which is in free flow, then moves as one
 abbrev pub SlowStartsTurnFreeFlow : Type 0
 SlowStartsTurnFreeFlow =
     (p0 : ℕ) (rule : Programs) (seed : Seed) (step : ℕ) (road : Cells) (sum : StepTally)
     → IsVdr 0 p0 rule → IsLegal seed.road → IsFree seed.road → ComesTo seed (always rule) step road sum
     → MovesAsOne seed step road
 
--- with any probability p for moving cars, and 1 for stopped ones
+-- a road of stopped cars stays as it is if stopped cars brake with probability 1, and moving cars with any p
 abbrev pub SlowStartsKeepJams : Type 0
 SlowStartsKeepJams =
     (p : ℕ) (rule : Programs) (seed : Seed) (step : ℕ) (road : Cells) (sum : StepTally)

@@ -22,7 +22,7 @@ StepGoesByMovingCars =
     (rule : Programs) (dice : Dice) (road next : Cells) (tally : StepTally)
     → IsLegal road → IsNext rule dice road next tally → GoesByMovingCars road 1 tally
 
--- and in the steps of a run that are counted, under any sheet of rules
+-- and in the counted steps of a run, under any sheet of rules
 abbrev pub RunGoesByMovingCars : Type 0
 RunGoesByMovingCars =
     (seed : Seed) (sheet : Sheet) (step : ℕ) (road : Cells) (sum : StepTally)

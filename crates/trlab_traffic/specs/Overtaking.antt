@@ -25,12 +25,12 @@ pub record IsNextOf (road : Cells) (number next : ℕ) : Type 0 where
 abbrev pub EachCarHasNext : Type 0
 EachCarHasNext = (road : Cells) (car : Car) → IsAt road car → (next : ℕ) × IsNextOf road car.number next
 
--- and only one
+-- and no car has two different next cars
 abbrev pub NextCarIsOne : Type 0
 NextCarIsOne = (road : Cells) (number next other : ℕ) → IsLegal road
     → IsNextOf road number next → IsNextOf road number other → next ≡ other
 
--- under any rule without lane changes the next car ahead of a car is so after the step too
+-- under any rule without lane changes a car keeps its next car ahead in a step
 abbrev pub StepKeepsNextCar : Type 0
 StepKeepsNextCar =
     (rule : Programs) (dice : Dice) (old new : Cells) (tally : StepTally) (number next : ℕ)

@@ -19,7 +19,7 @@ pub record IsPeriodic (seed : Seed) (sheet : Sheet) (first period : ℕ) : Type 
 abbrev pub states : Cells → ℕ
 states road = (all_cells road * (road.limit + 1)) ^ cars road
 
--- a run under such a rule becomes periodic: its first step and its period together are at most the number
+-- a run under a deterministic rule becomes periodic, and the first step plus the period is at most the number
 -- of states
 abbrev pub CertainRulesBecomePeriodic : Type 0
 CertainRulesBecomePeriodic =

@@ -26,7 +26,7 @@ pub record IsQueued (road : Cells) (x n j : ℕ) (car : Car) : Type 0 where
   pub place : car.place ≡ behind (length (lane_of road car.lane)) x j
 
 -- under any sheet of rules without lane changes it is stopped in its cell after each of the first j steps,
--- also if the queue is the whole ring
+-- even if the queue is the whole ring
 abbrev pub QueueWaits : Type 0
 QueueWaits =
     (seed : Seed) (sheet : Sheet) (step : ℕ) (road : Cells) (x n j : ℕ) (car : Car)

@@ -9,7 +9,8 @@ use Rattle.trlab_machine.specs.declared.dice.Dice.{Dice}
 use Rattle.trlab_step.specs.declared.tally.StepTally.{StepTally}
 use Rattle.trlab_step.specs.Next.{IsNext}
 
--- of two steps of a road the second is no faster, by at most one cell per car
+-- the slow step of a road goes no further than the fast one, and at most one cell per car less; no fewer cars
+-- stop in it
 pub record IsSlower (road : Cells) (fast slow : StepTally) : Type 0 where
   pub no_further : slow.distance ≤ fast.distance
   pub cell_each : fast.distance ≤ slow.distance + cars road

@@ -29,7 +29,7 @@ StepIsContinuousByRows =
     → let end = ahead (length (lane_of old 0)) x k in
     cars_ahead_of_row new x k + row_passages new end ≡ cars_ahead_of_row old x k + row_passages new x
 
--- and of the steps of a run, from the road at which the detectors begin to count
+-- continuity of all lanes together in a run, from the road at which the detectors begin to count
 abbrev pub RunIsContinuousByRows : Type 0
 RunIsContinuousByRows =
     (seed : Seed) (sheet : Sheet) (step : ℕ) (start road : Cells) (x k : ℕ) (first second : ℕ → ℕ)

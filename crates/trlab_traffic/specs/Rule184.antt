@@ -31,7 +31,7 @@ GoesBy number old new = (x : ℕ) → x < length old
     let taken_ahead = is_taken old (ahead (length old) x 1) in
     is_taken new x ≡ elementary number taken_behind (is_taken old x) taken_ahead
 
--- each lane of a road does, for all speeds of its cars
+-- each lane of a road takes a step of rule 184, for all speeds of its cars
 abbrev pub NaschIsRule184 : Type 0
 NaschIsRule184 =
     (rule : Programs) (dice : Dice) (old new : Cells) (tally : StepTally) (l : ℕ)

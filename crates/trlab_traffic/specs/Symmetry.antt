@@ -21,16 +21,16 @@ abbrev pub reads_lane : Instr → Bool
 reads_lane (Get d Lane) = true
 reads_lane _ = false
 
--- the programs of a rule do not read it; a motion program never does
+-- the programs of a rule do not read the car's lane; a motion program never does
 abbrev pub IgnoresLane : Programs → Type 0
 IgnoresLane rule =
     IfSome rule.change (λ change. All (λ instr. reads_lane instr ≡ false) change.program.instrs)
 
--- nor does the rule of 1996
+-- the rule of 1996 does not read the car's lane
 abbrev pub RickertIgnoresLane : Type 0
 RickertIgnoresLane = (p c : ℕ) (rule : Programs) → IsRickert p c rule → IgnoresLane rule
 
--- the next road of a road whose lanes are exchanged is its next road, exchanged, with the same tally
+-- if the lanes of a road are exchanged, those of its next road are exchanged too, with the same tally
 abbrev pub StepIsSymmetric : Type 0
 StepIsSymmetric =
     (rule : Programs) (dice : Dice) (road next : Cells) (tally : StepTally)

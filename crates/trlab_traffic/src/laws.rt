@@ -1,4 +1,4 @@
-//! Laws of traffic, whatever code computes the answers and moves the cars.
+//! Laws of traffic, independent of the code that computes the answers and moves the cars.
 //!
 //! Each law is the contract of a function with an empty body.
 
@@ -35,14 +35,14 @@ ghost use Rattle.trlab_traffic.specs.Rows.{RunIsContinuousByRows, StepIsContinuo
 ghost use Rattle.trlab_traffic.specs.Rule184.{EmptyCellsGoBack, NaschIsRule184};
 ghost use Rattle.trlab_traffic.specs.Symmetry.{RickertIgnoresLane, RunIsSymmetric, StepIsSymmetric};
 
-/// In a step under any rule all cars of a legal road together pass over at most as many cells as are empty, and each
-/// car moves at most as far as the limit.
+/// In a step under any rule the cars of a legal road together move at most as many cells as are empty, and at most as
+/// many as the limit times the number of cars.
 pub fn step_keeps_to_capacity()
     ensures { StepKeepsToCapacity }
 {}
 
-/// The same holds in each counted step of a run, under any schedule of rules. The cells of a road are its cars and its
-/// empty cells.
+/// The same holds per step for the counted steps of a run, under any schedule of rules. The number of cells of a road
+/// is that of its cars plus that of its empty cells.
 pub fn run_keeps_to_capacity()
     ensures cells { CellsAreTakenOrEmpty }
     ensures run { RunKeepsToCapacity }
@@ -133,7 +133,8 @@ pub fn nobody_overtakes()
     ensures run { RunKeepsNextCar }
 {}
 
-/// Every car of a run has gone exactly one distance, and all together have gone the distance of the run.
+/// Every car of a run has gone exactly one distance, and if every step is counted, these distances add up to the
+/// distance of the run.
 pub fn cars_go_distance()
     ensures each { EachCarHasGone }
     ensures one { GoneIsOne }
@@ -163,15 +164,15 @@ pub fn randomization_slows_runs()
     ensures vdr { SlowStartsSlowRuns }
 {}
 
-/// All places of a ring are alike: under any rule the next road of a rotated legal road is its next road, rotated as
-/// far, with the same tally. The same holds for runs.
+/// All places of a ring are alike: under any rule, if a legal road is rotated, its next road is rotated by as many
+/// cells, with the same tally. The same holds for runs.
 pub fn ring_is_homogeneous()
     ensures step { StepIsHomogeneous }
     ensures run { RunIsHomogeneous }
 {}
 
-/// Both lanes are alike: under rules whose programs do not read the lane, such as that of 1996, the next road of a road
-/// with its lanes exchanged is its next road, exchanged, with the same tally. The same holds for runs.
+/// Both lanes are alike: under rules whose programs do not read the lane, such as that of 1996, if the lanes of a road
+/// are exchanged, those of its next road are exchanged too, with the same tally. The same holds for runs.
 pub fn lanes_are_symmetric()
     ensures rickert { RickertIgnoresLane }
     ensures step { StepIsSymmetric }
@@ -192,8 +193,8 @@ pub fn certain_rules_are_deterministic()
     ensures run { RunIsDeterministic }
 {}
 
-/// A run under such a rule becomes periodic: from some step on its roads repeat for ever. This step and the period
-/// together are at most the number of states of the cars.
+/// A run under a deterministic rule becomes periodic: from some step on its roads repeat for ever. The number of this
+/// step plus the period is at most the number of states of the cars.
 pub fn certain_rules_become_periodic()
     ensures { CertainRulesBecomePeriodic }
 {}
@@ -223,8 +224,8 @@ pub fn nasch_comes_to_capacity()
     ensures by_lane { NaschComesToCapacityByLane }
 {}
 
-/// With limit 1 it does so one step sooner: rule 184 relaxes within one lap of the ring (Krug and Spohn 1988,
-/// Phys. Rev. A 38, 4271).
+/// With limit 1 a run on one lane reaches the capacity one step sooner: rule 184 relaxes within one lap of the ring
+/// (Krug and Spohn 1988, Phys. Rev. A 38, 4271).
 pub fn rule_184_comes_to_capacity()
     ensures { Rule184ComesToCapacity }
 {}
@@ -243,9 +244,9 @@ pub fn detectors_count_flow()
     ensures step { StepIsContinuous }
 {}
 
-/// The same holds for the counted steps of a run. The counts of two detectors never differ by more than the cells
-/// between them, and within one lap by no more than the lane has cars, or empty cells. On one lane all detectors
-/// together count the distance, and each by itself measures the flow.
+/// If nobody changes lanes, continuity also holds for the counted steps of a run. The counts of two detectors then
+/// never differ by more than the cells between them, and within one lap by no more than the lane has cars, or empty
+/// cells. On one lane all detectors together count the distance, and each by itself measures the flow.
 pub fn detectors_count_runs()
     ensures exists { CountExists }
     ensures run { RunIsContinuous }

@@ -22,7 +22,7 @@ use trlab_road::Road;
 use trlab_step::{Caller, Executor, StepObserver};
 use trlab_verify::{Change, Motion};
 
-/// How often the caller looks for the last helper before it lets another thread go on.
+/// How often the caller checks whether a helper is left before it yields to other threads.
 const LOOKS: u32 = 1000;
 
 /// Waits until no helper has the phase, and returns it.
@@ -46,7 +46,7 @@ fn alone<A, P: Asked<A>, R: Wait>(rt: &R, task: Arc<Task<A, P>, Global>) -> Task
     unreachable!()
 }
 
-/// A phase, as all workers share it.
+/// Puts a phase into memory that all workers share.
 ///
 /// # Errors
 ///
@@ -88,8 +88,8 @@ impl<'a, R: Wait, G: Gate> Pool<'a, R, G> {
     }
 
     /// Replaces a list by the answers of a brief's program to all cars, in standing order, and returns the brief's
-    /// road. There are as many workers as the drawer has passes; helpers find the task in this slot. The road is
-    /// shown to an observer once they are woken.
+    /// road. There are as many workers as the drawer has passes; helpers find the task in this slot. An observer is
+    /// shown the road once the helpers are woken.
     ///
     /// # Errors
     ///
@@ -124,8 +124,8 @@ impl<'a, R: Wait, G: Gate> Pool<'a, R, G> {
         alone(self.rt, task).settle(self.rt, answers, mine, parts)
     }
 
-    /// Replaces a list by the answers of a program to all cars of a road, in standing order. The road is with the
-    /// workers until it is back in its place; an observer sees it while they are asked.
+    /// Replaces a list by the answers of a program to all cars of a road, in standing order. The road moves to the
+    /// workers and comes back unchanged; an observer sees it while the cars are asked.
     ///
     /// # Errors
     ///

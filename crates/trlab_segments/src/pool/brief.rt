@@ -19,7 +19,7 @@ use trlab_road::Road;
 /// The number of segments per worker if each has enough cars.
 const SEGMENTS_PER_WORKER: u32 = 16;
 
-/// The minimum number of cars per segment: to draw a segment then costs little next to asking its cars.
+/// The minimum number of cars per segment: drawing a segment then costs little compared with asking its cars.
 const CARS_PER_SEGMENT: u32 = 256;
 
 /// A program to run for all cars of a road, with these dice, and the tickets of the segments into which the cars are
@@ -33,8 +33,8 @@ pub struct Brief<P> {
 }
 
 /// The number of segments for `workers` workers: as many as in a single step, and more on a road of many cars, so that
-/// nobody waits long for the last. Their blocks are full, or nearly so, because a block of few cars takes as long as a
-/// full one.
+/// no worker waits long for the last one. Their blocks are full, or nearly so, because a block of few cars takes as
+/// long as a full one.
 fn segments_for(cars: u32, workers: u32) -> u32
     requires some { 0 < workers }
     requires few { workers ≤ MAX_WORKERS }
@@ -48,8 +48,8 @@ fn segments_for(cars: u32, workers: u32) -> u32
     segment_count(cars, workers).max(blocks.div_ceil(each))
 }
 
-/// The brief of a phase for `workers` workers, and the first drawer of its tickets. The road moves into the brief; an
-/// empty one takes its place meanwhile.
+/// The brief of a phase for `workers` workers, and the first drawer of its tickets. The road moves into the brief, and
+/// an empty road takes its place.
 ///
 /// # Errors
 ///
@@ -84,7 +84,7 @@ pub fn brief_of<A, P: Asked<A> + Drop>(
     Ok((brief, drawer))
 }
 
-/// Asks the cars of one segment after the other, as their numbers are drawn, until none is left.
+/// Draws one segment after another and asks its cars, until no segment is left.
 ///
 /// # Errors
 ///
@@ -110,7 +110,7 @@ pub fn draw_all<A: Drop, P: Asked<A>, G: Gate>(
     work(alloc, &phase, &brief.tickets, drawer, worker, gate)
 }
 
-/// Replaces a list by the answers of all cars, from the parts of the tickets that a drawer has, and returns the road.
+/// Replaces a list by the answers of all cars, from the parts of a drawer's tickets, and returns the road.
 ///
 /// # Errors
 ///
@@ -143,7 +143,7 @@ pub fn finish<A: Copy + Drop, P: Asked<A> + Drop>(
 }
 
 impl<P: Drop> Brief<P> {
-    /// The road, without the rest.
+    /// Drops the brief, and returns its road.
     pub fn into_road(self) -> Road
         ensures { result ≡ self.road }
     {

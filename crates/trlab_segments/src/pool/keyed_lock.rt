@@ -43,7 +43,7 @@ impl<T, K> Play<Option<T>, K> for Release {
     ghost then = { λ st m r n. Unit {0} };
 }
 
-/// A value that fits a key. One word records whether a thread has it.
+/// A lock around a value that fits a key. One word records whether a thread has the value.
 #[derive(Drop)]
 pub struct KeyedLock<T: Keyed<K>, K> {
     pub table: Table<Option<T>, K, K, LockRule<T, K>, Global>,
@@ -58,7 +58,7 @@ pub struct Guard<T, K> {
 }
 
 impl<K, T: Keyed<K> + Drop> KeyedLock<T, K> {
-    /// Keeps a value for a key.
+    /// A lock around this value, for this key.
     ///
     /// # Errors
     ///
@@ -75,7 +75,7 @@ impl<K, T: Keyed<K> + Drop> KeyedLock<T, K> {
         }
     }
 
-    /// The value, once no other thread has it.
+    /// Waits until no other thread has the value, and takes it.
     pub fn take<R: Wait>(&self, rt: &R) -> (T, Guard<T, K>)
         ensures fits { T.fits self.now.table.shared.key result.0 }
         ensures from { result.1.seat.table_id ≡ self.now.table.shared.table_id }

@@ -11,11 +11,11 @@ use std::sync::atomic::{AtomicBool, AtomicU64, Ordering};
 use std::thread::{Threads, join};
 use trlab_verify::{Change, Motion};
 
-/// How often a watchful helper looks for the next phase before it sleeps. This takes a little longer than the calling
-/// thread works alone between two phases of a road of some ten thousand cars.
+/// How often a watchful helper looks for the next phase before it sleeps. This takes slightly longer than the calling
+/// thread's own work between two phases on a road of about ten thousand cars.
 const LOOKS: u32 = 30000;
 
-/// After a look without success, a helper goes to sleep at once for this number of phases.
+/// After a helper has looked in vain, it sleeps at once, without looking, for this number of phases.
 const NAPS: u32 = 32;
 
 /// The open phase, at most one at a time, and a number that grows with each phase.
@@ -67,7 +67,7 @@ impl Rendezvous {
         self.closed.load(Ordering::SeqCst)
     }
 
-    /// Sleeps until the number of the phase is not `seen`, and returns it. The system compares the number before a
+    /// Sleeps until the phase number differs from `seen`, and returns it. The system compares the number before a
     /// thread sleeps, so no wake-up is missed.
     fn next<R: Wait>(&self, rt: &R, seen: u64) -> u64 {
         for _ in rt.forever() {
@@ -80,7 +80,7 @@ impl Rendezvous {
         unreachable!()
     }
 
-    /// Whether the number changes within `looks` looks.
+    /// Looks at the phase number up to `looks` times, and returns whether it differs from `seen`.
     fn changes_soon(&self, seen: u64) -> bool {
         for _ in 0..self.looks {
             if self.turn.load(Ordering::SeqCst) != seen {
@@ -91,8 +91,8 @@ impl Rendezvous {
         false
     }
 
-    /// Looks for the next phase, unless `naps` phases are left in which the helper sleeps at once. Returns the number
-    /// of such phases from now on.
+    /// Looks for the next phase, unless the helper is to sleep at once for `naps` more phases. Returns the new value of
+    /// `naps`.
     fn watch(&self, seen: u64, naps: u32) -> u32 {
         if naps > 0 {
             naps - 1
@@ -123,7 +123,7 @@ impl Rendezvous {
     }
 }
 
-/// Lets helpers serve at a rendezvous, each in a thread of its own. Each starts the next one, unless the run has ended
+/// Runs helpers that serve at a rendezvous, each in its own thread. Each starts the next one, unless the run has ended
 /// by then.
 pub fn help_all<R: Threads + Wait + Sync, G: Gate + Sync>(
     rt: &R,

@@ -24,7 +24,7 @@ impl<A, P: Asked<A>> Keyed<Brief<P>> for Results<A> {
     ghost fits = { λ brief results. AreResults P.answers P.can_ask brief results };
 }
 
-/// A pass of the reserve for a helper, if one is left, and the number of its worker, from 1 on.
+/// Takes a pass from the reserve for a helper, if one is left, together with the helper's worker number, from 1 on.
 pub fn take_pass<A: Drop, P: Asked<A>>(
     brief: &Brief<P>,
     results: Results<A>,
@@ -56,7 +56,7 @@ pub fn take_pass<A: Drop, P: Asked<A>>(
     )
 }
 
-/// The rest of a drawer, and a pass of it: the last pass is the drawer itself.
+/// Splits one pass off a drawer. Returns the rest, which is `None` after the last pass, and the drawer with this pass.
 pub fn split_pass(tickets: &Tickets, drawer: Drawer) -> (Option<Drawer>, Drawer)
     requires { IsNew tickets.now drawer }
     ensures left { IfSome result.0 (IsNew tickets.now) }
@@ -93,7 +93,7 @@ pub fn deposit<A: Drop, P: Asked<A>>(
     }
 }
 
-/// A drawer with the tickets of this drawer, after those of an earlier drawer if there is one.
+/// Gathers a drawer into an earlier one, if there is one. The earlier tickets come first.
 fn one_drawer(tickets: &Tickets, before: Option<Drawer>, drawer: Drawer) -> Drawer
     requires before { IfSome before (IsFrom tickets.now) }
     requires from { IsFrom tickets.now drawer }

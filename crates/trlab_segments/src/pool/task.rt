@@ -17,7 +17,7 @@ use std::mem;
 use std::sync::{Arc, Mutex, Wait};
 use trlab_road::Road;
 
-/// The brief of a phase, and the results so far, which are always right for it.
+/// The brief of a phase, and the results so far, which always fit the brief.
 #[derive(Drop)]
 pub struct Task<A, P: Asked<A>> {
     pub brief: Brief<P>,
@@ -26,7 +26,7 @@ pub struct Task<A, P: Asked<A>> {
 }
 
 impl<A: Copy + Drop, P: Asked<A> + Drop> Task<A, P> {
-    /// A phase in which helpers may take the passes of the reserve, if there is a reserve.
+    /// A phase whose helpers may take the passes of the reserve, if there is one.
     ///
     /// # Errors
     ///
@@ -52,7 +52,7 @@ impl<A: Copy + Drop, P: Asked<A> + Drop> Task<A, P> {
         }
     }
 
-    /// The results so far, once nobody else has them.
+    /// Waits until no other thread has the results, and takes them.
     fn take<R: Wait>(&self, rt: &R) -> (Results<A>, Guard<Results<A>, Brief<P>>)
         ensures results { AreResults P.answers P.can_ask self.now.brief result.0 }
         ensures from { result.1.seat.table_id ≡ self.now.results.table.shared.table_id }
@@ -113,7 +113,7 @@ impl<A: Copy + Drop, P: Asked<A> + Drop> Task<A, P> {
         }
     }
 
-    /// The road, without the rest.
+    /// Drops the task, and returns its road.
     pub fn into_road(self) -> Road
         ensures { result ≡ self.brief.road }
     {
@@ -148,7 +148,7 @@ impl<A: Drop, P: Asked<A> + Drop> TaskSlot<A, P> {
         drop(before);
     }
 
-    /// The phase that is open.
+    /// The open phase; `None` if no phase is open, or if it cannot have another owner.
     pub fn task<R: Wait>(&self, rt: &R) -> Option<Arc<Task<A, P>, Global>> {
         let open = self.open.lock(rt);
         match &*open {
