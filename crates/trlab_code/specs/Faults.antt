@@ -72,15 +72,15 @@ pub record IsGoodBefore (bytes : List ℕ) (pc : ℕ) : Type 0 where
 abbrev pub EndsEarly : List ℕ → Type 0
 EndsEarly bytes = (¬ (HasHeader bytes)) ⊎ (HasGoodHeader bytes × ¬ (HasRoom bytes))
 
--- the bytes have room for a header and begin as every program does, and the rest holds
+-- the bytes have room for a header and begin as every program does, and `rest` holds
 abbrev pub PassesMagic : List ℕ → Type 0 → Type 0
 PassesMagic bytes rest = HasHeader bytes × HasMagic bytes × rest
 
--- the bytes are valid up to the kind, and the rest holds
+-- the bytes are valid up to the kind, and `rest` holds
 abbrev pub PassesKind : List ℕ → Type 0 → Type 0
 PassesKind bytes rest = PassesMagic bytes (HasVersion bytes × HasKind bytes × rest)
 
--- pc is that of a stated instruction, the bytes before it are valid, and its own bytes satisfy IsSo
+-- pc is that of a stated instruction, the bytes before it are valid, and its own bytes satisfy `IsSo`
 abbrev pub ComesToInstr : List ℕ → ℕ → (List ℕ → Type 0) → Type 0
 ComesToInstr bytes pc IsSo = (pc < stated_count bytes) × IsGoodBefore bytes pc × IsSo (bytes_at bytes pc)
 
@@ -97,7 +97,7 @@ NeedsVersion bytes = stated_version bytes ≡ HEADSPEED_VERSION → HasHeadspeed
 abbrev pub HasMore : List ℕ → Type 0
 HasMore bytes = HEADER_BYTES + INSTR_BYTES * stated_count bytes < length bytes
 
--- the bytes are valid up to the last stated instruction, and the rest holds
+-- the bytes are valid up to the last stated instruction, and `rest` holds
 abbrev pub PassesInstrs : List ℕ → Type 0 → Type 0
 PassesInstrs bytes rest = IsGoodBefore bytes (stated_count bytes) × rest
 

@@ -82,7 +82,7 @@ impl Variable {
     }
 }
 
-/// An instruction. If an instruction writes, its first register receives the result.
+/// An instruction. If it writes, its first register receives the result.
 ///
 /// The target of a jump is the index of an instruction. `Go`, `Cross` and `Stay` end the program.
 #[derive(Clone, Copy)]

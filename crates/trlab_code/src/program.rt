@@ -8,7 +8,7 @@ use crate::instruction::{Input, Instr};
 use std::marker::Model;
 use trlab_bounds::programs::{CERTAIN, HEADSPEED_VERSION, MAX_INSTRUCTIONS, PLAIN_VERSION, WORDS};
 
-/// The two kinds of driver programs, by what they decide.
+/// The kind of a driver program, named after the decision that it makes.
 #[derive(Clone, Copy, Debug, PartialEq, Eq)]
 pub enum Kind {
     /// The speed of a car, and with it how far the car goes in this step.

@@ -16,7 +16,7 @@ const LIMIT: u32 = 5;
 /// Two stopped cars on one lane of ten cells.
 const LANES: [&[u8]; 1] = [b"0.0......."];
 
-/// A run of the cars of `LANES`, which never brake at random.
+/// A run of these cars, which never brake at random.
 fn new_run(alloc: Global) -> Option<Run>
     ensures { IfSome result (λ run. run.step ≡ 0) }
 {
@@ -36,7 +36,7 @@ fn show<R: Print>(rt: &R, alloc: Global, road: &Road) -> Option<()> {
     Some(())
 }
 
-/// Takes the first `STEPS` steps of a run, and prints the road before the first step and after each.
+/// Takes the steps of a run that begins, and prints its road before and after each.
 fn walk<R: Print>(rt: &R, alloc: Global, run: &mut Run) -> Option<()>
     requires { run.old.step ≡ 0 }
 {

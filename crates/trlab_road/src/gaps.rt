@@ -147,8 +147,8 @@ fn first_near(cars: &[LaneCar], place: u32, near: usize) -> usize
     cars.len()
 }
 
-/// The index of the first car from a place on, if the car before index `near` is before the place and the car is one of
-/// the five from `near` on. It may be missed at the end of the list.
+/// The index of the first car from a place on, if the car before index `near` is before the place and the first car is
+/// among the five from `near` on. At the end of the list it may be missed.
 #[inline(always)]
 fn first_of_five(cars: &[LaneCar], place: u32, near: usize) -> Option<usize>
     requires sorted { IsRising cars.now }
@@ -223,7 +223,8 @@ fn look_anywhere(cars: &[LaneCar], cells: usize, place: u32, next: usize) -> Bes
     }
 }
 
-/// The surroundings of a place. The search starts at index `near`, and usually ends within five cars.
+/// The surroundings of a place. The index `near` affects only speed: if it is near the place, five cars are usually
+/// enough to check.
 #[inline(always)]
 pub fn look_beside(cars: &[LaneCar], cells: usize, place: u32, near: usize) -> Beside
     requires small { cells ≤ MAX_LENGTH }

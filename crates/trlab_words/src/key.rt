@@ -100,7 +100,7 @@ fn read_words(bytes: &[u8]) -> [u32; 8]
 }
 
 /// Word `k`, 0 to 15, of each of eight cars in a step of a road: entry `k` of `words` for that car. This is faster for
-/// the step for which the key was prepared.
+/// the road and the step for which the key was prepared.
 pub fn word_of_cars(key: &KeyWords, road: u32, cars: [u32; 8], step: u32, k: usize) -> [u32; 8]
     requires { k < 16 }
     ensures { (j : ℕ) → j < 8 → slice_index result j ≡ random_word key.now road (slice_index cars j) step k }
