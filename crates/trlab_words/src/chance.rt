@@ -1,4 +1,4 @@
-//! Chances, in parts of 2^31, and the random words on which they happen.
+//! Chances, which are probabilities times 2^31, and the random words on which they happen.
 
 ghost use Rattle.std.specs.Prelude.{◌≡◌, ◌↔◌, ◌≤◌, ℕ, IsSome, IfSome};
 ghost use Rattle.trlab_words.specs.Chances.{happens_on};
