@@ -1,5 +1,5 @@
-//! The limits in figures. Definitions name the constants, so changing a constant would change their meaning; these
-//! laws prevent that.
+//! The limits as numbers. Definitions name the constants, so changing a constant would change their meaning; these laws
+//! prevent that.
 //!
 //! Each law is the contract of a function with an empty body.
 
@@ -13,7 +13,7 @@ use crate::roads::{MAX_GAP, MAX_LANES, MAX_LENGTH, MAX_LIMIT};
 use crate::runs::{MAX_LATER, MAX_RUNNERS, MAX_STEPS, MAX_WORKERS};
 use crate::texts::{LONGEST_NUMBER, TEXT_LIMIT};
 
-/// The limits of roads. A car sees at most all other cells of the longest lane.
+/// The limits of roads. A gap is at most all other cells of the longest lane.
 pub fn roads()
     ensures limit { MAX_LIMIT ≡ 35 }
     ensures length { MAX_LENGTH ≡ 100000 }

@@ -18,7 +18,7 @@ pub const MAGIC: [u8; 4] = *b"TRLB";
 /// The version of the encoding of programs that do not read the speed of the next car ahead.
 pub const PLAIN_VERSION: u8 = 1;
 
-/// The version of the encoding of programs that read that speed.
+/// The version of the encoding of programs that read the speed of the next car ahead.
 pub const HEADSPEED_VERSION: u8 = 2;
 
 /// The number of bytes of a header.
@@ -30,7 +30,7 @@ pub const INSTR_BYTES: usize = 8;
 /// The largest number in the text of a program.
 pub const MAX_NUMBER: u32 = 4294967295;
 
-/// The maximum number of digits of such a number.
+/// The maximum number of digits of a number in the text of a program.
 pub const MAX_DIGITS: usize = 10;
 
 /// The maximum number of bytes of a label.

@@ -63,7 +63,7 @@ pub fn decoded(report: &mut Report, text: &[u8]) -> Outcome {
     }
 }
 
-/// A text without white space.
+/// The bytes of a text, without its white space.
 fn digits_of(alloc: Global, text: &[u8]) -> Result<Vec<u8>, AllocError> {
     let mut digits = Vec::new(alloc);
     for byte in text {
@@ -117,7 +117,7 @@ fn noted_code(report: &mut Report, code: &Code) -> Outcome {
     }
 }
 
-/// Writes the notes, if they check.
+/// Writes the notes, if the check accepted them.
 fn listed(report: &mut Report, table: &[Note], is_checked: bool) -> Outcome {
     if !is_checked {
         return report.finish(Outcome::Refused, "notes that do not check\n");
@@ -147,15 +147,15 @@ const NAMES: [&str; VARIABLES] = [
     "headspeed",
 ];
 
-/// The name of a variable.
+/// The name of the variable with this number.
 fn name_of(variable: usize) -> &'static str
     requires { variable < VARIABLES }
 {
     NAMES[variable]
 }
 
-/// Writes a note on a line: what the registers hold, which variables are at most others or below them, and whether the
-/// side cell is known to be empty.
+/// Writes a note on a line: the registers, the order of the variables (`<=` or `<`), and whether the side cell is known
+/// to be empty.
 fn add_note(report: &mut Report, note: &Note) {
     for register in 0..note.regs.len() {
         add_mark(report, name_of(register), note.regs[register]);
@@ -170,7 +170,7 @@ fn add_note(report: &mut Report, note: &Note) {
     report.add("\n");
 }
 
-/// Writes what a register holds.
+/// Writes a register's range or kind of flag, or nothing if it is unset.
 fn add_mark(report: &mut Report, name: &str, mark: Mark) {
     match mark {
         Mark::Unset => {}
@@ -183,7 +183,7 @@ fn add_mark(report: &mut Report, name: &str, mark: Mark) {
     }
 }
 
-/// Writes a name and what follows it, after a space unless a line begins.
+/// Writes a name and the words after it, with a space before them unless a line begins.
 fn add_named(report: &mut Report, name: &str, after: &str) {
     match report.bytes.last() {
         None | Some(b'\n') => {}

@@ -6,7 +6,7 @@ ghost use Rattle.trlab_road.specs.Cells.{cars};
 use crate::report::{Outcome, Report};
 use trlab_road::{Road, RoadFault};
 
-/// Writes the road of a limit and the pictures of its lanes, each on a line, or the fault.
+/// Reads a limit and the pictures of lanes, one per line, and writes the road, or the fault.
 pub fn pictured(report: &mut Report, text: &str) -> Outcome {
     let mut lines = text.lines();
     let limit = lines.next().unwrap_or("").parse::<u32>().unwrap_or(0);
@@ -19,7 +19,7 @@ pub fn pictured(report: &mut Report, text: &str) -> Outcome {
     drawn(report, Road::parse(report.alloc, limit, &lanes))
 }
 
-/// Writes the road of a number of lanes, a length, a limit and a number of evenly spaced cars, or the fault.
+/// Reads a number of lanes, a length, a limit and a number of evenly spaced cars, and writes the road, or the fault.
 pub fn spread(report: &mut Report, text: &str) -> Outcome {
     match four_numbers(text) {
         Some(numbers) => {
@@ -30,7 +30,7 @@ pub fn spread(report: &mut Report, text: &str) -> Outcome {
     }
 }
 
-/// The four numbers of a text.
+/// The four numbers of a text; `None` unless it has four words. A word that is not a number counts as 0.
 fn four_numbers(text: &str) -> Option<[u32; 4]> {
     let mut words = text.split_whitespace();
     let mut numbers = [0; 4];
@@ -55,7 +55,8 @@ fn drawn(report: &mut Report, road: Result<Road, RoadFault>) -> Outcome {
     }
 }
 
-/// Writes the measures of a road, its cars in standing order, and its pictures.
+/// Writes the number of lanes, the length, the limit and the number of cars of a road, its cars in standing order, and
+/// its pictures.
 fn shown(report: &mut Report, road: &Road) -> Outcome {
     report.add_number("lanes ", road.lanes());
     report.add_number(" length ", road.length());
@@ -69,7 +70,7 @@ fn shown(report: &mut Report, road: &Road) -> Outcome {
     Outcome::Done
 }
 
-/// Writes the k-th car in standing order, and what it sees, on a line.
+/// Writes the k-th car in standing order, with its gaps and its headspeed, on a line.
 fn add_standing(report: &mut Report, road: &Road, k: u32)
     requires { k < cars road.now }
 {
@@ -100,7 +101,7 @@ fn add_beside(report: &mut Report, road: &Road, k: u32)
     report.add_number(" sideback ", road.sideback(k));
 }
 
-/// Writes the picture of each lane, on a line.
+/// Writes the picture of each lane on a line of its own.
 pub fn add_pictures(report: &mut Report, road: &Road) {
     for lane in 0..road.lanes() {
         match road.picture(report.alloc, lane) {

@@ -87,7 +87,7 @@ fn add_road(report: &mut Report, road: &Road) {
     report.add("\n");
 }
 
-/// Writes the tally of the first step, which has to lead to the same road.
+/// Takes the first step again with `step_road`, and writes its tally, or that it led to another road.
 fn tally(report: &mut Report, job: &Job, wanted: &Road) -> Outcome {
     match step_road(report.alloc, &job.road, &job.first, &job.key, 0, 0) {
         Ok((next, tally)) => counts(report, next.equals(wanted), tally),

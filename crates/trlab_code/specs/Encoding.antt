@@ -15,12 +15,12 @@ abbrev pub kind_byte : Kind → ℕ
 kind_byte Motion = 0
 kind_byte Change = 1
 
--- an opcode, three fields of a byte, and a number
+-- an opcode, three one-byte fields, and a number
 abbrev pub row : ℕ → ℕ → ℕ → ℕ → ℕ → InstructionRow
 row opcode a b c number = record { opcode = opcode; a = a; b = b; c = c; number = number }
 
--- the row of each instruction, with 0 for the fields that it does not have; a register or an input is its
--- number
+-- the row of each instruction, with 0 for the fields that it does not have; a register or an input is encoded
+-- as its number
 abbrev pub row_of : Instr → InstructionRow
 row_of (Num d n) = row 0x01 (register_number d) 0 0 n
 row_of (Get d k) = row 0x02 (register_number d) (input_number k) 0 0

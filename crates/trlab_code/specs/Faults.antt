@@ -38,7 +38,7 @@ HasVersion bytes = (stated_version bytes ≡ PLAIN_VERSION) ⊎ (stated_version 
 abbrev pub HasKind : List ℕ → Type 0
 HasKind bytes = (kind : Kind) × (slice_index bytes 5 ≡ kind_byte kind)
 
--- then the number of instructions, which a program may have
+-- then a number of instructions that a program may have
 abbrev pub HasCount : List ℕ → Type 0
 HasCount bytes = (1 ≤ stated_count bytes) × (stated_count bytes ≤ MAX_INSTRUCTIONS)
 
@@ -54,7 +54,7 @@ HasOpcode row = IsOpcode (slice_index row 0)
 abbrev pub SpellsInstr : ℕ → List ℕ → Type 0
 SpellsInstr version row = (i : Instr) × Spells version i row
 
--- a header as it has to be
+-- a valid header
 pub record HasGoodHeader (bytes : List ℕ) : Type 0 where
   pub whole : HasHeader bytes
   pub magic : HasMagic bytes
@@ -62,7 +62,7 @@ pub record HasGoodHeader (bytes : List ℕ) : Type 0 where
   pub kind : HasKind bytes
   pub count : HasCount bytes
 
--- all is well before the instruction at pc
+-- the bytes before the instruction at pc are valid
 pub record IsGoodBefore (bytes : List ℕ) (pc : ℕ) : Type 0 where
   pub header : HasGoodHeader bytes
   pub room : HasRoom bytes
@@ -72,15 +72,15 @@ pub record IsGoodBefore (bytes : List ℕ) (pc : ℕ) : Type 0 where
 abbrev pub EndsEarly : List ℕ → Type 0
 EndsEarly bytes = (¬ (HasHeader bytes)) ⊎ (HasGoodHeader bytes × ¬ (HasRoom bytes))
 
--- the bytes are good up to the version, and then it is so
+-- the bytes have room for a header and begin as every program does, and `rest` holds
 abbrev pub PassesMagic : List ℕ → Type 0 → Type 0
 PassesMagic bytes rest = HasHeader bytes × HasMagic bytes × rest
 
--- the bytes are good up to the count, and then it is so
+-- the bytes are valid up to the kind, and `rest` holds
 abbrev pub PassesKind : List ℕ → Type 0 → Type 0
 PassesKind bytes rest = PassesMagic bytes (HasVersion bytes × HasKind bytes × rest)
 
--- all is well before one of the instructions that are stated, and it is so
+-- pc is that of a stated instruction, the bytes before it are valid, and its own bytes satisfy `IsSo`
 abbrev pub ComesToInstr : List ℕ → ℕ → (List ℕ → Type 0) → Type 0
 ComesToInstr bytes pc IsSo = (pc < stated_count bytes) × IsGoodBefore bytes pc × IsSo (bytes_at bytes pc)
 
@@ -89,15 +89,15 @@ abbrev pub HasHeadspeed : List ℕ → Type 0
 HasHeadspeed bytes = (pc : ℕ) × (i : Instr)
     × (pc < stated_count bytes) × (bytes_at bytes pc ≡ instr_bytes i) × IsTrue (reads_headspeed i)
 
--- the second version is not stated without need
+-- version 2 is stated only if an instruction needs it
 abbrev pub NeedsVersion : List ℕ → Type 0
 NeedsVersion bytes = stated_version bytes ≡ HEADSPEED_VERSION → HasHeadspeed bytes
 
--- the bytes go on after the stated instructions
+-- bytes follow the stated instructions
 abbrev pub HasMore : List ℕ → Type 0
 HasMore bytes = HEADER_BYTES + INSTR_BYTES * stated_count bytes < length bytes
 
--- all is well before the end of the stated instructions, and then it is so
+-- the bytes are valid up to the last stated instruction, and `rest` holds
 abbrev pub PassesInstrs : List ℕ → Type 0 → Type 0
 PassesInstrs bytes rest = IsGoodBefore bytes (stated_count bytes) × rest
 

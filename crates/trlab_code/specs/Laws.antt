@@ -11,11 +11,11 @@ use Rattle.trlab_code.specs.declared.fault.CodeFault.TheVariants.{Memory}
 abbrev pub AreBytes : List ℕ → Type 0
 AreBytes bytes = All (λ byte. byte < 2 ^ 8) bytes
 
--- the number of an instruction, or its target, is one of 32 bits
+-- an instruction's number or target fits in 32 bits
 abbrev pub HasWord : Instr → Type 0
 HasWord instr = (row_of instr).number < 2 ^ 32
 
--- a program that a machine can hold
+-- a program whose numbers and targets fit in 32 bits
 pub record IsRepresentable (program : Program) : Type 0 where
   pub is_program : IsProgram program
   pub has_words : All HasWord program.instrs
@@ -39,6 +39,6 @@ abbrev pub SpellingSaysTheProgram : Type 0
 SpellingSaysTheProgram = (program : Program) (said : Result Program CodeFault)
     → IsProgram program → Says (encoding program) said ↔ (said ≡ Ok program)
 
--- each program can be written down: its encoding is of bytes
+-- each representable program can be written down: its encoding consists of bytes
 abbrev pub SpellingIsBytes : Type 0
 SpellingIsBytes = (program : Program) → IsRepresentable program → AreBytes (encoding program)

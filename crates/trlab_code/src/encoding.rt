@@ -24,7 +24,7 @@ struct Header {
     count: u32,
 }
 
-/// The byte of a kind.
+/// The byte of a header that states the kind.
 fn kind_byte(kind: Kind) -> u8
     ensures { result ≡ kind_byte kind }
 {
@@ -35,7 +35,7 @@ fn kind_byte(kind: Kind) -> u8
 }
 
 impl Header {
-    /// Reads the header of bytes that have room for the instructions that it states.
+    /// Reads the header, and checks that the bytes have room for all instructions that it states.
     fn read(bytes: &[u8]) -> Result<Header, CodeFault>
         ensures good { IfOk result (λ h. HasGoodHeader bytes.now) }
         ensures room { IfOk result (λ h. HasRoom bytes.now) }
@@ -148,11 +148,11 @@ fn instrs(alloc: Global, bytes: &[u8], header: Header) -> Result<Vec<Instr>, Cod
 
 /// Decodes a program: a header of 8 bytes, and 8 bytes for each instruction.
 ///
-/// The header is `TRLB`, the version, the kind (0 motion, 1 change), and the number of instructions in two
-/// bytes, the lower first. The version is 2 if an instruction reads `headspeed`, else 1. An instruction is its
-/// opcode, three fields of a byte, and a number in four bytes, the lowest first; fields that an instruction
-/// does not use are 0. Other bytes are rejected for their first fault, in the order of `CodeFault`; if the
-/// bytes end early, the header is checked first.
+/// The header is `TRLB`, the version, the kind (0 motion, 1 change), and the number of instructions in two bytes, the
+/// lower byte first. The version is 2 if an instruction reads `headspeed`, else 1. An instruction is its opcode, three
+/// one-byte fields, and a number in four bytes, the lowest byte first; fields that an instruction does not use are 0.
+/// Other bytes are rejected for their first fault, in the order of `CodeFault`; if the bytes end early, the header is
+/// checked first.
 ///
 /// # Errors
 ///

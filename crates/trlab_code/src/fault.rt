@@ -8,10 +8,9 @@ use thiserror::Error;
 
 /// The first reason why bytes do not encode a program. Instructions are counted from 0.
 ///
-/// The header is checked from left to right, then the length against its number of instructions, then each
-/// instruction in turn, its opcode first, then whether they need version 2, and last the bytes after them.
-/// Fewer than 8 bytes are `Short`. Version 1 has no `headspeed`: an instruction that reads it has a field out
-/// of range.
+/// The header is checked from left to right, then the length against its number of instructions, then each instruction
+/// in turn, its opcode first, then whether the instructions need version 2, and last the bytes after the instructions.
+/// Fewer than 8 bytes are `Short`. Version 1 has no `headspeed`: an instruction that reads it has a field out of range.
 #[derive(Clone, Copy, Debug, PartialEq, Eq, Error)]
 pub enum CodeFault {
     #[error("the bytes end too early")]

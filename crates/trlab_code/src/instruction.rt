@@ -29,7 +29,7 @@ impl Register {
     }
 }
 
-/// A number that a car sees. Only programs of kind `Change` see the other lane, and the number of their own.
+/// A number that a car sees. Only programs of kind `Change` see the other lane and the number of the car's lane.
 #[derive(Clone, Copy, Debug, PartialEq, Eq)]
 pub enum Input {
     /// The car's speed before the step, in cells per step.
@@ -84,7 +84,7 @@ impl Variable {
 
 /// An instruction. If it writes, its first register receives the result.
 ///
-/// Jumps name the index of an instruction; ends are `Go`, `Cross` and `Stay`.
+/// The target of a jump is the index of an instruction. `Go`, `Cross` and `Stay` end the program.
 #[derive(Clone, Copy)]
 pub enum Instr {
     /// A number.
@@ -93,7 +93,7 @@ pub enum Instr {
     Get(Register, Input),
     /// A flag: is the car's side cell empty?
     Side(Register),
-    /// A flag: does an event of a probability, given times 2^31, happen on a random word, 0 to 15?
+    /// A flag: does an event happen on random word 0 to 15? The last number is its probability times 2^31.
     Draw(Register, u8, u32),
     /// The number or flag in a register.
     Copy(Register, Register),
@@ -113,7 +113,7 @@ pub enum Instr {
     Not(Register, Register),
     /// Are both flags true?
     And(Register, Register, Register),
-    /// Is one of two flags true?
+    /// Is at least one of two flags true?
     Or(Register, Register, Register),
     /// A jump.
     Jump(u32),
@@ -173,7 +173,7 @@ impl Instr {
         }
     }
 
-    /// May the next instruction follow?
+    /// May the instruction after this one be executed next?
     pub fn falls(self) -> bool
         ensures { result ≡ falls self }
     {

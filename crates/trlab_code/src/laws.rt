@@ -1,4 +1,4 @@
-//! Laws of programs, encodings and their faults, whatever code reads and writes them.
+//! Laws of programs, their encodings and faults, independent of the code that reads and writes them.
 //!
 //! Each law is the contract of a function with an empty body.
 

@@ -8,7 +8,7 @@ use crate::instruction::{Input, Instr};
 use std::marker::Model;
 use trlab_bounds::programs::{CERTAIN, HEADSPEED_VERSION, MAX_INSTRUCTIONS, PLAIN_VERSION, WORDS};
 
-/// The two kinds of driver programs, by what they decide.
+/// The kind of a driver program, named after the decision that it makes.
 #[derive(Clone, Copy, Debug, PartialEq, Eq)]
 pub enum Kind {
     /// The speed of a car, and with it how far the car goes in this step.
@@ -61,7 +61,7 @@ fn reads_headspeed(instr: Instr) -> bool
     matches!(instr, Instr::Get(_, Input::Headspeed))
 }
 
-/// Does one of the instructions read it?
+/// Does any of the instructions read the speed of the next car ahead?
 fn some_reads_headspeed(instrs: &[Instr]) -> bool
     ensures { result ≡ list_any reads_headspeed instrs.now }
 {
@@ -76,7 +76,7 @@ pub(crate) fn is_of_version(instr: Instr, version: u8) -> bool
 }
 
 impl Code {
-    /// The program of these instructions, and `None` unless there are 1 to 128 and their fields are in range.
+    /// A program with these instructions; `None` unless there are 1 to 128 and their fields are in range.
     pub fn new(kind: Kind, instrs: Vec<Instr>) -> Option<Code>
         ensures exact { let program : Program = record { kind = kind; instrs = instrs.items } in
             MatchOption result (¬ (IsProgram program)) (λ code. code ≡ program) }
@@ -92,7 +92,7 @@ impl Code {
         }
     }
 
-    /// The program of instructions that are known to make one.
+    /// A program with instructions whose number and fields are known to be in range.
     pub(crate) fn of(kind: Kind, instrs: Vec<Instr>) -> Code
         requires { IsProgram (record { kind = kind; instrs = instrs.items }) }
         ensures { result ≡ record { kind = kind; instrs = instrs.items } }
@@ -100,7 +100,7 @@ impl Code {
         Code { kind, instrs }
     }
 
-    /// The kind of the program.
+    /// Does the program decide a motion or a lane change?
     pub fn kind(&self) -> Kind
         ensures { result ≡ self.now.kind }
     {

@@ -9,7 +9,7 @@ use crate::instruction::{Input, Instr, Register};
 use crate::program::{is_in_range, is_of_version};
 use trlab_bounds::programs::INSTR_BYTES;
 
-/// The opcode of an instruction and its fields, 0 for those that the instruction does not have.
+/// An opcode, three one-byte fields and a number; those that an instruction does not use are 0 in its row.
 #[derive(Clone, Copy, PartialEq)]
 pub(crate) struct InstructionRow {
     pub opcode: u8,
@@ -20,7 +20,7 @@ pub(crate) struct InstructionRow {
 }
 
 impl InstructionRow {
-    /// The row in the bytes from an index on.
+    /// Reads the row that starts at an index of the bytes.
     pub(crate) fn read(bytes: &[u8], start: usize) -> InstructionRow
         requires { start + INSTR_BYTES ≤ length bytes.now }
         ensures { row_bytes result ≡ take INSTR_BYTES (drop start bytes.now) }
@@ -137,7 +137,7 @@ fn register_and_byte(opcode: u8, a: Register, b: u8, number: u32) -> Instruction
     }
 }
 
-/// The row of an instruction.
+/// Encodes an instruction as a row.
 pub(crate) fn row_of(instr: Instr) -> InstructionRow
     ensures { result ≡ row_of instr }
 {
@@ -234,7 +234,8 @@ fn spells(row: InstructionRow, instr: Instr) -> bool
     row_of(instr) == row
 }
 
-/// The instruction of a row in bytes of a version, if its fields are in range and the unused ones are 0.
+/// Decodes a row. `None` if the opcode is unknown, a field is out of range, an unused field is not 0, or the version
+/// does not have the instruction.
 pub(crate) fn instruction_of(row: InstructionRow, version: u8) -> Option<Instr>
     ensures none { IsNone result → (instr : Instr) → row ≡ row_of instr → IsInRange instr
         → ¬ (IsOfVersion version instr) }

@@ -42,7 +42,7 @@ impl Model for MotionView {
 }
 
 impl MotionView {
-    /// The view of a car, or `None` if a number is out of range. It has nothing of the other lane.
+    /// The view of a car, or `None` if a number is out of range. It shows nothing of the other lane.
     pub fn new(speed: u32, limit: u32, gap: u32, headspeed: u32) -> Option<MotionView>
         ensures none { IsNone result → ¬ (IsView (motion_view speed limit gap headspeed)) }
         ensures some { IfSome result (λ seen. seen ≡ motion_view speed limit gap headspeed) }
@@ -67,7 +67,7 @@ impl MotionView {
         }
     }
 
-    /// The numbers that are seen.
+    /// The view's numbers, all in range.
     pub fn get(self) -> View
         ensures value { result ≡ self }
         ensures in_range { IsView self }
@@ -77,8 +77,8 @@ impl MotionView {
     }
 }
 
-/// The view of a change program: the numbers of a `MotionView`, gaps on the other lane of at most 99,999, and
-/// the number of the car's lane, 0 or 1.
+/// The view of a change program: the numbers of a `MotionView`, whether the side cell is empty, gaps on the other lane
+/// of at most 99,999, and the number of the car's lane, 0 or 1.
 #[derive(Clone, Copy, Debug, PartialEq, Eq)]
 pub struct ChangeView {
     view: View,
@@ -134,7 +134,7 @@ impl ChangeView {
         }
     }
 
-    /// The numbers of the view.
+    /// The view's numbers, all in range.
     pub fn get(self) -> View
         ensures value { result ≡ self }
         ensures in_range { IsView self }

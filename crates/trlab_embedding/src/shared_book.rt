@@ -18,10 +18,10 @@ const JOBS: u32 = 2;
 
 const STEPS: u32 = 200;
 
-/// How many threads run jobs.
+/// The number of threads that run jobs.
 const RUNNERS: u32 = 2;
 
-/// How many threads run each step of a job.
+/// The number of threads that run each step of a job.
 const WORKERS: u32 = 1;
 
 /// Ten stopped cars, evenly spaced on a lane of 100 cells. The random numbers of a job depend on `number`.
@@ -60,7 +60,7 @@ fn run<L: Ledger + Send + Sync, R: Threads + Wait + Sync>(
     run_jobs(rt, alloc, book, desk, RUNNERS, WORKERS, &OpenGate).ok()
 }
 
-/// Prints how many steps of a job are done, and how many cells its cars drove.
+/// Prints the number of steps that a job has done, and of cells that its cars drove.
 fn show<L: Ledger, R: Wait + Print>(
     rt: &R,
     alloc: Global,

@@ -1,5 +1,5 @@
-//! Crews and pools at gates: which segments they begin, and that while one worker is held the rest do the other
-//! segments.
+//! Crews and pools at gates: the segments that they begin, and that the other workers do the remaining segments while
+//! one worker is held.
 
 ghost use Rattle.std.specs.Prelude.{◌<◌};
 
@@ -12,7 +12,7 @@ use std::thread::Threads;
 use trlab_segments::{Gate, step_shared};
 use trlab_words::Key;
 
-/// Takes a step of road 9 with some cars through a gate, by a crew of one worker more than `others`.
+/// Takes a step of road 9 through a gate, with `cars` cars and a crew of `others` + 1 workers.
 fn go_through<G: Gate + Sync>(
     rt: &(impl AllocGlobal + Threads + Sync),
     cars: u32,
@@ -30,7 +30,7 @@ fn go_through<G: Gate + Sync>(
     }
 }
 
-/// Notes which segments of road 9 are begun, of its lane change and of its motion, and how often the gate is passed.
+/// Records which segments of road 9 are begun in the lane change and in the motion, and how often the gate is passed.
 #[derive(Drop)]
 struct Notes {
     calls: AtomicU64,
@@ -39,7 +39,7 @@ struct Notes {
 }
 
 impl Notes {
-    /// No segment.
+    /// A record without segments.
     fn new() -> Notes {
         Notes {
             calls: AtomicU64::new(0),
@@ -82,7 +82,8 @@ fn sixteen_workers_begin_each_segment_once(rt: HostRuntime) {
     assert!(rt; begin(&rt, 0, 0, 0) && begin(&rt, 1, 2, 1) && begin(&rt, 3, 6, 0b111));
 }
 
-/// The same for a pool of one worker more than `others`, 60 cars and three steps.
+/// Whether a pool of `others` + 1 workers passes the gate `calls` times in three steps with 60 cars, and begins these
+/// segments in each phase.
 fn pool_begins(
     rt: &(impl AllocGlobal + Threads + Wait + Sync),
     others: u32,
@@ -95,7 +96,7 @@ fn pool_begins(
     pool_as_one(rt, others, &notes, 3) && notes.are(calls, begun)
 }
 
-/// Whether a sparing pool begins no segment if the cars are so few that it has one worker.
+/// Whether a sparing pool passes no gate if it has too few cars for a second worker.
 fn spares_workers(rt: &(impl AllocGlobal + Threads + Wait + Sync)) -> bool {
     let notes = Notes::new();
     sparing_pool_as_one(rt, 60, &notes) && notes.are(0, 0)
@@ -111,7 +112,7 @@ fn a_pool_begins_each_segment_once(rt: HostRuntime) {
 /// The maximum number of turns for which a worker is held.
 const TURNS: u32 = 100_000_000;
 
-/// Holds the first worker of a phase until workers have come for its seven other segments.
+/// Holds the first worker that comes in a phase, until the phase's seven other segments have come.
 #[derive(Drop)]
 struct HoldsFirst {
     came: AtomicU64,
@@ -159,7 +160,7 @@ fn goes_on(rt: &(impl AllocGlobal + Threads + Sync)) -> bool {
     go_through(rt, 8, 1, &gate) && gate.saw(16)
 }
 
-/// The same for a pool's two workers, in ten steps.
+/// `goes_on` for a pool's two workers, in ten steps.
 fn pool_goes_on(rt: &(impl AllocGlobal + Threads + Wait + Sync)) -> bool {
     let gate = HoldsFirst::new();
     pool_as_one(rt, 1, &gate, 10) && gate.saw(160)

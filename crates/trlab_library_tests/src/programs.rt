@@ -26,7 +26,7 @@ fn faults_are_printed_in_words(rt: HostRuntime) {
 /// A motion that takes the smaller of speed and gap.
 const SLOW: &[u8] = b"get r0, speed\nget r1, gap\njle r0, r1, L4\ncopy r0, r1\nL4: go r0\n";
 
-/// Whether the verifier's table of that motion is accepted, and refused without its last note.
+/// Whether the verifier's table of `SLOW` is accepted, and refused without its last note.
 fn checks(alloc: Global) -> Option<bool> {
     let code = assemble(alloc, Kind::Motion, SLOW).ok()?;
     let mut table = notes(alloc, &code).ok()?;

@@ -6,7 +6,7 @@ use trlab_rules::{Rule, nasch, rickert, vdr};
 use trlab_step::{StepFault, StepTally};
 use trlab_words::{CERTAIN, Chance};
 
-/// The rule of 1992 with the probability p.
+/// The rule of 1992 with the probability `p` / 2^31; `None` if that is above 1 or allocation fails.
 pub fn of_1992(alloc: Global, p: u32) -> Option<Rule> {
     nasch(alloc, Chance::new(p)?).ok()
 }
@@ -35,7 +35,7 @@ pub fn spread(alloc: Global, cells: u32, cars: u32) -> Option<Traffic> {
     Some(Traffic { road, rule })
 }
 
-/// The road of a step and its tally, or why there is none.
+/// The result of a step: the road and the tally, or the fault.
 pub type Stepped = Result<(Road, StepTally), StepFault>;
 
 /// Whether a step led to this road and this tally.

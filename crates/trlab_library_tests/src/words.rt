@@ -7,7 +7,7 @@ fn happens_first(parts: u32) -> Option<bool> {
     Some(happens(2917185654, Chance::new(parts)?))
 }
 
-// The second is the smallest probability with which it happens on that word; the last is above certainty.
+// 1458592828 / 2^31 is the smallest probability with which the event happens on this word; `CERTAIN` + 1 is too large.
 #[test]
 fn chances_are_cut_at_half_of_the_word(rt: HostRuntime) {
     assert!(rt;

@@ -1,4 +1,4 @@
-//! Steps by a crew or a pool: the road and the tally are those of a step by one thread, whichever thread helps.
+//! Steps by a crew or a pool give the same road and tally as a step by one thread, whichever threads help.
 
 ghost use Rattle.std.specs.Prelude.{◌<◌};
 
@@ -12,7 +12,7 @@ use trlab_segments::{Gate, OpenGate, Pool, step_shared};
 use trlab_step::{Caller, StepTally, step_road, step_road_by};
 use trlab_words::Key;
 
-/// Whether step 5 of road 3, by each number of workers, leads to this road and this tally.
+/// Whether step 5 of road 3 leads to this road and this tally with each number of workers, 1 to 16.
 fn lead_to(
     rt: &(impl AllocGlobal + Threads + Sync),
     traffic: &Traffic,
@@ -49,7 +49,7 @@ fn crews_as_one(rt: &(impl AllocGlobal + Threads + Sync), traffic: &Traffic) -> 
     }
 }
 
-/// Whether they do for cars that are spread over two lanes.
+/// Whether crews of each size step as one thread does, for cars spread evenly over two lanes.
 fn spread_as_one(rt: &(impl AllocGlobal + Threads + Sync), cars: u32) -> bool {
     match spread(rt.alloc(), 100, cars) {
         Some(traffic) => crews_as_one(rt, &traffic),
@@ -64,7 +64,7 @@ fn crews_of_each_size_lead_to_the_same_road(rt: HostRuntime) {
     }
 }
 
-/// Whether a pool leads the first steps of road 9 where one thread leads them.
+/// Whether a pool takes steps 0 to `steps` - 1 of road 9 as one thread does, each from the same initial road.
 fn leads_as_one<R: Wait, G: Gate>(
     pool: &Pool<R, G>,
     alloc: Global,
@@ -84,7 +84,7 @@ fn leads_as_one<R: Wait, G: Gate>(
     true
 }
 
-/// Whether it does in a run, for cars that are spread over two lanes.
+/// Whether a pool in a run steps as one thread does, for cars spread evenly over two lanes.
 fn runs_as_one<R: Threads + Wait + Sync, G: Gate + Sync>(
     pool: &Pool<R, G>,
     alloc: Global,
@@ -98,7 +98,7 @@ fn runs_as_one<R: Threads + Wait + Sync, G: Gate + Sync>(
     }
 }
 
-/// Whether a pool of one worker more than `others` does for 60 cars, through a gate.
+/// Whether a pool of `others` + 1 workers steps as one thread does, with 60 cars and through a gate.
 pub fn pool_as_one<G: Gate + Sync>(
     rt: &(impl AllocGlobal + Threads + Wait + Sync),
     others: u32,
@@ -118,7 +118,7 @@ fn pools_of_each_size_step_as_one_thread(rt: HostRuntime) {
     }
 }
 
-/// Whether a sparing pool of four workers does for twenty steps, through a gate.
+/// Whether a sparing pool of at most four workers steps as one thread does for twenty steps, through a gate.
 pub fn sparing_pool_as_one<G: Gate + Sync>(
     rt: &(impl AllocGlobal + Threads + Wait + Sync),
     cars: u32,

@@ -1,5 +1,5 @@
-//! Laws of the machine, for every program and every view: a run has one answer, words are read only by draws,
-//! and accepted programs answer only what the road allows.
+//! Laws of the machine, for every program and every view: a run has one answer, only draws read words, and accepted
+//! programs give only answers that the road allows.
 //!
 //! Each law is the contract of a function with an empty body.
 
@@ -16,7 +16,7 @@ ghost use Rattle.trlab_verify.specs.CheckedProgram.{CheckedProgram, IsChecked};
 ghost use Rattle.trlab_machine.specs.Moves.{IsAllowed, MovesWithin};
 ghost use Rattle.trlab_machine.specs.Crossings.{crossing_answer, CrossesWithin};
 
-/// A program has at most one answer for a view and words, and one number of steps.
+/// For a given view and given words, a program has at most one answer and one number of steps.
 pub fn one_answer()
     ensures { (kind : Kind) (code : List Instr) (view : View) (words : List ℕ) →
         (a b : Answer) (m n : ℕ) →
@@ -31,21 +31,22 @@ pub fn words_are_not_read()
         EndsWith kind code view words answer n → EndsWith kind code view others answer n }
 {}
 
-/// A motion program that ends answers a speed of at most the gap and the limit.
+/// If a motion program ends, its answer is a speed of at most the gap and the limit.
 pub fn motion_answers()
     ensures { (code : List Instr) (view : View) (words : List ℕ) (answer : Answer) (n : ℕ) →
         EndsWith Motion code view words answer n →
         (v : ℕ) × (answer ≡ Goes v) × IsAllowed view v }
 {}
 
-/// An accepted motion program moves a car, for every view and all words.
+/// For every view in range and any sixteen words, an accepted motion program ends within its budget with an allowed
+/// speed.
 pub fn checked_motions_move()
     ensures { (motion : CheckedProgram) (view : View) (words : List ℕ) →
         IsChecked Motion motion → IsView view → length words ≡ WORDS →
         MovesWithin motion.program.instrs view words motion.budget }
 {}
 
-/// A change program that ends answers that the car crosses to an empty side cell, or that it stays.
+/// If a change program ends, the car either crosses to an empty side cell or stays.
 pub fn change_answers()
     ensures { (code : List Instr) (view : View) (words : List ℕ) (answer : Answer) (n : ℕ) →
         EndsWith Change code view words answer n →
@@ -53,7 +54,8 @@ pub fn change_answers()
         × (IsTrue crosses → IsTrue view.side) }
 {}
 
-/// An accepted change program answers whether a car crosses, for every view and all words.
+/// For every view in range and any sixteen words, an accepted change program ends within its budget, and the car either
+/// crosses to an empty side cell or stays.
 pub fn checked_changes_answer()
     ensures { (change : CheckedProgram) (view : View) (words : List ℕ) →
         IsChecked Change change → IsView view → length words ≡ WORDS →

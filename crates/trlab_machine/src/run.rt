@@ -20,7 +20,7 @@ type Registers = [u32; REGISTERS];
 /// How a program ended, and after how many instructions.
 #[derive(Clone, Copy)]
 pub struct RunResult {
-    /// The new speed; of a change program 1 if the car crosses, and 0 if it stays.
+    /// The new speed; for a change program, 1 if the car crosses and 0 if it stays.
     pub answer: u32,
     /// The number of executed instructions, including the end.
     pub steps: u32,

@@ -27,7 +27,7 @@ lane_of road l = slice_index_or road.lanes l []
 abbrev pub cell : Cells → ℕ → ℕ → Cell
 cell road l x = at (lane_of road l) x
 
--- how many cars a lane has
+-- the number of cars of a lane
 abbrev pub lane_cars : Lane → ℕ
 lane_cars lane = count_by is_some lane
 
@@ -35,7 +35,7 @@ lane_cars lane = count_by is_some lane
 abbrev pub cars_before : Lane → ℕ → ℕ
 cars_before lane x = lane_cars (take x lane)
 
--- how many cars the road has
+-- the number of cars of the road
 abbrev pub cars : Cells → ℕ
 cars road = sum_by lane_cars road.lanes
 

@@ -10,7 +10,7 @@ ahead n x j = (x + j) % n
 abbrev pub behind : ℕ → ℕ → ℕ → ℕ
 behind n x j = (x + (n - j)) % n
 
--- the first g cells of a way, those at its places 1 to g, are empty
+-- the first g cells of a path are empty: those at way 1 to way g
 abbrev pub is_clear : Lane → (ℕ → ℕ) → ℕ → Bool
 is_clear lane way zero = true
 is_clear lane way (suc g) = is_clear lane way g && is_none (at lane (way (suc g)))
@@ -20,7 +20,7 @@ abbrev pub greatest : (ℕ → Bool) → ℕ → ℕ
 greatest test zero = zero
 greatest test (suc n) = cond (test (suc n)) (suc n) (greatest test n)
 
--- the longest run of empty cells along a way, at most all cells of the lane but one
+-- the number of empty cells at the start of a path, at most all cells of the lane but one
 abbrev pub clear_cells : Lane → (ℕ → ℕ) → ℕ
 clear_cells lane way = greatest (is_clear lane way) (length lane - 1)
 

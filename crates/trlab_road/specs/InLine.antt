@@ -1,4 +1,4 @@
--- Lines of cars: cars of one lane by rising place, each but the last followed by the next car ahead of it.
+-- Lines of cars: cars of one lane by rising place, each but the last followed by the next car ahead.
 use Rattle.std.specs.Prelude.{◌≡◌, ℕ, ◌+◌, ◌-◌, ◌<◌, slice_index, slice_index_or}
 use Rattle.std.specs.Prelude.{List, length, map, sum_by, take}
 use Rattle.trlab_road.specs.LaneCars.{LaneCar}
@@ -21,8 +21,8 @@ pub record IsLineFrom (road : Cells) (k : ℕ) (line : List LaneCar) : Type 0 wh
       → IsStanding road (k + j) (car_on lane (slice_index_or line j no_car))
   pub whole : k + length line ≡ sum_by lane_cars (take (lane + 1) road.lanes)
 
--- the k-th car in standing order, as its lane keeps it, and the next car ahead of it, further on in that lane's
--- list
+-- the k-th car in standing order and the next car ahead of it, which is at a later place, so the gap does not
+-- pass the end of the lane
 pub record IsFollowed (road : Cells) (k : ℕ) (car next : LaneCar) : Type 0 where
   pub lane : ℕ
   pub standing : IsStanding road k (car_on lane car)

@@ -67,7 +67,7 @@ pub data StaysOrCrosses (old new : Cells) (car : Car) : Type 0 where
   on_other_lane : cell old (other_lane car.lane) car.place ≡ None → IsAt new (car_beside car)
       → StaysOrCrosses old new car
 
--- as many cars as before, each stayed or crossed to an empty cell, and no cell holds anything else
+-- as many cars as before; each stayed or crossed to an empty cell, and no cell holds another car
 pub record CleanLaneChange (old new : Cells) : Type 0 where
   pub same_count : cars new ≡ cars old
   pub none_lost : (car : Car) → IsAt old car → StaysOrCrosses old new car
@@ -92,7 +92,7 @@ sides road = in_order (λ l x. side (lane_of road (other_lane l)) x) road
 abbrev pub crosses_at : Cells → List Bool → ℕ → ℕ → Bool
 crosses_at road answers l x = slice_index_or answers (rank road l x) false
 
--- two lanes and one answer per car, which crosses only if its side cell is empty
+-- two lanes and one answer per car; a car crosses only if its side cell is empty
 pub record MayCross (road : Cells) (answers : List Bool) : Type 0 where
   pub two_lanes : length road.lanes ≡ 2
   pub one_each : length answers ≡ cars road

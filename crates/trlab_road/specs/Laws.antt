@@ -1,5 +1,5 @@
 -- Laws of pictures, of the next car ahead, of the two phases of a step and of evenly spread cars, for every
--- road, whatever code moves the cars.
+-- road, independent of the code that moves the cars.
 use Rattle.std.specs.Prelude.{◌≢◌, List, map, ◌≡◌, ℕ, ◌+◌, ◌<◌, ◌↔◌, Bool, Some, None, Result, Ok, Err, length}
 use Rattle.trlab_road.specs.declared.fault.RoadFault.{RoadFault}
 use Rattle.trlab_road.specs.declared.fault.RoadFault.TheVariants.{Memory}
@@ -11,7 +11,7 @@ use Rattle.trlab_road.specs.LaneChange.{Crosses, CrossesFree, CleanLaneChange, r
 use Rattle.trlab_road.specs.Spreading.{CanSpread, IsEven, IsEvenFault}
 use Rattle.trlab_road.specs.Motion.{CleanMotion, Fits, IsClearAhead, Moves}
 
--- pictures show one road only
+-- pictures show at most one road
 abbrev pub PicturesShowOneRoad : Type 0
 PicturesShowOneRoad = (limit : ℕ) (pictures : List (List ℕ)) (road other : Cells)
     → Shows limit pictures road → Shows limit pictures other → road ≡ other
@@ -21,7 +21,7 @@ abbrev pub GoodPicturesShowLegalRoads : Type 0
 GoodPicturesShowLegalRoads = (limit : ℕ) (pictures : List (List ℕ)) (road : Cells)
     → AreGoodPictures limit pictures → Shows limit pictures road → IsLegal road
 
--- a limit and pictures have one first fault, unless allocation fails
+-- a limit and pictures have at most one first fault, unless allocation fails
 abbrev pub OneFirstFault : Type 0
 OneFirstFault = (limit : ℕ) (pictures : List (List ℕ)) (fault other : RoadFault)
     → IsFirstFault limit pictures fault → IsFirstFault limit pictures other
@@ -56,7 +56,7 @@ abbrev pub PicturesSayTheRoad : Type 0
 PicturesSayTheRoad = (road : Cells) (said : Result Cells RoadFault) → IsLegal road → AreNumberedInOrder road
     → Says road.limit (map picture road.lanes) said ↔ (said ≡ Ok road)
 
--- the headspeed is the speed of the first car that is met on the way round the lane
+-- the headspeed is the speed of the first car ahead on the ring
 abbrev pub HeadspeedIsOfNextCar : Type 0
 HeadspeedIsOfNextCar = (lane : Lane) (x g number speed : ℕ) → g < length lane → IsClearAhead lane x g
     → at lane (ahead (length lane) x (g + 1)) ≡ Some (number, speed) → headspeed lane x ≡ speed
@@ -71,7 +71,7 @@ abbrev pub SomeRoadAfterMotion : Type 0
 SomeRoadAfterMotion = (answer : ℕ → ℕ → ℕ) (old : Cells)
     → Fits answer old → (new : Cells) × Moves answer old new
 
--- no two roads come after the motion
+-- at most one road results from the motion
 abbrev pub OneRoadAfterMotion : Type 0
 OneRoadAfterMotion = (answer : ℕ → ℕ → ℕ) (old new other : Cells)
     → Moves answer old new → Moves answer old other → new ≡ other
@@ -86,12 +86,12 @@ abbrev pub MotionIsClean : Type 0
 MotionIsClean = (answer : ℕ → ℕ → ℕ) (old new : Cells)
     → IsLegal old → Fits answer old → Moves answer old new → CleanMotion old new
 
--- and then the road after the motion is legal
+-- under the same conditions the road after the motion is legal
 abbrev pub MotionKeepsLegal : Type 0
 MotionKeepsLegal = (answer : ℕ → ℕ → ℕ) (old new : Cells)
     → IsLegal old → Fits answer old → Moves answer old new → IsLegal new
 
--- and then there are as many cars after the motion as before
+-- under the same conditions there are as many cars after the motion as before
 abbrev pub MotionKeepsCars : Type 0
 MotionKeepsCars = (answer : ℕ → ℕ → ℕ) (old new : Cells)
     → IsLegal old → Fits answer old → Moves answer old new → cars new ≡ cars old
@@ -101,7 +101,7 @@ abbrev pub HasAllNumbers : Type 0
 HasAllNumbers = (road : Cells)
     → IsLegal road → (number : ℕ) → number < cars road → HasNumber road number
 
--- the road after the lane change is the one that `road_after_change` gives
+-- the road after the lane change is `road_after_change`, and no other
 abbrev pub OneRoadAfterLaneChange : Type 0
 OneRoadAfterLaneChange = (crosses : ℕ → ℕ → Bool) (old new : Cells)
     → Crosses crosses old new ↔ (new ≡ road_after_change crosses old)
@@ -116,7 +116,7 @@ abbrev pub LaneChangeIsClean : Type 0
 LaneChangeIsClean = (crosses : ℕ → ℕ → Bool) (old new : Cells)
     → IsLegal old → CrossesFree crosses old → Crosses crosses old new → CleanLaneChange old new
 
--- and then the road after the lane change is legal
+-- under the same conditions the road after the lane change is legal
 abbrev pub LaneChangeKeepsLegal : Type 0
 LaneChangeKeepsLegal = (crosses : ℕ → ℕ → Bool) (old new : Cells)
     → IsLegal old → CrossesFree crosses old → Crosses crosses old new → IsLegal new
@@ -132,33 +132,33 @@ abbrev pub EvenSaysSomething : Type 0
 EvenSaysSomething = (lanes cells limit n : ℕ)
     → (said : Result Cells RoadFault) × SaysEven lanes cells limit n said
 
--- and no two things
+-- no lanes, cells, limit and number of cars have two meanings
 abbrev pub EvenSaysOneThing : Type 0
 EvenSaysOneThing = (lanes cells limit n : ℕ) (said other : Result Cells RoadFault)
     → SaysEven lanes cells limit n said → SaysEven lanes cells limit n other → said ≡ other
 
--- evenly spread cars make one road only
+-- evenly spaced cars make at most one road
 abbrev pub OneEvenRoad : Type 0
 OneEvenRoad = (lanes cells limit n : ℕ) (road other : Cells)
     → IsEven lanes cells limit n road → IsEven lanes cells limit n other → road ≡ other
 
--- if they fit, that road is legal
+-- if lanes, cells, limit and cars fit, the road with evenly spaced cars is legal
 abbrev pub EvenRoadIsLegal : Type 0
 EvenRoadIsLegal = (lanes cells limit n : ℕ) (road : Cells)
     → CanSpread lanes cells limit n → IsEven lanes cells limit n road → IsLegal road
 
--- and then it has exactly these cars
+-- under the same conditions the road has exactly n cars
 abbrev pub EvenRoadHasAllCars : Type 0
 EvenRoadHasAllCars = (lanes cells limit n : ℕ) (road : Cells)
     → CanSpread lanes cells limit n → IsEven lanes cells limit n road → cars road ≡ n
 
--- a description of a road has one first fault, unless allocation fails
+-- lanes, cells, limit and cars have at most one first fault, unless allocation fails
 abbrev pub OneEvenFault : Type 0
 OneEvenFault = (lanes cells limit n : ℕ) (fault other : RoadFault)
     → IsEvenFault lanes cells limit n fault → IsEvenFault lanes cells limit n other
     → fault ≢ Memory → other ≢ Memory → fault ≡ other
 
--- a description that fits has no fault, unless allocation fails
+-- lanes, cells, limit and cars that fit have no fault, unless allocation fails
 abbrev pub NoFaultInFitting : Type 0
 NoFaultInFitting = (lanes cells limit n : ℕ) (fault : RoadFault)
     → CanSpread lanes cells limit n → IsEvenFault lanes cells limit n fault → fault ≡ Memory

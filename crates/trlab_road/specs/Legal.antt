@@ -1,4 +1,4 @@
--- Legal roads, those that rules can run on.
+-- Legal roads: rules run only on these.
 use Rattle.std.specs.Prelude.{◌≡◌, ℕ, ◌<◌, ◌≤◌, length}
 use Rattle.trlab_bounds.specs.declared.roads.TheConstants.{MAX_LIMIT, MAX_LENGTH, MAX_LANES}
 use Rattle.trlab_road.specs.declared.car.Car.{Car}
@@ -19,15 +19,15 @@ pub record LimitFits (limit : ℕ) : Type 0 where
   pub some_limit : 1 ≤ limit
   pub low_limit : limit ≤ MAX_LIMIT
 
--- lanes of one length; their count, their length and the limit are those that a road may have
+-- lanes of one length; the number of lanes, their length and the limit are in range
 pub record HasShape (road : Cells) : Type 0 where
   pub lanes : LanesFit (length road.lanes)
   pub cells : LengthFits (length (lane_of road 0))
   pub equal : (l : ℕ) → l < length road.lanes → length (lane_of road l) ≡ length (lane_of road 0)
   pub limit : LimitFits road.limit
 
--- a legal road: no car is faster than the limit, and the cars are numbered below their count, each
--- in one cell only
+-- a legal road: no car is faster than the limit, and the car numbers are below the number of cars, and each
+-- is in one cell only
 pub record IsLegal (road : Cells) : Type 0 where
   pub shape : HasShape road
   pub within_limit : (car : Car) → IsAt road car → car.speed ≤ road.limit

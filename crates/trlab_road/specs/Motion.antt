@@ -12,8 +12,7 @@ pub record ComesFrom (answer : ℕ → ℕ) (old : Lane) (y number speed x befor
   pub reaches : y ≡ ahead (length old) x (answer x)
   pub at_speed : speed ≡ answer x
 
--- the motion of one lane: each car moves by its answer, which is its new speed,
--- and no cell holds anything else
+-- the motion of one lane: each car moves by its answer, which is its new speed, and no cell holds another car
 pub record LaneMoves (answer : ℕ → ℕ) (old new : Lane) : Type 0 where
   pub same_length : length new ≡ length old
   pub arrives : (x number speed : ℕ)
@@ -44,12 +43,12 @@ pub record Fits (answer : ℕ → ℕ → ℕ) (road : Cells) : Type 0 where
 pub record IsClearAhead (lane : Lane) (x g : ℕ) : Type 0 where
   pub clear : (j : ℕ) → 1 ≤ j → j ≤ g → at lane (ahead (length lane) x j) ≡ None
 
--- the car of x has moved ahead over empty cells to its place
+-- the car at x has moved ahead over empty cells, by its new speed
 pub record GoesAhead (old new : Lane) (x number speed : ℕ) : Type 0 where
   pub stands : at new (ahead (length old) x speed) ≡ Some (number, speed)
   pub over_empty : IsClearAhead old x speed
 
--- a lane has the same cars as before: each has moved over empty cells, and no other one was added
+-- a lane has the same cars as before: each has moved over empty cells, and no car was added
 pub record CleanLaneMotion (old new : Lane) : Type 0 where
   pub same_count : lane_cars new ≡ lane_cars old
   pub none_lost : (x number before : ℕ)

@@ -49,13 +49,13 @@ picture_at pictures l = slice_index_or pictures l []
 abbrev pub character_at : List (List ℕ) → ℕ → ℕ → ℕ
 character_at pictures l x = slice_index (picture_at pictures l) x
 
--- pictures of one length, which a lane may have
+-- pictures of one length, 1 to 100,000 cells
 pub record HaveEqualLengths (pictures : List (List ℕ)) : Type 0 where
   pub cells : LengthFits (length (picture_at pictures 0))
   pub equal : (l : ℕ) → l < length pictures
       → length (picture_at pictures l) ≡ length (picture_at pictures 0)
 
--- as many pictures as a road may have lanes, of one length that lanes may have, and a limit of roads
+-- the number of pictures, their common length and the limit are in range
 pub record HaveShape (limit : ℕ) (pictures : List (List ℕ)) : Type 0 where
   pub lanes : LanesFit (length pictures)
   pub lengths : HaveEqualLengths pictures
@@ -86,7 +86,8 @@ pub record IsFirstBad (limit : ℕ) (pictures : List (List ℕ)) (l x : ℕ) : T
       → ShowsCell limit (character_at pictures m y)
   pub earlier_places : (y : ℕ) → y < x → ShowsCell limit (character_at pictures l y)
 
--- all is well up to the character of lane l at place x, which shows no cell
+-- the first invalid character is that of lane l at place x; the limit and the number and lengths of lanes are
+-- valid
 abbrev pub IsFaultAt : ℕ → List (List ℕ) → ℕ → ℕ → Type 0
 IsFaultAt limit pictures l x = HaveShape limit pictures × IsFirstBad limit pictures l x
 
@@ -94,7 +95,7 @@ IsFaultAt limit pictures l x = HaveShape limit pictures × IsFirstBad limit pict
 abbrev pub ShowsAnySpeed : List (List ℕ) → ℕ → ℕ → Type 0
 ShowsAnySpeed pictures l x = ShowsSpeed MAX_LIMIT (character_at pictures l x)
 
--- the first fault of a limit and pictures, in the order of the faults; memory may always run out
+-- the first fault of a limit and pictures, in the order of the faults; allocation may always fail
 abbrev pub IsFirstFault : ℕ → List (List ℕ) → RoadFault → Type 0
 IsFirstFault limit pictures Lanes = ¬ (LanesFit (length pictures))
 IsFirstFault limit pictures Length = LanesFit (length pictures) × ¬ (HaveEqualLengths pictures)

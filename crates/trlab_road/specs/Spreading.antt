@@ -24,7 +24,7 @@ pub record IsInPlace (lanes cells n number l x : ℕ) : Type 0 where
   pub on_lane : even_lane lanes cells n number ≡ l
   pub at_place : even_place lanes cells n number ≡ x
 
--- lane l has each of the n cars that belongs there at its place, and no others
+-- lane l has its share of the n cars, each at its place, and no others
 pub record IsEvenLane (lanes cells n l : ℕ) (lane : Lane) : Type 0 where
   pub same_length : length lane ≡ cells
   pub stands : (i : ℕ) → i < n → even_lane lanes cells n i ≡ l
@@ -32,20 +32,21 @@ pub record IsEvenLane (lanes cells n l : ℕ) (lane : Lane) : Type 0 where
   pub nothing_else : (x number speed : ℕ)
       → at lane x ≡ Some (number, speed) → IsInPlace lanes cells n number l x
 
--- the road on which n cars are evenly spread, all with speed 0
+-- the road has n evenly spaced cars, all with speed 0
 pub record IsEven (lanes cells limit n : ℕ) (road : Cells) : Type 0 where
   pub same_limit : road.limit ≡ limit
   pub same_lanes : length road.lanes ≡ lanes
   pub each_lane : (l : ℕ) → l < lanes → IsEvenLane lanes cells n l (lane_of road l)
 
--- the road may be: its lanes, length and limit fit, and it has a cell for each car
+-- the lanes, their length and the limit are in range, and there is a cell for each car
 pub record CanSpread (lanes cells limit n : ℕ) : Type 0 where
   pub lanes_fit : LanesFit lanes
   pub length_fits : LengthFits cells
   pub limit_fits : LimitFits limit
   pub room : n ≤ lanes * cells
 
--- the first fault of a description of a road, in the order of the faults; allocation may always fail
+-- the first fault of lanes, cells, limit and number of cars, in the order of the faults; allocation may
+-- always fail
 abbrev pub IsEvenFault : ℕ → ℕ → ℕ → ℕ → RoadFault → Type 0
 IsEvenFault lanes cells limit n Lanes = ¬ (LanesFit lanes)
 IsEvenFault lanes cells limit n Length = LanesFit lanes × ¬ (LengthFits cells)

@@ -20,7 +20,7 @@ cell_at (car ∷ cars) x = cond (nat_eq car.place x) (Some (car.number, car.spee
 abbrev pub cells_of : ℕ → List LaneCar → Lane
 cells_of n cars = map (cell_at cars) (range_with_len 0 n)
 
--- the places of the cars rise, from a place on and below the end
+-- the places of the cars rise; they are at least x and below n
 abbrev pub IsSortedFrom : ℕ → ℕ → List LaneCar → Type 0
 IsSortedFrom x n [] = Unit {0}
 IsSortedFrom x n (car ∷ cars) = (x ≤ car.place) × (car.place < n) × IsSortedFrom (suc car.place) n cars
@@ -46,7 +46,7 @@ pub record IsParted (cars : List LaneCar) (x next : ℕ) : Type 0 where
 abbrev pub car_on : ℕ → LaneCar → Car
 car_on l car = record { number = car.number; lane = l; place = car.place; speed = car.speed }
 
--- the lists that vectors of cars are
+-- the cars of each vector, as lists
 abbrev pub lists_of : List (Vec LaneCar Global) → List (List LaneCar)
 lists_of lists = map (λ (v : Vec LaneCar Global). v.items) lists
 
@@ -73,14 +73,14 @@ pub record IsFoundAt (lists : List (Vec LaneCar Global)) (k l i : ℕ) : Type 0 
   pub low : i < length (list_at lists l)
   pub order : k ≡ sum_by length (take l (lists_of lists)) + i
 
--- the first car from a place on is at an index of the list
+-- the cars before an index are before a place, and those from the index on are not
 pub record IsFirstFrom (cars : List LaneCar) (x index : ℕ) : Type 0 where
   pub within : index ≤ length cars
   pub before : (k : ℕ) → k < index → k < length cars → place_of cars k < x
   pub from : (k : ℕ) → index ≤ k → k < length cars → x ≤ place_of cars k
 
--- a place of the lane of these cars, seen from the other lane: is the cell empty, and what are the gaps from
--- it?
+-- the surroundings of a place on the lane of these cars, seen from the other lane: whether the cell is empty,
+-- and the gaps ahead and behind
 pub record StandsBeside (n : ℕ) (cars : List LaneCar) (x : ℕ) (beside : Beside) : Type 0 where
   pub empty : beside.is_empty ≡ side (cells_of n cars) x
   pub ahead : beside.ahead ≡ sidegap (cells_of n cars) x
@@ -112,14 +112,14 @@ pub record ListsFit (n : ℕ) (lists : List (Vec LaneCar Global)) (answers : Lis
   pub each_lane : (l : ℕ) → l < length lists
       → LaneFits (list_answer n lists answers l) (cells_of n (list_at lists l))
 
--- the next lists make the lanes after the motion of each lane
+-- the next lists are those of the lanes after the motion
 pub record ListsMove (n : ℕ) (lists next : List (Vec LaneCar Global)) (answers : List ℕ) : Type 0 where
   pub same_lanes : length next ≡ length lists
   pub each_lane : (l : ℕ) → l < length lists
       → LaneMoves (list_answer n lists answers l)
       (cells_of n (list_at lists l)) (cells_of n (list_at next l))
 
--- the speed whose character this is
+-- the speed that a character shows
 abbrev pub speed_of_character : ℕ → ℕ
 speed_of_character character =
     greatest (λ speed. nat_eq (speed_character speed) character) character

@@ -6,8 +6,8 @@ ghost use Rattle.trlab_road.specs.Stored.{no_car, place_of};
 
 use std::marker::Model;
 
-/// A car: its number, which it keeps, its lane, 0 or 1, its place, the number of its cell along the lane from 0 on,
-/// and its speed, the number of cells that it moved in the last step.
+/// A car: its number, which it keeps; its lane, 0 or 1; its place, which is the number of its cell along the lane, from
+/// 0; and its speed, which is the number of cells that it moved in the last step.
 #[derive(Clone, Copy, Debug, PartialEq, Eq)]
 pub struct Car {
     pub number: u32,
@@ -82,7 +82,7 @@ impl LaneCar {
         self.number
     }
 
-    /// Its place, in cells.
+    /// The number of its cell along the lane, from 0.
     #[inline(always)]
     pub fn place(self) -> u32
         ensures { result ≡ self.place }
@@ -99,7 +99,7 @@ impl LaneCar {
     }
 }
 
-/// A car of a list.
+/// The car at an index of a list.
 #[inline(always)]
 pub fn car_at(cars: &[LaneCar], index: usize) -> LaneCar
     requires { index < length cars.now }
@@ -108,7 +108,7 @@ pub fn car_at(cars: &[LaneCar], index: usize) -> LaneCar
     cars[index]
 }
 
-/// The place of a car of a list.
+/// The place of the car at an index of a list.
 #[inline(always)]
 pub fn place_at(cars: &[LaneCar], index: usize) -> u32
     requires { index < length cars.now }
@@ -117,7 +117,7 @@ pub fn place_at(cars: &[LaneCar], index: usize) -> u32
     cars[index].place()
 }
 
-/// The speed of a car of a list.
+/// The speed of the car at an index of a list, in cells per step.
 #[inline(always)]
 pub fn speed_at(cars: &[LaneCar], index: usize) -> u32
     requires { index < length cars.now }

@@ -1,4 +1,4 @@
-//! Why no road can be made of pictures, or of evenly spaced cars.
+//! Why pictures or evenly spaced cars do not make a road.
 
 ghost use Rattle.std.specs.Prelude.{◌≡◌};
 ghost use Rattle.trlab_road.specs.declared.fault.RoadFault.TheVariants.{Memory};
@@ -6,7 +6,8 @@ ghost use Rattle.trlab_road.specs.declared.fault.RoadFault.TheVariants.{Memory};
 use std::alloc::AllocError;
 use thiserror::Error;
 
-/// The first reason why no road can be made, in the order of the variants up to `SpeedAboveLimit`.
+/// The first reason why no road can be made. Faults are checked in the order of the variants up to `Limit`; then
+/// characters one by one, or the number of cars.
 #[derive(Clone, Copy, Debug, PartialEq, Eq, Error)]
 pub enum RoadFault {
     /// Neither one nor two lanes.

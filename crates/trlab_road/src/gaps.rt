@@ -1,7 +1,7 @@
 //! Gaps ahead and behind on a lane, the speed of the next car, and the surroundings of a car on the other lane.
 //!
-//! A lane's list is sorted by place, and on the ring the first car is ahead of the last. On the other lane a place is
-//! found by binary search, or near the index that the previous car found.
+//! A lane's list is sorted by place, and on the ring the first car is ahead of the last. A place on the other lane is
+//! found by binary search, or by searching from the previous car's result.
 
 ghost use Rattle.std.specs.Prelude.{◌≡◌, ◌<◌, ◌≤◌, ℕ, length, IfSome, if◌then◌else◌, nat_lt};
 ghost use Rattle.trlab_bounds.specs.declared.roads.TheConstants.{MAX_LENGTH};
@@ -14,7 +14,7 @@ use crate::car::{LaneCar, place_at, speed_at};
 /// The gap ahead of a car on its own lane, and the speed of its leader.
 #[derive(Clone, Copy)]
 pub struct Ahead {
-    /// How many cells ahead of it are empty.
+    /// The number of empty cells ahead of the car.
     pub gap: u32,
     /// The speed of the next car in cells per step; the car's own speed if there is no other.
     pub headspeed: u32,
@@ -44,7 +44,7 @@ pub fn look_ahead(cars: &[LaneCar], cells: usize, index: usize) -> Ahead
     }
 }
 
-/// The number of empty cells ahead of a place; the cars from index `next` on are those past it.
+/// The number of empty cells ahead of a place; the cars from index `next` on are those past the place.
 fn gap_ahead(cars: &[LaneCar], cells: usize, place: usize, next: usize) -> usize
     requires small { cells ≤ MAX_LENGTH }
     requires inside { place < cells }
@@ -62,7 +62,7 @@ fn gap_ahead(cars: &[LaneCar], cells: usize, place: usize, next: usize) -> usize
     }
 }
 
-/// The number of empty cells behind an empty place; the cars from index `next` on are those past it.
+/// The number of empty cells behind an empty place; the cars from index `next` on are those past the place.
 fn gap_behind(cars: &[LaneCar], cells: usize, place: usize, next: usize) -> usize
     requires small { cells ≤ MAX_LENGTH }
     requires inside { place < cells }
@@ -99,19 +99,19 @@ fn first_from(cars: &[LaneCar], place: u32) -> usize
 pub struct Beside {
     /// Is the side cell empty?
     pub is_empty: bool,
-    /// The number of empty cells ahead of it, 0 if it is taken.
+    /// The number of empty cells ahead of the side cell, 0 if the side cell is taken.
     pub ahead: u32,
-    /// The number of empty cells behind it, 0 if it is taken.
+    /// The number of empty cells behind the side cell, 0 if the side cell is taken.
     pub behind: u32,
     /// The number of cars of the other lane before the side cell.
     pub next: usize,
 }
 
-/// How many cars are looked at together, before they are looked at one by one.
+/// The number of cars that are checked together, before the search goes on car by car.
 const TOGETHER: usize = 4;
 
-/// Passes those of the next four cars that are before a place, if there are four: by a sum, so that no branch
-/// depends on their places.
+/// Passes those of the next four cars that are before a place; returns `near` if fewer than four are left. The result
+/// is a sum, so that no branch depends on the places.
 #[inline(always)]
 fn past_four(cars: &[LaneCar], place: u32, near: usize) -> usize
     requires within { near ≤ length cars.now }
@@ -129,8 +129,8 @@ fn past_four(cars: &[LaneCar], place: u32, near: usize) -> usize
     next
 }
 
-/// The index of the first car from a place on, searched from an index near it: from car to car if no earlier
-/// car is possible, else by binary search.
+/// The index of the first car from a place on. If the car before index `near` is before the place, the search goes
+/// forward from `near`; else it is a binary search.
 fn first_near(cars: &[LaneCar], place: u32, near: usize) -> usize
     requires sorted { IsRising cars.now }
     ensures { IsFirstFrom cars.now place result }
@@ -147,8 +147,8 @@ fn first_near(cars: &[LaneCar], place: u32, near: usize) -> usize
     cars.len()
 }
 
-/// The index of the first car from a place on, if it is one of the five cars from an index near it, the car
-/// before that index is before the place, and it is not the first car of all.
+/// The index of the first car from a place on, if the car before index `near` is before the place and the first car is
+/// among the five from `near` on. At the end of the list it may be missed.
 #[inline(always)]
 fn first_of_five(cars: &[LaneCar], place: u32, near: usize) -> Option<usize>
     requires sorted { IsRising cars.now }
@@ -175,8 +175,8 @@ fn only_if(test: bool, number: u32) -> u32
     if test { number } else { 0 }
 }
 
-/// The surroundings of a place that is past one car and not past the next: by differences, so that no branch
-/// depends on whether the side cell is taken. Only the proof reads the number of cells.
+/// The surroundings of a place that is past one car and not past the next. They are computed as differences, so that no
+/// branch depends on whether the side cell is taken. Only the proof reads the number of cells.
 #[inline(always)]
 fn look_between(cars: &[LaneCar], cells: usize, place: u32, next: usize) -> Beside
     requires inside { place < cells }
@@ -197,8 +197,8 @@ fn look_between(cars: &[LaneCar], cells: usize, place: u32, next: usize) -> Besi
     }
 }
 
-/// The surroundings of a place; the cars from index `next` on are those from there on. It works also past the
-/// last car of the list and before the first.
+/// The surroundings of any place, also before the first car or past the last. `next` is the index of the first car from
+/// the place on.
 fn look_anywhere(cars: &[LaneCar], cells: usize, place: u32, next: usize) -> Beside
     requires small { cells ≤ MAX_LENGTH }
     requires inside { place < cells }
@@ -223,7 +223,8 @@ fn look_anywhere(cars: &[LaneCar], cells: usize, place: u32, next: usize) -> Bes
     }
 }
 
-/// The surroundings of a place, searched from an index near it: mostly one of five cars is the next.
+/// The surroundings of a place. The index `near` affects only speed: if it is near the place, five cars are usually
+/// enough to check.
 #[inline(always)]
 pub fn look_beside(cars: &[LaneCar], cells: usize, place: u32, near: usize) -> Beside
     requires small { cells ≤ MAX_LENGTH }

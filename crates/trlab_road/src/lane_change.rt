@@ -1,5 +1,5 @@
-//! The lane change: all cars of two lanes that cross do so at once. On each lane the cars that stay are merged with
-//! those that come.
+//! The lane change: all cars of two lanes that cross do so at once. On each lane, the cars that stay are merged with
+//! those that come from the other lane.
 
 ghost use Rattle.std.specs.Prelude.{◌≡◌, ◌+◌, ◌<◌, ◌≤◌, ℕ, length, sum_by, IfOk, OnOk, true, false, None, slice_index_or};
 ghost use Rattle.std.specs.Int.{from_bool};
@@ -32,7 +32,7 @@ fn next_place(cars: &[LaneCar], k: usize, cells: u32) -> u32
     }
 }
 
-/// Puts the cars of a lane that cross into a list. Only the proof reads the number of cells.
+/// Fills a list with the cars that cross from a lane. Only the proof reads the number of cells.
 fn leaving_cars(
     leaving: &mut Vec<LaneCar>,
     cells: u32,
@@ -74,8 +74,8 @@ fn run_end(lane: AnsweredLane, crosses: &[bool], begin: usize, due: u32) -> usiz
     end
 }
 
-/// Puts the cars that a lane has after the lane change into a list: those that stay, and those that come from the
-/// other lane.
+/// Fills a list with the cars of a lane after the lane change: those that stay, and those that come from the other
+/// lane.
 fn change_lane(
     next: &mut Vec<LaneCar>,
     cells: u32,
@@ -110,7 +110,7 @@ fn change_lane(
             }
             own_next = next_place(own.cars, i, cells);
         } else {
-            // a car that comes finds the cell empty, or the car there leaves
+            // a car that comes takes the cell if it is empty or its car leaves; a car that stays keeps its cell
             let own_here = own_next == due;
             let car = if own_here && !crosses[own.from + i] {
                 car_at(own.cars, i)
@@ -127,7 +127,7 @@ fn change_lane(
     Ok(())
 }
 
-/// The two lanes after all cars that cross did so at once, in lists of the room.
+/// The two lanes after the lane change. The lists are the room's, if it has two.
 pub fn change_lanes(
     alloc: Global,
     room: &mut Room,
@@ -166,7 +166,7 @@ pub fn change_lanes(
 pub struct Room {
     /// The lists of a road that is no longer needed.
     lanes: Vec<Vec<LaneCar>>,
-    /// For the cars that cross from lane 0, and from lane 1.
+    /// The cars that cross from lane 0, and those that cross from lane 1.
     pub(crate) from_first: Vec<LaneCar>,
     pub(crate) from_second: Vec<LaneCar>,
 }
@@ -192,7 +192,7 @@ impl Room {
         empty_lanes(alloc, 2)
     }
 
-    /// Keeps lists that are no longer needed.
+    /// Keeps the lists of a road that is no longer needed.
     pub(crate) fn keep_lists(&mut self, lists: Vec<Vec<LaneCar>>) {
         self.lanes = lists;
     }

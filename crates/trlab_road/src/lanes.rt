@@ -7,7 +7,7 @@ ghost use Rattle.trlab_road.specs.Stored.{IsFoundAt, list_at, lists_of, no_car, 
 use crate::car::{Car, LaneCar};
 use std::alloc::{AllocError, Global};
 
-/// The lane of the k-th car in standing order, and its index in the list of the lane.
+/// The lane of the k-th car in standing order, and its index in the lane's list.
 pub fn find(lanes: &[Vec<LaneCar>], k: u32) -> (u32, usize)
     requires few { length lanes.now ≤ MAX_LANES }
     requires below { k < sum_by length (lists_of lanes.now) }
@@ -37,7 +37,7 @@ pub fn car_of(lanes: &[Vec<LaneCar>], lane: u32, index: usize) -> Car
     }
 }
 
-/// The list of a lane.
+/// The list of the cars of a lane.
 pub fn list_of(lanes: &[Vec<LaneCar>], lane: u32) -> &[LaneCar]
     requires { lane < length lanes.now }
     ensures { result.now ≡ list_at lanes.now lane }
@@ -72,7 +72,7 @@ pub fn empty_lanes(alloc: Global, count: usize) -> Result<Vec<Vec<LaneCar>>, All
     Ok(lanes)
 }
 
-/// A copy of the lanes.
+/// A copy of the lists of all lanes.
 pub fn copy_lanes(alloc: Global, lanes: &[Vec<LaneCar>]) -> Result<Vec<Vec<LaneCar>>, AllocError>
     ensures { IfOk result (λ copies. lists_of copies.items ≡ lists_of lanes.now) }
 {
@@ -83,7 +83,7 @@ pub fn copy_lanes(alloc: Global, lanes: &[Vec<LaneCar>]) -> Result<Vec<Vec<LaneC
     Ok(copies)
 }
 
-/// Do two lists have the same cars?
+/// Do two lists have the same cars in the same order?
 fn same_cars(cars: &[LaneCar], others: &[LaneCar]) -> bool
     ensures { IsTrue result ↔ (cars.now ≡ others.now) }
 {
@@ -102,7 +102,7 @@ fn same_cars(cars: &[LaneCar], others: &[LaneCar]) -> bool
     greatest == 0
 }
 
-/// Have two lists of lanes the same cars?
+/// Do two lists of lanes have the same cars in the same order?
 pub fn same_lanes(lanes: &[Vec<LaneCar>], others: &[Vec<LaneCar>]) -> bool
     ensures { IsTrue result ↔ (lists_of lanes.now ≡ lists_of others.now) }
 {

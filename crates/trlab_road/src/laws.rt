@@ -1,5 +1,5 @@
-//! Laws of pictures, of the next car ahead, of the two phases of a step and of evenly spread cars, for every
-//! road, whatever code moves the cars.
+//! Laws of pictures, of the next car ahead, of the two phases of a step and of evenly spread cars, for every road,
+//! independent of the code that moves the cars.
 //!
 //! Each law is the contract of a function with an empty body.
 
@@ -34,8 +34,7 @@ pub fn pictures_say_the_road()
     ensures same { PicturesSayTheRoad }
 {}
 
-/// The headspeed is the speed of the first car that is met on the way round the lane: the car's own speed if it
-/// is the only one.
+/// The headspeed is the speed of the first car ahead on the ring: the car's own speed if it is the only one.
 pub fn headspeed_is_of_the_next_car()
     ensures next { HeadspeedIsOfNextCar }
     ensures alone { HeadspeedOfLoneCar }

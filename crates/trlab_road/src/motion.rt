@@ -13,7 +13,7 @@ use crate::car::LaneCar;
 /// The number of cars that are moved together: enough for the compiler to keep the loop and use vector instructions.
 const TOGETHER: usize = 32;
 
-/// Cars of a list from an index on, after they have moved.
+/// `TOGETHER` cars of a list from an index on, after they have moved.
 #[inline(always)]
 fn gone_together(cars: &[LaneCar], at: usize, speeds: &[u8], from: usize) -> [LaneCar; TOGETHER]
     requires within { at + TOGETHER ≤ length cars.now }
@@ -41,9 +41,8 @@ fn go_on(car: LaneCar, speed: u32) -> LaneCar
     LaneCar::new(car.number(), car.place() + speed, speed)
 }
 
-/// Moves the cars of a list that don't pass the end of their lane. Their speeds begin at an index of the list
-/// of speeds. Several cars are moved at once: their places and speeds are computed in columns and written
-/// together.
+/// Moves the cars of a list, none of which passes the end of the lane. Their speeds begin at an index of the list of
+/// speeds. Several cars are moved at once: their places and speeds are computed in columns and written together.
 fn move_straight(cars: &mut [LaneCar], speeds: &[u8], from: usize)
     requires one_each { from + length cars.old ≤ length speeds.now }
     requires slow { (k : ℕ) → k < length speeds.now → slice_index speeds.now k ≤ MAX_LIMIT }
@@ -66,7 +65,7 @@ fn move_straight(cars: &mut [LaneCar], speeds: &[u8], from: usize)
 
 /// Moves the cars of a lane; their speeds begin at an index of the list of speeds.
 ///
-/// A car that passes the end was the last, and becomes the first.
+/// Only the last car can pass the end of the lane; then it becomes the first.
 fn move_lane(cars: &mut Vec<LaneCar>, cells: u32, speeds: &[u8], from: usize)
     requires small { cells ≤ MAX_LENGTH }
     requires sorted { IsSortedFrom 0 cells cars.old.items }
@@ -87,7 +86,7 @@ fn move_lane(cars: &mut Vec<LaneCar>, cells: u32, speeds: &[u8], from: usize)
     let number = last.number();
     let speed = speeds[from + straight] as u32;
     let place = last.place() + speed;
-    // there is room for the last car, since it was there
+    // there is room, because the last car was just removed
     let _ = if place < cells {
         cars.push(LaneCar::new(number, place, speed))
     } else {

@@ -59,8 +59,8 @@ fn shows_cell(limit: u32, character: u8) -> bool
     character == POINT || shows_speed(limit, character)
 }
 
-/// Adds the picture of a lane: a point for an empty cell, the character of the speed for a car. If allocation
-/// fails, the bytes are unchanged.
+/// Appends the picture of a lane: a point for an empty cell, the character of the speed for a car. If allocation fails,
+/// the bytes are unchanged.
 pub fn push_picture(out: &mut Vec<u8>, cars: &[LaneCar], cells: u32) -> Result<(), AllocError>
     requires sorted { IsSortedFrom 0 cells cars.now }
     requires slow { (k : ℕ) → k < length cars.now
@@ -92,7 +92,7 @@ fn first_bad(limit: u32, picture: &[u8]) -> usize
     picture.len()
 }
 
-/// Have the lanes one length, which a lane may have?
+/// Do the lanes have the same length, and is it 1 to 100,000 cells?
 fn has_equal_lanes(pictures: &[&[u8]]) -> bool
     requires { LanesFit (length (pictures_of pictures.now)) }
     ensures { IsTrue result ↔ HaveEqualLengths (pictures_of pictures.now) }
@@ -104,7 +104,7 @@ fn has_equal_lanes(pictures: &[&[u8]]) -> bool
     pictures.len() == 1 || pictures[1].len() == cells
 }
 
-/// Finds the first fault of a limit and pictures.
+/// Checks a limit and pictures, and returns their first fault.
 pub fn check_pictures(limit: u32, pictures: &[&[u8]]) -> Result<(), RoadFault>
     ensures { MatchResult result
         (λ _. AreGoodPictures limit (pictures_of pictures.now))
@@ -135,7 +135,7 @@ pub fn check_pictures(limit: u32, pictures: &[&[u8]]) -> Result<(), RoadFault>
     Ok(())
 }
 
-/// The cars of the lane that a picture shows, numbered from a number on.
+/// The cars that a picture shows, numbered from `from` on.
 fn draw_lane(alloc: Global, picture: &[u8], from: u32) -> Result<Vec<LaneCar>, AllocError>
     requires shown { EachIndex picture.now (λ x.
         ShowsCell MAX_LIMIT (slice_index picture.now x)) }
@@ -156,7 +156,7 @@ fn draw_lane(alloc: Global, picture: &[u8], from: u32) -> Result<Vec<LaneCar>, A
     Ok(cars)
 }
 
-/// The lanes that pictures of `cells` cells show, their cars numbered in standing order.
+/// The lanes that pictures of `cells` cells show, with their cars numbered in standing order.
 pub fn draw_lanes(
     alloc: Global,
     pictures: &[&[u8]],

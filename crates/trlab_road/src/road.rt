@@ -1,4 +1,4 @@
-//! Roads. Callers see the cells of a road; the code keeps the list of the cars of each lane, by rising place.
+//! Roads. Contracts see the cells of a road; the code keeps a list of the cars of each lane, by rising place.
 
 ghost use Rattle.std.specs.Prelude.{◌≡◌, ◌≢◌, ◌⊎◌, ◌<◌, ◌↔◌, length, ◌++◌, IfOk, OnErr, OnOk, IsTrue, MatchResult, ◌+◌, ◌*◌, ◌≤◌, ℕ, slice_index, slice_index_or, false, Bool};
 ghost use Rattle.trlab_road.specs.declared.fault.RoadFault.{RoadFault};
@@ -70,9 +70,8 @@ impl Road {
     ///
     /// # Errors
     ///
-    /// The first fault of the limit and the pictures: `Lanes`, then `Length`, then `Limit`, then that of the
-    /// first character, lane by lane and from left to right, that shows no cell; or `Memory` if allocation
-    /// fails.
+    /// The first fault of the limit and the pictures: `Lanes`, then `Length`, then `Limit`, then the fault of the first
+    /// invalid character, lane by lane and from left to right; or `Memory` if allocation fails.
     pub fn parse(alloc: Global, limit: u32, lanes: &[&[u8]]) -> Result<Road, RoadFault>
         ensures shown { MatchResult result
             (λ road. Shows limit (pictures_of lanes.now) road)
@@ -150,17 +149,17 @@ impl Road {
         })
     }
 
-    /// This road for contracts, which takes no bytes.
+    /// This road for contracts. The snapshot takes no memory.
     pub fn snapshot(&self) -> Snapshot<Road>
         ensures value { result.value ≡ self.now }
         ensures legal { IsLegal self.now }
     {
-        // a field is named, and with it the invariant
+        // naming a field gives the proof the invariant
         let _ = &self.limit;
         Snapshot::of(self)
     }
 
-    /// Have two roads the same limit and the same cells, with the numbers of their cars?
+    /// Do two roads have the same limit and the same cells, including the numbers of their cars?
     pub fn equals(&self, other: &Road) -> bool
         ensures { IsTrue result ↔ (self.now ≡ other.now) }
     {
@@ -183,7 +182,7 @@ impl Road {
         Ok(bytes)
     }
 
-    /// Adds the picture of a lane to bytes.
+    /// Appends the picture of a lane to bytes.
     ///
     /// # Errors
     ///
@@ -196,7 +195,7 @@ impl Road {
         push_picture(out, list_of(&self.lanes, lane), self.cells)
     }
 
-    /// Gives the memory of this road, which is no longer needed, to the room.
+    /// Gives this road's memory to the room, for a later lane change.
     pub fn leave_to(self, room: &mut Room) {
         let Road {
             limit: _,
@@ -385,7 +384,7 @@ impl Road {
     /// # Errors
     ///
     /// If allocation fails; then the room may have lost its lists. Any room can be used for any lane change, because no
-    /// contract speaks of its contents.
+    /// contract mentions its contents.
     pub fn after_lane_change(
         &self,
         alloc: Global,

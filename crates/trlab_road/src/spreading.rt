@@ -1,4 +1,4 @@
-//! Cars evenly spread: the cells of all lanes in a row, place by place, are shared out among the cars.
+//! Evenly spaced cars: the cells of all lanes, counted place by place, are divided evenly among the cars.
 
 ghost use Rattle.std.specs.Prelude.{◌≡◌, ◌*◌, ◌/◌, ◌<◌, ◌≤◌, ℕ, length, IfOk, MatchResult};
 ghost use Rattle.trlab_bounds.specs.declared.roads.TheConstants.{MAX_LENGTH, MAX_LANES};
@@ -11,7 +11,7 @@ use crate::lanes::empty_lanes;
 use std::alloc::{AllocError, Global};
 use trlab_bounds::roads::{MAX_LANES, MAX_LENGTH, MAX_LIMIT};
 
-/// Finds the first fault of a number of lanes, their cells, a limit and a number of cars.
+/// Checks a number of lanes, the cells of each lane, a limit and a number of cars, and returns their first fault.
 pub fn check_even(lanes: u32, cells: u32, limit: u32, count: u32) -> Result<(), RoadFault>
     ensures { MatchResult result
         (λ _. CanSpread lanes cells limit count)
@@ -42,7 +42,7 @@ fn flat_cell(cells: usize, count: usize, number: usize) -> usize
     number * cells / count
 }
 
-/// The lanes over which cars are evenly spread, all with speed 0.
+/// Lanes with `count` evenly spaced cars, all with speed 0.
 pub fn even_lanes(
     alloc: Global,
     lanes: usize,

@@ -31,9 +31,9 @@ vdr_chance p p0 speed = if nat_eq speed 0 then p0 else p
 abbrev pub vdr_speed : ℕ → ℕ → View → List ℕ → ℕ
 vdr_speed p p0 view words = nasch_speed (vdr_chance p p0 view.speed) view words
 
--- the lane change of 1996: a car crosses if its side cell is empty, its gap does not allow it to go one faster,
--- the gap ahead on the other lane is above that, the gap behind there is above the limit, and an event of
--- probability c happens on word 1
+-- the lane change of 1996: a car crosses if its side cell is empty, its gap is below its speed plus one, the
+-- gap ahead on the other lane is above its speed plus one, the gap behind there is above the limit, and an
+-- event of probability c happens on word 1
 abbrev pub rickert_crosses : ℕ → View → List ℕ → Bool
 rickert_crosses c view words =
     view.side && nat_lt view.gap (view.speed + 1) && nat_lt (view.speed + 1) view.sidegap
@@ -50,6 +50,6 @@ acceleration_1992 speed limit distance =
 abbrev pub slowing_down_1992 : ℕ → ℕ → ℕ
 slowing_down_1992 speed distance = if nat_le distance speed then distance - 1 else speed
 
--- the two as worded in 1992; the distance is one more than the gap
+-- acceleration and slowing down as worded in 1992; the distance is one more than the gap
 abbrev pub wording_1992 : ℕ → ℕ → ℕ → ℕ
 wording_1992 speed limit gap = slowing_down_1992 (acceleration_1992 speed limit (gap + 1)) (gap + 1)

@@ -44,7 +44,8 @@ abbrev pub stay_unless_hindered : ℕ → List Instr
 stay_unless_hindered stay =
     Get R1 Speed ∷ Num R2 1 ∷ Add R1 R1 R2 ∷ Get R2 Gap ∷ JumpAtMost R1 R2 stay ∷ []
 
--- it stays if the gap ahead on the other lane is not above that, or the gap behind there is not above the limit
+-- a car stays if the gap ahead on the other lane is not above the speed in R1, or the gap behind there is not
+-- above the limit
 abbrev pub stay_unless_free : ℕ → List Instr
 stay_unless_free stay =
     Get R2 SideGap ∷ JumpAtMost R2 R1 stay ∷ Get R2 SideBack ∷ Get R3 Limit ∷ JumpAtMost R2 R3 stay ∷ []

@@ -10,13 +10,13 @@ use Rattle.trlab_rules.specs.Published.{nasch_speed, vdr_speed, rickert_crosses}
 use Rattle.trlab_rules.specs.Standard.{nasch_program, vdr_program, rickert_program}
 use Rattle.trlab_rules.specs.Laws.{MovesBy, ChangesBy}
 
--- this motion program, which is accepted and answers the speed of a rule
+-- this motion program is accepted and gives the speed of a rule
 pub record IsMotion (speed : View → List ℕ → ℕ) (program : Program) (motion : CheckedProgram) : Type 0 where
   pub same : motion.program ≡ program
   pub accepted : IsAccepted Motion program
   pub moves : MovesBy speed motion.program
 
--- this change program, which is accepted and answers who crosses by a rule
+-- this change program is accepted and lets a car cross exactly if a rule does
 pub record IsChange (crosses : View → List ℕ → Bool) (program : Program) (change : CheckedProgram)
     : Type 0 where
   pub same : change.program ≡ program

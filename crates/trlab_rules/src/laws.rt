@@ -14,22 +14,23 @@ pub fn standard_programs_are_accepted()
     ensures rickert { (c : ℕ) → IsAccepted OfChange (rickert_program c) }
 {}
 
-/// A probability and a draw of a program happen on the same words.
+/// A draw of a program is true exactly if an event of its probability happens on its word.
 pub fn chances_are_those_of_draws()
     ensures { DrawsHappenAsChances }
 {}
 
-/// The motion program of 1992 answers the speed of Nagel and Schreckenberg.
+/// The motion program of 1992 computes the speed of Nagel and Schreckenberg.
 pub fn nasch_is_published()
     ensures { (p : ℕ) → MovesBy (nasch_speed p) (nasch_program p) }
 {}
 
-/// The motion program of 1998 answers the speed of Barlovic, Santen, Schadschneider and Schreckenberg.
+/// The motion program of 1998 computes the speed of Barlovic, Santen, Schadschneider and Schreckenberg.
 pub fn vdr_is_published()
     ensures { (p p0 : ℕ) → MovesBy (vdr_speed p p0) (vdr_program p p0) }
 {}
 
-/// The change program of 1996 answers who crosses as by Rickert, Nagel, Schreckenberg and Latour.
+/// The change program of 1996 computes the lane change of Rickert, Nagel, Schreckenberg and Latour, with this project's
+/// distances.
 pub fn rickert_is_published()
     ensures { (c : ℕ) → ChangesBy (rickert_crosses c) (rickert_program c) }
 {}

@@ -42,7 +42,7 @@ impl Rule {
         Rule { motion, change }
     }
 
-    /// The program that answers each car's new speed, in cells per step.
+    /// The program that decides each car's new speed, in cells per step.
     pub fn motion(&self) -> &Motion
         ensures value { result.now ≡ self.now.motion }
         ensures rule { IsRule self.now }
@@ -50,7 +50,7 @@ impl Rule {
         &self.motion
     }
 
-    /// The program that answers whether a car crosses, if there is one.
+    /// The program that decides whether a car crosses, if the rule has one.
     pub fn change(&self) -> Option<&Change>
         ensures value { option_map (λ change. change.now) result ≡ self.now.change }
         ensures rule { IsRule self.now }
@@ -74,7 +74,7 @@ impl Rule {
         Ok(Rule::new(motion, change))
     }
 
-    /// Whether two rules are one: the same motion program, and the same change program or none.
+    /// Do two rules have the same motion program, and the same change program or none?
     pub fn equals(&self, other: &Rule) -> bool
         ensures { IsTrue result ↔ (self.now ≡ other.now) }
     {

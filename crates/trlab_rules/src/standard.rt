@@ -1,4 +1,4 @@
-//! The published rules, made of the standard programs, which the verifier accepts.
+//! The published rules, built from the standard programs, which the verifier accepts.
 
 ghost use Rattle.std.specs.Prelude.{◌≡◌, IfOk, IfErr, ◌≤◌};
 ghost use Rattle.trlab_rules.specs.declared.standard.StandardFault.TheVariants.{Memory};
@@ -17,7 +17,7 @@ use trlab_code::{Code, Instr};
 use trlab_verify::{AcceptedProgram, Change, Motion, ProgramKind, VerifyFault, verify_as};
 use trlab_words::Chance;
 
-/// Why there is no standard rule.
+/// Why a standard rule could not be made.
 #[derive(Clone, Copy, Debug, PartialEq, Eq, Error)]
 pub enum StandardFault {
     /// An allocation failed.
@@ -53,7 +53,7 @@ pub fn nasch(alloc: Global, p: Chance) -> Result<Rule, StandardFault>
     Ok(Rule::new(nasch_motion(alloc, p)?, None))
 }
 
-/// The rule of slow starts of Barlovic, Santen, Schadschneider and Schreckenberg (1998).
+/// The slow-start rule of Barlovic, Santen, Schadschneider and Schreckenberg (1998).
 ///
 /// It is `nasch` with probability `p0` for a car whose speed before the step is 0, and `p` for a moving one.
 ///
@@ -68,11 +68,11 @@ pub fn vdr(alloc: Global, p: Chance, p0: Chance) -> Result<Rule, StandardFault>
     Ok(Rule::new(vdr_motion(alloc, p, p0)?, None))
 }
 
-/// The rule of two lanes of Rickert, Nagel, Schreckenberg and Latour (1996), with distances of this
-/// project's own.
+/// The two-lane rule of Rickert, Nagel, Schreckenberg and Latour (1996), with lane-change distances of this project's
+/// own.
 ///
-/// A car crosses exactly if its side cell is empty, its gap is below its speed plus one, the gap ahead on the
-/// other lane is above that, the gap behind there is above the limit, and an event of probability `c` happens
+/// A car crosses exactly if its side cell is empty, its gap is below its speed plus one, the gap ahead on the other
+/// lane is above its speed plus one, the gap behind there is above the limit, and an event of probability `c` happens
 /// on its word 1. Then all cars move as with `nasch` and probability `p`.
 ///
 /// # Errors
@@ -148,10 +148,10 @@ fn rickert_change(alloc: Global, c: Chance) -> Result<Change, AllocError>
 
 /// The speed of a car after acceleration and slowing down, as Nagel and Schreckenberg worded it in 1992.
 ///
-/// They speak of the distance to the car ahead, which is one more than the gap, all in cells: a car whose speed
-/// is below the limit goes one faster if the distance is above its speed plus one, and then a car whose speed
-/// is at least the distance goes one less than the distance. For a speed of at most the limit this is the
-/// minimum of the speed plus one, the limit and the gap.
+/// Their distance to the car ahead is one more than the gap; both are in cells. A car whose speed is below the limit
+/// goes one faster if the distance is above its speed plus one. Then a car whose speed is at least the distance slows
+/// down to one less than the distance. For a speed of at most the limit this is the minimum of the speed plus one, the
+/// limit and the gap.
 pub fn slowed_1992(speed: u32, limit: u32, gap: u32) -> u32
     ensures wording { result ≡ wording_1992 speed limit gap }
     ensures safe { speed ≤ limit → result ≡ safe_speed speed limit gap }

@@ -1,4 +1,4 @@
--- Chances, in parts of 2 ^ 31, and the random words on which they happen.
+-- Chances, which are probabilities times 2 ^ 31, and the random words on which they happen.
 use Rattle.std.specs.Prelude.{ℕ, ◌/◌, Bool, nat_lt}
 
 -- an event of probability t / 2 ^ 31 happens on a word whose half is below t

@@ -35,7 +35,7 @@ car_column x =
     ∷ slice_index x 8 ∷ slice_index x 9 ∷ q.2 ∷ slice_index x 11
     ∷ slice_index x 12 ∷ slice_index x 13 ∷ q.3 ∷ slice_index x 15 ∷ []
 
--- the initial state of a step, and the same after three columns of its first round
+-- the initial state of a step, and this state after three columns of its first round
 abbrev pub StartsStep : List ℕ → ℕ → ℕ → List ℕ → List ℕ → Type 0
 StartsStep key road step initial columns =
     (initial ≡ step_state key road step) × (columns ≡ other_columns (step_state key road step))

@@ -154,8 +154,8 @@ fn word_of(x: States, k: usize) -> u32x8
     words[k]
 }
 
-// Word k after the quarter round on each diagonal of the states. The standard rules draw on words 0 and 1,
-// which need one diagonal only.
+// Word k after the quarter round on each diagonal of the states. The standard rules draw on words 0 and 1, which need
+// only one diagonal.
 #[inline(always)]
 fn diagonal_word(x: States, k: usize) -> u32x8
     requires { k < 16 }
@@ -195,7 +195,7 @@ fn splat_with_cars(a: u32, b: u32, c: u32, cars: [u32; 8]) -> Quarter
     }
 }
 
-// This state for each of eight cars, with the number of the car as word 14.
+// A state for each of eight cars, with the number of the car as word 14.
 #[inline(always)]
 fn with_cars(x: &[u32; 16], cars: [u32; 8]) -> States
     ensures states { (j : ℕ) → j < 8 → state_in j result ≡ with_car x.now (slice_index cars j) }

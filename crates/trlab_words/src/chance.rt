@@ -1,4 +1,4 @@
-//! Chances, in parts of 2^31, and the random words on which they happen.
+//! Chances, which are probabilities times 2^31, and the random words on which they happen.
 
 ghost use Rattle.std.specs.Prelude.{◌≡◌, ◌↔◌, ◌≤◌, ℕ, IsSome, IfSome};
 ghost use Rattle.trlab_words.specs.Chances.{happens_on};
@@ -36,7 +36,7 @@ impl Chance {
         }
     }
 
-    /// The parts of 2^31.
+    /// The probability times 2^31.
     pub fn get(self) -> u32
         ensures value { result ≡ self }
         ensures in_range { result ≤ CERTAIN }
@@ -45,8 +45,8 @@ impl Chance {
     }
 }
 
-/// Whether an event of a probability happens on a random word: if half of the word is below the probability
-/// times 2^31.
+/// Does an event of this probability happen on a random word? It does if half of the word, rounded down, is below the
+/// probability times 2^31.
 pub fn happens(word: u32, chance: Chance) -> bool
     ensures { result ≡ happens_on chance word }
 {

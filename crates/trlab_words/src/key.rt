@@ -1,4 +1,4 @@
-//! The key of a run, and the random words that it gives.
+//! The key of a run, and the random words that follow from it.
 
 ghost use Rattle.std.specs.Prelude.{◌≡◌, ℕ, ◌<◌, ◌^◌, List, All, length, slice_index};
 ghost use Rattle.trlab_words.specs.Words.{random_words, random_word};
@@ -18,8 +18,7 @@ pub struct Key(pub [u8; 32]);
 
 /// The sixteen random words of a car in a step of a road.
 ///
-/// They are one block of the ChaCha20 key stream (RFC 8439) under the key: its stream is numbered by the
-/// road and the car, and its position by the step.
+/// They are block `step` of the ChaCha20 key stream (RFC 8439) under the key, in stream `road` * 2^32 + `car`.
 pub fn words(key: &Key, road: u32, car: u32, step: u32) -> [u32; 16]
     ensures { result ≡ random_words key.now.0 road car step }
 {
@@ -33,8 +32,8 @@ pub fn words(key: &Key, road: u32, car: u32, step: u32) -> [u32; 16]
     list
 }
 
-/// A key as eight words of 32 bits, read once for many calls. It also keeps the start of one step's blocks:
-/// the random words of that step take less time, and are the same.
+/// A key as eight words of 32 bits, read once for many calls. It also keeps the start of one step's blocks: this makes
+/// the random words of that step faster to compute, and does not change them.
 #[derive(Drop)]
 pub struct KeyWords {
     words: [u32; 8],
@@ -51,7 +50,7 @@ impl Model for KeyWords {
 }
 
 impl KeyWords {
-    /// A copy of the words.
+    /// A copy of the key. It allocates nothing.
     pub fn copy(&self) -> KeyWords
         ensures { result ≡ self.now }
     {
@@ -63,14 +62,14 @@ impl KeyWords {
 }
 
 impl Key {
-    /// The key's eight words.
+    /// The key's eight words, prepared for step 0 of road 0.
     pub fn words(&self) -> KeyWords
         ensures { result ≡ self.now.0 }
     {
         self.words_for_step(0, 0)
     }
 
-    /// The key's eight words, made ready for the random words of one step of a road.
+    /// The key's eight words, prepared for the random words of one step of a road.
     pub fn words_for_step(&self, road: u32, step: u32) -> KeyWords
         ensures { result ≡ self.now.0 }
     {
@@ -100,7 +99,8 @@ fn read_words(bytes: &[u8]) -> [u32; 8]
     ]
 }
 
-/// Word k, below 16, of each of eight cars in a step of a road: the entry of `words` at k for that car.
+/// Word `k`, 0 to 15, of each of eight cars in a step of a road: entry `k` of `words` for that car. This is faster for
+/// the road and the step for which the key was prepared.
 pub fn word_of_cars(key: &KeyWords, road: u32, cars: [u32; 8], step: u32, k: usize) -> [u32; 8]
     requires { k < 16 }
     ensures { (j : ℕ) → j < 8 → slice_index result j ≡ random_word key.now road (slice_index cars j) step k }

@@ -12,7 +12,7 @@ pub(crate) struct StepStart {
     pub(crate) step: u32,
     // The initial state, with 0 as word 14.
     pub(crate) initial: [u32; 16],
-    // The same after the quarter round on each column but the third.
+    // The initial state after the quarter round on each column but the third.
     pub(crate) columns: [u32; 16],
 }
 

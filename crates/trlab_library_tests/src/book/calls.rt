@@ -1,4 +1,4 @@
-//! Calls at one desk: their replies, and the cars that reads among them show.
+//! Calls at one desk: their replies, and the cars that reads show.
 
 ghost use Rattle.std.specs.Prelude.{◌≡◌};
 ghost use Rattle.trlab_strands.specs.Tokens.{name_of};

@@ -1,4 +1,4 @@
-//! What the tests of the book have in common.
+//! Modules that the tests of the book share.
 
 pub mod books;
 pub mod expected;

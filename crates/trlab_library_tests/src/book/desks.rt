@@ -19,7 +19,7 @@ use trlab_strands::{Blank, Ledger};
 /// How often each of four threads replaces the rule of its job and reads the job.
 const ROUNDS: u32 = 25;
 
-/// A read of a job of which no step is done.
+/// The expected read of a job that has done no step.
 const NEW_JOB: Shown<'static> = (0, b"0.0.......", &[(0, NEVER)]);
 
 /// Submits a job, and replaces its rule and reads it in turn. Returns whether all calls have the expected answers.
@@ -98,8 +98,8 @@ fn four_threads_call_one_book(rt: HostRuntime) {
     assert!(rt; four_threads::<Brand, HostRuntime>(&rt, rt.alloc(), blank));
 }
 
-/// Gathers two desks and closes the book. Returns whether the desks have the parts of one that was split, and the
-/// history has both calls.
+/// Gathers two desks and closes the book. Returns whether the desks have 1023 parts and 1 part, as after a split, and
+/// the history has both calls.
 fn is_closed_by_both<L: Ledger>(book: SharedBook<L>, mine: Desk<L>, theirs: Desk<L>) -> bool {
     let parts = mine.parts() == 1023 && theirs.parts() == 1;
     let desk = book.gather(mine, theirs);

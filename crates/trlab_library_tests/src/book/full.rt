@@ -83,8 +83,8 @@ fn fills<L: Ledger, R: Wait>(rt: &R, alloc: Global, table: &mut Table<L>) -> boo
     table.answers_all(rt, alloc, &BEFORE) && hears(rt, alloc, table, 999995)
 }
 
-/// Whether a history is full whose last event is a lease of a runner: its first order is refused, and so is each later
-/// call, also those of three more runners.
+/// Whether a history whose last event is a runner's lease is full: the runner's first order is refused, and so is each
+/// later call, including those of three more runners.
 fn has_full_history<L: Ledger + Send + Sync, R: Threads + Wait + Sync>(
     rt: &R,
     alloc: Global,

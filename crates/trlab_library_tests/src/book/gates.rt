@@ -18,7 +18,7 @@ use trlab_segments::Gate;
 use trlab_sequential_book::{BookFault, Call, Event, Reply};
 use trlab_strands::{Blank, Ledger};
 
-/// Sets `came` when a segment comes, and holds it until `goes_on` is set.
+/// Sets `came` when a segment comes, and holds the segment until `goes_on` is set.
 #[derive(Drop)]
 struct Barrier {
     came: AtomicBool,
@@ -72,7 +72,7 @@ fn end_held<L: Ledger, R: Wait>(
     (desk, came && ended)
 }
 
-/// Runs the jobs of a book with a runner who is held while its lease ends. Returns whether the runner and the calls
+/// Runs the jobs of a book with a runner that is held while its lease ends. Returns whether the runner and the calls
 /// meanwhile have the expected answers.
 fn run_held<L: Ledger + Send + Sync, R: Threads + Wait + Sync>(
     rt: &R,
@@ -107,8 +107,8 @@ fn end_of(end: LeaseEnd) -> Shown<'static> {
     }
 }
 
-/// Submits a job, runs it with `run_held` and reads it. Returns whether one order is refused to the runner, whose lease
-/// ends during its first step, and all else is as expected.
+/// Submits a job, runs it with `run_held` and reads it. Returns whether exactly one of the runner's orders is refused,
+/// because its lease ends during its first step, and all else is as expected.
 fn is_refused_once<L: Ledger + Send + Sync, R: Threads + Wait + Sync>(
     rt: &R,
     alloc: Global,

@@ -1,8 +1,8 @@
 //! Several runners run the jobs of a new book. Then the jobs are read, and the book is closed.
 //!
 //! A submit or a read is made once more if an allocation failed, and runners run again. So a test whose runners do not
-//! wait for each other passes even if one allocation fails, whichever it is. If a runner dropped a lease without a
-//! revoke, the lease would stay out and its job unfinished.
+//! wait for each other passes even if any one allocation fails. If a runner dropped a lease without a revoke, the lease
+//! would stay out and its job unfinished.
 
 ghost use Rattle.std.specs.Prelude.{◌≡◌, ◌<◌, ◌≤◌};
 ghost use Rattle.trlab_strands.specs.Tokens.{name_of};
@@ -22,8 +22,8 @@ use trlab_strands::{Blank, Ledger};
 /// The steps of each job.
 const STEPS: u32 = 40;
 
-/// The kinds of jobs, by the numbers of their roads: the cars at the start, the probability with which they brake, and
-/// the cars at the last step, to which one worker leads them.
+/// The kinds of jobs, by the numbers of their roads: the cars at the start, their probability to brake, times 2^31, and
+/// the cars after the last step, as one worker computes them.
 const KINDS: [(&[u8], u32, &[u8]); 4] = [
     // From the fifth step on, each car drives 4 cells per step, with a gap of 4 cells.
     (b"0.0.......", NEVER, b".4....4..."),
@@ -69,7 +69,7 @@ fn fill<L: Ledger, R: Wait>(
     true
 }
 
-/// How many runners there are, and how many workers each of them has.
+/// The number of runners, and the number of workers of each.
 #[derive(Clone, Copy)]
 struct Workforce {
     count: u32,
@@ -158,7 +158,7 @@ fn passes_anew<R: AllocGlobal + Threads + Wait + Sync, G: Gate + Sync>(
     }
 }
 
-// First a few runners come to many roads, then many runners to a few.
+// First a few runners run many jobs, then many runners run a few.
 #[test]
 fn runners_run_all_jobs(rt: HostRuntime) {
     let few = Workforce {

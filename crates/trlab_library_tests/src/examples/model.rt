@@ -5,7 +5,7 @@ use trlab_bounds::roads::MAX_LENGTH;
 use trlab_road::Road;
 use trlab_words::{CERTAIN, Chance, Key, happens, words};
 
-/// Of `trlab_words`: the first two words, and whether the car brakes.
+/// From `trlab_words`: the first two words, and whether the car brakes.
 fn draw() -> Option<(u32, u32, bool)> {
     let (road, car, step) = (0, 0, 0);
     let words = words(&Key([0; 32]), road, car, step);
@@ -18,7 +18,7 @@ fn car_0_draws_its_words(rt: HostRuntime) {
     assert!(rt; draw() == Some((2917185654, 2419978656, false)));
 }
 
-/// Of `trlab_road`: whether the first road has this picture, and the cars of the second one.
+/// From `trlab_road`: whether the first road has this picture, and the cars of the second one.
 fn draw_roads(alloc: Global, wanted: &[u8]) -> Option<(bool, u32)> {
     let road = Road::parse(alloc, 5, &[b"0.0......."]).ok()?;
     let mut is_right = true;

@@ -9,7 +9,7 @@ use trlab_notes::{AbstractValue, level_between};
 use trlab_verify::{Motion, verify_motion};
 use trlab_words::{Key, words};
 
-/// Of `trlab_lines`: whether the parts of a text are these.
+/// From `trlab_lines`: whether a text is split into the expected parts.
 fn split() -> Option<bool> {
     let (line, rest) = next_line(b"road 1\nlanes 2\n")?;
     let (name, number) = cut(line, b' ')?;
@@ -19,7 +19,7 @@ fn split() -> Option<bool> {
     Some(is_right)
 }
 
-/// Of `trlab_code`: the bytes and the instructions of a program.
+/// From `trlab_code`: the number of bytes and of instructions of a program.
 fn encode_gap(alloc: Global) -> Option<(usize, usize)> {
     let instrs = vec![in alloc;
         Instr::Get(Register::R0, Input::Gap),
@@ -32,21 +32,21 @@ fn encode_gap(alloc: Global) -> Option<(usize, usize)> {
     Some((bytes.len(), same.instrs().len()))
 }
 
-/// Of `trlab_asm`: whether the canonical text of a program is this one.
+/// From `trlab_asm`: whether the canonical text of a program is as expected.
 fn print_gap(alloc: Global) -> Option<bool> {
     let code = assemble(alloc, Kind::Motion, b"get r0,gap ; all of it\ngo r0").ok()?;
     let text = disassemble(alloc, &code).ok()?;
     Some(text.as_slice() == b"get r0, gap\ngo r0\n".as_slice())
 }
 
-/// Of `trlab_notes`: the order of two values.
+/// From `trlab_notes`: the level between two values.
 fn compare() -> u8 {
     let (slow, fast) = (AbstractValue::Between(0, 2), AbstractValue::Between(3, 5));
     let level = level_between(slow, fast, false, 0);
     level
 }
 
-/// Of `trlab_verify`: an accepted program.
+/// From `trlab_verify`: an accepted program.
 fn verify(alloc: Global) -> Option<Motion> {
     let text = b"get r0, gap\nget r1, limit\nmin r0, r0, r1\ngo r0";
     let code = assemble(alloc, Kind::Motion, text).ok()?;
@@ -54,7 +54,7 @@ fn verify(alloc: Global) -> Option<Motion> {
     Some(motion)
 }
 
-/// Of `trlab_machine`: the new speed of a car, and the number of instructions.
+/// From `trlab_machine`: the new speed of a car, and the number of executed instructions.
 fn run(motion: &Motion) -> Option<(u32, u32)> {
     let (speed, limit, gap, headspeed) = (2, 5, 3, 0);
     let view = MotionView::new(speed, limit, gap, headspeed)?;

@@ -13,7 +13,7 @@ use trlab_strands::{Blank, Ledger};
 use trlab_traffic::laws::run_keeps_below_peak;
 use trlab_words::{Chance, Key};
 
-/// Of `trlab_strands` and `trlab_traffic`.
+/// From `trlab_strands` and `trlab_traffic`.
 fn note<L: Ledger>(blank: Blank<u32>)
     requires { name_of blank ≡ L.name }
 {
@@ -37,7 +37,7 @@ fn new_seed(alloc: Global) -> Option<Seed> {
     })
 }
 
-/// Of `trlab_sequential_book`: the number of a new job, whose cars never brake at random.
+/// From `trlab_sequential_book`: the number of a new job, whose cars never brake at random.
 fn submit(alloc: Global, book: &mut Book) -> Option<u32> {
     let rule = nasch(alloc, Chance::new(0)?).ok()?;
     let seed = new_seed(alloc)?;
@@ -57,7 +57,7 @@ fn run(alloc: Global, book: &mut Book) -> Option<()> {
     Some(())
 }
 
-/// The steps that a job has done.
+/// The number of steps that a job has done.
 fn done(alloc: Global, book: &mut Book, job: u32) -> Option<u32> {
     let snapshot = book.read(alloc, job).ok()?;
     Some(snapshot.step())

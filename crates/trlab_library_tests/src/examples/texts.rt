@@ -5,7 +5,7 @@ use trlab_diagram::{Point, flow, points_text};
 use trlab_jobs::read_job;
 use trlab_texts::{Excerpt, LineName, Quantity};
 
-/// Of `trlab_texts`: the number of a line.
+/// From `trlab_texts`: the number of a line.
 fn read_steps() -> Option<u32> {
     let line = b"steps 20";
     let steps = Excerpt::number_after(LineName::Steps, 0, 100, Quantity::Other, line).ok()?;
@@ -16,7 +16,7 @@ const JOB: &[u8] =
     b"road 1\nkey 0000000000000000000000000000000000000000000000000000000000000000\nlimit 5\n\
     lane 0.0.......\nrule nasch 0\nsteps 20\n";
 
-/// Of `trlab_jobs`: the steps and the cars of a job.
+/// From `trlab_jobs`: the number of steps and of cars of a job.
 fn read(alloc: Global, text: &[u8]) -> Option<(u32, u32)> {
     let job = read_job(alloc, text).ok()?;
     let (steps, cars) = (job.steps, job.road.cars());
@@ -26,7 +26,7 @@ fn read(alloc: Global, text: &[u8]) -> Option<(u32, u32)> {
 const TABLE: &[u8] =
     b"cars,cells,steps,distance,stopped,changes,flow\n150,1000,100,60000,0,0,600000\n";
 
-/// Of `trlab_diagram`: the flow at a point, and whether a table is printed as `TABLE`.
+/// From `trlab_diagram`: the flow at a point, and whether a table is printed as `TABLE`.
 fn measure(alloc: Global) -> Option<(u128, bool)> {
     let point = Point {
         cars: 150,

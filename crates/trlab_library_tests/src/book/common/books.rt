@@ -1,4 +1,4 @@
-//! Calls of shared books that several tests make, and how they begin and end.
+//! Calls of shared books that several tests make, and how the tests begin and end a book.
 
 use crate::book::common::expected::{Shown, is_shown};
 use crate::book::common::jobs::{TestJob, seed_of};
@@ -17,7 +17,7 @@ pub fn new_blank(alloc: Global) -> Result<Blank<Event>, AllocError> {
     }
 }
 
-/// The desk of runners, and whether they succeeded.
+/// The desk that runners return, and whether they succeeded.
 pub fn ended<L: Ledger>(ran: Result<Desk<L>, (Desk<L>, RunFault)>) -> (Desk<L>, bool) {
     match ran {
         Ok(desk) => (desk, true),
@@ -73,7 +73,7 @@ pub fn replace<L: Ledger, R: Wait>(
     }
 }
 
-/// Whether a read of a job shows what is expected.
+/// Whether a read of a job shows the expected snapshot.
 pub fn reads<L: Ledger, R: Wait>(
     rt: &R,
     alloc: Global,

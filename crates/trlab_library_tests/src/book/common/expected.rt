@@ -1,4 +1,4 @@
-//! What tests expect of reads.
+//! The snapshots that tests expect from reads.
 
 use crate::traffic::of_1992;
 use std::alloc::Global;
@@ -6,8 +6,8 @@ use trlab_road::Road;
 use trlab_rules::Rule;
 use trlab_sequential_book::{Sheet, Snapshot};
 
-/// What a read shows: the steps done, the picture of the one lane, and the rules, each by its first step and the
-/// probability to brake.
+/// The expected result of a read: the steps done, the picture of the only lane, and for each rule its first step and
+/// its probability to brake, times 2^31.
 pub type Shown<'a> = (u32, &'a [u8], &'a [(u32, u32)]);
 
 /// Whether a road of one lane has this picture; false if an allocation fails.

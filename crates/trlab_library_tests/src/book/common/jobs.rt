@@ -14,7 +14,7 @@ pub const BY_HALF: u32 = CERTAIN / 2;
 /// Each car brakes in each step.
 pub const ALWAYS: u32 = CERTAIN;
 
-/// A job of the cars of a picture on one lane, who brake with the probability `chance`. Its key is zero.
+/// A job whose cars are those of a one-lane picture and brake with the probability `chance` / 2^31. Its key is zero.
 #[derive(Clone, Copy)]
 pub struct TestJob {
     pub picture: &'static [u8],
@@ -24,7 +24,7 @@ pub struct TestJob {
     pub steps: u32,
 }
 
-/// A job of two cars who never brake at random.
+/// A job of two cars that never brake at random.
 pub fn two_cars(number: u32, steps: u32) -> TestJob {
     TestJob {
         picture: b"0.0.......",

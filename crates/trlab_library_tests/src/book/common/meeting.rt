@@ -4,7 +4,7 @@ use std::hint;
 use std::sync::atomic::{AtomicBool, Ordering};
 use trlab_segments::Gate;
 
-/// How often a thread looks for another before it gives up.
+/// The number of times that a thread checks for another before it gives up.
 const TURNS: u32 = 100_000_000;
 
 /// Waits until `came` is set. Returns whether it was set in time.
@@ -18,7 +18,7 @@ pub fn waits_for(came: &AtomicBool) -> bool {
     false
 }
 
-/// Holds the first segment of each of the roads 0 and 1 until one of the other has come.
+/// Holds the segments of road 0 until one of road 1 has come, and the other way round.
 #[derive(Drop)]
 pub struct Meeting {
     first: AtomicBool,
@@ -35,7 +35,7 @@ impl Meeting {
         }
     }
 
-    /// Whether nobody gave up waiting.
+    /// Whether no thread gave up waiting.
     pub fn took_place(&self) -> bool {
         !self.gave_up.load(Ordering::SeqCst)
     }

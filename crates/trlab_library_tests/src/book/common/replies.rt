@@ -1,4 +1,4 @@
-//! Replies that tests expect, in few words, and those that correspond to the answers of a desk.
+//! Short forms of the replies that tests expect, and the replies that correspond to the results of calls at a desk.
 
 use trlab_sequential_book::{BookFault, Lease, Order, Reply, Snapshot};
 

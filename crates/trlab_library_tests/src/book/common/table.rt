@@ -1,7 +1,7 @@
-//! A shared book with one desk, for tests of many calls. The calls of the table promise nothing, so that such a test is
-//! proved in little time: the replies are what the tests are for.
+//! A shared book with one desk, for tests of many calls. The methods of the table have no postconditions, so that such
+//! a test is proved quickly; the test itself checks the replies.
 //!
-//! A call is made once more if an allocation failed. So a test passes even if one allocation fails, whichever it is.
+//! A call is made once more if an allocation failed. So a test passes even if any one allocation fails.
 
 ghost use Rattle.std.specs.Prelude.{◌≡◌};
 ghost use Rattle.trlab_strands.specs.Tokens.{name_of};
@@ -32,7 +32,7 @@ pub enum Made {
     GiveBack,
     Revoke(u32),
     Cancel(u32),
-    /// Reads a job, whose cars have to be those of a picture.
+    /// Reads a job; its cars must be those of this picture.
     Read(u32, &'static [u8]),
 }
 
@@ -45,7 +45,8 @@ pub struct Table<L: Ledger> {
     picture: &'static [u8],
 }
 
-/// Runs an order with its lease, again if an allocation failed. Returns the reply to the order if this succeeded.
+/// Runs an order with its lease, and once more if an allocation failed. Returns the reply to the order if one of the
+/// two runs succeeded.
 fn run_ordered(alloc: Global, lease: &mut Lease, order: &Order) -> Option<Reply> {
     let ran = lease.advance(&Caller, alloc, order).is_ok()
         || lease.advance(&Caller, alloc, order).is_ok();
