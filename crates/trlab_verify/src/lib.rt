@@ -5,7 +5,7 @@
 //! ```text
 //! let text = b"get r0, gap\nget r1, limit\nmin r0, r0, r1\ngo r0";
 //! let code = assemble(alloc, Kind::Motion, text).ok()?;
-//! let motion = verify_motion(alloc, code).ok()?; // an error if a car could collide
+//! let motion = verify_motion(alloc, code).ok()?; // an error if a car could collide or the program might not end
 //! ```
 #![tactic(auto)]
 
