@@ -35,24 +35,24 @@ line_numbers parts = map (λ read. read.line) parts.reads
 abbrev pub no_parts : Parts
 no_parts = record { labels = λ name. None; reads = [] }
 
--- labels with one more at pc, if the line has a label
+-- the labels, with one more for this pc if the line has a label
 abbrev pub with_label : Labels → ℕ → Option (List ℕ) → Labels
 with_label labels pc None = labels
 with_label labels pc (Some name) = update bytes_eq labels name (Some pc)
 
--- instructions with one more, if the line has an instruction
+-- the instructions that were read, with one more if the line has an instruction
 abbrev pub with_draft : List LineDraft → ℕ → Option InstrDraft → List LineDraft
 with_draft reads number None = reads
 with_draft reads number (Some draft) = reads ++ (record { line = number; draft = draft } ∷ [])
 
--- the parts that were read so far, with one more line: its label names the next instruction
+-- the parts read so far, with one more line: its label names its instruction, or the next one if it has none
 abbrev pub with_line : Parts → ℕ → Line → Parts
 with_line parts number line = record {
   labels = with_label parts.labels (length parts.reads) line.label;
   reads = with_draft parts.reads number line.draft;
 }
 
--- the first pass: the parts that were read so far, with the lines from a number on, or the first fault
+-- the first pass: adds lines, numbered from `number` on, to the parts read so far, or gives the first fault
 unfoldable pub first_pass : Parts → ℕ → List (List ℕ) → Result Parts AsmFault
 first_pass parts number [] = Ok parts
 first_pass parts number (line ∷ left) =
@@ -68,7 +68,7 @@ with_target pc (JumpTrue a t) = JumpTrue a pc
 with_target pc (JumpFalse a t) = JumpFalse a pc
 with_target pc instr = instr
 
--- a jump to the pc of its label, which must be there
+-- a jump to the pc of its label, or a fault if no line has the label
 abbrev pub jump_to : ℕ → Instr → Option ℕ → Result Instr AsmFault
 jump_to line instr None = Err (record { line = line; why = NoLabel })
 jump_to line instr (Some pc) = Ok (with_target pc instr)
@@ -94,13 +94,13 @@ instrs_of parts =
     if length parts.reads == 0 then Err (record { line = 0; why = Empty })
     else second_pass parts.labels parts.reads
 
--- the program of this kind in the lines of a text, which are numbered from 1, or the first fault
+-- the program of this kind in the lines of a text, or the first fault; the lines are numbered from 1
 abbrev pub code_of : Kind → List (List ℕ) → Result Program AsmFault
 code_of kind lines = do
   parts ← first_pass no_parts 1 lines
   instrs ← instrs_of parts
   Ok (record { kind = kind; instrs = instrs })
 
--- the fault if an allocation fails, which says nothing of the text
+-- the fault if an allocation fails; it says nothing about the text
 abbrev pub IsOutOfMemory : AsmFault → Type 0
 IsOutOfMemory fault = fault ≡ record { line = 0; why = Memory }

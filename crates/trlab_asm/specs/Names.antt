@@ -1,4 +1,4 @@
--- The names of registers, inputs and instructions. The texts are read and printed by one table each.
+-- The names of registers, inputs and instructions: one table each, for reading and for printing.
 use Rattle.std.specs.Prelude.{ℕ, List, codes, bytes_eq, Option}
 use Rattle.std.specs.List.{find}
 use Rattle.trlab_code.specs.declared.instruction.Register.{Register}
@@ -55,14 +55,14 @@ mnemonic_text Go = codes "go"
 mnemonic_text Cross = codes "cross"
 mnemonic_text Stay = codes "stay"
 
--- the register of a text
+-- the register with this name
 abbrev pub register_named : List ℕ → Option Register
 register_named word = find (λ register. bytes_eq (register_text register) word) REGISTERS
 
--- the input of a text
+-- the input with this name
 abbrev pub input_named : List ℕ → Option Input
 input_named word = find (λ input. bytes_eq (input_text input) word) INPUTS
 
--- the instruction's name of a text
+-- the mnemonic with this name
 abbrev pub mnemonic_named : List ℕ → Option Mnemonic
 mnemonic_named word = find (λ name. bytes_eq (mnemonic_text name) word) MNEMONICS

@@ -1,4 +1,4 @@
--- The kinds of the operands of instructions.
+-- The operand kinds of each instruction, with their ranges and forms.
 use Rattle.std.specs.Prelude.{ℕ, ◌-◌, Bool, List, [], ◌∷◌, codes, Option, None, Some, is_some}
 use Rattle.trlab_bounds.specs.declared.programs.TheConstants.{CERTAIN, MAX_NUMBER, WORDS}
 use Rattle.trlab_lines.specs.Cutting.{without_prefix}
@@ -35,7 +35,7 @@ kinds_of name.Go = Register ∷ []
 kinds_of name.Cross = []
 kinds_of name.Stay = []
 
--- the smallest and the largest number of a kind of operands, if they are numbers
+-- the smallest and the largest number of an operand kind, if it is one of numbers
 abbrev pub range_of : OperandKind → Option (ℕ × ℕ)
 range_of Number = Some (0, MAX_NUMBER)
 range_of Divisor = Some (1, MAX_NUMBER)

@@ -46,7 +46,7 @@ value_within low high digits =
 abbrev pub number : ℕ → ℕ → List ℕ → Result ℕ Why
 number low high text = numeral text >>= value_within low high
 
--- where a jump goes: a pc, or a label, whose pc is not known yet and 0 here
+-- the target of a jump: a pc, or a label; the pc of a label is not known yet and is 0 here
 pub record Target : Type 0 where
   pub pc : ℕ
   pub label : Option (List ℕ)
@@ -82,7 +82,7 @@ abbrev pub jump_target : List ℕ → Result Target Why
 jump_target text = word text >>= target_named
 
 infixr 15 ◌then◌
--- the text before the first comma, and then the text after it
+-- reads the text before the first comma, and then the text after it
 abbrev pub ◌then◌ : {A B : Type 0} → (List ℕ → Result A Why) → (List ℕ → Result B Why)
     → List ℕ → Result (A × B) Why
 (first then rest) text = do
@@ -121,7 +121,7 @@ two_registers_number low = register then register_and_number low
 abbrev pub two_numerals : List ℕ → Result (List ℕ × List ℕ) Why
 two_numerals = numeral then numeral
 
--- the number of a random word, and a chance in parts of 2 ^ 31: the forms of both before the ranges of both
+-- the number of a random word, and a chance times 2 ^ 31; both forms are checked before either range
 abbrev pub word_chance : List ℕ → Result (ℕ × ℕ) Why
 word_chance text = do
   digits ← two_numerals text

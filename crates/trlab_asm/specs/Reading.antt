@@ -80,8 +80,8 @@ draft_of name.Go text = register text >>= λ a. whole_draft (Go a)
 draft_of name.Cross text = no_operand text >>= λ none. whole_draft Cross
 draft_of name.Stay text = no_operand text >>= λ none. whole_draft Stay
 
--- the instruction at pc, from its name and the text after it: first the name is judged, then the room that a
--- program has for it, then its operands
+-- the instruction at pc, from its name and the text after it: the name is checked first, then the length of
+-- the program, then the operands
 abbrev pub instruction : ℕ → List ℕ × List ℕ → Result (Option InstrDraft) Why
 instruction pc parts = do
   name ← ok_or (mnemonic_named parts.0) Word
@@ -95,12 +95,12 @@ body pc text = if length text == 0 then Ok None else instruction pc (up_to_blank
 abbrev pub Labels : Type 0
 Labels = List ℕ → Option ℕ
 
--- a name that no label has yet
+-- the label, if no earlier line has it
 abbrev pub if_free : List ℕ → Option ℕ → Result (Option (List ℕ)) Why
 if_free text None = Ok (Some text)
 if_free text (Some pc) = Err LabelTwice
 
--- a label that is new
+-- a label, if it is valid and new
 abbrev pub new_label : Labels → List ℕ → Result (Option (List ℕ)) Why
 new_label labels text = if is_label text then if_free text (labels text) else Err Word
 
@@ -121,6 +121,6 @@ parts_say labels pc parts = do
   draft ← body pc (without_indent parts.1)
   Ok (record { label = label; draft = draft })
 
--- the content of a line after these labels, whose instruction would be at this pc
+-- the content of a line, given the labels of earlier lines; its instruction, if it has one, is at this pc
 abbrev pub line_says : Labels → ℕ → List ℕ → Result Line Why
 line_says labels pc line = parts_say labels pc (label_and_rest (without_comment line))

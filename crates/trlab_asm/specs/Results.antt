@@ -1,13 +1,13 @@
--- Results, one after another: the first fault is the whole answer.
+-- Results in sequence: the first fault is the result.
 use Rattle.std.specs.Prelude.{Result, Ok, Err}
 
 infixl 10 ◌>>=◌
--- goes on with the value, and stops at the first fault
+-- continues with the value, or stops at the first fault
 abbrev pub ◌>>=◌ : {A B E : Type 0} → Result A E → (A → Result B E) → Result B E
 (Ok x) >>= f = f x
 (Err e) >>= f = Err e
 
--- a result with its value in another view
+-- a result with a function applied to its value
 abbrev pub map_ok : {A B E : Type 0} → (A → B) → Result A E → Result B E
 map_ok view (Ok x) = Ok (view x)
 map_ok view (Err e) = Err e

@@ -87,7 +87,7 @@ fn resolve_all<'a>(
     Ok(instrs)
 }
 
-/// All instructions with their targets, or the first fault, which may be that there are none.
+/// All instructions with their targets, or the first fault; a text without instructions has the fault `Empty`.
 fn instrs_of(alloc: Global, parts: &Parts<'_>) -> Result<Vec<Instr>, AsmFault>
     ensures told { MatchResult result
         (λ instrs. instrs_of (stored_parts parts.now) ≡ Ok instrs.items)
@@ -138,8 +138,8 @@ fn numbers_of(alloc: Global, reads: &[LineDraft<'_>]) -> Result<Vec<usize>, Allo
 ///
 /// # Errors
 ///
-/// The first fault of the text, except missing labels (`NoLabel`), which are not looked up; or `Why::Memory` if
-/// an allocation fails.
+/// The first fault of the lines, or `Why::Memory` if an allocation fails. `Empty` and `NoLabel` are not faults
+/// here: a text without instructions has no line numbers, and jumps may name missing labels.
 pub fn instruction_lines(alloc: Global, text: &[u8]) -> Result<Vec<usize>, AsmFault>
     ensures { MatchResult result
         (λ numbers. (parts : Found)

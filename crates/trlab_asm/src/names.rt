@@ -18,7 +18,7 @@ pub const REGISTERS: [Register; 8] = [
     Register::R7,
 ];
 
-/// All inputs.
+/// All inputs, in the order of their numbers.
 pub const INPUTS: [Input; 7] = [
     Input::Speed,
     Input::Limit,
@@ -56,7 +56,7 @@ pub enum Mnemonic {
     Stay,
 }
 
-/// All instructions.
+/// The mnemonics of all instructions.
 pub const MNEMONICS: [Mnemonic; 22] = [
     Mnemonic::Num,
     Mnemonic::Get,
@@ -143,7 +143,7 @@ pub fn mnemonic_text(name: Mnemonic) -> &'static [u8]
     }
 }
 
-/// A value whose name has a text.
+/// A value with a name in program texts.
 pub trait HasText: Copy {
     ghost said: { Self → List ℕ };
 
@@ -175,7 +175,7 @@ impl HasText for Mnemonic {
     }
 }
 
-/// The first of these values with this name.
+/// The first value in `all` with this name.
 fn first_named<X: HasText>(all: &[X], word: &[u8]) -> Option<X>
     ensures { result ≡ find (λ x. bytes_eq (X.said x) word.now) all.now }
 {

@@ -1,4 +1,4 @@
-//! The operands of an instruction, which commas separate: their kinds, and how they are read.
+//! The operands of an instruction, separated by commas: their kinds, and how they are read.
 
 ghost use Rattle.std.specs.Prelude.{◌≡◌, ◌≤◌, true, IfOk, option_map, Ok, ◌<◌, ok_or};
 ghost use Rattle.trlab_asm.specs.OperandKinds.{kinds_of, range_of, has_form};
@@ -22,22 +22,22 @@ pub enum OperandKind {
     Register,
     /// The register to which the result is written.
     Result,
-    /// Any number.
+    /// A number from 0 to `MAX_NUMBER`.
     Number,
-    /// A divisor.
+    /// A divisor, from 1 to `MAX_NUMBER`.
     Divisor,
-    /// The number of a random word.
+    /// The number of a random word, from 0 to 15.
     Word,
-    /// A probability, times 2^31.
+    /// A probability times 2^31, from 0 to 2^31.
     Chance,
     /// An input.
     Input,
-    /// The target of a jump.
+    /// The target of a jump: a label, or `@` and a pc.
     Target,
 }
 
 impl OperandKind {
-    /// The smallest and the largest number that it may be; `None` if it is not a number.
+    /// The smallest and the largest number of this kind; `None` if the operand is not a number.
     pub fn range(self) -> Option<(u32, u32)>
         ensures { result ≡ range_of self }
     {
@@ -124,7 +124,7 @@ pub(crate) fn digits_of(text: &[u8]) -> Result<&[u8], Why>
     }
 }
 
-/// The value of digits, which must be from `low` to `high`.
+/// The value of `digits`; `Why::Number` if there are more than `MAX_DIGITS`, or if it is not from `low` to `high`.
 pub(crate) fn value_within(low: u32, high: u32, digits: &[u8]) -> Result<u32, Why>
     requires { all_digits digits.now ≡ true }
     ensures value { result ≡ value_within low high digits.now }
@@ -142,7 +142,7 @@ pub(crate) fn value_within(low: u32, high: u32, digits: &[u8]) -> Result<u32, Wh
     }
 }
 
-/// The number that a word writes, which must be from `low` to `MAX_NUMBER`.
+/// Reads a word as a number from `low` to `MAX_NUMBER`.
 pub(crate) fn number_of(low: u32, word: &[u8]) -> Result<u32, Why>
     ensures value { result ≡ digits_of word.now followed value_within low MAX_NUMBER }
     ensures low { IfOk result (λ n. low ≤ n) }
@@ -150,7 +150,7 @@ pub(crate) fn number_of(low: u32, word: &[u8]) -> Result<u32, Why>
     value_within(low, MAX_NUMBER, digits_of(word)?)
 }
 
-/// Where a jump goes: a pc, or a label, whose pc is not known yet and 0 here.
+/// The target of a jump: a pc, or a label. The pc of a label is not known yet and is 0 here.
 #[derive(Drop)]
 pub(crate) struct Target<'a> {
     pub pc: u32,
@@ -211,7 +211,7 @@ fn both<A: Drop, B: Drop>(first: Result<A, Why>, second: Result<B, Why>) -> Resu
     Ok((first?, second?))
 }
 
-/// The only word of an operand, which may be empty.
+/// The only word of an operand; the word may be empty.
 fn word(text: &[u8]) -> Result<&[u8], Why>
     ensures { map_ok (λ word. word.now) result ≡ word text.now }
 {
@@ -322,8 +322,7 @@ fn two_numerals(text: &[u8]) -> Result<(&[u8], &[u8]), Why>
     }
 }
 
-/// The number of a random word, and a probability times 2^31. The form of each is checked before the range of
-/// either.
+/// The number of a random word, and a probability times 2^31. Both forms are checked before either range.
 fn word_chance(text: &[u8]) -> Result<(u32, u32), Why>
     ensures value { result ≡ word_chance text.now }
     ensures word { IfOk result (λ operands. operands.0 < WORDS) }

@@ -74,7 +74,7 @@ impl<'a> Parts<'a> {
         &self.reads
     }
 
-    /// Reads a line; `number` is its number, for a fault.
+    /// Reads the next line; a fault gets `number` as its line number.
     pub(crate) fn says(&self, number: usize, line: &'a [u8]) -> Result<Line<'a>, AsmFault>
         ensures value { result ≡ in_line number
             (line_says (stored_parts self.now).labels (length (stored_parts self.now).reads) line.now) }
@@ -87,7 +87,7 @@ impl<'a> Parts<'a> {
         })
     }
 
-    /// Adds a line; its label names the next instruction.
+    /// Adds a line. Its label names its instruction, or the next one if the line has none.
     pub(crate) fn add(&mut self, number: usize, line: Line<'a>) -> Result<(), AllocError>
         requires { OnSome line.draft (length (stored_parts self.old).reads < MAX_INSTRUCTIONS) }
         ensures { OnOk result (stored_parts self.new ≡ with_line (stored_parts self.old) number line.entry) }

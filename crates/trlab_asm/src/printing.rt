@@ -141,7 +141,7 @@ fn push_row(alloc: Global, out: &mut Vec<u8>, row: Operation) -> Result<(), Allo
     }
 }
 
-/// The line of an instruction in a program of `count` instructions; `marked` puts its label in front.
+/// Appends the line of an instruction in a program of `count` instructions; if `marked`, its label comes first.
 pub(crate) fn push_line(
     alloc: Global,
     out: &mut Vec<u8>,
@@ -179,8 +179,8 @@ fn is_jumped_to(instrs: &[Instr], pc: u32) -> bool
 
 /// The canonical text of a program: one instruction per line, and each line ends with LF.
 ///
-/// An instruction to which a jump goes has a label, `L` and its pc. A comma and a space separate operands. A
-/// target past the end of the program is `@` and the pc.
+/// A jump's target has a label: `L` and its pc. Operands are separated by a comma and a space. A target past the
+/// end of the program is printed as `@` and its pc.
 ///
 /// # Errors
 ///

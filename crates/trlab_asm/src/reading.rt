@@ -128,7 +128,7 @@ fn read_two(name: Mnemonic, text: &[u8]) -> Result<InstrDraft<'_>, Why>
     }))
 }
 
-/// Five instructions with three registers; any other name is `or`.
+/// `add`, `sub`, `min`, `max` and `and`; any other name is `or`.
 fn read_three(name: Mnemonic, text: &[u8]) -> Result<InstrDraft<'_>, Why>
     ensures { result ≡ three_registers text.now followed λ x. whole_draft (of_three name x.0 x.1.0 x.1.1) }
 {
@@ -238,7 +238,7 @@ fn body(pc: usize, text: &[u8]) -> Result<Option<InstrDraft<'_>>, Why>
     instruction(pc, name, operands)
 }
 
-/// A label that is new.
+/// Checks a label: `Why::Word` if it is invalid, `Why::LabelTwice` if an earlier line has it.
 fn new_label<'a>(labels: &Labels<'a>, text: &'a [u8]) -> Result<Option<&'a [u8]>, Why>
     ensures { map_ok (λ label. option_map (λ label. label.now) label) result ≡ new_label (pcs labels.now) text.now }
 {
@@ -265,7 +265,7 @@ fn label_of<'a>(labels: &Labels<'a>, text: Option<&'a [u8]>) -> Result<Option<&'
     }
 }
 
-/// Reads a line after these labels; its instruction, if it has one, is at `pc`.
+/// Reads a line, given the labels of earlier lines; its instruction, if it has one, is at `pc`.
 pub(crate) fn read_line<'a>(labels: &Labels<'a>, pc: usize, line: &'a [u8]) -> Result<Line<'a>, Why>
     ensures value { result ≡ line_says (pcs labels.now) pc line.now }
     ensures room { IfOk result (λ said. OnSome said.draft (pc < MAX_INSTRUCTIONS)) }

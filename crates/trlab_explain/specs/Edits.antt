@@ -1,4 +1,4 @@
--- Changes of texts, and whether a text gets further by one.
+-- Changes of texts, and whether a change lets a text get further.
 use Rattle.std.specs.Prelude.{◌≡◌, ℕ, ◌+◌, ◌<◌, List, ◌++◌, drop, length, take, Option, None, Some, Result, Ok, Err}
 use Rattle.trlab_lines.specs.Lines.{lines_of}
 use Rattle.trlab_texts.specs.declared.fault.Cause.{Cause}
@@ -9,7 +9,7 @@ use Rattle.trlab_jobs.specs.Check.{Check as CheckSaid, CheckText}
 use Rattle.trlab_jobs.specs.declared.subject.Subject.{Subject}
 use Rattle.trlab_jobs.specs.declared.subject.Subject.TheVariants.{Job, Sweep, Check}
 
--- a text in which some bytes at a place are replaced by others
+-- a text with `gone` bytes from `at` on replaced by `put`
 abbrev pub edited : ℕ → ℕ → List ℕ → List ℕ → List ℕ
 edited at gone put text = take at text ++ (put ++ drop (at + gone) text)
 
@@ -24,14 +24,14 @@ HasFirst Job text fault = (says : Result JobSaid Fault) × JobText text says × 
 HasFirst Sweep text fault = (says : Result SweepSaid Fault) × SweepText text says × (fault ≡ fault_of says)
 HasFirst Check text fault = (says : Result CheckSaid Fault) × CheckText text says × (fault ≡ fault_of says)
 
--- a text has no fault, or its first one is after the line of a number, and fewer lines are left there than
--- another text has from that line on
+-- the mended text has no fault, or its first fault is after the line `number` and has fewer lines after it
+-- than the other text has after that line
 abbrev pub IsAfter : List (List ℕ) → ℕ → List (List ℕ) → Option (ℕ × Cause) → Type 0
 IsAfter lines number mended None = Unit {0}
 IsAfter lines number mended (Some fault) =
     (number < fault.0) × (length mended + number < length lines + fault.0)
 
--- a text, read as this kind, gets further than another whose first fault is at this line
+-- the mended text, read as this kind, gets further than a text with its first fault at this line
 abbrev pub GetsFurther : List ℕ → ℕ → Subject → List ℕ → Type 0
 GetsFurther text number subject mended = (fault : Option (ℕ × Cause))
     × HasFirst subject mended fault × IsAfter (lines_of text) number (lines_of mended) fault

@@ -90,7 +90,7 @@ abbrev pub HasHead : Form → Bool → List ℕ → List ℕ → List ℕ → Ty
 HasHead Text refused answer quote out = BeginsWith (text_front refused answer quote) out
 HasHead Json refused answer quote out = EndsObject refused answer out
 
--- an explanation of a text in a form, and whether it is a rejection; it is plain, whichever bytes the text has
+-- an explanation of a text in a form, and whether it is a rejection; its bytes are plain for any text
 abbrev pub Explains : Form → Option Subject → List ℕ → Outputs
 Explains form wanted text refused out = (answer quote : List ℕ)
     × IsHead wanted text refused answer quote × HasHead form refused answer quote out × All IsPlain out

@@ -10,7 +10,7 @@ use Rattle.trlab_jobs.specs.declared.subject.Subject.TheVariants.{Job, Sweep, Ch
 abbrev pub IsNearly : List ℕ → List ℕ → Type 0
 IsNearly word name = damerau nat_eq word name ≤ 1
 
--- a text that begins with no such word may be one whose first word is misspelled, or else it is a check
+-- a text whose first word is unknown may be a job or sweep, if the word is nearly its name, or a check
 abbrev pub MayBe : List ℕ → Subject → Type 0
 MayBe word Job = IsNearly word (codes "road")
 MayBe word Sweep = IsNearly word (codes "sweep")

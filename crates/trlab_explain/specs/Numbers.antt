@@ -4,7 +4,7 @@ use Rattle.std.specs.List.{list_any}
 use Rattle.trlab_explain.specs.declared.topics.Topic.{Topic}
 use Rattle.trlab_explain.specs.declared.topics.Topic.TheVariants.{Cause, Reason}
 
--- a number is in a range, of which the first and the last number are given
+-- a number is in a range, given by its first and last number
 abbrev pub is_within : ℕ → ℕ × ℕ → Bool
 is_within number range = nat_le range.0 number && nat_le number range.1
 
@@ -18,7 +18,7 @@ cause_ranges =
 abbrev pub reason_ranges : List (ℕ × ℕ)
 reason_ranges = (1, 12) ∷ []
 
--- there is a cause, or a reason, of this number
+-- a cause or a reason has this number
 abbrev pub is_known : Topic → ℕ → Bool
 is_known Cause number = list_any (is_within number) cause_ranges
 is_known Reason number = list_any (is_within number) reason_ranges

@@ -33,7 +33,7 @@ pub enum Form {
     Json,
 }
 
-/// Adds a line of the input with its number, if there is such a line.
+/// Quotes a line of the input with its number; adds nothing for `None`.
 fn push_quote(page: &mut Page, number: u32, line: Option<&[u8]>) -> Result<()>
     ensures { OnOk result
         (page.new ≡ page.old ++ quote_line number (option_map (λ line. line.now) line.entry)) }
@@ -48,8 +48,8 @@ fn push_quote(page: &mut Page, number: u32, line: Option<&[u8]>) -> Result<()>
     page.end_line()
 }
 
-/// Explains a rejected input, by its first fault. `at_fault` is the rest of the line, in which positions are counted,
-/// and the lines or values that were wanted there.
+/// Explains a rejected input by its first fault. `at_fault` has the rest of the line, in which positions are counted,
+/// and the lines or values that the reader wanted there.
 fn explain_fault(
     explanation: &mut Explanation,
     text: &[u8],
@@ -207,7 +207,7 @@ fn explain_check(explanation: &mut Explanation, text: &[u8]) -> Result<()>
     }
 }
 
-/// Explains an input that is read as this kind.
+/// Explains an input as one of this kind.
 fn explain_as(explanation: &mut Explanation, subject: Subject, text: &[u8]) -> Result<()>
     requires { IsBlankHead explanation.old.refused explanation.old.answer explanation.old.quote }
     ensures { OnOk result (IsHeadAs subject text.now
@@ -220,7 +220,7 @@ fn explain_as(explanation: &mut Explanation, subject: Subject, text: &[u8]) -> R
     }
 }
 
-/// The kind of input that is wanted, or else the one that is meant.
+/// The wanted kind of input, or else the kind that the text is meant to be.
 fn read_as(alloc: Global, wanted: Option<Subject>, text: &[u8]) -> Result<Subject>
     ensures { IfOk result (IsReadAs wanted text.now) }
 {
@@ -273,7 +273,8 @@ fn explained(
     }
 }
 
-/// Writes a whole output, which is a rejection or not, and flushes the writer. If an allocation failed, writes nothing.
+/// Writes a whole output and flushes the writer; writes nothing if an allocation failed. The `bool` is true for a
+/// rejection.
 pub fn write_explanation<K: Sink>(output: Result<(bool, Vec<u8>)>, writer: &mut K) -> End
     requires { K.failed writer.old ≡ false }
     ensures answer { MatchResult output

@@ -1,10 +1,10 @@
-//! Laws of explanations, whichever code writes them.
+//! Laws of explanations, independent of the code that writes them.
 //!
-//! Each law is the contract of a function with nothing to do.
+//! Each law is the contract of a function with an empty body.
 
 ghost use Rattle.trlab_explain.specs.Laws.{EveryTextHasAHead};
 
-/// Every text has the head of an explanation, whichever kind of input it is read as.
+/// Every text has the head of an explanation, for each kind of input.
 pub fn every_text_has_a_head()
     ensures { EveryTextHasAHead }
 {}

@@ -40,7 +40,7 @@ fn misspelled_subject(alloc: Global, word: &[u8]) -> Result<Subject>
     }
 }
 
-/// The kind that an input is meant to be, by its first word, also if that is misspelled; else a check.
+/// The kind that an input is meant to be, by its first word, even a misspelled one; otherwise a check.
 ///
 /// # Errors
 ///

@@ -12,10 +12,10 @@ use trlab_notes::Reason;
 use trlab_road::RoadFault;
 use trlab_texts::Cause;
 
-/// The number of a cause minus that of its reason.
+/// A reason's cause has the reason's number plus this.
 const BEFORE_REASONS: u32 = 40;
 
-/// The causes of rejected inputs, except those of reasons. A cause that names a place is listed with one place.
+/// The causes of rejected inputs, except those of reasons. A cause that names a place is listed with place 0.
 const CAUSES: [Cause; 30] = [
     Cause::Line,
     Cause::Number,
@@ -59,7 +59,7 @@ fn listed(number: u32) -> Option<Cause>
         .find(|cause| cause.number() == u64::from(number))
 }
 
-/// The cause with a number, if there is one.
+/// The cause with this number, if there is one.
 pub fn cause_numbered(number: u32) -> Option<Cause>
     ensures known { is_some result ≡ is_known OfCause number }
     ensures number { IfSome result (λ cause. cause_number cause ≡ number) }

@@ -90,7 +90,7 @@ impl Object {
         self.put(Token::Key(plain_str(page.text())))
     }
 
-    /// Adds a token whose text need not be plain: other bytes are escaped. A number that is none becomes a string.
+    /// Adds a token whose text need not be plain: other bytes are escaped. An invalid number becomes a string.
     fn add(&mut self, token: Token<'_>) -> Result<()> {
         match token {
             Token::Key(name) => self.key(name),
@@ -148,7 +148,7 @@ impl Object {
         self.put(Token::String(plain_str(line)))
     }
 
-    /// The text, as one line.
+    /// The text of the object as one line, with its LF.
     pub fn into_line(self) -> Result<Vec<u8>>
         ensures plain { IfOk result (λ text. All IsPlain text.items) }
         ensures text { IfOk result (λ text. text.items ≡ print self ++ 10 ∷ []) }

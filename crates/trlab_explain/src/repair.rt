@@ -1,4 +1,4 @@
-//! Repairs are tried before they are shown: with each, an input gets further than its first error.
+//! Repairs are tried before they are shown: each one lets an input get further than its first error.
 
 ghost use Rattle.std.specs.Prelude.{◌≡◌, ◌+◌, ◌≤◌, IfOk, length, IfSome, true};
 ghost use Rattle.trlab_explain.specs.Edits.{edited, GetsFurther, HasFirst, IsAfter};
@@ -11,7 +11,7 @@ use trlab_lines::count_lines;
 use trlab_messages::{Change, Fault, Repair, Result, candidates_for};
 use trlab_texts::{Cause, TextFault};
 
-/// The text after a change.
+/// The text with `gone` bytes from `at` on replaced by `put`.
 fn edited(alloc: Global, text: &[u8], at: usize, gone: usize, put: &[u8]) -> Result<Vec<u8>>
     requires { at + gone ≤ length text.now }
     ensures { IfOk result (λ mended. mended.items ≡ edited at gone put.now text.now) }
@@ -48,8 +48,8 @@ fn first_fault(alloc: Global, subject: Subject, text: &[u8]) -> Result<Option<(u
     }
 }
 
-/// Whether a text has no fault, or its first one is after line `number` and fewer lines follow it than `text` has
-/// from that line on.
+/// Whether `mended` has no fault, or its first fault is after line `number` and has fewer lines after it than `text`
+/// has after that line.
 fn is_after(text: &[u8], number: u32, mended: &[u8], fault: Option<(u32, Cause)>) -> bool
     ensures { result ≡ true → IsAfter (lines_of text.now) number (lines_of mended.now) fault }
 {
@@ -62,7 +62,7 @@ fn is_after(text: &[u8], number: u32, mended: &[u8], fault: Option<(u32, Cause)>
     }
 }
 
-/// Whether a text, read as `subject`, gets further than one with its first fault at this place.
+/// Whether `mended`, read as `subject`, gets further than the text with this first fault.
 fn gets_further(alloc: Global, fault: Fault<'_>, subject: Subject, mended: &[u8]) -> Result<bool>
     ensures { IfOk result (λ is_so. is_so ≡ true
         → GetsFurther fault.entry.place.text.now fault.entry.place.number subject mended.now) }
@@ -71,7 +71,7 @@ fn gets_further(alloc: Global, fault: Fault<'_>, subject: Subject, mended: &[u8]
     Ok(is_after(fault.place.text, fault.place.number, mended, found))
 }
 
-/// Whether an input gets further than its first fault by a change.
+/// Whether a change lets an input get further than its first fault.
 fn helps(alloc: Global, fault: Fault<'_>, change: &Change) -> Result<bool>
     ensures { IfOk result (λ is_so. is_so ≡ true
         → Helps fault.entry.subject fault.entry.place.text.now fault.entry.place.number change.now) }
@@ -89,11 +89,11 @@ fn helps(alloc: Global, fault: Fault<'_>, change: &Change) -> Result<bool>
     }
 }
 
-/// The maximum length of a text that is read several times, so that no explanation takes long.
+/// The maximum length in bytes of a text that is read several times, so that no explanation takes long.
 const LONGEST_REREAD: usize = 524288;
 
 /// The most likely repair that helps: with it, the input has no error or its first one is further down. The verifier
-/// may still reject the program of a check. If the input is long, only one repair is tried.
+/// may still reject the program of a check. For an input of more than 512 KiB, only one repair is tried.
 ///
 /// # Errors
 ///

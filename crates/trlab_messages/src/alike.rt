@@ -15,7 +15,7 @@ const MAX_EDITS: usize = 2;
 const MAX_NAMES: u32 = 4096;
 
 /// The number of edits from a word to another, if at most `most`. Exchanging two neighbours is one edit. Words that
-/// differ only in case have 0 edits; otherwise a letter in the other case is one.
+/// differ only in case have 0 edits; otherwise a letter in the other case counts as one edit.
 pub fn edits_within(
     alloc: Global,
     word: &[u8],
@@ -32,10 +32,10 @@ pub fn edits_within(
     Ok(if edits <= most { Some(edits) } else { None })
 }
 
-/// The name that is most like a word, among those that were compared with it so far.
+/// The name most like a word, among the names compared so far.
 #[derive(Clone, Copy)]
 pub struct NearestName<'a> {
-    /// The number of edits to it, or one more than the maximum.
+    /// The fewest edits so far; at first, one more than the maximum for the word.
     edits: usize,
     /// How many more names are compared.
     left: u32,
@@ -44,7 +44,7 @@ pub struct NearestName<'a> {
 }
 
 impl<'a> NearestName<'a> {
-    /// Before any name is compared. Not every letter of a short word may be wrong.
+    /// No name is compared yet. At least one letter of a short word must be right.
     pub fn to(word: &[u8]) -> NearestName<'a> {
         NearestName {
             edits: word.len().max(1).min(MAX_EDITS + 1),
@@ -74,7 +74,7 @@ impl<'a> NearestName<'a> {
     }
 }
 
-/// The nearest of some words: the one with the fewest edits, if no other is as near.
+/// The word of `all` with the fewest edits from `word`, if no other has as few.
 pub fn nearest_word(
     alloc: Global,
     word: &[u8],
@@ -87,7 +87,7 @@ pub fn nearest_word(
     Ok(best.found)
 }
 
-/// The nearest of some names of programs.
+/// The name of a value in `all` with the fewest edits from `word`, if no other has as few.
 pub fn nearest_name<T: HasText>(
     alloc: Global,
     word: &[u8],

@@ -2,7 +2,7 @@
 
 use std::fmt;
 
-/// A part of a whole, which is 1 for whole numbers: their quotient, rounded down to at most this many decimals.
+/// The quotient of `part` and `whole`, rounded down to at most `decimals` decimals. `whole` is 1 for whole numbers.
 #[derive(Clone, Copy)]
 pub struct Amount {
     part: u64,

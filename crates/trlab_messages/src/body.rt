@@ -1,4 +1,4 @@
-//! The parts of an explanation, of which both the text and the JSON object are written.
+//! The parts of an explanation, from which both the text form and the JSON form are written.
 
 use crate::Result;
 use crate::amount::Amount;
@@ -131,7 +131,7 @@ impl Body {
 
     /// # Errors
     ///
-    /// If an allocation failed, except those of drafts, which report them.
+    /// If an allocation failed. Drafts report their own failures.
     pub fn outcome(&self) -> Result<()> {
         if self.has_failed {
             Err(AllocError)

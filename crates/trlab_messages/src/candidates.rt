@@ -38,7 +38,7 @@ const LATE: &str = "this line belongs elsewhere, or is a duplicate.";
 const WINDOWS: &str =
     "the line ends with a carriage return (Windows line ending): use LF only, in all lines.";
 
-/// The maximum number of repairs that are tried. Each one is a reading of the whole text.
+/// The maximum number of repairs that are tried. Each trial reads the whole text again.
 pub const MAX_TRIED: usize = 5;
 
 /// The candidates for a fault, at most `MAX_TRIED`.
@@ -79,7 +79,7 @@ impl Candidates {
         }
     }
 
-    /// Adds a candidate that replaces bytes of the line at fault by new ones.
+    /// Adds a candidate that replaces bytes of the line at fault, or remembers that an allocation failed.
     pub fn rewrite(
         &mut self,
         mistake: &'static str,

@@ -76,7 +76,7 @@ fn road_meaning(fault: RoadFault) -> &'static str {
     }
 }
 
-/// Where to look if no repair is likely for a cause; empty if the meaning says it.
+/// Where to look if no repair helps; empty if the meaning of the cause is enough.
 pub fn cause_hint(cause: Cause) -> &'static str {
     match cause {
         Cause::Line => "the keyword, and how many values follow it.",

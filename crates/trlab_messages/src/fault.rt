@@ -72,7 +72,7 @@ fn push_line_forms(forms: &mut Draft, fault: &Fault<'_>) {
     }
 }
 
-/// Adds the forms that would be valid at a fault, if they are more than the cause says.
+/// Adds the forms that would be valid at a fault, if they say more than the cause.
 fn push_forms(forms: &mut Draft, fault: &Fault<'_>) {
     match fault.cause {
         Cause::Line | Cause::Number | Cause::Key | Cause::Order => match fault.subject {
@@ -100,7 +100,7 @@ fn hint_of(fault: &Fault<'_>) -> &'static str {
     }
 }
 
-/// The problem at a fault. The repair of the body is set before: a problem without words and repair has a hint.
+/// The problem at a fault. Set the body's repair first: a problem with neither words nor a repair gets a hint.
 fn problem_at(body: &Body, fault: &Fault<'_>) -> Problem {
     let mut found = Draft::new(body.alloc);
     push_found(&mut found, fault);

@@ -59,7 +59,7 @@ fn push_digits_problem(found: &mut Draft, word: &[u8], is_key: bool) {
     }
 }
 
-/// Adds the problem with the length of a lane; `first` is that of the first lane, or 0 if this is the first.
+/// Adds the problem with the length of a lane; `first` is the first lane's length, or 0 if this is the first.
 fn push_cells_problem(found: &mut Draft, line: &[u8], first: u32) {
     let cells = line.len().saturating_sub(BEFORE_CELLS);
     if first == 0 {

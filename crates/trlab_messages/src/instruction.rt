@@ -29,7 +29,7 @@ fn is_at_fault(operand: OperandKind, word: &[u8], why: Why) -> bool {
     }
 }
 
-/// A word of a line of a program that is an operand.
+/// An operand in a line of a program.
 #[derive(Clone, Copy)]
 pub struct OperandWord<'a> {
     pub operand: OperandKind,

@@ -1,7 +1,7 @@
 //! The words of explanations: the problem at the first error of an input, the forms that would be valid there, the
 //! repairs to try, why the verifier rejects a program, and the work of a valid input. They are collected in a `Body`,
 //! which is written as text after the head of an explanation, or as members of a JSON object before the status.
-//! Sentences are drafts, which may quote any bytes of the input; pages of plain text are made of them.
+//! Sentences are drafts and may quote any bytes of the input; `page_of` makes pages of plain text from them.
 //!
 //! ```text
 //! push_text(&mut text, body); // for example "This is a valid job: `trlab run` runs it." and more lines

@@ -33,7 +33,7 @@ pub fn is_of(name: LineName, subject: Subject) -> bool {
     }
 }
 
-/// An example of a line, with its LF and that of the line before.
+/// An example of a line, with its own LF and the LF before it.
 fn sample(name: LineName) -> &'static [u8] {
     match name {
         LineName::Road => b"\nroad 1\n",

@@ -18,17 +18,17 @@ use trlab_texts::Wanted;
 use trlab_texts::word::without_prefix;
 use trlab_verify::{Mark, Note, NotesFault, notes};
 
-/// The verifier's answer on a program.
+/// The verifier's verdict on a program.
 #[derive(Clone, Copy)]
 pub enum ProgramVerdict {
     /// It is accepted, with this budget.
     Accepted(u32),
-    /// It is rejected at an instruction, for the reason with a number.
+    /// It is rejected at this instruction, counted from 0, for the reason with this number.
     Rejected(u32, u32),
 }
 
-/// A program with the lines of its instructions and their numbers: in the input, or in the canonical form for a program
-/// in bytes.
+/// A program with the lines of its instructions and their numbers, from the input or, for a program in bytes, from the
+/// canonical form.
 #[derive(Clone, Copy)]
 pub struct Listing<'a> {
     code: &'a Code,
@@ -64,7 +64,7 @@ impl Listing<'_> {
     }
 }
 
-/// The first `count` lines of a text that have an instruction, numbered from the line after `above` on.
+/// The first `count` lines of a text that have an instruction. The text's first line has the number `above + 1`.
 fn instruction_lines<'a>(
     alloc: Global,
     above: u32,
@@ -87,8 +87,8 @@ fn instruction_lines<'a>(
     Ok(lines)
 }
 
-/// An instruction of an accepted program, and the facts that its note has of each register that is set, and of the
-/// side cell.
+/// An instruction of an accepted program, and its note's facts about each register that is set and about the side
+/// cell.
 fn known_at(alloc: Global, program: Listing<'_>, pc: u32, note: &Note) -> Known {
     let mut instruction = Draft::new(alloc);
     program.push_instruction(&mut instruction, pc);
@@ -129,7 +129,7 @@ fn add_accepted(body: &mut Body, program: Listing<'_>, budget: u32) {
     }
 }
 
-/// Adds the verdict on a program that begins at a line of the input, whose other lines are below it.
+/// Adds the verdict on a program. `place` has the number and the bytes of its first line, and the lines below.
 fn add_verdict(body: &mut Body, code: &Code, place: (u32, &[u8], &[u8]), verdict: ProgramVerdict) {
     let (number, line, below) = place;
     let line = without_prefix(b"notes ", line).unwrap_or(line);
@@ -161,7 +161,7 @@ fn add_verdict(body: &mut Body, code: &Code, place: (u32, &[u8], &[u8]), verdict
     }
 }
 
-/// Adds why the verifier rejects a program of a job or sweep, which begins at the fault.
+/// Adds why the verifier rejects the program of a job or sweep that begins at the fault.
 pub fn add_rejected_part(body: &mut Body, fault: &Fault<'_>, reason: u32) {
     if let Wanted::Program { code, at } = fault.wanted {
         let place = (fault.place.number, fault.line, fault.place.below());

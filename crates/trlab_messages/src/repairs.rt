@@ -1,4 +1,4 @@
-//! Repairs: where they change the input, and how the text form says so.
+//! Repairs: the lines that they change, and their words in the text form.
 
 use crate::sentence::Draft;
 use std::alloc::Global;
@@ -11,7 +11,7 @@ pub struct Edit {
     pub at: usize,
     /// The number of bytes that are removed.
     pub removed: usize,
-    /// The bytes in their place.
+    /// The bytes that replace them.
     pub inserted: Vec<u8>,
 }
 
@@ -61,14 +61,14 @@ pub fn command_of(subject: Subject) -> &'static str {
     }
 }
 
-/// The number of the line that has the byte at `at`.
+/// The number of the line with the byte at `at`.
 fn line_of(text: &[u8], at: usize) -> u32 {
     let above = bytes_at(text, 0, at).iter();
     let lines = above.filter(|byte| **byte == b'\n').count();
     u32::try_from(lines).unwrap_or(u32::MAX).saturating_add(1)
 }
 
-/// The line that has the byte at `at`: usually that of the error.
+/// The line with the byte at `at`: usually the line at fault.
 fn place_of<'a>(error: &Place<'a>, at: usize) -> Place<'a> {
     let length = error.line.unwrap_or(b"").len();
     if error.start <= at && at <= error.start.saturating_add(length) {

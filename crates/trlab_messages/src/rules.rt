@@ -10,7 +10,7 @@ use trlab_texts::word::{head_word, number_from};
 /// A rule has at most this many probabilities.
 const MAX_CHANCES: u32 = 2;
 
-/// A probability of at most this many parts of 2^31, one in a million, is probably a mistake.
+/// A probability above 0 and at most this many parts of 2^31 (one in a million) is probably a mistake.
 const SMALL: u32 = 2147;
 
 /// Adds a probability, which a file writes as p x 2^31.
@@ -39,7 +39,7 @@ fn push_rule(facts: &mut Draft, number: u32, line: &[u8]) {
     }
 }
 
-/// Adds a heading, and the first `most` lines of the input with this first word, which are rules.
+/// Adds a heading, and the first `most` lines of the input that begin with the word `name`, as rules.
 pub fn push_rules(facts: &mut Draft, heading: &str, text: &[u8], name: &[u8], most: u32) {
     facts.line(heading);
     let mut left = text;

@@ -5,7 +5,7 @@ use std::alloc::{AllocError, Global};
 use std::fmt;
 use trlab_lines::{MAX_QUOTED, Page};
 
-/// Bytes of the input or of a change, all of them.
+/// Bytes of the input or of a change, shown in full.
 #[derive(Clone, Copy)]
 pub struct Shown<'a>(pub &'a [u8]);
 
@@ -59,7 +59,7 @@ impl Draft {
         self.say("\n");
     }
 
-    /// Adds bytes, all of them.
+    /// Adds bytes in full.
     pub fn show(&mut self, bytes: &[u8]) {
         write!(self, "{}", Shown(bytes));
     }

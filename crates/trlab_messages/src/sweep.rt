@@ -17,8 +17,8 @@ fn car_counts(cars: &[u32]) -> (u32, u32, u64) {
     (fewest, most, all)
 }
 
-/// How many of these cars start on lane 0 of two lanes: they are spread evenly over the cells, which alternate between
-/// the lanes.
+/// How many of these cars start on lane 0 of two lanes: the cars are spread evenly over the cells, and the cells
+/// alternate between the lanes.
 fn cars_of_first_lane(cells: u64, cars: u32) -> u64 {
     let mut first = 0u64;
     for car in 0..cars {
@@ -42,7 +42,7 @@ fn add_start(body: &mut Body, key: &'static str, cells: u64, cars: u32) {
 /// The bytes of the heading of a table.
 const HEADING_BYTES: u64 = 49;
 
-/// The bytes of a row besides its numbers: the commas, the end and the longest flow.
+/// The bytes of a row besides its whole numbers: the commas, the end and the longest flow.
 const ROW_BYTES: u64 = 15;
 
 /// The maximum number of bytes of the table of a sweep.

@@ -38,8 +38,8 @@ fn push_numbers(text: &mut Draft, numbers: &[Number]) {
     }
 }
 
-/// Adds the facts known before each instruction. An empty line separates them from the instruction above, from which
-/// they do not follow at the target of a jump.
+/// Adds the facts known before each instruction. An empty line separates them from the instruction above, because at
+/// the target of a jump they do not follow from it.
 fn push_table(text: &mut Draft, table: &[Known]) {
     for known in table {
         text.say("\n");

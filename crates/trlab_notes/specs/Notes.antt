@@ -17,7 +17,7 @@ pub record Note : Type 0 where
   pub level : Variable → Variable → ℕ
   pub side : Bool
 
--- whether two variables are one
+-- whether two variables are the same
 abbrev pub same_variable : Variable → Variable → Bool
 same_variable x y = nat_eq (variable_number x) (variable_number y)
 
@@ -27,7 +27,7 @@ with_side side Nothing = Nothing
 with_side side (Between lo hi) = Between lo hi
 with_side side (Implies imp) = Implies (imp || side)
 
--- the abstract value of a variable in a note, the side cell considered
+-- the abstract value of a variable in a note, including the knowledge of the side cell
 unfoldable pub said_with_side : Note → Variable → AbstractValue
 said_with_side note x = with_side note.side (note.said x)
 
@@ -50,7 +50,7 @@ implies _ = false
 abbrev pub range_level : ℕ → ℕ → ℕ
 range_level hi lo = if nat_lt hi lo then 2 else (if nat_le hi lo then 1 else 0)
 
--- the level of two numbers: 1 at one variable, else the greater of the stored one and that of the ranges
+-- the level of two numbers: 1 for one variable, else the larger of this level and that of their ranges
 abbrev pub level_between : AbstractValue → AbstractValue → Bool → ℕ → ℕ
 level_between (Between lx hx) (Between ly hy) true level = 1
 level_between (Between lx hx) (Between ly hy) false level = max level (range_level hx ly)
@@ -60,7 +60,7 @@ level_between _ _ same level = 0
 unfoldable pub known_level : Note → Variable → Variable → ℕ
 known_level note x y = level_between (note.said x) (note.said y) (same_variable x y) (note.level x y)
 
--- the closure of a note: all that it knows of the order is in its levels; it knows no more and no less
+-- the closure of a note: the same knowledge, with all that it knows of the order in its levels
 unfoldable pub closure : Note → Note
 closure note = record note { level = known_level note }
 
@@ -85,7 +85,7 @@ abbrev pub entry_said : Kind → Variable → AbstractValue
 entry_said kind (variable.Register r) = Nothing
 entry_said kind (variable.Input k) = if allows_input kind k then input_range k else Nothing
 
--- the level of two variables at the start: the speed and that of the car ahead are at most the limit
+-- the level of two variables at the start: the speed and the headspeed are at most the limit
 abbrev pub entry_level : Variable → Variable → ℕ
 entry_level (variable.Input Speed) (variable.Input Limit) = 1
 entry_level (variable.Input Headspeed) (variable.Input Limit) = 1

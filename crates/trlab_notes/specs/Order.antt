@@ -18,7 +18,7 @@ pub record IsNoStronger (m n : Note) : Type 0 where
   pub order : (x y : Variable) → known_level m x y ≤ known_level n x y
   pub beside : IsTrue m.side → IsTrue n.side
 
--- the note on one path is no stronger than that on another; either both have a note, or neither has
+-- either both notes are missing, or both are there and the first is no stronger than the second
 abbrev pub AreNoStronger : Option Note → Option Note → Type 0
 AreNoStronger None None = Unit {0}
 AreNoStronger (Some m) (Some n) = IsNoStronger m n

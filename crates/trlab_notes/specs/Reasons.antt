@@ -29,7 +29,7 @@ range_reason_number why.MaybeAboveLimit = 11
 range_reason_number why.MaybeOccupied = 12
 range_reason_number _ = 0
 
--- the number of a reason: 1 to 12, in the order in which they are looked for
+-- the number of a reason: 1 to 12, in the order in which the reasons are tested
 abbrev pub reason_number : Reason → ℕ
 reason_number why.Unreachable = 1
 reason_number why.WrongProgram = 2
@@ -40,7 +40,7 @@ reason_number why.JumpsOut = 6
 reason_number why.FallsOut = 7
 reason_number reason = range_reason_number reason
 
--- an instruction that both the called kind and the program's own kind allow
+-- an instruction is allowed both in programs of `kind` and in those of `own`, the program's own kind
 abbrev pub is_of_kind : Kind → Kind → Instr → Bool
 is_of_kind kind own i = allows kind i && allows own i
 
@@ -63,24 +63,24 @@ operands_of (JumpFalse a t) = read.Flag a
 operands_of (Go a) = read.Number a
 operands_of _ = read.Nothing
 
--- those that have to be numbers
+-- the registers that must hold numbers
 abbrev pub numbers_of : Operands → List Register
 numbers_of (read.Number a) = a ∷ []
 numbers_of (read.Numbers a b) = a ∷ b ∷ []
 numbers_of _ = []
 
--- those that have to be flags
+-- the registers that must hold flags
 abbrev pub flags_of : Operands → List Register
 flags_of (read.Flag a) = a ∷ []
 flags_of (read.Flags a b) = a ∷ b ∷ []
 flags_of _ = []
 
--- those that may be numbers or flags
+-- the registers that may hold a number or a flag
 abbrev pub values_of : Operands → List Register
 values_of (read.Value a) = a ∷ []
 values_of _ = []
 
--- nothing is said: the variable may be unset
+-- nothing is known: the variable may be unset
 abbrev pub is_nothing : AbstractValue → Bool
 is_nothing Nothing = true
 is_nothing _ = false
@@ -151,7 +151,7 @@ form_checks kind own len pc m i =
     ∷ record { reason = why.FallsOut; holds = falls_out len pc i }
     ∷ []
 
--- reasons 8 to 12: the number or the answer that the instruction makes
+-- reasons 8 to 12: the result or the answer of the instruction
 abbrev pub range_checks : Note → Instr → List JudgedReason
 range_checks m i =
     record { reason = why.MaybeTooLarge; holds = may_be_too_large m i }
@@ -166,6 +166,6 @@ abbrev pub first_reason : List JudgedReason → Option Reason
 first_reason [] = None
 first_reason (check ∷ checks) = if check.holds then Some check.reason else first_reason checks
 
--- the first reason from the second on to reject the instruction, if there is one
+-- the first of the reasons 2 to 12 to reject the instruction, if one holds
 abbrev pub reason_against : Kind → Kind → ℕ → ℕ → Note → Instr → Option Reason
 reason_against kind own len pc m i = first_reason (form_checks kind own len pc m i ++ range_checks m i)

@@ -9,7 +9,7 @@ use Rattle.trlab_notes.specs.declared.note.AbstractValue.TheVariants.{Nothing}
 use Rattle.trlab_notes.specs.declared.rows.LevelRow.{LevelRow}
 use Rattle.trlab_notes.specs.Notes.{level_between}
 
--- the level of a row to y: 2 for a variable that is below, else 1 for one that is at most
+-- the level of a row's variable to y: 2 if it is below y, else 1 if it is at most y, else 0
 abbrev pub level_in : LevelRow → ℕ → ℕ
 level_in row y = max (bit_at row.at_most y) (2 * bit_at row.below y)
 
@@ -29,12 +29,12 @@ said_in said x = slice_index_or said (variable_number x) Nothing
 abbrev pub levels_in : List (List ℕ) → Variable → Variable → ℕ
 levels_in levels x y = level_at levels (variable_number x) (variable_number y)
 
--- the known level of the variables x and y with these abstract values, if they have this level
+-- the known level of x to y, from their abstract values and this level
 abbrev pub known_with : List AbstractValue → ℕ → ℕ → ℕ → ℕ
 known_with said x y level =
     level_between (slice_index_or said x Nothing) (slice_index_or said y Nothing) (nat_eq x y) level
 
--- no level of two variables is above 2, as far as it is looked at
+-- no known level of two variables is above 2
 abbrev pub AreLevels : List AbstractValue → List (List ℕ) → Type 0
 AreLevels said levels = (x y : ℕ) → x < VARIABLES → y < VARIABLES →
     known_with said x y (level_at levels x y) ≤ 2

@@ -18,6 +18,6 @@ abbrev pub maybe_note : Option Stored → Option Note
 maybe_note None = None
 maybe_note (Some stored) = Some (note_of stored)
 
--- the note that has come to q, if there is one
+-- the stored note of the instruction at q, if there is one
 abbrev pub notes_of : List (Option Stored) → ℕ → Option Note
 notes_of notes q = maybe_note (slice_index_or notes q None)

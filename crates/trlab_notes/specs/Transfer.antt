@@ -40,7 +40,7 @@ register_to m a y = known_level m (variable.Register a) y
 abbrev pub to_register : Note → Variable → Register → ℕ
 to_register m y a = known_level m y (variable.Register a)
 
--- the level after a number of at least lo is added to the larger side, or taken from the smaller one
+-- the level after a number of at least lo is added to the larger side, or subtracted from the smaller one
 abbrev pub sharpen : ℕ → ℕ → ℕ
 sharpen zero lo = 0
 sharpen (suc k) zero = suc k
@@ -50,7 +50,7 @@ sharpen (suc k) (suc lo) = max (suc k) 2
 abbrev pub slacken : ℕ → ℕ → ℕ
 slacken k hi = if nat_le 2 k && nat_le hi 1 then 1 else 0
 
--- the smallest difference: 1 if the number that is taken away is below the other one (k is 2)
+-- the smallest difference: 1 if the subtracted number is below the other one (k is 2)
 abbrev pub least_difference : ℕ → ℕ
 least_difference k = if nat_le 2 k then 1 else 0
 
@@ -102,7 +102,7 @@ to_result m (Min d a b) y = min (to_register m y a) (to_register m y b)
 to_result m (Max d a b) y = max (to_register m y a) (to_register m y b)
 to_result m _ y = 0
 
--- the note after d gets another value: its abstract value, its levels to the others, theirs to it
+-- the note after d gets a new value: the abstract value, its levels to the variables, and theirs to it
 unfoldable pub assign : Note → Register → AbstractValue → (Variable → ℕ) → (Variable → ℕ) → Note
 assign note d said to from = record {
   said = update note.said (variable.Register d) said;
@@ -128,7 +128,7 @@ refine_order note p q k = record note {
   level = λ x y. max (note.level x y) (chain (known_level note x p) k (known_level note q y));
 }
 
--- the note if the flag in a is known to be true: if it implies that the side cell is empty, the cell is
+-- the note if the flag in a is known to be true: the side cell is then empty if the flag implies it
 unfoldable pub refine_flag : Note → Register → Note
 refine_flag note a = record note { side = note.side || implies (register_said note a) }
 

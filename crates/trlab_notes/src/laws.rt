@@ -10,13 +10,13 @@ ghost use Rattle.trlab_notes.specs.Order.{IsNoStronger, AreNoStronger, join};
 ghost use Rattle.trlab_notes.specs.Reasons.{reason_against};
 ghost use Rattle.trlab_notes.specs.Transfer.{next_note, jump_note};
 
-/// Saying no more than another note is reflexive and transitive.
+/// The order of notes by strength is reflexive and transitive.
 pub fn notes_are_ordered()
     ensures itself { (m : Note) → IsNoStronger m m }
     ensures through { (l m n : Note) → IsNoStronger l m → IsNoStronger m n → IsNoStronger l n }
 {}
 
-/// A join is the strongest note that is no stronger than each of two.
+/// The join of two notes is the strongest note that is no stronger than either of them.
 pub fn join_is_strongest()
     ensures first { (m n : Note) → IsNoStronger (join m n) m }
     ensures second { (m n : Note) → IsNoStronger (join m n) n }

@@ -1,4 +1,4 @@
-//! The values and the order of variables in stored notes, and how a note is stored first.
+//! The values and the order of variables in stored notes, and how a note is first stored.
 
 ghost use Rattle.std.specs.Prelude.{◌≡◌, ℕ, ◌<◌, ◌≤◌, slice_index, slice_index_or};
 ghost use Rattle.trlab_code.specs.declared.instruction.Variable.{Variable as AVariable};
@@ -12,7 +12,7 @@ use crate::note::{AbstractValue, entry_levels, entry_said, level_between};
 use crate::rows::{LevelRow, Stored, columns};
 use trlab_code::{Kind, VARIABLES, Variable};
 
-/// The known levels of the variable x to each, if x has these levels.
+/// The known levels of the variable x to all variables, from its own levels and the ranges.
 fn known_row(said: &[AbstractValue; VARIABLES], x: usize, levels: &[u8; VARIABLES]) -> LevelRow
     requires inside { x < VARIABLES }
     requires small { (y : ℕ) → y < VARIABLES → known_with said.now x y (slice_index levels.now y) ≤ 2 }
@@ -25,7 +25,7 @@ fn known_row(said: &[AbstractValue; VARIABLES], x: usize, levels: &[u8; VARIABLE
     row
 }
 
-/// The known levels of each variable to each, if they have these levels.
+/// The known levels of all variables to all variables, from these levels and the ranges.
 fn known_rows(
     said: &[AbstractValue; VARIABLES],
     levels: &[[u8; VARIABLES]; VARIABLES],
@@ -41,7 +41,7 @@ fn known_rows(
     rows
 }
 
-/// The abstract value of a variable, by whether the side cell is known to be empty.
+/// An abstract value; if the side cell is known to be empty, each flag implies that it is.
 fn with_side(side: bool, said: AbstractValue) -> AbstractValue
     ensures { result ≡ with_side side said }
 {
@@ -81,7 +81,7 @@ impl Stored {
         Stored::new(entry_said(kind), &entry_levels(), false)
     }
 
-    /// The abstract value of the variable with this number, the side cell considered.
+    /// The abstract value of the variable with the number x, including the knowledge of the side cell.
     pub(crate) fn said_at(&self, x: usize) -> AbstractValue
         requires { x < VARIABLES }
         ensures { result ≡ with_side self.now.side (slice_index_or self.now.said x Nothing) }
@@ -89,7 +89,7 @@ impl Stored {
         with_side(self.side, self.said[x])
     }
 
-    /// The abstract value of a variable, the side cell considered.
+    /// The abstract value of a variable, including the knowledge of the side cell.
     #[tactic(auto, unfolding(crate::specs::Notes::said_with_side))]
     pub(crate) fn said_with_side(&self, variable: Variable) -> AbstractValue
         ensures { result ≡ said_with_side (note_of self.now) variable }
@@ -97,14 +97,14 @@ impl Stored {
         self.said_at(variable.number())
     }
 
-    /// The known levels of a variable to each.
+    /// The known levels of this variable to all variables.
     pub(crate) fn row(&self, variable: Variable) -> LevelRow
         ensures { (y : AVariable) → level_in result (variable_number y) ≡ known_level (note_of self.now) variable y }
     {
         self.rows[variable.number()]
     }
 
-    /// The known levels of each variable to this one.
+    /// The known levels of all variables to this one.
     pub(crate) fn column(&self, variable: Variable) -> LevelRow
         ensures { (x : AVariable) → level_in result (variable_number x) ≡ known_level (note_of self.now) x variable }
     {
@@ -118,7 +118,7 @@ impl Stored {
         self.row(from).level(to.number())
     }
 
-    /// The known levels of each variable to each, in the order of their numbers.
+    /// All known levels: `[x][y]` is the level of the variable with the number x to the one with the number y.
     pub fn levels(&self) -> [[u8; VARIABLES]; VARIABLES]
         ensures { (x y : AVariable) → levels_in result x y ≡ known_level (note_of self.now) x y }
     {

@@ -1,7 +1,6 @@
 //! The verifier's notes: an abstract interpretation of driver programs (Cousot and Cousot 1977), one
-//! instruction at a time. A note is the knowledge of the values before an instruction; here are the order of
-//! notes and their joins, the transfer of each instruction, and the reasons to reject it. docs/PROGRAMS.md
-//! explains all this in words.
+//! instruction at a time. A note is the knowledge of the values before an instruction. This crate has the order of
+//! notes, their join, the transfer of each instruction, and the reasons to reject it; docs/VERIFIER.md explains them.
 //!
 //! ```text
 //! let (slow, fast) = (AbstractValue::Between(0, 2), AbstractValue::Between(3, 5));

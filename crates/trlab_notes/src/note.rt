@@ -13,7 +13,7 @@ pub const AT_MOST: u8 = 1;
 /// The level of a variable that is known to be below another.
 pub const BELOW: u8 = 2;
 
-/// An abstract value.
+/// An abstract value: the verifier's knowledge of one variable before an instruction.
 #[derive(Clone, Copy)]
 pub enum AbstractValue {
     /// Unknown: it may be unset, or a number on one path and a flag on another.
@@ -25,7 +25,7 @@ pub enum AbstractValue {
 }
 
 impl AbstractValue {
-    /// The smallest number of a range.
+    /// The smallest number of a range; 0 if it is not a range.
     pub(crate) fn low(self) -> u32
         ensures { result ≡ low self }
     {
@@ -35,7 +35,7 @@ impl AbstractValue {
         }
     }
 
-    /// The largest number of a range.
+    /// The largest number of a range; 0 if it is not a range.
     pub(crate) fn high(self) -> u32
         ensures { result ≡ high self }
     {
@@ -69,7 +69,8 @@ fn range_level(high: u32, low: u32) -> u8
     }
 }
 
-/// The known level of one variable to another with these abstract values, if they have a level.
+/// The known level of a variable with the abstract value `s` to one with `t`: 1 if they are the same variable, else
+/// the larger of `level` and the level of their ranges; 0 if one of them is not a number.
 pub fn level_between(s: AbstractValue, t: AbstractValue, is_same: bool, level: u8) -> u8
     ensures { result ≡ level_between s t is_same level }
 {

@@ -17,17 +17,17 @@ use trlab_code::{Input, Instr, Kind, Register, Variable};
 pub enum Reason {
     /// 1: no path leads to it.
     Unreachable = 1,
-    /// 2: it is not for this kind of program.
+    /// 2: it is not allowed in this kind of program.
     WrongProgram,
     /// 3: an operand may be unset.
     MaybeUnset,
     /// 4: an operand is a flag instead of a number, or a number instead of a flag.
     WrongValue,
-    /// 5: it jumps, and not forward.
+    /// 5: its jump does not go forward.
     JumpsBack,
     /// 6: it jumps out of the program.
     JumpsOut,
-    /// 7: the next instruction is out of the program.
+    /// 7: control may continue past the last instruction.
     FallsOut,
     /// 8: the result may be too large for a register.
     MaybeTooLarge,
@@ -137,7 +137,7 @@ fn is_allowed(kind: Kind, instr: Instr) -> bool
     }
 }
 
-/// Whether the called kind and the program's own kind allow the instruction.
+/// Whether the instruction is allowed both in programs of `kind` and in those of `own`.
 fn is_of_kind(kind: Kind, own: Kind, instr: Instr) -> bool
     ensures { result ≡ is_of_kind kind own instr }
 {
@@ -260,7 +260,7 @@ fn falls_out(len: usize, pc: usize, instr: Instr) -> bool
     instr.falls() && len <= pc + 1
 }
 
-/// The first of the reasons 8 to 12, which are about the result or the answer of the instruction.
+/// The first of the reasons 8 to 12 that holds. They are about the instruction's result or answer.
 fn range_reason(note: &Stored, instr: Instr) -> Option<Reason>
     ensures { result ≡ first_reason (range_checks (note_of note.now) instr) }
 {
@@ -279,7 +279,8 @@ fn range_reason(note: &Stored, instr: Instr) -> Option<Reason>
     }
 }
 
-/// The first reason from the second on to reject the instruction at `pc` in a program of `len` instructions.
+/// The first of the reasons 2 to 12 to reject the instruction at `pc` in a program of `len` instructions. The program
+/// is judged as one of `kind`; `own` is its own kind.
 pub fn reason_against(
     kind: Kind,
     own: Kind,

@@ -71,7 +71,8 @@ fn least_difference(level: u8) -> u32
     if level >= BELOW { 1 } else { 0 }
 }
 
-/// The known levels of a variable to each and of each to it, if they have these levels.
+/// The known levels of a variable to all variables and of all variables to it, from the levels `to` and `from` and the
+/// ranges.
 fn known_ways(
     said: &[AbstractValue; VARIABLES],
     variable: usize,

@@ -1,5 +1,5 @@
-//! The levels of a variable to all variables, as bits. The rows of all variables are their order, and a note is
-//! stored with them.
+//! A row has the levels of one variable to all variables, as bits. The rows of all variables are their order; a note
+//! is stored with them.
 
 ghost use Rattle.std.specs.Prelude.{◌≡◌, ◌↔◌, ℕ, ◌*◌, ◌<◌, ◌≤◌, IsTrue, min, max, nat_eq, if◌then◌else◌, slice_index};
 ghost use Rattle.std.specs.Int.{bit_at};
@@ -16,7 +16,7 @@ pub struct LevelRow {
     below: u16,
 }
 
-/// Switches one bit on or off.
+/// Sets or clears one bit.
 fn with_bit(bits: u16, variable: usize, is_on: bool) -> u16
     requires { variable < 16 }
     ensures { (y : ℕ) → y < 16 →
@@ -63,7 +63,7 @@ impl LevelRow {
         levels
     }
 
-    /// The variables that one is at most or below.
+    /// A bit for each variable whose level is not 0.
     fn ahead(self) -> u16
         ensures { (y : ℕ) → bit_at result y ≡ min (level_in self y) 1 }
     {
@@ -100,8 +100,8 @@ impl LevelRow {
         }
     }
 
-    /// The levels by way of a variable that one has the level `first` to, and that has the level `middle`
-    /// to the variable of this row.
+    /// The levels of x that follow if x has the level `first` to p, p has the level `middle` to q, and this is the
+    /// row of q.
     pub fn chain(self, first: u8, middle: u8) -> LevelRow
         requires first_in { first ≤ 2 }
         requires middle_from { 1 ≤ middle }
@@ -117,14 +117,14 @@ impl LevelRow {
         }
     }
 
-    /// The levels after a number of at least `low` is added to the larger side.
+    /// The levels after a number of at least `low` is added to the larger side or subtracted from the smaller one.
     pub fn sharpen(self, low: u32) -> LevelRow
         ensures { (y : ℕ) → level_in result y ≡ sharpen (level_in self y) low }
     {
         if low == 0 { self } else { self.strict() }
     }
 
-    /// The levels of a sum, if one number has this row and the other is at most `high`.
+    /// The levels of a sum, if one summand has this row and the other is at most `high`.
     pub fn slacken(self, high: u32) -> LevelRow
         ensures { (y : ℕ) → level_in result y ≡ slacken (level_in self y) high }
     {
@@ -134,7 +134,7 @@ impl LevelRow {
         }
     }
 
-    /// The row with another level at a variable.
+    /// The row with this level to a variable.
     pub fn with(self, variable: usize, level: u8) -> LevelRow
         requires inside { variable < VARIABLES }
         requires in_range { level ≤ 2 }
@@ -147,7 +147,7 @@ impl LevelRow {
         }
     }
 
-    /// Whether no level is above that of another row.
+    /// Whether each level is at most the other row's level to the same variable.
     pub fn is_within(self, other: LevelRow) -> bool
         ensures { IsTrue result ↔ ((y : ℕ) → y < VARIABLES → level_in self y ≤ level_in other y) }
     {
@@ -160,7 +160,7 @@ impl LevelRow {
     }
 }
 
-/// The rows once `variable` has another row, and the variables have other levels to it.
+/// The rows after `variable` gets the levels `row` to all variables, and the others get the levels `column` to it.
 pub fn with_variable(
     rows: &[LevelRow; VARIABLES],
     variable: usize,
@@ -183,8 +183,8 @@ pub fn with_variable(
     changed
 }
 
-/// The rows once one variable is known to have a level to another: `first` has the levels of the variables
-/// to the one, and `last` those of the other to the variables.
+/// The rows if p is known to have this level to q: `first` has the levels of all variables to p, and `last` those of q
+/// to all variables.
 pub fn refine_rows(
     rows: &[LevelRow; VARIABLES],
     first: LevelRow,
@@ -206,7 +206,7 @@ pub fn refine_rows(
     refined
 }
 
-/// The smaller levels of two notes.
+/// The rows of a join: each level is the smaller one of `a` and `b`.
 pub fn join_rows(a: &[LevelRow; VARIABLES], b: &[LevelRow; VARIABLES]) -> [LevelRow; VARIABLES]
     ensures { (x y : ℕ) → x < VARIABLES → y < VARIABLES →
         level_of result x y ≡ min (level_of a.now x y) (level_of b.now x y) }
@@ -241,7 +241,7 @@ pub fn columns(rows: &[LevelRow; VARIABLES]) -> [LevelRow; VARIABLES]
     columns
 }
 
-/// A note: the abstract value of each variable, and all that is known of their order.
+/// A stored note: the abstract value of each variable, and all that is known of their order.
 #[derive(Clone, Copy)]
 pub struct Stored {
     pub said: [AbstractValue; VARIABLES],

@@ -24,7 +24,7 @@ fn says_no_more(s: AbstractValue, t: AbstractValue) -> bool
     }
 }
 
-/// Whether `m` says no more than `n` of any variable.
+/// Whether `m` says no more than `n` about any variable.
 fn has_weaker_variables(m: &Stored, n: &Stored) -> bool
     ensures { IsTrue result ↔ ((x : ℕ) → x < VARIABLES → SaysNoMore
         (with_side m.now.side (slice_index_or m.now.said x Nothing))
@@ -38,7 +38,7 @@ fn has_weaker_variables(m: &Stored, n: &Stored) -> bool
     true
 }
 
-/// Whether `m` says no more than `n` of the order of any two variables.
+/// Whether `m` says no more than `n` about the order of any two variables.
 fn has_lesser_levels(m: &Stored, n: &Stored) -> bool
     ensures { IsTrue result ↔ ((x y : ℕ) → x < VARIABLES → y < VARIABLES →
         level_of m.now.rows x y ≤ level_of n.now.rows x y) }
@@ -51,7 +51,7 @@ fn has_lesser_levels(m: &Stored, n: &Stored) -> bool
     true
 }
 
-/// Whether a note is no stronger than another.
+/// Whether `m` is no stronger than `n`: it says no more about the variables, their order and the side cell.
 pub fn is_no_stronger(m: &Stored, n: &Stored) -> bool
     ensures { IsTrue result ↔ IsNoStronger (note_of m.now) (note_of n.now) }
 {
@@ -96,7 +96,7 @@ pub fn join(a: &Stored, b: &Stored) -> Stored
     }
 }
 
-/// The join of a note with itself: all that it knows of each variable.
+/// The join of a note with itself: if the side cell is known to be empty, each flag implies that it is.
 pub fn join_itself(note: &Stored) -> Stored
     ensures { note_of result ≡ join (note_of note.now) (note_of note.now) }
 {

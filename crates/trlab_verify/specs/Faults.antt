@@ -7,7 +7,7 @@ use Rattle.trlab_verify.specs.declared.verify.VerifyFault.TheVariants.{Why, Memo
 use Rattle.trlab_verify.specs.Tables.{SomeTableChecks}
 use Rattle.trlab_verify.specs.Verdict.{IsRefused}
 
--- the program is rejected for the reason of a fault; a failed allocation means nothing for the program
+-- the program is rejected for the reason of a fault; a failed allocation says nothing about the program
 abbrev pub IsFaultOf : Kind → Program → VerifyFault → Type 0
 IsFaultOf kind program (Why at reason) = IsRefused kind program at reason
 IsFaultOf kind program Memory = Unit {0}

@@ -1,5 +1,5 @@
 -- Incoming notes: the notes that a program's paths bring to an instruction, joined, as in abstract
--- interpretation; docs/PROGRAMS.md explains them in sentences.
+-- interpretation (docs/VERIFIER.md).
 use Rattle.std.specs.Prelude.{◌≡◌, ◌⊎◌, ℕ, zero, suc, ◌<◌, List, Bool, true, false, Option, Some, None, nat_eq, slice_get}
 use Rattle.trlab_code.specs.declared.program.Kind.{Kind}
 use Rattle.trlab_code.specs.declared.instruction.Instr.{Instr}
@@ -8,13 +8,13 @@ use Rattle.trlab_notes.specs.Notes.{Note, entry}
 use Rattle.trlab_notes.specs.Order.{join}
 use Rattle.trlab_notes.specs.Transfer.{next_note, jump_note}
 
--- the join of the notes that have come in, with a further one
+-- the join of the incoming notes so far and one more
 abbrev pub add_note : Option Note → Option Note → Option Note
 add_note old None = old
 add_note None (Some n) = Some (join n n)
 add_note (Some m) (Some n) = Some (join m n)
 
--- a note that comes in only here
+-- a note, if it is sent here
 abbrev pub if_here : Bool → Option Note → Option Note
 if_here true edge = edge
 if_here false edge = None
@@ -56,7 +56,7 @@ pub record Sends (kind : Kind) (code : List Instr) (p q : ℕ) (note : Note) : T
   pub stands : slice_get code p ≡ Some instr
   pub sent : (next_note_to p before instr q ≡ Some note) ⊎ (jump_note_to before instr q ≡ Some note)
 
--- a note that is sent to the instruction at pc: the entry note to the first, else the note of an earlier one
+-- a note sent to the instruction at pc: the entry note if it is the first, or a note from an earlier one
 abbrev pub IsSent : Kind → List Instr → ℕ → Note → Type 0
 IsSent kind code pc note =
     ((pc ≡ 0) × (note ≡ entry kind))

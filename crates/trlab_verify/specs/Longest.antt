@@ -1,4 +1,4 @@
--- The ways through a program, and the longest of them.
+-- The paths through a program, and the longest one.
 use Rattle.std.specs.Prelude.{◌≡◌, ℕ, zero, suc, ◌<◌, ◌≤◌, ◌&&◌, ◌||◌, List, length, IsTrue, Some, nat_eq, slice_get}
 use Rattle.trlab_code.specs.declared.instruction.Instr.{Instr}
 use Rattle.trlab_code.specs.Flow.{target, falls, is_end, on_target}

@@ -44,7 +44,7 @@ empty_form = record { regs = []; levels = []; side = false }
 abbrev pub meaning_at : Kind → List Form → ℕ → Note
 meaning_at kind forms pc = meaning kind (slice_index_or forms pc empty_form)
 
--- no level that is looked at is above 2
+-- no known level is above 2
 abbrev pub HasLevels : Note → Type 0
 HasLevels note = (x y : Variable) → known_level note x y ≤ 2
 
@@ -52,7 +52,7 @@ HasLevels note = (x y : Variable) → known_level note x y ≤ 2
 abbrev pub SaysRanges : Kind → Note → Type 0
 SaysRanges kind note = (k : Input) → note.said (variable.Input k) ≡ entry_said kind (variable.Input k)
 
--- the meaning of a fault for a program whose notes were asked for
+-- the meaning of a fault for a program without notes
 abbrev pub HasNoNotes : Program → NotesFault → Type 0
 HasNoNotes program Refused = (at : ℕ) × (reason : ℕ) × IsRefused program.kind program at reason
 HasNoNotes program Memory = Unit {0}

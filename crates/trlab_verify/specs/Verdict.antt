@@ -10,7 +10,7 @@ use Rattle.trlab_notes.specs.Notes.{Note}
 use Rattle.trlab_notes.specs.Reasons.{reason_against, reason_number}
 use Rattle.trlab_verify.specs.Incoming.{note_at}
 
--- the first reason to reject an instruction, by its note; without a note no instruction leads to it
+-- the first reason to reject an instruction, by its note; without a note it is unreachable
 abbrev pub least_reason : Kind → Kind → ℕ → ℕ → Option Note → Option Instr → Option Reason
 least_reason kind own len pc None i = Some Unreachable
 least_reason kind own len pc (Some m) None = None

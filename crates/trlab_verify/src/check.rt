@@ -1,5 +1,5 @@
-//! Checks tables of notes, without allocating. A table that checks proves that its program is safe, whatever
-//! computed the table (docs/PROGRAMS.md).
+//! Checks tables of notes, without allocating. A table that checks proves that its program is safe, no matter how
+//! the table was computed (docs/VERIFIER.md).
 
 ghost use Rattle.std.specs.Prelude.{◌≡◌, ◌↔◌, ℕ, suc, ◌<◌, ◌≤◌, ◌||◌, ◌&&◌, All, IfSome, IsTrue, Some, false, length, nat_eq, slice_get};
 ghost use Rattle.trlab_code.specs.declared.instruction.Instr.{Instr as AnInstr};
@@ -89,7 +89,7 @@ fn jump_checks(kind: Kind, table: &[Note], note: &Stored, instr: Instr) -> bool
     to >= table.len() || is_within(kind, &table[to], &jump_note(note, instr))
 }
 
-/// Whether a table checks at `pc`, and no level there that is looked at is above 2.
+/// Whether a table checks at `pc`, and no known level there is above 2.
 fn checks_at(kind: Kind, instrs: &[Instr], table: &[Note], pc: usize) -> bool
     requires inside { pc < length instrs.now }
     requires few { length instrs.now ≤ MAX_INSTRUCTIONS }
@@ -117,8 +117,8 @@ fn checks_at(kind: Kind, instrs: &[Instr], table: &[Note], pc: usize) -> bool
 /// path is at least as strong as the one there.
 ///
 /// If it checks, the program is never stuck and ends within its longest path, for every view and all random
-/// words, whatever computed the table. The call allocates nothing. A table with the wrong number of notes, or
-/// in which a level above 2 is used, does not check.
+/// words, no matter how the table was computed. A table with the wrong number of notes, or with a known level above
+/// 2, does not check. The call allocates nothing.
 pub fn check_notes(code: &Code, table: &[Note]) -> bool
     ensures exact { IsTrue result ↔
         Checks code.now.kind code.now (table_of code.now.kind table.now) }

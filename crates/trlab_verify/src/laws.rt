@@ -36,14 +36,14 @@ pub fn each_is_judged()
         ((at : ℕ) × (reason : ℕ) × IsRefused kind program at reason) }
 {}
 
-/// Each accepted program has a longest path: with that as its budget it is a checked program.
+/// Each accepted program has a longest path; with its length as the budget, it is a checked program.
 #[tactic(auto, using(crate::proofs::Judged::some_budget))]
 pub fn accepted_is_checked()
     ensures { (kind : Kind) (program : Program) → IsProgram program → IsAccepted kind program →
         (budget : ℕ) × IsChecked kind (record { program = program; budget = budget }) }
 {}
 
-/// The note of an instruction is the strongest one that is no stronger than each note that is sent to it.
+/// The note of an instruction is the strongest one that is no stronger than any note sent to it.
 pub fn note_is_strongest()
     ensures each { (kind : Kind) (program : Program) (pc : ℕ) (note sent : Note) →
         note_at kind program.instrs pc ≡ Some note → IsSent kind program.instrs pc sent → IsNoStronger note sent }
@@ -53,7 +53,7 @@ pub fn note_is_strongest()
 {}
 
 /// If some table of notes checks, the program is accepted, and the verdict's notes are at least as strong at
-/// each instruction. The verdict's notes of an accepted program are such a table: so it is the best one, and a
+/// each instruction. The verdict's notes of an accepted program are such a table, and therefore the best one: a
 /// program is accepted exactly if some table checks.
 pub fn notes_are_best()
     ensures accepted { (kind : Kind) (program : Program) (table : List Note) →
@@ -64,8 +64,8 @@ pub fn notes_are_best()
         (table : List Note) × AreVerdictNotes kind program table × Checks kind program table }
 {}
 
-/// A program is rejected as one of a kind only if no table of notes checks for that kind. Nor does one then
-/// check for the program's own kind, unless an instruction is of the wrong kind (reason 2).
+/// A program is rejected as one of a kind only if no table of notes checks for that kind. Unless an instruction is
+/// of the wrong kind (reason 2), no table then checks for the program's own kind either.
 pub fn refused_without_notes()
     ensures called { (kind : Kind) (program : Program) (at reason : ℕ) →
         IsRefused kind program at reason → ¬ (SomeTableChecks kind program) }
@@ -73,7 +73,7 @@ pub fn refused_without_notes()
         IsRefused kind program at reason → reason ≢ 2 → ¬ (SomeTableChecks program.kind program) }
 {}
 
-/// In a table that checks no two variables have a level above 2.
+/// In a table that checks, no two variables have a known level above 2.
 pub fn levels_are_at_most_two()
     ensures { (kind : Kind) (program : Program) (table : List Note) (pc : ℕ) (x y : Variable) →
         Checks kind program table → pc < length program.instrs →

@@ -1,11 +1,11 @@
 //! The verifier of driver programs: an accepted program is never stuck and ends within its budget, for every
 //! view and all random words. The verifier visits each instruction once, with the join of its incoming notes;
-//! docs/PROGRAMS.md explains how.
+//! docs/VERIFIER.md explains how.
 //!
 //! ```text
 //! let text = b"get r0, gap\nget r1, limit\nmin r0, r0, r1\ngo r0";
 //! let code = assemble(alloc, Kind::Motion, text).ok()?;
-//! let motion = verify_motion(alloc, code).ok()?; // an error if a car could collide, or a program not end
+//! let motion = verify_motion(alloc, code).ok()?; // an error if a car could collide or the program might not end
 //! ```
 #![tactic(auto)]
 

@@ -69,7 +69,7 @@ fn variables(kind: Kind, form: &Note) -> [AbstractValue; VARIABLES]
     variables
 }
 
-/// Whether no level of the variable with the number x that is looked at is above 2.
+/// Whether no known level of the variable with the number x is above 2.
 fn has_levels_from(said: &[AbstractValue; VARIABLES], levels: &[u8; VARIABLES], x: usize) -> bool
     requires { x < VARIABLES }
     ensures { IsTrue result ↔ ((y : ℕ) → y < VARIABLES →
@@ -83,7 +83,7 @@ fn has_levels_from(said: &[AbstractValue; VARIABLES], levels: &[u8; VARIABLES], 
     true
 }
 
-/// Whether no level that is looked at is above 2.
+/// Whether no known level is above 2.
 fn has_levels(said: &[AbstractValue; VARIABLES], levels: &[[u8; VARIABLES]; VARIABLES]) -> bool
     ensures { IsTrue result ↔ AreLevels said.now levels.now }
 {
@@ -95,7 +95,7 @@ fn has_levels(said: &[AbstractValue; VARIABLES], levels: &[[u8; VARIABLES]; VARI
     true
 }
 
-/// The note that a form means, stored; none if a level above 2 is used.
+/// The note that a form means, as it is stored; `None` if a known level is above 2.
 pub fn read(kind: Kind, form: &Note) -> Option<Stored>
     ensures none { result ≡ None → ¬ (HasLevels (meaning kind form.now)) }
     ensures some { IfSome result (λ stored. HasLevels (meaning kind form.now)) }
@@ -108,7 +108,7 @@ pub fn read(kind: Kind, form: &Note) -> Option<Stored>
     Some(Stored::new(said, &form.levels, form.side))
 }
 
-/// The form of a note that has the ranges of the inputs.
+/// The form of a note. The note must have the ranges of the inputs, because a form does not list them.
 pub fn write(kind: Kind, note: &Stored) -> Note
     requires { SaysRanges kind (note_of note.now) }
     ensures { meaning kind result ≡ note_of note.now }
@@ -124,7 +124,7 @@ pub fn write(kind: Kind, note: &Stored) -> Note
     }
 }
 
-/// The form of the first instruction's note: its order is that at the start.
+/// The form of the first instruction's note, with only the levels at the start.
 pub fn first_note(kind: Kind) -> Note
     ensures { meaning kind result ≡ entry kind }
 {

@@ -1,4 +1,4 @@
-//! The tables of notes that the verifier computes, in the form for callers (docs/PROGRAMS.md).
+//! The tables of notes that the verifier computes, in the form for callers (docs/VERIFIER.md).
 
 ghost use Rattle.std.specs.Prelude.{◌≡◌, ℕ, ◌<◌, ◌≤◌, All, IfErr, IfOk, Some, length, MatchOption};
 ghost use Rattle.trlab_code.specs.Program.{IsInRange, Program};
@@ -37,8 +37,7 @@ impl From<AllocError> for NotesFault {
     }
 }
 
-/// The form of the stored note of the instruction at `pc`. The first one contains no more of the order than
-/// holds at the start.
+/// The form of the stored note of the instruction at `pc`. The first form has only the levels at the start.
 fn write_at(kind: Kind, pc: usize, stored: &Stored) -> Note
     requires { SaysRanges kind (note_of stored.now) }
     ensures first { pc ≡ 0 → meaning kind result ≡ entry kind }

@@ -1,5 +1,5 @@
 //! The verdict on a program: the first rejected instruction, and the reason. The instructions are judged in
-//! order, each by the join of the notes that arrive there (docs/PROGRAMS.md).
+//! order, each by the join of the notes that arrive there (docs/VERIFIER.md).
 
 ghost use Rattle.std.specs.Prelude.{◌≡◌, ℕ, ◌<◌, false, length, Some, nat_eq, if◌then◌else◌, ◌≤◌, All, IfOk, IfSome, MatchOption, None};
 ghost use Rattle.trlab_code.specs.Program.{IsInRange, Program};
@@ -56,7 +56,7 @@ fn send_jump(notes: &mut [Option<Stored>], note: &Stored, instr: Instr)
     }
 }
 
-/// Sends the notes on the paths from the instruction at `pc` to their targets.
+/// Sends the notes of the instruction at `pc` to the next instruction and to its jump's target.
 pub fn send(notes: &mut [Option<Stored>], pc: usize, note: &Stored, instr: Instr)
     requires inside { pc < length notes.old }
     requires in_range { IsInRange instr }
@@ -75,7 +75,7 @@ pub struct Rejection {
     pub reason: Reason,
 }
 
-/// The notes before the first instruction is judged: only this instruction has one.
+/// The notes at the start: only the first instruction has one, the entry note.
 pub fn start_notes(
     alloc: Global,
     kind: Kind,
@@ -91,7 +91,7 @@ pub fn start_notes(
     Ok(notes)
 }
 
-/// Judges the instructions in order, and sends the notes of each to those that may follow it.
+/// Judges the instructions in order up to the first rejection, and sends each one's notes to those that may follow.
 pub fn judge(
     kind: Kind,
     own: Kind,

@@ -1,5 +1,5 @@
-//! Verifies codes: returns the accepted program with its budget, or the code again and why it is rejected
-//! (docs/PROGRAMS.md).
+//! Verifies codes: returns the accepted program with its budget, or the same code and the reason to reject it
+//! (docs/VERIFIER.md).
 
 ghost use Rattle.std.specs.Prelude.{◌≡◌, ℕ, ◌+◌, ◌<◌, ◌≤◌, IsTrue, length, slice_index, IfSome, if◌then◌else◌, MatchResult};
 ghost use Rattle.std.specs.Option.{option_map_or};
@@ -18,7 +18,7 @@ use trlab_code::{Code, Instr, MAX_INSTRUCTIONS};
 #[derive(Clone, Copy, Debug, PartialEq, Eq, Error)]
 pub enum VerifyFault {
     /// The first rejected instruction, counted from 0, and the number of the first reason there: 1 to 12, as
-    /// listed in `trlab_notes::Reason` and docs/PROGRAMS.md.
+    /// listed in `trlab_notes::Reason` and docs/ERRORS.md.
     #[error("refused at {at} reason {reason}")]
     Why { at: u32, reason: u32 },
     /// An allocation failed.
@@ -59,7 +59,7 @@ fn longest_from(instrs: &[Instr], pc: usize, longest: &[u32; MAX_INSTRUCTIONS]) 
     next.max(longest_of_target(instr, longest)) + 1
 }
 
-/// The length of the longest path through a program without jumps backwards. Later instructions come first.
+/// The length of the longest path through a program without backward jumps, in instructions.
 pub fn longest_way(instrs: &[Instr]) -> u32
     requires some { 1 ≤ length instrs.now }
     requires few { length instrs.now ≤ MAX_INSTRUCTIONS }
@@ -77,8 +77,7 @@ pub fn longest_way(instrs: &[Instr]) -> u32
 /// reason.
 ///
 /// An accepted program is safe within its budget, for every view and all random words, and the budget is its
-/// longest path, in instructions. A program is accepted exactly if some table of notes checks: rejected
-/// programs are beyond notes of this kind.
+/// longest path, in instructions. A program is accepted exactly if some table of notes checks.
 ///
 /// # Errors
 ///
@@ -106,7 +105,7 @@ pub fn verify_as<K: ProgramKind>(
     }
 }
 
-/// Verifies a code as a motion program, as [`verify_as`] does.
+/// Verifies a code as a motion program: see [`verify_as`].
 ///
 /// # Errors
 ///
@@ -117,7 +116,7 @@ pub fn verify_motion(alloc: Global, code: Code) -> Result<Motion, (Code, VerifyF
     verify_as(alloc, code)
 }
 
-/// Verifies a code as a change program, as [`verify_as`] does.
+/// Verifies a code as a change program: see [`verify_as`].
 ///
 /// # Errors
 ///

@@ -9,7 +9,7 @@ use trlab_lines::{Place, bytes_at};
 use trlab_texts::word::without_prefix;
 use trlab_texts::{Cause, Wanted};
 
-/// A key that is a word with fewer digits after leading zeros.
+/// A key made from a shorter word by leading zeros.
 fn long_key(alloc: Global, word: &[u8]) -> Result<Vec<u8>> {
     let mut key = vec![in alloc; b'0'; KEY_DIGITS.saturating_sub(word.len())]?;
     key.extend_from_slice(word)?;
@@ -46,7 +46,7 @@ pub fn version_candidate(list: &mut Candidates, fault: &Fault<'_>) {
     }
 }
 
-/// The maximum length of a lane next to which an empty one is inserted.
+/// The maximum length of a lane for which an empty second lane is inserted.
 const LONGEST_LANE: usize = 100;
 
 /// Adds a candidate that writes a capital letter in a cell as a small one.

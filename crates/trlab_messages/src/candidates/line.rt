@@ -15,7 +15,7 @@ use trlab_lines::{cut, name_and_operands};
 use trlab_texts::LineName;
 use trlab_texts::word::{head_word, without_prefix};
 
-/// The longest line that is rewritten.
+/// The maximum length of a line that is rewritten, in bytes.
 const LONGEST_LINE: usize = 120;
 
 /// Words of other programs, and the lines that they mean.
@@ -36,7 +36,7 @@ const OTHER_WORDS: [(&[u8], LineName); 14] = [
     (b"sample", LineName::Measure),
 ];
 
-/// Whether a byte separates words, also if no line may have it.
+/// Whether a byte separates words, even one that no valid line has.
 fn separates(byte: u8) -> bool {
     byte == b' ' || byte == b'\t' || byte == b'\r'
 }
@@ -147,7 +147,7 @@ fn heading_candidates(list: &mut Candidates, fault: &Fault<'_>) {
     }
 }
 
-/// Adds a candidate that inserts a valid line, for each that is required and that no program follows.
+/// Adds a candidate that inserts a valid line, for each one except `at` lines and those of programs.
 fn missing_candidates(list: &mut Candidates, fault: &Fault<'_>, mistake: &'static str) {
     for line in &LineName::ALL {
         match line {
@@ -158,7 +158,7 @@ fn missing_candidates(list: &mut Candidates, fault: &Fault<'_>, mistake: &'stati
     }
 }
 
-/// Adds the command that reads an input with this first word, if it is another one.
+/// Adds the command for an input with this first word, if it is another command.
 fn command_candidate(list: &mut Candidates, fault: &Fault<'_>, word: &[u8]) {
     match subject_named(word) {
         Some(other) if fault.place.number == 1 && other != fault.subject => {

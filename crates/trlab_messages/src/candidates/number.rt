@@ -8,13 +8,13 @@ use trlab_lines::{bytes_at, cut, digits_value, is_numeral, next_line};
 use trlab_texts::word::number_after;
 use trlab_texts::{Quantity, Wanted};
 
-/// The whole of which a probability is a part, and how it is written.
+/// How a probability is written, and the whole of which it is a part.
 pub const PROBABILITY: (&str, u32) = ("a probability p is written as p x 2147483648.", CERTAIN);
 
 const DENSITY: &str =
     "`cars` takes a number of cars, not a density; this is that density on this road.";
 
-/// The number in the first line above the fault with this name, or 0.
+/// The number in the first line with this name above the fault, or 0.
 fn number_above(fault: &Fault<'_>, name: &[u8], most: u32) -> u32 {
     let mut left = fault.place.above();
     for _ in 0..fault.place.number {
@@ -29,7 +29,7 @@ fn number_above(fault: &Fault<'_>, name: &[u8], most: u32) -> u32 {
     0
 }
 
-/// Adds the number that a word of the line may mean, after `at` bytes: as a part of a whole, or as it is.
+/// Adds the number that the word after `at` bytes of the line may mean: a part of the whole, or the number itself.
 pub fn meanings(
     list: &mut Candidates,
     at: usize,
@@ -50,7 +50,7 @@ pub fn meanings(
     }
 }
 
-/// Adds the line `cars n` for a line `density x`: the density of the cells of a sweep's road.
+/// Adds the line `cars n` for a line `density x`: n is x times the number of cells of the sweep's road, rounded.
 pub fn density_candidate(list: &mut Candidates, fault: &Fault<'_>) {
     let length = number_above(fault, b"length ", MAX_LENGTH);
     let cells = length.saturating_mul(number_above(fault, b"lanes ", MAX_LANES));

@@ -135,7 +135,7 @@ fn nearest_label<'a>(alloc: Global, place: &Place<'a>, word: &[u8]) -> Result<Op
     Ok(best.found)
 }
 
-/// Adds the label that a missing target of a jump may mean.
+/// Adds the label that a jump's unknown target may mean.
 pub fn label_candidate(list: &mut Candidates, fault: &Fault<'_>) {
     if let Some(OperandWord { at, word, .. }) = operand_at_fault(fault.line, Why::NoLabel) {
         let meant = nearest_label(list.alloc, &fault.place, word);

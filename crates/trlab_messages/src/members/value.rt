@@ -1,4 +1,4 @@
-//! Members of JSON objects, whichever writer they are added to.
+//! Members of JSON objects, for any writer.
 
 use crate::Result;
 use crate::amount::Amount;
@@ -24,7 +24,7 @@ pub enum Value<'a> {
     Words(&'static str),
     /// A draft as a string, or null if it is empty.
     Text(&'a Draft),
-    /// Bytes, with the ends of their lines.
+    /// Bytes as a string, line ends included.
     Bytes(&'a [u8]),
     /// A draft as a string, even if it is empty.
     Quote(&'a Draft),

@@ -1,4 +1,4 @@
-//! The facts that the verifier knows of a register, in words.
+//! The verifier's facts about a register, in words.
 
 use crate::sentence::{Draft, Shown};
 use trlab_asm::{INPUTS, REGISTERS, input_text, register_text};
@@ -36,7 +36,7 @@ fn range_level(high: u32, low: u32) -> u8 {
     u8::from(high <= low) + u8::from(high < low)
 }
 
-/// Adds the variables that a register's number is below or at most, if that does not follow from their ranges.
+/// Adds the variables that bound a register from above, unless the bound follows from the ranges.
 fn push_orders(fact: &mut Draft, note: &Note, register: Register, high: u32) {
     let own = register.number();
     for variable in 0..VARIABLES {
@@ -50,7 +50,7 @@ fn push_orders(fact: &mut Draft, note: &Note, register: Register, high: u32) {
     }
 }
 
-/// Adds a line with the fact that a note has of a register: the range of its number, or that it has a flag.
+/// Adds a line with a note's fact about a register: the range of its number, or that it holds a flag or may be unset.
 pub fn push_fact(facts: &mut Draft, note: &Note, register: Register) {
     write!(facts, "{}: ", Shown(register_text(register)));
     match note.regs[register.number()] {

@@ -24,7 +24,7 @@ fn push_operands(known: &mut Draft, note: &Note, instr: Instr) {
     }
 }
 
-/// The maximum that is known of a register.
+/// The maximum of a register's range, or 0 if it does not hold a number.
 fn maximum_of(note: &Note, register: Register) -> u64 {
     match note.regs[register.number()] {
         Mark::Num(_, high) => u64::from(high),
@@ -36,7 +36,7 @@ fn push_largest(known: &mut Draft, largest: u64) {
     writeln!(known, "The result may be as large as {largest}.");
 }
 
-/// Adds the missing fact for which an instruction is rejected, if it can be named.
+/// Adds the fact that is missing for an instruction to be accepted, if it can be named.
 fn push_missing(known: &mut Draft, reason: Reason, note: &Note, instr: Instr) {
     match (reason, instr) {
         (Reason::MaybeTooLarge, Instr::Add(_, a, b)) => {
@@ -79,7 +79,7 @@ fn is_followed(program: Listing<'_>, pc: u32, at: u32) -> bool {
     }
 }
 
-/// Adds the instructions that can be followed by the rejected one, if there are several.
+/// Adds the instructions from which control can pass to the rejected one, if there are several.
 fn push_paths(facts: &mut Draft, program: Listing<'_>, at: u32) {
     let paths = (0..at).filter(|pc| is_followed(program, *pc, at)).count();
     if paths < 2 {
@@ -111,7 +111,7 @@ fn rejection_at(alloc: Global, program: Listing<'_>, at: u32, reason: Reason) ->
     }
 }
 
-/// Adds the instruction above one that can never be reached.
+/// Adds the instruction above an unreachable one.
 fn push_above(facts: &mut Draft, program: Listing<'_>, at: u32) {
     if let Some(above) = at.checked_sub(1) {
         facts.line("The instruction above never continues here, and no jump comes here:");
