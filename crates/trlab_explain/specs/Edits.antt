@@ -9,9 +9,9 @@ use Rattle.trlab_jobs.specs.Check.{Check as CheckSaid, CheckText}
 use Rattle.trlab_jobs.specs.declared.subject.Subject.{Subject}
 use Rattle.trlab_jobs.specs.declared.subject.Subject.TheVariants.{Job, Sweep, Check}
 
--- a text with `gone` bytes from `at` on replaced by `put`
+-- a text with `removed` bytes from `at` on replaced by `inserted`
 abbrev pub edited : ℕ → ℕ → List ℕ → List ℕ → List ℕ
-edited at gone put text = take at text ++ (put ++ drop (at + gone) text)
+edited at removed inserted text = take at text ++ (inserted ++ drop (at + removed) text)
 
 -- the line and the cause of a text's first fault, if its reading found one
 abbrev pub fault_of : {A : Type 0} → Result A Fault → Option (ℕ × Cause)
@@ -24,14 +24,14 @@ HasFirst Job text fault = (says : Result JobSaid Fault) × JobText text says × 
 HasFirst Sweep text fault = (says : Result SweepSaid Fault) × SweepText text says × (fault ≡ fault_of says)
 HasFirst Check text fault = (says : Result CheckSaid Fault) × CheckText text says × (fault ≡ fault_of says)
 
--- the mended text has no fault, or its first fault is after the line `number` and has fewer lines after it
+-- the changed text has no fault, or its first fault is after the line `number` and has fewer lines after it
 -- than the other text has after that line
 abbrev pub IsAfter : List (List ℕ) → ℕ → List (List ℕ) → Option (ℕ × Cause) → Type 0
-IsAfter lines number mended None = Unit {0}
-IsAfter lines number mended (Some fault) =
-    (number < fault.0) × (length mended + number < length lines + fault.0)
+IsAfter lines number changed None = Unit {0}
+IsAfter lines number changed (Some fault) =
+    (number < fault.0) × (length changed + number < length lines + fault.0)
 
--- the mended text, read as this kind, gets further than a text with its first fault at this line
+-- the changed text, read as this kind, gets further than a text with its first fault at this line
 abbrev pub GetsFurther : List ℕ → ℕ → Subject → List ℕ → Type 0
-GetsFurther text number subject mended = (fault : Option (ℕ × Cause))
-    × HasFirst subject mended fault × IsAfter (lines_of text) number (lines_of mended) fault
+GetsFurther text number subject changed = (fault : Option (ℕ × Cause))
+    × HasFirst subject changed fault × IsAfter (lines_of text) number (lines_of changed) fault

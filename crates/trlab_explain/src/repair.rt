@@ -11,18 +11,18 @@ use trlab_lines::count_lines;
 use trlab_messages::{Change, Fault, Repair, Result, candidates_for};
 use trlab_texts::{Cause, TextFault};
 
-/// The text with `gone` bytes from `at` on replaced by `put`.
-fn edited(alloc: Global, text: &[u8], at: usize, gone: usize, put: &[u8]) -> Result<Vec<u8>>
-    requires { at + gone ≤ length text.now }
-    ensures { IfOk result (λ mended. mended.items ≡ edited at gone put.now text.now) }
+/// The text with `removed` bytes from `at` on replaced by `inserted`.
+fn edited(alloc: Global, text: &[u8], at: usize, removed: usize, inserted: &[u8]) -> Result<Vec<u8>>
+    requires { at + removed ≤ length text.now }
+    ensures { IfOk result (λ changed. changed.items ≡ edited at removed inserted.now text.now) }
 {
     let (above, _) = text.split_at(at);
-    let (_, after) = text.split_at(at + gone);
-    let mut mended = Vec::new(alloc);
-    mended.extend_from_slice(above)?;
-    mended.extend_from_slice(put)?;
-    mended.extend_from_slice(after)?;
-    Ok(mended)
+    let (_, after) = text.split_at(at + removed);
+    let mut changed = Vec::new(alloc);
+    changed.extend_from_slice(above)?;
+    changed.extend_from_slice(inserted)?;
+    changed.extend_from_slice(after)?;
+    Ok(changed)
 }
 
 /// The first fault of a text that is read as `subject`, if it has one: its line and its cause.
@@ -48,27 +48,27 @@ fn first_fault(alloc: Global, subject: Subject, text: &[u8]) -> Result<Option<(u
     }
 }
 
-/// Whether `mended` has no fault, or its first fault is after line `number` and has fewer lines after it than `text`
+/// Whether `changed` has no fault, or its first fault is after line `number` and has fewer lines after it than `text`
 /// has after that line.
-fn is_after(text: &[u8], number: u32, mended: &[u8], fault: Option<(u32, Cause)>) -> bool
-    ensures { result ≡ true → IsAfter (lines_of text.now) number (lines_of mended.now) fault }
+fn is_after(text: &[u8], number: u32, changed: &[u8], fault: Option<(u32, Cause)>) -> bool
+    ensures { result ≡ true → IsAfter (lines_of text.now) number (lines_of changed.now) fault }
 {
     match fault {
         None => true,
         Some((line, _)) => {
-            let left = count_lines(mended) as u128 + u128::from(number);
+            let left = count_lines(changed) as u128 + u128::from(number);
             number < line && left < count_lines(text) as u128 + u128::from(line)
         }
     }
 }
 
-/// Whether `mended`, read as `subject`, gets further than the text with this first fault.
-fn gets_further(alloc: Global, fault: Fault<'_>, subject: Subject, mended: &[u8]) -> Result<bool>
+/// Whether `changed`, read as `subject`, gets further than the text with this first fault.
+fn gets_further(alloc: Global, fault: Fault<'_>, subject: Subject, changed: &[u8]) -> Result<bool>
     ensures { IfOk result (λ is_so. is_so ≡ true
-        → GetsFurther fault.entry.place.text.now fault.entry.place.number subject mended.now) }
+        → GetsFurther fault.entry.place.text.now fault.entry.place.number subject changed.now) }
 {
-    let found = first_fault(alloc, subject, mended)?;
-    Ok(is_after(fault.place.text, fault.place.number, mended, found))
+    let found = first_fault(alloc, subject, changed)?;
+    Ok(is_after(fault.place.text, fault.place.number, changed, found))
 }
 
 /// Whether a change lets an input get further than its first fault.
@@ -82,8 +82,8 @@ fn helps(alloc: Global, fault: Fault<'_>, change: &Change) -> Result<bool>
             if edit.at > text.len() || edit.removed > text.len() - edit.at {
                 return Ok(false);
             }
-            let mended = edited(alloc, text, edit.at, edit.removed, &edit.inserted)?;
-            gets_further(alloc, fault, fault.subject, &mended)
+            let changed = edited(alloc, text, edit.at, edit.removed, &edit.inserted)?;
+            gets_further(alloc, fault, fault.subject, &changed)
         }
         Change::ReadAs(other) => gets_further(alloc, fault, *other, text),
     }

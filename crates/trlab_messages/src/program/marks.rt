@@ -2,7 +2,8 @@
 
 use crate::sentence::{Draft, Shown};
 use trlab_asm::{INPUTS, REGISTERS, input_text, register_text};
-use trlab_code::{Register, VARIABLES};
+use trlab_code::{Kind, Register, VARIABLES};
+use trlab_notes::{AbstractValue, entry_said, level_between};
 use trlab_verify::{Mark, Note};
 
 /// The name of a variable: a register or an input.
@@ -16,32 +17,26 @@ fn variable_text(variable: usize) -> &'static [u8] {
     }
 }
 
-/// The minimum of a variable, or 0 if it is not a number.
-fn least_at(note: &Note, variable: usize) -> u32 {
-    if variable < REGISTERS.len() {
-        match note.regs[variable] {
-            Mark::Num(low, _) => low,
-            _ => 0,
-        }
-    } else if variable == REGISTERS.len() + 1 {
-        1
-    } else {
-        0
-    }
-}
-
-/// The order between a number of at most `high` and one of at least `low` that follows from these ranges: 2 if it
-/// is below, 1 if it is at most the other, else 0.
-fn range_level(high: u32, low: u32) -> u8 {
-    u8::from(high <= low) + u8::from(high < low)
+/// The level of a number of at most `high` to a variable, as far as their ranges determine it.
+fn level_of_ranges(note: &Note, inputs: &[AbstractValue], variable: usize, high: u32) -> u8 {
+    let value = match note.regs.get(variable) {
+        Some(Mark::Num(low, most)) => AbstractValue::Between(*low, *most),
+        Some(_) => AbstractValue::Nothing,
+        None => inputs
+            .get(variable)
+            .copied()
+            .unwrap_or(AbstractValue::Nothing),
+    };
+    level_between(AbstractValue::Between(0, high), value, false, 0)
 }
 
 /// Adds the variables that bound a register from above, unless the bound follows from the ranges.
 fn push_orders(fact: &mut Draft, note: &Note, register: Register, high: u32) {
     let own = register.number();
+    let inputs = entry_said(Kind::Change);
     for variable in 0..VARIABLES {
         let level = note.levels[own][variable];
-        if variable == own || level <= range_level(high, least_at(note, variable)) {
+        if variable == own || level <= level_of_ranges(note, &inputs, variable, high) {
             continue;
         }
         let order = if level == 1 { "at most" } else { "below" };
