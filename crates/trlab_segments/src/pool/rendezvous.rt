@@ -15,7 +15,7 @@ use trlab_verify::{Change, Motion};
 /// thread's own work between two phases on a road of about ten thousand cars.
 const LOOKS: u32 = 30000;
 
-/// After a helper has looked in vain, it sleeps at once, without looking, for this number of phases.
+/// After a helper has looked without success, it sleeps at once, without looking, for this number of phases.
 const NAPS: u32 = 32;
 
 /// The open phase, at most one at a time, and a number that grows with each phase.
