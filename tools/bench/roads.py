@@ -15,7 +15,7 @@ LANES = {
     "rickert 536870912 1073741824": 2,
 }
 CELLS, DENSITIES = [100, 1000, 100000], [0.1, 0.2, 0.3, 0.8]
-FEW = 100, 0.05  # five cars
+SMALL_BLOCK_CARS = 100, 0.05  # five cars
 LONG = 100000, 0.3
 WIDE, TUNED = "wide ", "tuned "
 HEAP = "rickert 536870912 1"
@@ -61,16 +61,16 @@ class Road(NamedTuple):
 
     def is_asked(self):
         """Whether it is measured with eight words side by side too."""
-        return self.size() in (FEW, LONG)
+        return self.size() in (SMALL_BLOCK_CARS, LONG)
 
     def wanted(self):
         """At most so much of the time of others is wanted of it."""
-        return WANTED_OF_FEW if self.size() == FEW else WANTED.get((self.rule, self.size()), {})
+        return WANTED_OF_FEW if self.size() == SMALL_BLOCK_CARS else WANTED.get((self.rule, self.size()), {})
 
 
 def roads(is_quick):
     """The roads that are measured; the quick ones are those of which something is wanted."""
-    sizes = [FEW] + [(cells, density) for cells in CELLS for density in DENSITIES]
+    sizes = [SMALL_BLOCK_CARS] + [(cells, density) for cells in CELLS for density in DENSITIES]
     for rule, lanes in LANES.items():
         for size in sizes:
             road = Road(rule, lanes, *size)
@@ -154,7 +154,7 @@ def row_of(road, took):
     tuned = f"numba tuned {row.cell(TUNED + 'numba')}" if TUNED + "numba" in took and road.wanted() else ""
     beside = "; ".join(filter(None, [wide and f"with eight words at once {wide}", tuned]))
     wanted = [wish_of(f"{name} at most {bound}", bound, row, name) for name, bound in road.wanted().items()]
-    if road.size() == FEW and road.rule in WANTED_TIMES:
+    if road.size() == SMALL_BLOCK_CARS and road.rule in WANTED_TIMES:
         bound = WANTED_TIMES[road.rule]
         wanted.append(wish(f"at most {bound} ns", took["trlab"].cpu <= bound))
     return row._replace(beside=beside, wanted=tuple(wanted))

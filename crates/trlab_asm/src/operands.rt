@@ -184,9 +184,7 @@ pub fn is_label(text: &[u8]) -> bool
 fn pc_named(text: &[u8]) -> Result<Target<'_>, Why>
     ensures { result ≡ pc_named text.now }
 {
-    let Some(digits) = text.strip_prefix(b"@") else {
-        return Err(Why::Operand);
-    };
+    let digits = text.strip_prefix(b"@").ok_or(Why::Operand)?;
     let pc = number_of(0, digits)?;
     Ok(Target { pc, label: None })
 }

@@ -6,7 +6,7 @@ ghost use Rattle.trlab_strands.specs.Tokens.{list_of, name_of, strand_events, st
 ghost use Rattle.trlab_strands.specs.declared.knowledge.TheConstants.{ALL_PARTS};
 ghost use Rattle.trlab_sequential_book.specs.declared.event.Reply.TheVariants.{Refused};
 
-use crate::kept::{Kept, copied_replace, copied_submit};
+use crate::kept::{Kept, replace_call, submit_call};
 use std::alloc::Global;
 use std::sync::{Mutex, Wait};
 use trlab_rules::Rule;
@@ -207,7 +207,7 @@ impl<L: Ledger> SharedBook<L> {
     ) -> Result<u32, BookFault>
         ensures { Makes desk.old (Submit seed rule steps) (number_reply result) desk.new }
     {
-        let Ok((boxed, call)) = copied_submit(alloc, seed, &rule, steps) else {
+        let Ok((boxed, call)) = submit_call(alloc, seed, &rule, steps) else {
             return Err(self.refuse_without_memory(rt, desk));
         };
         let mut guard = self.lock.lock(rt);
@@ -247,7 +247,7 @@ impl<L: Ledger> SharedBook<L> {
     ) -> Result<u32, BookFault>
         ensures { Makes desk.old (Replace job rule) (number_reply result) desk.new }
     {
-        let Ok(call) = copied_replace(alloc, job, &rule) else {
+        let Ok(call) = replace_call(alloc, job, &rule) else {
             return Err(self.refuse_without_memory(rt, desk));
         };
         let mut guard = self.lock.lock(rt);

@@ -73,7 +73,7 @@ impl Kept {
         }
     }
 
-    /// Adds a job. The history keeps `call`, which `copied_submit` makes.
+    /// Adds a job. The history keeps `call`, which `submit_call` makes.
     pub(crate) fn submit(
         &mut self,
         alloc: Global,
@@ -93,7 +93,7 @@ impl Kept {
         answer
     }
 
-    /// Replaces the rule of a job. The history keeps `call`, which `copied_replace` makes.
+    /// Replaces the rule of a job. The history keeps `call`, which `replace_call` makes.
     pub(crate) fn replace(&mut self, job: u32, rule: Rule, call: Call) -> Result<u32, BookFault>
         requires { call ≡ Replace job rule }
         ensures made { Records self.old (Replace job rule) (number_reply result) self.new }
@@ -139,7 +139,7 @@ impl Kept {
     {
         self.make_room()?;
         let same = self.book.is_same(lease);
-        let call = Call::Order(parts_of_lease(lease, same));
+        let call = Call::Order(offered(lease, same));
         let answer = self.book.order_as(lease, same);
         let reply = reply_to_order(&answer);
         put_event(&mut self.history, call, reply);
@@ -164,7 +164,7 @@ impl Kept {
             return Err((lease, fault));
         }
         let same = self.book.is_same(&lease);
-        let call = Call::GiveBack(parts_of_lease(&lease, same));
+        let call = Call::GiveBack(offered(&lease, same));
         let answer = self.book.give_back_as(lease, same);
         let reply = reply_to_back(&answer);
         put_event(&mut self.history, call, reply);
@@ -235,7 +235,7 @@ fn put_event(history: &mut Vec<Event>, call: Call, reply: Reply)
 
 /// Returns the seed for the job, in shared memory, and the call for the history, which shares the seed and has a copy
 /// of the rule.
-pub(crate) fn copied_submit(
+pub(crate) fn submit_call(
     alloc: Global,
     seed: Seed,
     rule: &Rule,
@@ -246,20 +246,20 @@ pub(crate) fn copied_submit(
 {
     let shared = BoxedSeed::new(alloc, seed)?;
     let kept = shared.share()?;
-    let rule_kept = BoxedRule::copy_of(alloc, rule)?;
-    Ok((shared, Call::Submit(kept, rule_kept, steps)))
+    let copy = BoxedRule::copy_of(alloc, rule)?;
+    Ok((shared, Call::Submit(kept, copy, steps)))
 }
 
 /// The `Replace` call for the history, with a copy of the rule.
-pub(crate) fn copied_replace(alloc: Global, job: u32, rule: &Rule) -> Result<Call, AllocError>
+pub(crate) fn replace_call(alloc: Global, job: u32, rule: &Rule) -> Result<Call, AllocError>
     ensures { IfOk result (λ call. call ≡ Replace job rule.now) }
 {
-    let rule_kept = BoxedRule::copy_of(alloc, rule)?;
-    Ok(Call::Replace(job, rule_kept))
+    let copy = BoxedRule::copy_of(alloc, rule)?;
+    Ok(Call::Replace(job, copy))
 }
 
-/// The parts of a lease that the history keeps.
-fn parts_of_lease(lease: &Lease, same: bool) -> Offered
+/// The lease as the history records it. `same`: it runs its job's road.
+fn offered(lease: &Lease, same: bool) -> Offered
     ensures { result ≡ offered lease.now same }
 {
     Offered {

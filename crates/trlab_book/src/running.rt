@@ -219,8 +219,9 @@ impl<'a, L: Ledger, R: Threads + Wait + Sync, G: Gate + Sync> Runner<'a, L, R, G
         Ok(())
     }
 
-    /// Drops a lease after a fault. If an allocation failed, the lease is revoked, so that others can take the job.
-    /// If the book no longer accepts the lease, the runner goes on.
+    /// Drops a lease after a fault. If an allocation failed, the lease is revoked, so that others can take the job, and
+    /// the runner ends with `Memory`, or with `HistoryFull` if the history is full. If the book no longer accepts the
+    /// lease, the runner goes on.
     fn end_lease(&self, desk: &mut Desk<L>, lease: Lease, fault: BookFault) -> Result<(), RunFault>
         requires seen { fault ≡ HistoryFull → MAX_EVENTS ≤ clock_of desk.old }
         ensures { HasEnded 0 result desk.old desk.new }
@@ -231,7 +232,7 @@ impl<'a, L: Ledger, R: Threads + Wait + Sync, G: Gate + Sync> Runner<'a, L, R, G
             BookFault::HistoryFull => Err(RunFault::HistoryFull),
             BookFault::Memory => match self.book.revoke(self.rt, desk, job) {
                 Err(BookFault::HistoryFull) => Err(RunFault::HistoryFull),
-                _ => Err(RunFault::Memory),
+                Ok(()) | Err(_) => Err(RunFault::Memory),
             },
             _ => Ok(()),
         }

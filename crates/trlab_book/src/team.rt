@@ -50,13 +50,13 @@ pub fn advance<R: Threads + Sync, G: Gate + Sync>(
 /// A single worker and its gate. It asks all cars of a phase at once, but first passes the gate once for each segment
 /// that a crew of one worker would draw.
 #[derive(Drop)]
-struct Alone<'a, G> {
+struct OneWorker<'a, G> {
     gate: &'a G,
 }
 
-impl<'a, G: Gate> Alone<'a, G> {
-    fn new(gate: &'a G) -> Alone<'a, G> {
-        Alone { gate }
+impl<'a, G: Gate> OneWorker<'a, G> {
+    fn new(gate: &'a G) -> OneWorker<'a, G> {
+        OneWorker { gate }
     }
 
     /// Passes the gate for each segment of a phase.
@@ -68,7 +68,7 @@ impl<'a, G: Gate> Alone<'a, G> {
     }
 }
 
-impl<'a, G: Gate> Executor for Alone<'a, G> {
+impl<'a, G: Gate> Executor for OneWorker<'a, G> {
     ghost is_ready = { λ _. Unit {0} };
 
     fn speeds<O: StepObserver>(
@@ -131,7 +131,7 @@ impl<'a, R: Threads + Wait + Sync, G: Gate + Sync> Team<'a, R, G> {
         order: &Order,
     ) -> Result<(), LeaseFault> {
         if self.is_one {
-            lease.advance(&Alone::new(self.gate), alloc, order)
+            lease.advance(&OneWorker::new(self.gate), alloc, order)
         } else {
             lease.advance(&self.pool, alloc, order)
         }

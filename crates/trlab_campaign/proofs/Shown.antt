@@ -8,7 +8,7 @@ use Rattle.trlab_texts.specs.Reading.{Fault}
 use Rattle.trlab_jobs.specs.Job.{Job}
 use Rattle.trlab_campaign.specs.Output.{IsOutput, IsShownOutput, JobOutput, each_step, every_from, shown_text}
 use Rattle.trlab_campaign.specs.Refusal.{OutputFor}
-use Rattle.trlab_campaign.specs.ShownLaws.{EverySoManyAreShown, EveryStepFromStartIsEach}
+use Rattle.trlab_campaign.specs.ShownLaws.{EveryNthStepIsShown, EveryStepFromStartIsEach}
 use Rattle.trlab_campaign.proofs.Lines.{pieces_agree}
 
 -- both sides of a conjunction
@@ -35,7 +35,7 @@ at_multiple every from k =
     let none : (from + k * every - from) % every ≡ 0 = ap (λ n. n % every) behind ∙ mul-mod_left k every in
     both_true _ _ (le-leb from (from + k * every) (omega arith)) (rw none refl)
 
-pub every_so_many_are_shown : EverySoManyAreShown
+pub every_so_many_are_shown : EveryNthStepIsShown
 every_so_many_are_shown every from step =
     (apart every from step, λ at. subst (λ (s : ℕ). every_from every from s ≡ true) (sym at.1) (at_multiple every from at.0))
 

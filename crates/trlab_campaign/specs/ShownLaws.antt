@@ -4,8 +4,8 @@ use Rattle.trlab_campaign.specs.Laws.{HasOneOutput, HasSomeOutput}
 use Rattle.trlab_campaign.specs.Output.{IsOutput, IsShownOutput, every_from}
 
 -- the steps that are shown are `from`, `from + every`, `from + 2 * every` and so on
-abbrev pub EverySoManyAreShown : Type 0
-EverySoManyAreShown =
+abbrev pub EveryNthStepIsShown : Type 0
+EveryNthStepIsShown =
     (every from step : ℕ)
     → (every_from every from step ≡ true) ↔ ((k : ℕ) × (step ≡ from + k * every))
 

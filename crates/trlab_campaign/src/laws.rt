@@ -9,7 +9,7 @@ ghost use Rattle.trlab_campaign.specs.CheckOutput.{IsCheckOutput};
 ghost use Rattle.trlab_campaign.specs.Headline.{JobTextsAreDriven, SweepTextsAreDriven};
 ghost use Rattle.trlab_campaign.specs.Laws.{HasOneOutput, HasSomeOutput};
 ghost use Rattle.trlab_campaign.specs.SeriesLaws.{LanesOfSeriesAddUp, SeriesHasOneOutput, SeriesHasSomeOutput};
-ghost use Rattle.trlab_campaign.specs.ShownLaws.{EverySoManyAreShown, EveryStepFromStartIsEach, ShownHasOneOutput, ShownHasSomeOutput};
+ghost use Rattle.trlab_campaign.specs.ShownLaws.{EveryNthStepIsShown, EveryStepFromStartIsEach, ShownHasOneOutput, ShownHasSomeOutput};
 ghost use Rattle.trlab_campaign.specs.SweepOutput.{IsSweepOutput};
 
 /// The output for a job text that is not refused shows the roads of a driven run, at the steps that are shown, from the
@@ -34,7 +34,7 @@ pub fn text_has_one_output()
 /// The steps that are shown are `from`, `from` + `every`, `from` + 2 * `every` and so on. With 1 and 0 each
 /// step is shown.
 pub fn steps_are_shown_apart()
-    ensures apart { EverySoManyAreShown }
+    ensures apart { EveryNthStepIsShown }
     ensures each { EveryStepFromStartIsEach }
 {}
 

@@ -1,6 +1,6 @@
 //! Programs: a kind and a list of instructions.
 
-ghost use Rattle.std.specs.Prelude.{◌≡◌, ◌↔◌, ◌≤◌, IsTrue, MatchOption, IfSome};
+ghost use Rattle.std.specs.Prelude.{◌≡◌, ◌↔◌, IsTrue, MatchOption, IfSome};
 ghost use Rattle.std.specs.List.{list_any};
 ghost use Rattle.trlab_code.specs.Program.{Program, IsInRange, IsProgram, IsOfVersion, reads_headspeed, version_of};
 

@@ -117,8 +117,8 @@ fn read_lines(alloc: Global, text: &[u8]) -> Result<Check, Refusal<'_>>
 ///
 /// # Errors
 ///
-/// The first fault of the text, at its line, or at line 0 if the text is too long (cause `TooBig`; then nothing
-/// is read). `TextFault::Memory` if an allocation fails.
+/// A refusal with the first fault of the text: `TooBig` at line 0 if the text is too long, in which case nothing is
+/// read, and otherwise a cause at its line. The fault is `TextFault::Memory` if an allocation fails.
 pub fn parse_check(alloc: Global, text: &[u8]) -> Result<Check, Refusal<'_>>
     ensures told { Reports (CheckText text.now) result }
     ensures too_big { TEXT_LIMIT < length text.now → result ≡ Err (TextFault.At 0 Cause.TooBig) }

@@ -6,16 +6,16 @@ use Rattle.trlab_lines.specs.Cutting.{without_prefix}
 use Rattle.trlab_lines.specs.declared.oddity.Oddity.{Oddity}
 use Rattle.trlab_lines.specs.declared.oddity.Oddity.TheVariants.{ByteOrderMark, CarriageReturn, Empty, Tab, FirstSpace, FinalSpace, Comment}
 
--- a line has this byte
-abbrev pub Has : ℕ → List ℕ → Type 0
-Has byte line = IsTrue (list_any (λ c. c == byte) line)
+-- a line contains this byte
+abbrev pub Contains : List ℕ → ℕ → Type 0
+Contains line byte = IsTrue (list_any (λ c. c == byte) line)
 
 -- a line has this oddity
 abbrev pub Shows : List ℕ → Oddity → Type 0
 Shows line ByteOrderMark = IsTrue (is_some (without_prefix (239 ∷ 187 ∷ 191 ∷ []) line))
-Shows line CarriageReturn = Has 13 line
+Shows line CarriageReturn = Contains line 13
 Shows line Empty = line ≡ []
-Shows line Tab = Has 9 line
+Shows line Tab = Contains line 9
 Shows line FirstSpace = slice_get line 0 ≡ Some 32
 Shows line FinalSpace = slice_get line (length line - 1) ≡ Some 32
-Shows line Comment = Has 59 line ⊎ Has 35 line
+Shows line Comment = Contains line 59 ⊎ Contains line 35

@@ -18,21 +18,21 @@ pub fn count_lines(text: &[u8]) -> usize
     count
 }
 
-/// A place in a text: a line, or the end after the last line.
+/// A place in a text: a line, the start of the text (line 0), or the end after the last line.
 #[derive(Clone, Copy)]
 pub struct Place<'a> {
     /// The whole text.
     pub text: &'a [u8],
-    /// The number of the line, counted from 1.
+    /// The number of the line, counted from 1; 0 for the start.
     pub number: u32,
     /// The number of bytes before it.
     pub start: usize,
-    /// The line; `None` at the end.
+    /// The line; `None` at the start and at the end.
     pub line: Option<&'a [u8]>,
 }
 
 impl<'a> Place<'a> {
-    /// The place of the line `number`. If the text does not have this line, `line` is `None`.
+    /// The place of the line `number`: for 0 the start of the text, and past the last line its end.
     pub fn at(text: &'a [u8], number: u32) -> Place<'a>
         ensures { option_map (λ line. line.now) result.line ≡ line_at number (lines_of text.now) }
     {

@@ -12,7 +12,7 @@ use Rattle.trlab_notes.specs.declared.rows.LevelRow.{LevelRow}
 use Rattle.trlab_notes.specs.Notes.{Note, same_variable, with_side, said_with_side, level_between, known_level, range_level, implies, closure, entry, entry_said, entry_level}
 use Rattle.trlab_notes.specs.Transfer.{assign, chain, refine_order, refine_flag}
 use Rattle.trlab_notes.specs.Order.{SaysNoMore, IsNoStronger, join, join_said}
-use Rattle.trlab_notes.specs.Rows.{level_of, level_at, known_with, AreLevels, TellsRanges, IsTransposed}
+use Rattle.trlab_notes.specs.Rows.{level_of, level_at, known_with, AreLevels, IncludesRanges, IsTransposed}
 use Rattle.trlab_notes.specs.Stored.{note_of}
 use Rattle.trlab_bounds.specs.declared.programs.TheConstants.{VARIABLES}
 use Rattle.trlab_code.specs.declared.instruction.Register.{Register}
@@ -45,7 +45,7 @@ unfolding known_level
 known_unfolds m x y = refl
 
 -- the rows of a stored note have all that it knows
-pub known_is : (said : List AbstractValue) (rows : List LevelRow) (side : Bool) → TellsRanges said rows → (x y : Variable) →
+pub known_is : (said : List AbstractValue) (rows : List LevelRow) (side : Bool) → IncludesRanges said rows → (x y : Variable) →
     known_level (made said rows side) x y ≡ level_of rows (variable_number x) (variable_number y)
 unfolding known_level
 known_is said rows side h x y = h (variable_number x) (variable_number y) (below_variables x) (below_variables y)
@@ -57,7 +57,7 @@ unfolding closure
 closure_is said rows side m hs hl e = note_same _ _ (fun_ext hs) (level_same _ _ hl) e
 
 -- a stored note is its closure
-pub stored_is_closed : (said : List AbstractValue) (rows : List LevelRow) (side : Bool) → TellsRanges said rows → made said rows side ≡ closure (made said rows side)
+pub stored_is_closed : (said : List AbstractValue) (rows : List LevelRow) (side : Bool) → IncludesRanges said rows → made said rows side ≡ closure (made said rows side)
 stored_is_closed said rows side h = closure_is said rows side (made said rows side) (λ x. refl) (λ x y. sym (known_is said rows side h x y)) refl
 
 -- no stored level is above 2
@@ -94,7 +94,7 @@ known_twice (Implies i) t same level = refl
 -- rows of what is known tell the ranges
 pub rows_tell : (said : List AbstractValue) (rows : List LevelRow) (level : ℕ → ℕ → ℕ) →
     ((x y : ℕ) → x < VARIABLES → y < VARIABLES → level_of rows x y ≡ level_between (get_or said x Nothing) (get_or said y Nothing) (nat_eq x y) (level x y)) →
-    TellsRanges said rows
+    IncludesRanges said rows
 rows_tell said rows level h x y lx ly =
     let e = h x y lx ly in
     ap (level_between (get_or said x Nothing) (get_or said y Nothing) (nat_eq x y)) e ∙ known_twice (get_or said x Nothing) (get_or said y Nothing) (nat_eq x y) (level x y) ∙ sym e
@@ -149,7 +149,7 @@ join_is a b said rows side hs hl e =
     least_same : {i j k l : ℕ} → i ≡ j → k ≡ l → min j l ≡ min i k
     least_same p q = λ z. min (sym p z) (sym q z)
 
-pub join_tells : (a b : Stored) (said : List AbstractValue) (rows : List LevelRow) → SaidByBoth a b said → LevelsOfBoth a b rows → TellsRanges said rows
+pub join_tells : (a b : Stored) (said : List AbstractValue) (rows : List LevelRow) → SaidByBoth a b said → LevelsOfBoth a b rows → IncludesRanges said rows
 join_tells a b said rows hs hl x y lx ly =
     rw (hs x lx, hs y ly, hl x y lx ly) (both_known (get_or a.said x Nothing) (get_or b.said x Nothing) (get_or a.said y Nothing) (get_or b.said y Nothing) a.side b.side (nat_eq x y) (level_of a.rows x y) (level_of b.rows x y) (a.ranges x y lx ly) (b.ranges x y lx ly))
 
@@ -174,7 +174,7 @@ least k = omega arith
 pub join_itself_is : (a : Stored) (said : List AbstractValue) → SaidByBoth a a said → made said a.rows a.side ≡ join (note_of a) (note_of a)
 join_itself_is a said h = join_is a a said a.rows a.side h (λ x y lx ly. least (level_of a.rows x y)) (twice a.side)
 
-pub join_itself_tells : (a : Stored) (said : List AbstractValue) → SaidByBoth a a said → TellsRanges said a.rows
+pub join_itself_tells : (a : Stored) (said : List AbstractValue) → SaidByBoth a a said → IncludesRanges said a.rows
 join_itself_tells a said h = join_tells a a said a.rows h (λ x y lx ly. least (level_of a.rows x y))
 
 -- the rows after a write
@@ -197,7 +197,7 @@ module _ (a : Stored) (d : ℕ) (s : AbstractValue) (to from : ℕ → ℕ) (row
   after_known : (x y : ℕ) → x < VARIABLES → y < VARIABLES → level_of rows x y ≡ level_between (now x) (now y) (nat_eq x y) (level x y)
   after_known x y lx ly = h x y lx ly ∙ after_level x y lx ly (nat_eq x d) (nat_eq y d) refl refl
 
-  pub after_tells : TellsRanges (set a.said d s) rows
+  pub after_tells : IncludesRanges (set a.said d s) rows
   after_tells = rows_tell (set a.said d s) rows level after_known
 
   pub after_is : (r : Register) (below above : Variable → ℕ) → d ≡ variable_number (variable.Register r) → ((y : Variable) → to (variable_number y) ≡ below y) →
@@ -292,7 +292,7 @@ module _ (a : Stored) (p q k : ℕ) (rows : List LevelRow) (lp : p < VARIABLES) 
       h x y lx ly ∙ swap (level_of a.rows) x y _ (nat_eq y x) (nat_eq x y) refl refl
       ∙ learn_level (get_or a.said x Nothing) (get_or a.said y Nothing) (get_or a.said p Nothing) (get_or a.said q Nothing) (nat_eq x y) (nat_eq x p) (nat_eq q y) (level_of a.rows x y) (level_of a.columns p x) (level_of a.rows q y) k (level_of a.rows x p) (level_of a.rows q y) (a.ranges x y lx ly) (a.transposed x p lx lp ∙ sym (a.ranges x p lx lp)) (sym (a.ranges q y lq ly))
 
-  pub learn_tells : TellsRanges a.said rows
+  pub learn_tells : IncludesRanges a.said rows
   learn_tells = rows_tell a.said rows more learn_known
 
   module _ (u v : Variable) (eu : p ≡ variable_number u) (ev : q ≡ variable_number v) where

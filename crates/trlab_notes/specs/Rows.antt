@@ -40,8 +40,8 @@ AreLevels said levels = (x y : ℕ) → x < VARIABLES → y < VARIABLES →
     known_with said x y (level_at levels x y) ≤ 2
 
 -- the rows contain all that the ranges say about the order, and nothing about a variable that is not a number
-abbrev pub TellsRanges : List AbstractValue → List LevelRow → Type 0
-TellsRanges said rows = (x y : ℕ) → x < VARIABLES → y < VARIABLES →
+abbrev pub IncludesRanges : List AbstractValue → List LevelRow → Type 0
+IncludesRanges said rows = (x y : ℕ) → x < VARIABLES → y < VARIABLES →
     known_with said x y (level_of rows x y) ≡ level_of rows x y
 
 -- the columns are the rows with the two variables exchanged

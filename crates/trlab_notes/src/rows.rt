@@ -4,7 +4,7 @@
 ghost use Rattle.std.specs.Prelude.{◌≡◌, ◌↔◌, ℕ, ◌*◌, ◌<◌, ◌≤◌, IsTrue, min, max, nat_eq, if◌then◌else◌, slice_index};
 ghost use Rattle.std.specs.Int.{bit_at};
 ghost use Rattle.trlab_notes.specs.Transfer.{chain, slacken, sharpen};
-ghost use Rattle.trlab_notes.specs.Rows.{IsTransposed, TellsRanges, level_in, level_of};
+ghost use Rattle.trlab_notes.specs.Rows.{IsTransposed, IncludesRanges, level_in, level_of};
 
 use crate::note::{AT_MOST, AbstractValue, BELOW};
 use trlab_code::VARIABLES;
@@ -251,6 +251,6 @@ pub struct Stored {
     pub columns: [LevelRow; VARIABLES],
     /// Is the side cell known to be empty?
     pub side: bool,
-    pub ghost ranges: { TellsRanges said rows },
+    pub ghost ranges: { IncludesRanges said rows },
     pub ghost transposed: { IsTransposed rows columns },
 }

@@ -39,7 +39,7 @@ fn has_weaker_variables(m: &Stored, n: &Stored) -> bool
 }
 
 /// Whether `m` says no more than `n` about the order of any two variables.
-fn has_lesser_levels(m: &Stored, n: &Stored) -> bool
+fn has_smaller_levels(m: &Stored, n: &Stored) -> bool
     ensures { IsTrue result ↔ ((x y : ℕ) → x < VARIABLES → y < VARIABLES →
         level_of m.now.rows x y ≤ level_of n.now.rows x y) }
 {
@@ -55,7 +55,7 @@ fn has_lesser_levels(m: &Stored, n: &Stored) -> bool
 pub fn is_no_stronger(m: &Stored, n: &Stored) -> bool
     ensures { IsTrue result ↔ IsNoStronger (note_of m.now) (note_of n.now) }
 {
-    has_weaker_variables(m, n) && has_lesser_levels(m, n) && (!m.side || n.side)
+    has_weaker_variables(m, n) && has_smaller_levels(m, n) && (!m.side || n.side)
 }
 
 /// The common knowledge of two abstract values.

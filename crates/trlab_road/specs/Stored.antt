@@ -81,7 +81,7 @@ pub record IsFirstFrom (cars : List LaneCar) (x index : ℕ) : Type 0 where
 
 -- the surroundings of a place on the lane of these cars, seen from the other lane: whether the cell is empty,
 -- and the gaps ahead and behind
-pub record StandsBeside (n : ℕ) (cars : List LaneCar) (x : ℕ) (beside : Beside) : Type 0 where
+pub record IsBesidePlace (n : ℕ) (cars : List LaneCar) (x : ℕ) (beside : Beside) : Type 0 where
   pub empty : beside.is_empty ≡ side (cells_of n cars) x
   pub ahead : beside.ahead ≡ sidegap (cells_of n cars) x
   pub behind : beside.behind ≡ sideback (cells_of n cars) x

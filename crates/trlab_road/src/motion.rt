@@ -11,21 +11,26 @@ ghost use Rattle.trlab_road.specs.Stored.{no_car, place_of, ListsFit, ListsMove,
 use crate::car::LaneCar;
 
 /// The number of cars that are moved together: enough for the compiler to keep the loop and use vector instructions.
-const TOGETHER: usize = 32;
+const MOVED_TOGETHER: usize = 32;
 
-/// `TOGETHER` cars of a list from an index on, after they have moved.
+/// `MOVED_TOGETHER` cars of a list from an index on, after they have moved.
 #[inline(always)]
-fn gone_together(cars: &[LaneCar], at: usize, speeds: &[u8], from: usize) -> [LaneCar; TOGETHER]
-    requires within { at + TOGETHER ≤ length cars.now }
-    requires one_each { from + TOGETHER ≤ length speeds.now }
-    requires slow { (k : ℕ) → k < TOGETHER → slice_index speeds.now (from + k) ≤ MAX_LIMIT }
-    requires short { (k : ℕ) → k < TOGETHER
+fn gone_together(
+    cars: &[LaneCar],
+    at: usize,
+    speeds: &[u8],
+    from: usize,
+) -> [LaneCar; MOVED_TOGETHER]
+    requires within { at + MOVED_TOGETHER ≤ length cars.now }
+    requires one_each { from + MOVED_TOGETHER ≤ length speeds.now }
+    requires slow { (k : ℕ) → k < MOVED_TOGETHER → slice_index speeds.now (from + k) ≤ MAX_LIMIT }
+    requires short { (k : ℕ) → k < MOVED_TOGETHER
         → place_of cars.now (at + k) + slice_index speeds.now (from + k) ≤ MAX_LENGTH }
-    ensures { (k : ℕ) → k < TOGETHER → slice_index_or result k no_car
+    ensures { (k : ℕ) → k < MOVED_TOGETHER → slice_index_or result k no_car
         ≡ gone_on (slice_index_or cars.now (at + k) no_car) (slice_index speeds.now (from + k)) }
 {
-    let mut gone = [LaneCar::new(0, 0, 0); TOGETHER];
-    for k in 0..TOGETHER {
+    let mut gone = [LaneCar::new(0, 0, 0); MOVED_TOGETHER];
+    for k in 0..MOVED_TOGETHER {
         gone[k] = go_on(cars[at + k], u32::from(speeds[from + k]));
     }
     gone
@@ -50,15 +55,15 @@ fn move_straight(cars: &mut [LaneCar], speeds: &[u8], from: usize)
         → place_of cars.old k + slice_index speeds.now (from + k) ≤ MAX_LENGTH }
     ensures { HaveGoneOn speeds.now from cars.old cars.new (length cars.old) }
 {
-    let blocks = cars.len() / TOGETHER;
+    let blocks = cars.len() / MOVED_TOGETHER;
     for block in 0..blocks {
-        let at = TOGETHER * block;
+        let at = MOVED_TOGETHER * block;
         let gone = gone_together(cars, at, speeds, from + at);
-        for k in 0..TOGETHER {
+        for k in 0..MOVED_TOGETHER {
             cars[at + k] = gone[k];
         }
     }
-    for index in TOGETHER * blocks..cars.len() {
+    for index in MOVED_TOGETHER * blocks..cars.len() {
         cars[index] = go_on(cars[index], u32::from(speeds[from + index]));
     }
 }

@@ -1,5 +1,5 @@
 -- The rule of a lock with one word and one slot: while the word is 0, the value is in the slot.
-use Rattle.std.specs.Prelude.{◌≡◌, ◌∷◌, [], Option, Some, slice_index, length}
+use Rattle.std.specs.Prelude.{◌≡◌, ℕ, ◌∷◌, [], Option, Some, slice_index, length}
 use mathlib.Core.Option.{some}
 use lib.ListN.{get_elem?}
 use Rattle.atomic_table.specs.Table.{State, Me}
@@ -16,6 +16,10 @@ module _ {T K : Type 0} where
   -- a thread that finds 0 has the slot, with a value that fits
   abbrev pub Seized : (T → Type 0) → Me (Option T) K → Type 0
   Seized Fits m = (value : T) × (m.1 ≡ (0, Some value) ∷ []) × Fits value
+
+  -- to take the value: a thread that finds 0 has the slot, with a value that fits
+  abbrev pub Acquires : (T → Type 0) → ℕ → Me (Option T) K → Type 0
+  Acquires Fits found m = found ≡ 0 → Seized Fits m
 
   -- a thread has the slot, and nothing else
   abbrev pub HasOnly : Me (Option T) K → Type 0

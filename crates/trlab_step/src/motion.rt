@@ -10,7 +10,7 @@ ghost use Rattle.trlab_step.specs.Answers.{IsSpeedsPart, dice_of};
 use crate::block::{BLOCK, fill_motion_views};
 use std::alloc::{AllocError, Global};
 use trlab_machine::{
-    BLOCK_CARS, Column, Dice, FEW, REGISTERS, Views, run_few_motions, run_motions,
+    BLOCK_CARS, Column, Dice, SMALL_BLOCK_CARS, REGISTERS, Views, run_few_motions, run_motions,
 };
 use trlab_road::Road;
 use trlab_verify::Motion;
@@ -92,7 +92,7 @@ pub fn compute_speeds(
     requires within { to ≤ cars road.now }
     ensures { OnOk result (IsSpeedsPart motion.now dice.now road.now from to speeds.new.items) }
 {
-    if to - from <= FEW as u32 {
+    if to - from <= SMALL_BLOCK_CARS as u32 {
         return compute_few_speeds(speeds, road, motion, dice, from, to);
     }
     speeds.clear();
@@ -123,13 +123,13 @@ fn compute_few_speeds(
     to: u32,
 ) -> Result<(), AllocError>
     requires rising { from ≤ to }
-    requires few { to ≤ from + FEW }
+    requires few { to ≤ from + SMALL_BLOCK_CARS }
     requires within { to ≤ cars road.now }
     ensures { OnOk result (IsSpeedsPart motion.now dice.now road.now from to speeds.new.items) }
 {
     speeds.clear();
-    let mut views = Views::<FEW>::new();
-    let mut registers = [[0; FEW]; REGISTERS];
+    let mut views = Views::<SMALL_BLOCK_CARS>::new();
+    let mut registers = [[0; SMALL_BLOCK_CARS]; REGISTERS];
     fill_motion_views(&mut views, road, from, to);
     let answers = low_bytes(&run_few_motions(motion, &views, dice, &mut registers));
     speeds.extend_from_slice(&answers[..(to - from) as usize])?;

@@ -29,7 +29,7 @@ use Rattle.trlab_step.specs.Run.{ComesTo, Seed, dice_at}
 use Rattle.trlab_step.proofs.AnswersExist.{change_view_is_view, motion_view_is_view}
 use Rattle.trlab_step.proofs.NextLaws.{like_itself, like_next}
 use Rattle.trlab_step.proofs.PartLaws.{one_answer_each, one_crossing_each}
-use Rattle.trlab_traffic.specs.Reduction.{GoAlike, RickertWithoutChange, RunsAlike, VdrOfOneChance}
+use Rattle.trlab_traffic.specs.Reduction.{GoAlike, RickertWithoutChange, RunsAlike, VdrWithOneProbability}
 use Rattle.trlab_traffic.proofs.AnyRule.{middle_like, next_legal_like}
 use Rattle.trlab_traffic.proofs.Freely.{in_force_one, one_rule}
 use Rattle.trlab_traffic.proofs.NaschMoves.{never}
@@ -79,7 +79,7 @@ no_change : (change other : Option CheckedProgram) (dice : Dice) (road middle : 
 no_change change other dice road middle changes none nor phase =
     subst (λ (c : Option CheckedProgram). IsLaneChangePhase c dice road middle changes) (none ∙ sym nor) phase
 
-pub vdr_of_one_chance : VdrOfOneChance
+pub vdr_of_one_chance : VdrWithOneProbability
 vdr_of_one_chance p lanes rule other vdr nasch dice road next tally legal count = (
   step_alike rule other dice road next tally legal
       (λ middle phase. no_change rule.change other.change dice road middle tally.changes vdr.change nasch.change phase)

@@ -18,8 +18,8 @@ GoAlike lanes rule other =
     → IsNext rule dice road next tally ↔ IsNext other dice road next tally
 
 -- the rule of 1998, if stopped cars brake with the same probability as all others, is that of 1992
-abbrev pub VdrOfOneChance : Type 0
-VdrOfOneChance =
+abbrev pub VdrWithOneProbability : Type 0
+VdrWithOneProbability =
     (p lanes : ℕ) (rule other : Programs) → IsVdr p p rule → IsNasch p other → GoAlike lanes rule other
 
 -- the rule of 1996 with probability 0 of a lane change is that of 1992

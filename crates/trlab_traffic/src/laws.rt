@@ -29,7 +29,7 @@ ghost use Rattle.trlab_traffic.specs.Overtaking.{EachCarHasNext, NextCarIsOne, R
 ghost use Rattle.trlab_traffic.specs.Periods.{CertainRulesBecomePeriodic};
 ghost use Rattle.trlab_traffic.specs.Queues.{QueueStarts, QueueWaits};
 ghost use Rattle.trlab_traffic.specs.Randomization.{RandomizationSlows, SlowStartsSlow};
-ghost use Rattle.trlab_traffic.specs.Reduction.{RickertWithoutChange, RunsAlike, VdrOfOneChance};
+ghost use Rattle.trlab_traffic.specs.Reduction.{RickertWithoutChange, RunsAlike, VdrWithOneProbability};
 ghost use Rattle.trlab_traffic.specs.Rows.{RowMeasuresFlow, RowsAgree};
 ghost use Rattle.trlab_traffic.specs.Rows.{RunIsContinuousByRows, StepIsContinuousByRows};
 ghost use Rattle.trlab_traffic.specs.Rule184.{EmptyCellsGoBack, NaschIsRule184};
@@ -204,7 +204,7 @@ pub fn certain_rules_become_periodic()
 /// change is 0 (Rickert, Nagel, Schreckenberg and Latour 1996, Physica A 231, 534). Rules with the same steps
 /// have the same runs.
 pub fn rules_reduce_to_nasch()
-    ensures vdr { VdrOfOneChance }
+    ensures vdr { VdrWithOneProbability }
     ensures rickert { RickertWithoutChange }
     ensures runs { RunsAlike }
 {}

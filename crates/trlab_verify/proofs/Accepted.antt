@@ -12,7 +12,7 @@ use Rattle.trlab_code.specs.Flow.{target, falls, is_end, on_target}
 use Rattle.trlab_notes.specs.Reasons.{is_of_kind}
 use Rattle.trlab_notes.specs.Notes.{Note}
 use Rattle.trlab_verify.specs.CheckedProgram.{IsChecked}
-use Rattle.trlab_verify.specs.Longest.{HasWay, IsLongest, IsForward}
+use Rattle.trlab_verify.specs.Longest.{HasPath, IsLongest, IsForward}
 use Rattle.trlab_verify.specs.Verdict.{IsAccepted}
 use Rattle.trlab_notes.proofs.Steps.{IsClear, clear, not_false}
 use Rattle.trlab_verify.proofs.Reasons.{noted}
@@ -39,13 +39,13 @@ end_kind Change Motion Cross e h = absurd (cc h)
 end_kind Change Motion Stay e h = absurd (cc h)
 end_kind Change Motion i e h = absurd (cc e)
 
-way_end : (code : List Instr) (n pc : ℕ) → HasWay code pc n →
+way_end : (code : List Instr) (n pc : ℕ) → HasPath code pc n →
     (q : ℕ) × ((i : Instr) × (slice_get code q ≡ Some i) × IsTrue (is_end i))
 way_end code zero pc w = absurd w
 way_end code (suc zero) pc w = (pc, w)
 way_end code (suc (suc n)) pc (q, f, w) = way_end code (suc n) q w
 
-kind_is : (kind : Kind) (program : Program) (n : ℕ) → IsAccepted kind program → HasWay program.instrs 0 n → program.kind ≡ kind
+kind_is : (kind : Kind) (program : Program) (n : ℕ) → IsAccepted kind program → HasPath program.instrs 0 n → program.kind ≡ kind
 kind_is kind program n accepted w =
     let (q, (i, e, end)) = way_end program.instrs n 0 w in
     let (m, c) = all_clear kind program accepted q i e in

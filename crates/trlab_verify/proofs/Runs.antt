@@ -16,7 +16,7 @@ use Rattle.trlab_notes.specs.Reasons.{reason_against}
 use Rattle.trlab_notes.specs.Notes.{Note, entry}
 use Rattle.trlab_notes.specs.Transfer.{next_note, jump_note}
 use Rattle.trlab_notes.specs.Order.{join}
-use Rattle.trlab_verify.specs.Longest.{Follows, HasWay, IsLongest}
+use Rattle.trlab_verify.specs.Longest.{Follows, HasPath, IsLongest}
 use Rattle.trlab_verify.specs.Incoming.{add_note, add_notes, if_here, next_note_to, jump_note_to, is_target, incoming, note_at}
 use Rattle.trlab_verify.specs.Verdict.{IsAccepted}
 use Rattle.trlab_code.specs.declared.instruction.Register.{Register}
@@ -103,7 +103,7 @@ fetch (i ∷ code) (suc pc) h = fetch code pc (omega arith)
 module _ (kind own : Kind) (code : List Instr) (accepted : IsAccepted kind (record { kind = own; instrs = code })) (view : View) (words : List ℕ) where
   -- the run from pc with the values s ends after as many steps as some way from pc has
   abbrev RunsFrom : ℕ → Store → Type 0
-  RunsFrom pc s = (answer : Answer) × (n : ℕ) × EndsFrom kind code view words (At pc s) answer (suc n) × HasWay code pc (suc n)
+  RunsFrom pc s = (answer : Answer) × (n : ℕ) × EndsFrom kind code view words (At pc s) answer (suc n) × HasPath code pc (suc n)
 
   abbrev Sees : Store → Type 0
   Sees s = (k : Input) → s (variable.Input k) ≡ start kind view (variable.Input k)
@@ -116,7 +116,7 @@ module _ (kind own : Kind) (code : List Instr) (accepted : IsAccepted kind (reco
         (leb-false (length code) (suc pc) h, (i, ei, either_left (falls i && nat_eq (suc pc) (suc pc)) (on_target (nat_eq (suc pc)) (target i)) (rw (f, eq-eqb (suc pc) (suc pc) refl) refl)))
 
     after_effect : (e : Effect) → Leads view.side m i s e →
-        (answer : Answer) × (n : ℕ) × EndsFrom kind code view words (state_after pc s e) answer n × HasWay code pc (suc n)
+        (answer : Answer) × (n : ℕ) × EndsFrom kind code view words (state_after pc s e) answer n × HasPath code pc (suc n)
     after_effect (Writes d v) (next, ef, fits) =
         let f = falls_on next ef in
         let r = onward (suc pc) (omega arith) f.0 (update s (variable.Register d) v) (sees_after kind view s d v sees) (fall_covers kind code view.side (update s (variable.Register d) v) pc m i next em ei ef fits) in
@@ -195,7 +195,7 @@ unfolding entry
 entry_fits kind view h = fits_from view.side (entry kind) (start kind view) (variable_fits kind view h) (level_fits kind view h) (λ e. absurd (cc e))
 
 -- a way begins inside the code
-way_inside : (code : List Instr) (n : ℕ) → HasWay code 0 n → 1 ≤ length code
+way_inside : (code : List Instr) (n : ℕ) → HasPath code 0 n → 1 ≤ length code
 way_inside [] zero w = absurd w
 way_inside [] (suc zero) (i, e, end) = absurd (cc e)
 way_inside [] (suc (suc n)) (q, (i, e, follows), rest) = absurd (cc e)

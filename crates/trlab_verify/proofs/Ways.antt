@@ -7,7 +7,7 @@ use Rattle.std.proofs.lemmas.Option.{slice_get_within}
 use Rattle.trlab_code.specs.declared.instruction.Instr.{Instr}
 use Rattle.trlab_code.specs.declared.instruction.Instr.TheVariants.{Jump, Go, Cross, Stay}
 use Rattle.trlab_code.specs.Flow.{is_end, falls, target, on_target}
-use Rattle.trlab_verify.specs.Longest.{Follows, HasWay, IsLongest, IsForward}
+use Rattle.trlab_verify.specs.Longest.{Follows, HasPath, IsLongest, IsForward}
 
 some_is : (a b : Instr) → Some a ≡ Some b → a ≡ b
 some_is a b e = cc e
@@ -19,18 +19,18 @@ pub longest_end : (code : List Instr) (pc : ℕ) (i : Instr) → slice_get code 
     ((q : ℕ) → Follows code pc q → ⊥) → IsLongest code pc 1
 longest_end code pc i e f none = record { way = (i, e, f); most = most }
   where
-    most : (m : ℕ) → HasWay code pc m → m ≤ 1
+    most : (m : ℕ) → HasPath code pc m → m ≤ 1
     most zero w = omega arith
     most (suc zero) w = omega arith
     most (suc (suc m)) (q, g, w) = absurd (none q g)
 
 pub longest_step : (code : List Instr) (pc n : ℕ) (i : Instr) → slice_get code pc ≡ Some i → is_end i ≡ false →
-    (q : ℕ) → Follows code pc q → HasWay code q n → ((r m : ℕ) → Follows code pc r → HasWay code r m → m ≤ n) →
+    (q : ℕ) → Follows code pc q → HasPath code q n → ((r m : ℕ) → Follows code pc r → HasPath code r m → m ≤ n) →
     IsLongest code pc (suc n)
 longest_step code pc zero i e f q g w h = absurd w
 longest_step code pc (suc n) i e f q g w h = record { way = (q, g, w); most = most }
   where
-    most : (m : ℕ) → HasWay code pc m → m ≤ suc (suc n)
+    most : (m : ℕ) → HasPath code pc m → m ≤ suc (suc n)
     most zero w = omega arith
     most (suc zero) (j, d, k) = absurd (not_both i j (sym e ∙ d) f k)
     most (suc (suc m)) (r, k, v) = let l : suc m ≤ suc n = h r (suc m) k v in omega arith
@@ -157,7 +157,7 @@ longest_found code pc i longest next jump longer forward e later en ej em =
     rw same l
 
 -- a way forward from an instruction has no more instructions than stand from there on
-pub way_short : (code : List Instr) → IsForward code → (n pc : ℕ) → HasWay code pc n → n + pc ≤ length code
+pub way_short : (code : List Instr) → IsForward code → (n pc : ℕ) → HasPath code pc n → n + pc ≤ length code
 way_short code forward zero pc w = absurd w
 way_short code forward (suc zero) pc (i, e, end) = let lt : pc < length code = slice_get_within code pc i e in omega arith
 way_short code forward (suc (suc n)) pc (q, f, w) = let r : suc n + q ≤ length code = way_short code forward (suc n) q w in let lt : pc < q = (forward pc q f).0 in omega arith

@@ -10,15 +10,15 @@ Follows code pc q =
     × IsTrue ((falls i && nat_eq q (suc pc)) || on_target (nat_eq q) (target i))
 
 -- a path of n instructions from pc to an end, the end included
-abbrev pub HasWay : List Instr → ℕ → ℕ → Type 0
-HasWay code pc zero = ⊥
-HasWay code pc (suc zero) = (i : Instr) × (slice_get code pc ≡ Some i) × IsTrue (is_end i)
-HasWay code pc (suc (suc n)) = (q : ℕ) × Follows code pc q × HasWay code q (suc n)
+abbrev pub HasPath : List Instr → ℕ → ℕ → Type 0
+HasPath code pc zero = ⊥
+HasPath code pc (suc zero) = (i : Instr) × (slice_get code pc ≡ Some i) × IsTrue (is_end i)
+HasPath code pc (suc (suc n)) = (q : ℕ) × Follows code pc q × HasPath code q (suc n)
 
 -- some path from pc has n instructions, and none has more
 pub record IsLongest (code : List Instr) (pc n : ℕ) : Type 0 where
-  pub way : HasWay code pc n
-  pub most : (m : ℕ) → HasWay code pc m → m ≤ n
+  pub way : HasPath code pc n
+  pub most : (m : ℕ) → HasPath code pc m → m ≤ n
 
 -- control goes forward and stays in the code
 abbrev pub IsForward : List Instr → Type 0

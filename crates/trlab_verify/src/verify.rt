@@ -60,7 +60,7 @@ fn longest_from(instrs: &[Instr], pc: usize, longest: &[u32; MAX_INSTRUCTIONS]) 
 }
 
 /// The length of the longest path through a program without backward jumps, in instructions.
-pub fn longest_way(instrs: &[Instr]) -> u32
+pub fn longest_path(instrs: &[Instr]) -> u32
     requires some { 1 ≤ length instrs.now }
     requires few { length instrs.now ≤ MAX_INSTRUCTIONS }
     requires forward { IsForward instrs.now }
@@ -91,7 +91,7 @@ pub fn verify_as<K: ProgramKind>(
 {
     match verdict(alloc, K::KIND, &code) {
         Ok(None) => {
-            let budget = longest_way(code.instrs());
+            let budget = longest_path(code.instrs());
             Ok(AcceptedProgram::new(code, budget))
         }
         Ok(Some(Rejection { at, reason })) => Err((

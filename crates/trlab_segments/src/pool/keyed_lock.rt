@@ -2,7 +2,7 @@
 //! value knows that it fits, and puts back a value that fits too.
 
 ghost use Rattle.std.specs.Prelude.{◌≡◌, IfOk};
-ghost use Rattle.trlab_segments.specs.KeyedLocks.{Guarded, HasOnly, Seized};
+ghost use Rattle.trlab_segments.specs.KeyedLocks.{Acquires, Guarded, HasOnly};
 
 use atomic_table::{Play, Refused, Seat, Table, TableRule};
 use std::alloc::{AllocError, Global};
@@ -33,14 +33,14 @@ impl<K, T: Keyed<K>> TableRule<Option<T>, K, K> for LockRule<T, K> {
 }
 
 impl<K, T: Keyed<K>> Play<Option<T>, K> for Acquire<T, K> {
-    ghost then = { λ st m r n. r ≡ 0 → Seized (T.fits m.0) n };
+    ghost then = { λ state before found after. Acquires (T.fits before.0) found after };
 }
 
 /// The step that puts the value back.
 struct Release;
 
 impl<T, K> Play<Option<T>, K> for Release {
-    ghost then = { λ st m r n. Unit {0} };
+    ghost then = { λ state before found after. Unit {0} };
 }
 
 /// A lock around a value that fits a key. One word records whether a thread has the value.

@@ -62,7 +62,7 @@ one_more n cars x next k more rises inside so_far is =
 pub loop-k-preserved : goal.loop-k-preserved
 loop-k-preserved c =
     let inv = c.loop-k.invariant in
-    let inside : c.loop-k.k < length c.args.cars.now = omega (arith, c.requires.within, c.if-cars-near-ge-TOGETHER.true, c.loop-k-test.true) in
+    let inside : c.loop-k.k < length c.args.cars.now = omega (arith, c.requires.within, c.if-cars-near-ge-SEARCHED_TOGETHER.true, c.loop-k-test.true) in
     let next = one_more c.requires.sorted.0 c.args.cars.now c.args.place c.loop-k.next c.loop-k.k c.from-next.result c.requires.sorted.1 inside
     (record { not_past = inv.not_past; before = inv.before; from = inv.from }) (c.from-next.ensures ∙ ap (λ p. bool_byte (nat_lt p c.args.place)) c.place_at.ensures) in
     record { not_past = next.not_past; before = next.before; from = next.from }

@@ -1,11 +1,11 @@
 use Rattle.std.proofs.Common.{◌+◌, ◌*◌}
-use Rattle.trlab_road.specs.declared.motion.TheConstants.{TOGETHER}
+use Rattle.trlab_road.specs.declared.motion.TheConstants.{MOVED_TOGETHER}
 use Rattle.trlab_road.specs.GoneOn.{HaveGoneOn}
 use Rattle.trlab_road.proofs.motion.move_straight.Given as goal
 
 -- the cars of the blocks before this one went ahead
 abbrev pub invariant-loop-block : goal.invariant-loop-block
-invariant-loop-block l = HaveGoneOn l.speeds l.from l.fn.cars l.cars (TOGETHER * l.block)
+invariant-loop-block l = HaveGoneOn l.speeds l.from l.fn.cars l.cars (MOVED_TOGETHER * l.block)
 
 -- and the cars of this one up to an index
 abbrev pub invariant-loop-k : goal.invariant-loop-k

@@ -1,6 +1,6 @@
 use Rattle.std.proofs.Common.{◌≡◌, ◌≤◌, ◌+◌, ◌-◌, arith, length, length-take-le, refl, rules, take}
 use Rattle.std.proofs.lemmas.Result.{err_from_is_err_and}
-use Rattle.trlab_machine.specs.declared.columns.TheConstants.{FEW}
+use Rattle.trlab_machine.specs.declared.columns.TheConstants.{SMALL_BLOCK_CARS}
 use Rattle.trlab_step.specs.Answers.{AnswersSpeed}
 use Rattle.trlab_step.proofs.BlockAnswers.{block_goes, more_fit, more_speeds}
 use Rattle.trlab_step.proofs.Blocks.{fits_none, part_none}
@@ -19,9 +19,9 @@ returns c =
     let road = c.args.road.now in
     let from = c.args.from in
     let size = c.args.to - from in
-    let few : size ≤ FEW = omega (arith, c.requires.few) in
+    let few : size ≤ SMALL_BLOCK_CARS = omega (arith, c.requires.few) in
     let block = take size c.low_bytes-answers.result in
-    let whole : length c.low_bytes-answers.result ≡ FEW = search rules in
+    let whole : length c.low_bytes-answers.result ≡ SMALL_BLOCK_CARS = search rules in
     let count : length block ≡ size = length-take-le size c.low_bytes-answers.result (omega (arith, whole, few)) in
     let end : from + length block ≡ c.args.to = omega (arith, count, c.requires.rising) in
     let goes = block_goes size few program dice road from c.fill_motion_views.new.views c.fill_motion_views.ensures.cars c.run_few_motions.result c.low_bytes-answers.result c.fill_motion_views.ensures.each c.run_few_motions.ensures

@@ -5,27 +5,27 @@ use Rattle.trlab_verify.proofs.VerdictChecks.{table_checks}
 use Rattle.trlab_verify.proofs.Runs.{sound}
 use Rattle.trlab_verify.proofs.verify.verify_as.Goals as goal
 
-pub longest_way-budget-requires-clause-forward : goal.longest_way-budget-requires-clause-forward
-longest_way-budget-requires-clause-forward g c =
+pub longest_path-budget-requires-clause-forward : goal.longest_path-budget-requires-clause-forward
+longest_path-budget-requires-clause-forward g c =
     let accepted = rw (c.in-Ok-None.field-0-is, c.KIND.ensures) at c.in-Ok-None.ensures in
     rw c.instrs.ensures.value (forward g.K.ProgramKind.KIND c.args.code accepted)
 
 pub new-requires : goal.new-requires
 new-requires g c =
     let accepted = rw (c.in-Ok-None.field-0-is, c.KIND.ensures) at c.in-Ok-None.ensures in
-    let longest = rw c.instrs.ensures.value at c.longest_way-budget.ensures in
-    checked g.K.ProgramKind.KIND c.args.code c.longest_way-budget.result c.instrs.ensures.program accepted longest
+    let longest = rw c.instrs.ensures.value at c.longest_path-budget.ensures in
+    checked g.K.ProgramKind.KIND c.args.code c.longest_path-budget.result c.instrs.ensures.program accepted longest
 
 pub returns-in-Ok-None : goal.returns-in-Ok-None
 returns-in-Ok-None g c =
     let accepted = rw (c.in-Ok-None.field-0-is, c.KIND.ensures) at c.in-Ok-None.ensures in
-    let longest = rw c.instrs.ensures.value at c.longest_way-budget.ensures in
+    let longest = rw c.instrs.ensures.value at c.longest_path-budget.ensures in
     let found = table_checks g.K.ProgramKind.KIND c.args.code accepted in
     record {
       same = c.new.ensures.program;
       accepted = accepted;
       longest = rw c.new.ensures.budget longest;
-      safe = rw c.new.ensures.budget (sound g.K.ProgramKind.KIND c.args.code c.longest_way-budget.result accepted longest);
+      safe = rw c.new.ensures.budget (sound g.K.ProgramKind.KIND c.args.code c.longest_path-budget.result accepted longest);
       some_table = (found.0, found.2);
     }
 
