@@ -102,8 +102,8 @@ HasMore bytes = HEADER_BYTES + INSTR_BYTES * stated_count bytes < length bytes
 abbrev pub PassesInstrs : List ℕ → Type 0 → Type 0
 PassesInstrs bytes rest = IsGoodBefore bytes (stated_count bytes) × rest
 
--- the first fault after a valid header: an invalid opcode or field of the first invalid instruction, version
--- 2 without need, or bytes after the last instruction; `Memory` is always possible, other faults never
+-- the first fault after a valid header: an opcode or a field of the first invalid instruction, a needless
+-- version 2, or bytes after the last instruction; `Memory` is always possible, header faults never
 abbrev pub IsFaultAfterHeader : List ℕ → CodeFault → Type 0
 IsFaultAfterHeader bytes (fault.Opcode pc) = ComesToInstr bytes pc (λ row. ¬ (HasOpcode row))
 IsFaultAfterHeader bytes (fault.Field pc) =
@@ -113,8 +113,8 @@ IsFaultAfterHeader bytes fault.Trailing = PassesInstrs bytes (NeedsVersion bytes
 IsFaultAfterHeader bytes fault.Memory = Unit {0}
 IsFaultAfterHeader bytes _ = ⊥
 
--- the first fault of bytes: too few of them, then the magic bytes, the version, the kind and the number of
--- instructions, and then those after the header; `Memory` is always possible
+-- the first fault of bytes: that they end early, then MAGIC, the version, the kind, the number of
+-- instructions, and the faults after the header; `Memory` is always possible
 abbrev pub IsFirstFault : List ℕ → CodeFault → Type 0
 IsFirstFault bytes fault.Short = EndsEarly bytes
 IsFirstFault bytes fault.Magic = HasHeader bytes × ¬ (HasMagic bytes)

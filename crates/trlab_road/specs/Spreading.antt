@@ -46,8 +46,8 @@ pub record CanSpread (lanes cells limit n : ℕ) : Type 0 where
   pub limit_fits : LimitFits limit
   pub room : n ≤ lanes * cells
 
--- the first fault of lanes, cells, limit and number n of cars: first of the lanes, then of their length, the
--- limit, and the cars, which may be too many; `Memory` is always possible, faults of characters never
+-- the first fault of the number of lanes, their cells, the limit and n cars, tested in this order; `Memory`
+-- is always possible, faults of characters never
 abbrev pub IsEvenFault : ℕ → ℕ → ℕ → ℕ → RoadFault → Type 0
 IsEvenFault lanes cells limit n Lanes = ¬ (LanesFit lanes)
 IsEvenFault lanes cells limit n Length = LanesFit lanes × ¬ (LengthFits cells)

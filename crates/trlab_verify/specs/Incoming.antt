@@ -32,8 +32,8 @@ next_note_to pc m i q = if_here (nat_eq q (suc pc)) (next_note m i)
 abbrev pub jump_note_to : Note → Instr → ℕ → Option Note
 jump_note_to m i q = if_here (is_target (target i) q) (Some (jump_note m i))
 
--- the join of the incoming notes of q so far and the notes that the instruction at pc sends there; only `old`
--- if the instruction is unreachable or missing
+-- the join of the incoming notes of q so far and the notes that the instruction at pc sends there; just `old`
+-- if that instruction has no note or does not exist
 abbrev pub add_notes : ℕ → Option Note → Option Instr → ℕ → Option Note → Option Note
 add_notes pc (Some m) (Some i) q old = add_note (add_note old (next_note_to pc m i q)) (jump_note_to m i q)
 add_notes pc _ _ q old = old

@@ -21,9 +21,8 @@ blank = record { said = λ x. Nothing; level = λ x y. 0; side = false }
 abbrev pub note_in : List Note → ℕ → Note
 note_in table pc = slice_index_or table pc blank
 
--- the notes check at instruction i at pc: unless it is the first, control may come to it from some
--- instruction; no reason holds against it; and the notes of the next instruction and of a jump's target are
--- no stronger than those that it sends there
+-- the notes check at instruction i at pc: unless it is the first, some instruction leads to it; no reason
+-- holds against it; and no note after it is stronger than the one that it sends there
 pub record ChecksAt (kind : Kind) (program : Program) (note : ℕ → Note) (pc : ℕ) (i : Instr) : Type 0 where
   pub reached : 0 < pc → (p : ℕ) × Follows program.instrs p pc
   pub clear : reason_against kind program.kind (length program.instrs) pc (note pc) i ≡ None
