@@ -25,8 +25,8 @@ AreNoStronger None None = Unit {0}
 AreNoStronger (Some m) (Some n) = IsNoStronger m n
 AreNoStronger _ _ = ⊥
 
--- the common knowledge of two abstract values: the smallest range around two ranges, an implication that both
--- flags have, and otherwise `Nothing`
+-- the common knowledge of two abstract values: the smallest range around two ranges, a flag that implies an
+-- empty side cell only if both flags do, and otherwise `Nothing`
 abbrev pub join_said : AbstractValue → AbstractValue → AbstractValue
 join_said (Between a b) (Between c d) = Between (min a c) (max b d)
 join_said (Implies p) (Implies q) = Implies (p && q)
