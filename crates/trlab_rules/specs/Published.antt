@@ -1,6 +1,7 @@
--- The published rules, as functions of a car's view and its random words: the motion of Nagel and Schreckenberg
--- (1992), slow starts by Barlovic, Santen, Schadschneider and Schreckenberg (1998), and the lane change of
--- Rickert, Nagel, Schreckenberg and Latour (1996), whose lane-change distances are this project's own.
+-- The published rules, as functions of a car's view and its random words: the motion of Nagel and
+-- Schreckenberg (1992), slow starts by Barlovic, Santen, Schadschneider and Schreckenberg (1998), and the
+-- lane change of Rickert, Nagel, Schreckenberg and Latour (1996), whose lane-change distances are this
+-- project's own.
 use Rattle.std.specs.Prelude.{ℕ, ◌+◌, ◌-◌, ◌&&◌, min, List, Bool, true, false, nat_eq, nat_lt, nat_le, if◌then◌else◌, slice_index}
 use Rattle.trlab_words.specs.Chances.{happens_on}
 use Rattle.trlab_code.specs.declared.view.View.{View}
