@@ -12,54 +12,56 @@ use Rattle.trlab_asm.specs.declared.fault.Why.{Why}
 use Rattle.trlab_asm.specs.declared.fault.Why.TheVariants.{Empty, NoLabel, Memory}
 use Rattle.trlab_asm.specs.declared.fault.AsmFault.{AsmFault}
 
--- the result for a line, with the line's number at a fault
+-- the result for a line; a fault gets the number of the line
 abbrev pub in_line : {A : Type 0} → ℕ → Result A Why → Result A AsmFault
 in_line number (Ok x) = Ok x
 in_line number (Err why) = Err (record { line = number; why = why })
 
--- an instruction as it was read, and the number of its line
+-- an instruction as it was read, with the number of its line
 pub record LineDraft : Type 0 where
   pub line : ℕ
   pub draft : InstrDraft
 
--- the labels and the instructions of a text
+-- the labels of a text, and its instructions in order, as they were read
 pub record Parts : Type 0 where
   pub labels : Labels
   pub reads : List LineDraft
 
--- the line numbers of the instructions
+-- the line number of each instruction of a text, in order
 abbrev pub line_numbers : Parts → List ℕ
 line_numbers parts = map (λ read. read.line) parts.reads
 
--- the parts of an empty text
+-- the parts of an empty text: no label and no instruction
 abbrev pub no_parts : Parts
 no_parts = record { labels = λ name. None; reads = [] }
 
--- the labels, with one more for this pc if the line has a label
+-- the labels, with the line's label, if it has one, at this pc
 abbrev pub with_label : Labels → ℕ → Option (List ℕ) → Labels
 with_label labels pc None = labels
 with_label labels pc (Some name) = update bytes_eq labels name (Some pc)
 
--- the instructions that were read, with one more if the line has an instruction
+-- the instructions read so far, and the instruction of line `number`, if it has one
 abbrev pub with_draft : List LineDraft → ℕ → Option InstrDraft → List LineDraft
 with_draft reads number None = reads
 with_draft reads number (Some draft) = reads ++ (record { line = number; draft = draft } ∷ [])
 
--- the parts read so far, with one more line: its label names its instruction, or the next one if it has none
+-- the parts read so far with one more line: its label, if it has one, gets the pc of its instruction, or of
+-- the next instruction if the line has none
 abbrev pub with_line : Parts → ℕ → Line → Parts
 with_line parts number line = record {
   labels = with_label parts.labels (length parts.reads) line.label;
   reads = with_draft parts.reads number line.draft;
 }
 
--- the first pass: adds lines, numbered from `number` on, to the parts read so far, or gives the first fault
+-- the first pass: the parts read so far with the lines added, which are numbered from `number` on, or the
+-- first fault
 unfoldable pub first_pass : Parts → ℕ → List (List ℕ) → Result Parts AsmFault
 first_pass parts number [] = Ok parts
 first_pass parts number (line ∷ left) =
     in_line number (line_says parts.labels (length parts.reads) line)
     >>= λ said. first_pass (with_line parts number said) (number + 1) left
 
--- a jump with another target; other instructions stay as they are
+-- a jump with the target pc; other instructions stay as they are
 abbrev pub with_target : ℕ → Instr → Instr
 with_target pc (Jump t) = Jump pc
 with_target pc (JumpLess a b t) = JumpLess a b pc
@@ -68,39 +70,41 @@ with_target pc (JumpTrue a t) = JumpTrue a pc
 with_target pc (JumpFalse a t) = JumpFalse a pc
 with_target pc instr = instr
 
--- a jump to the pc of its label, or a fault if no line has the label
+-- a jump with the pc of its label as target; the fault `NoLabel` in its line if there is no pc
 abbrev pub jump_to : ℕ → Instr → Option ℕ → Result Instr AsmFault
 jump_to line instr None = Err (record { line = line; why = NoLabel })
 jump_to line instr (Some pc) = Ok (with_target pc instr)
 
--- an instruction with the pc of its label, if it names one
+-- an instruction with the pc of its label as target, if it names a label; the fault `NoLabel` in its line if
+-- no line has the label
 abbrev pub resolve_label : Labels → ℕ → Instr → Option (List ℕ) → Result Instr AsmFault
 resolve_label labels line instr None = Ok instr
 resolve_label labels line instr (Some name) = jump_to line instr (labels name)
 
--- an instruction that was read, with the pc of its label, if it names one
+-- an instruction that was read, with the pc of its label as target, if it names a label, or the fault of its
+-- line
 abbrev pub resolve : Labels → LineDraft → Result Instr AsmFault
 resolve labels read = resolve_label labels read.line read.draft.instr read.draft.label
 
--- the second pass: the instructions with their targets, or the first fault
+-- the second pass: the instructions with the pcs of their labels as targets, or the first fault
 unfoldable pub second_pass : Labels → List LineDraft → Result (List Instr) AsmFault
 second_pass labels [] = Ok []
 second_pass labels (read ∷ reads) =
     resolve labels read >>= λ instr. second_pass labels reads >>= λ instrs. Ok (instr ∷ instrs)
 
--- the instructions that were read; a text without instructions has a fault without a line
+-- the instructions of a text after the second pass; the fault `Empty` without a line if it has none
 abbrev pub instrs_of : Parts → Result (List Instr) AsmFault
 instrs_of parts =
     if length parts.reads == 0 then Err (record { line = 0; why = Empty })
     else second_pass parts.labels parts.reads
 
--- the program of this kind in the lines of a text, or the first fault; the lines are numbered from 1
+-- the program of a kind that lines give, numbered from 1, or the first fault
 abbrev pub code_of : Kind → List (List ℕ) → Result Program AsmFault
 code_of kind lines = do
   parts ← first_pass no_parts 1 lines
   instrs ← instrs_of parts
   Ok (record { kind = kind; instrs = instrs })
 
--- the fault if an allocation fails; it says nothing about the text
+-- the fault of a failed allocation, which has line 0: it says nothing about the text
 abbrev pub IsOutOfMemory : AsmFault → Type 0
 IsOutOfMemory fault = fault ≡ record { line = 0; why = Memory }

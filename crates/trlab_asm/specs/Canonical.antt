@@ -12,15 +12,16 @@ use Rattle.trlab_asm.specs.declared.printing.Operand.TheVariants.{Register, Inpu
 use Rattle.trlab_asm.specs.declared.printing.Operation.{Operation}
 use Rattle.trlab_asm.specs.declared.printing.Operation.TheVariants.{Bare, One, Two, Three}
 
--- the label of a pc: `L` and its digits
+-- the label that is printed for the instruction at pc: `L` and the digits of pc
 abbrev pub label_text : ℕ → List ℕ
 label_text pc = 76 ∷ decimal pc
 
--- a target in a program of `count` instructions: its label, or `@` and the pc past the end of the program
+-- the printed target of a jump in a program of `count` instructions: its label, or `@` and the pc if it is
+-- past the end of the program
 abbrev pub target_text : ℕ → ℕ → List ℕ
 target_text count pc = if nat_lt pc count then label_text pc else 64 ∷ decimal pc
 
--- an operand
+-- an operand as it is printed: a name, a number, a label, or `@` and a pc
 abbrev pub operand_text : Operand → List ℕ
 operand_text (Register register) = register_text register
 operand_text (Input input) = input_text input
@@ -29,22 +30,22 @@ operand_text (Label pc) = label_text pc
 operand_text (Beyond pc) = 64 ∷ decimal pc
 
 infixr 20 ◌comma◌
--- an operand, a comma and a space, and further operands
+-- an operand, a comma and a space, and the other operands
 abbrev pub ◌comma◌ : List ℕ → List ℕ → List ℕ
 operand comma others = operand ++ (44 ∷ 32 ∷ others)
 
--- a name, a space, and operands
+-- the name of an instruction, a space, and its operands
 abbrev pub row_text : Mnemonic → List ℕ → List ℕ
 row_text name operands = mnemonic_text name ++ (32 ∷ operands)
 
--- an instruction as it is printed
+-- an operation as it is printed: its name, and its operands with commas between them
 abbrev pub row_says : Operation → List ℕ
 row_says (Bare name) = mnemonic_text name
 row_says (One name a) = row_text name (operand_text a)
 row_says (Two name a b) = row_text name (operand_text a comma operand_text b)
 row_says (Three name a b c) = row_text name (operand_text a comma operand_text b comma operand_text c)
 
--- an instruction, in a program of `count` instructions
+-- an instruction as it is printed, in a program of `count` instructions
 abbrev pub instr_text : ℕ → Instr → List ℕ
 instr_text count (Num d n) = row_text name.Num (register_text d comma decimal n)
 instr_text count (Get d k) = row_text name.Get (register_text d comma input_text k)
@@ -71,26 +72,28 @@ instr_text count (Go a) = row_text name.Go (register_text a)
 instr_text count Cross = mnemonic_text name.Cross
 instr_text count Stay = mnemonic_text name.Stay
 
--- whether a target is this pc
+-- is the target of an instruction pc? false if it has no target
 abbrev pub is_pc : ℕ → Option ℕ → Bool
 is_pc pc None = false
 is_pc pc (Some t) = nat_eq t pc
 
--- whether some jump has this target
+-- is pc the target of some jump among the instructions?
 abbrev pub is_jumped_to : List Instr → ℕ → Bool
 is_jumped_to instrs pc = list_any (λ instr. is_pc pc (target instr)) instrs
 
--- an instruction's line, after its label if it is marked
+-- the line of the instruction at pc, in a program of `count` instructions; it begins with its label if the
+-- instruction is marked
 abbrev pub instr_line : ℕ → Bool → ℕ → Instr → List ℕ
 instr_line count marked pc instr =
     if marked then label_text pc ++ (58 ∷ 32 ∷ instr_text count instr) else instr_text count instr
 
--- the lines of the instructions from a pc on; the targets of jumps are marked
+-- the lines of `left`, the instructions of a program from pc on; those that are targets of a jump of the
+-- program have labels
 unfoldable pub text_from : List Instr → ℕ → List Instr → List ℕ
 text_from instrs pc [] = []
 text_from instrs pc (instr ∷ left) =
     instr_line (length instrs) (is_jumped_to instrs pc) pc instr ++ (10 ∷ text_from instrs (pc + 1) left)
 
--- the canonical text of a program's instructions
+-- the canonical text of a program's instructions, one line each; those that are targets of a jump have labels
 abbrev pub text_of : List Instr → List ℕ
 text_of instrs = text_from instrs 0 instrs

@@ -12,32 +12,32 @@ use Rattle.trlab_asm.specs.Canonical.{text_of}
 use Rattle.trlab_asm.specs.declared.names.Mnemonic.{Mnemonic}
 use Rattle.trlab_asm.specs.declared.fault.Why.TheVariants.{Memory}
 
--- any text has a program, or a first fault, which is never `Memory`
+-- the lines of any text give a valid program of each kind, or a first fault, which is never `Memory`
 abbrev pub TextsSaySomething : Type 0
 TextsSaySomething = (kind : Kind) (text : List ℕ)
     → MatchResult (code_of kind (lines_of text)) IsProgram (λ fault. fault.why ≢ Memory)
 
--- reading the canonical text of a program gives the program
+-- the lines of the canonical text of a representable program give this program again
 abbrev pub CanonicalTextSaysTheProgram : Type 0
 CanonicalTextSaysTheProgram = (program : Program) → IsRepresentable program
     → code_of program.kind (lines_of (text_of program.instrs)) ≡ Ok program
 
--- two programs of one kind with the same canonical text are equal
+-- two representable programs of one kind with the same canonical text are equal
 abbrev pub OneProgramOfAText : Type 0
 OneProgramOfAText = (first second : Program) → IsRepresentable first → IsRepresentable second
     → first.kind ≡ second.kind → text_of first.instrs ≡ text_of second.instrs → first ≡ second
 
--- a word names a register exactly if it is the register's text
+-- a word names a register exactly if it is the name of this register
 abbrev pub RegistersAreNamed : Type 0
 RegistersAreNamed = (word : List ℕ) (register : Register)
     → register_named word ≡ Some register ↔ (word ≡ register_text register)
 
--- a word names an input exactly if it is the input's text
+-- a word names an input exactly if it is the name of this input
 abbrev pub InputsAreNamed : Type 0
 InputsAreNamed = (word : List ℕ) (input : Input)
     → input_named word ≡ Some input ↔ (word ≡ input_text input)
 
--- a word names an instruction exactly if it is the instruction's text
+-- a word names an instruction exactly if it is the name of this instruction
 abbrev pub InstructionsAreNamed : Type 0
 InstructionsAreNamed = (word : List ℕ) (name : Mnemonic)
     → mnemonic_named word ≡ Some name ↔ (word ≡ mnemonic_text name)

@@ -9,7 +9,7 @@ use Rattle.trlab_asm.specs.declared.names.Mnemonic.{Mnemonic}
 use Rattle.trlab_asm.specs.declared.names.Mnemonic.TheVariants.{Num, Get, Side, Draw, Copy, Add, Sub, Mul, Div, Min, Max, Not, And, Or, Jump, JumpLess, JumpAtMost, JumpTrue, JumpFalse, Go, Cross, Stay}
 use Rattle.trlab_asm.specs.declared.names.TheConstants.{REGISTERS, INPUTS, MNEMONICS}
 
--- the text of a register
+-- the name of a register: `r0` to `r7`
 abbrev pub register_text : Register → List ℕ
 register_text R0 = codes "r0"
 register_text R1 = codes "r1"
@@ -20,7 +20,7 @@ register_text R5 = codes "r5"
 register_text R6 = codes "r6"
 register_text R7 = codes "r7"
 
--- the text of an input
+-- the name of an input
 abbrev pub input_text : Input → List ℕ
 input_text Speed = codes "speed"
 input_text Limit = codes "limit"
@@ -30,7 +30,7 @@ input_text SideBack = codes "sideback"
 input_text Lane = codes "lane"
 input_text Headspeed = codes "headspeed"
 
--- the text of an instruction's name
+-- the name of an instruction
 abbrev pub mnemonic_text : Mnemonic → List ℕ
 mnemonic_text Num = codes "num"
 mnemonic_text Get = codes "get"
@@ -55,14 +55,14 @@ mnemonic_text Go = codes "go"
 mnemonic_text Cross = codes "cross"
 mnemonic_text Stay = codes "stay"
 
--- the register with this name
+-- the register whose name is this word; `None` if there is none
 abbrev pub register_named : List ℕ → Option Register
 register_named word = find (λ register. bytes_eq (register_text register) word) REGISTERS
 
--- the input with this name
+-- the input whose name is this word; `None` if there is none
 abbrev pub input_named : List ℕ → Option Input
 input_named word = find (λ input. bytes_eq (input_text input) word) INPUTS
 
--- the mnemonic with this name
+-- the instruction whose name is this word; `None` if there is none
 abbrev pub mnemonic_named : List ℕ → Option Mnemonic
 mnemonic_named word = find (λ name. bytes_eq (mnemonic_text name) word) MNEMONICS

@@ -35,7 +35,7 @@ kinds_of name.Go = Register ∷ []
 kinds_of name.Cross = []
 kinds_of name.Stay = []
 
--- the smallest and the largest number of an operand kind, if it is one of numbers
+-- the smallest and the largest number of an operand kind; `None` for operands that are not numbers
 abbrev pub range_of : OperandKind → Option (ℕ × ℕ)
 range_of Number = Some (0, MAX_NUMBER)
 range_of Divisor = Some (1, MAX_NUMBER)
@@ -43,12 +43,12 @@ range_of Word = Some (0, WORDS - 1)
 range_of Chance = Some (0, CERTAIN)
 range_of other = None
 
--- digits after `@`, or a label without it
+-- does a word have the form of a jump's target: digits after `@`, or a label if there is no `@`?
 abbrev pub is_target_after : List ℕ → Option (List ℕ) → Bool
 is_target_after word None = is_label word
 is_target_after word (Some digits) = is_numeral digits
 
--- a word has the form of an operand; a number may still be outside its range
+-- does a word have the form of an operand of this kind, even if a number is outside its range?
 abbrev pub has_form : OperandKind → List ℕ → Bool
 has_form Register word = is_some (register_named word)
 has_form Result word = is_some (register_named word)

@@ -15,34 +15,36 @@ use Rattle.trlab_asm.specs.declared.fault.Why.TheVariants.{Operand, Number}
 use Rattle.trlab_bounds.specs.declared.programs.TheConstants.{MAX_NUMBER, MAX_DIGITS}
 use Rattle.trlab_bounds.specs.declared.programs.TheConstants.{LONGEST_LABEL}
 
--- the only word of an operand
+-- the only word of an operand, which is empty if the operand is blank; the fault `Operand` if it has several
+-- words
 abbrev pub word : List ℕ → Result (List ℕ) Why
 word text = ok_or (only_word text) Operand
 
--- a register
+-- the register that an operand names; the fault `Operand` if it names none
 abbrev pub register : List ℕ → Result Register Why
 register text = word text >>= λ name. ok_or (register_named name) Operand
 
--- an input
+-- the input that an operand names; the fault `Operand` if it names none
 abbrev pub input : List ℕ → Result Input Why
 input text = word text >>= λ name. ok_or (input_named name) Operand
 
--- the digits of a word that has the form of a number
+-- the word itself if it consists of digits, otherwise the fault `Operand`
 abbrev pub digits_of : List ℕ → Result (List ℕ) Why
 digits_of text = if is_numeral text then Ok text else Err Operand
 
--- the digits of an operand that has the form of a number
+-- the digits of an operand that is a number of any size; otherwise the fault `Operand`
 abbrev pub numeral : List ℕ → Result (List ℕ) Why
 numeral text = word text >>= digits_of
 
--- the value of at most ten digits, which must be from low to high
+-- the value of at most MAX_DIGITS digits, from low to high; the fault `Number` if there are more digits or
+-- the value is outside
 abbrev pub value_within : ℕ → ℕ → List ℕ → Result ℕ Why
 value_within low high digits =
     if nat_le (length digits) MAX_DIGITS
     && (nat_le low (digits_value 10 digits) && nat_le (digits_value 10 digits) high)
     then Ok (digits_value 10 digits) else Err Number
 
--- a number from low to high
+-- the number of an operand, which must be from low to high
 abbrev pub number : ℕ → ℕ → List ℕ → Result ℕ Why
 number low high text = numeral text >>= value_within low high
 
@@ -51,21 +53,22 @@ pub record Target : Type 0 where
   pub pc : ℕ
   pub label : Option (List ℕ)
 
--- only letters, digits and `_`
+-- are all bytes of the text letters, digits or `_`? true if it is empty
 abbrev pub all_label_bytes : List ℕ → Bool
 all_label_bytes text = list_all (λ c. is_ascii_alphanumeric c || c == 95) text
 
--- 1 to LONGEST_LABEL letters, digits and `_`, and the first is not a digit
+-- is the text a label: 1 to LONGEST_LABEL letters, digits and `_`, the first of them not a digit?
 abbrev pub is_label : List ℕ → Bool
 is_label text =
     (nat_lt 0 (length text) && nat_le (length text) LONGEST_LABEL)
     && (not (is_ascii_digit (slice_index text 0)) && all_label_bytes text)
 
--- a target that is a pc
+-- the target that is this pc, without a label
 abbrev pub at_pc : ℕ → Result Target Why
 at_pc pc = Ok (record { pc = pc; label = None })
 
--- the pc of `@` and digits
+-- the target that `@` and the digits of a pc name; the fault `Operand` for other words, `Number` for a pc out
+-- of range
 abbrev pub pc_named : List ℕ → Result Target Why
 pc_named text = do
   digits ← ok_or (without_prefix (codes "@") text) Operand
@@ -73,16 +76,17 @@ pc_named text = do
   pc ← value_within 0 MAX_NUMBER digits
   at_pc pc
 
--- a target that is a label, or a pc
+-- the target that a word names: a label, or `@` and a pc
 abbrev pub target_named : List ℕ → Result Target Why
 target_named text = if is_label text then Ok (record { pc = 0; label = Some text }) else pc_named text
 
--- a jump's operand
+-- the target that a jump's operand names
 abbrev pub jump_target : List ℕ → Result Target Why
 jump_target text = word text >>= target_named
 
 infixr 15 ◌then◌
--- reads the text before the first comma, and then the text after it
+-- reads the text before the first comma with `first`, and then the text after it with `rest`; the fault
+-- `Operand` if there is no comma
 abbrev pub ◌then◌ : {A B : Type 0} → (List ℕ → Result A Why) → (List ℕ → Result B Why)
     → List ℕ → Result (A × B) Why
 (first then rest) text = do
@@ -93,35 +97,36 @@ abbrev pub ◌then◌ : {A B : Type 0} → (List ℕ → Result A Why) → (List
 
 -- the shapes of operands, besides `register` and `jump_target`
 
--- no operand
+-- no operand: the text is blank, otherwise the fault `Operand`
 abbrev pub no_operand : List ℕ → Result (Unit {0}) Why
 no_operand text = word text >>= λ none. if length none == 0 then Ok tt else Err Operand
 
--- two registers
+-- two registers, separated by a comma
 abbrev pub two_registers : List ℕ → Result (Register × Register) Why
 two_registers = register then register
 
--- three registers
+-- three registers, separated by commas
 abbrev pub three_registers : List ℕ → Result (Register × (Register × Register)) Why
 three_registers = register then two_registers
 
--- a register and an input
+-- a register and an input, separated by a comma
 abbrev pub register_input : List ℕ → Result (Register × Input) Why
 register_input = register then input
 
--- a register and a number that is at least low
+-- a register and a number from low to MAX_NUMBER, separated by a comma
 abbrev pub register_and_number : ℕ → List ℕ → Result (Register × ℕ) Why
 register_and_number low = register then number low MAX_NUMBER
 
--- two registers and a number that is at least low
+-- two registers and a number from low to MAX_NUMBER, separated by commas
 abbrev pub two_registers_number : ℕ → List ℕ → Result (Register × (Register × ℕ)) Why
 two_registers_number low = register then register_and_number low
 
--- the digits of two numbers
+-- the digits of two numbers of any size, separated by a comma
 abbrev pub two_numerals : List ℕ → Result (List ℕ × List ℕ) Why
 two_numerals = numeral then numeral
 
--- the number of a random word, and a chance times 2 ^ 31; both forms are checked before either range
+-- the number of a random word and a chance times 2 ^ 31; both must consist of digits before either range is
+-- checked
 abbrev pub word_chance : List ℕ → Result (ℕ × ℕ) Why
 word_chance text = do
   digits ← two_numerals text
@@ -129,14 +134,14 @@ word_chance text = do
   t ← value_within 0 CERTAIN digits.1
   Ok (k, t)
 
--- a register, the number of a random word, and a chance
+-- a register, the number of a random word and a chance times 2 ^ 31, separated by commas
 abbrev pub register_word_chance : List ℕ → Result (Register × (ℕ × ℕ)) Why
 register_word_chance = register then word_chance
 
--- a register and a target
+-- a register and a jump's target, separated by a comma
 abbrev pub register_target : List ℕ → Result (Register × Target) Why
 register_target = register then jump_target
 
--- two registers and a target
+-- two registers and a jump's target, separated by commas
 abbrev pub two_registers_target : List ℕ → Result (Register × (Register × Target)) Why
 two_registers_target = register then register_target

@@ -7,10 +7,10 @@ use Rattle.trlab_asm.specs.Assembly.{Parts}
 use Rattle.trlab_asm.specs.declared.reading.Labels.{Labels as Map}
 use Rattle.trlab_asm.specs.declared.parts.Parts.{Parts as Lists}
 
--- the pc of each name that a map has as a key
+-- the pc of each name that is a key of the map; `None` for other names
 abbrev pub pcs : Map → Labels
 pcs map name = tree.get_by (λ key. slice_cmp nat_cmp name key.now) map.pcs
 
--- the labels and the instructions that were read
+-- the labels and the instructions that the code keeps of the first pass
 abbrev pub stored_parts : Lists → Parts
 stored_parts lists = record { labels = pcs lists.labels; reads = lists.reads.items }

@@ -5,14 +5,14 @@
 ghost use Rattle.trlab_asm.specs.Laws.{CanonicalTextSaysTheProgram, OneProgramOfAText, TextsSaySomething};
 ghost use Rattle.trlab_asm.specs.Laws.{InputsAreNamed, InstructionsAreNamed, RegistersAreNamed};
 
-/// Each register, input and instruction has one name, and no two have the same name.
+/// A word names a register, an input or an instruction exactly if it is the name that is printed for it.
 pub fn names()
     ensures registers { RegistersAreNamed }
     ensures inputs { InputsAreNamed }
     ensures instructions { InstructionsAreNamed }
 {}
 
-/// Any text has a program or a first fault, which is never `Memory`.
+/// The lines of any text give a valid program of each kind, or a first fault, which is never `Memory`.
 #[tactic(auto, using(crate::proofs::Said::something))]
 pub fn texts_say_something()
     ensures { TextsSaySomething }

@@ -82,7 +82,7 @@ pub const MNEMONICS: [Mnemonic; 22] = [
     Mnemonic::Stay,
 ];
 
-/// `r0` to `r7`.
+/// The name of a register: `r0` to `r7`.
 pub fn register_text(register: Register) -> &'static [u8]
     ensures { result.now ≡ register_text register }
 {
@@ -175,7 +175,7 @@ impl HasText for Mnemonic {
     }
 }
 
-/// The first value in `all` with this name.
+/// The first value in `all` whose name is this word; `None` if there is none.
 fn first_named<X: HasText>(all: &[X], word: &[u8]) -> Option<X>
     ensures { result ≡ find (λ x. bytes_eq (X.said x) word.now) all.now }
 {
@@ -194,7 +194,7 @@ pub(crate) fn input_named(word: &[u8]) -> Option<Input>
     first_named(&INPUTS, word)
 }
 
-/// The instruction with this name.
+/// The instruction whose name is this word; `None` if there is none.
 pub fn mnemonic_named(word: &[u8]) -> Option<Mnemonic>
     ensures { result ≡ mnemonic_named word.now }
 {

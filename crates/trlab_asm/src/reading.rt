@@ -95,7 +95,7 @@ fn read_div(text: &[u8]) -> Result<InstrDraft<'_>, Why>
     Ok(whole_draft(Instr::Div(d, a, n)))
 }
 
-/// `cross`; any other name is `stay`.
+/// The instruction without operands: `cross`, or `stay` for any other name.
 fn read_none(name: Mnemonic, text: &[u8]) -> Result<InstrDraft<'_>, Why>
     ensures { result ≡ no_operand text.now followed λ none. whole_draft (of_none name) }
 {
@@ -106,7 +106,7 @@ fn read_none(name: Mnemonic, text: &[u8]) -> Result<InstrDraft<'_>, Why>
     }))
 }
 
-/// `side`; any other name is `go`.
+/// The instruction of one register: `side`, or `go` for any other name.
 fn read_one(name: Mnemonic, text: &[u8]) -> Result<InstrDraft<'_>, Why>
     ensures { result ≡ register text.now followed λ a. whole_draft (of_one name a) }
 {
@@ -117,7 +117,7 @@ fn read_one(name: Mnemonic, text: &[u8]) -> Result<InstrDraft<'_>, Why>
     }))
 }
 
-/// `copy`; any other name is `not`.
+/// The instruction of two registers: `copy`, or `not` for any other name.
 fn read_two(name: Mnemonic, text: &[u8]) -> Result<InstrDraft<'_>, Why>
     ensures { result ≡ two_registers text.now followed λ x. whole_draft (of_two name x.0 x.1) }
 {
@@ -128,7 +128,7 @@ fn read_two(name: Mnemonic, text: &[u8]) -> Result<InstrDraft<'_>, Why>
     }))
 }
 
-/// `add`, `sub`, `min`, `max` and `and`; any other name is `or`.
+/// The instruction of three registers: `add`, `sub`, `min`, `max` or `and`, or `or` for any other name.
 fn read_three(name: Mnemonic, text: &[u8]) -> Result<InstrDraft<'_>, Why>
     ensures { result ≡ three_registers text.now followed λ x. whole_draft (of_three name x.0 x.1.0 x.1.1) }
 {
@@ -143,7 +143,7 @@ fn read_three(name: Mnemonic, text: &[u8]) -> Result<InstrDraft<'_>, Why>
     }))
 }
 
-/// `jtrue`; any other name is `jfalse`.
+/// The jump with one register and a target: `jtrue`, or `jfalse` for any other name.
 fn read_jump_by_one(name: Mnemonic, text: &[u8]) -> Result<InstrDraft<'_>, Why>
     ensures { result ≡ register_target text.now followed λ x. jump_draft (of_one_target name x.0) x.1 }
 {
@@ -155,7 +155,7 @@ fn read_jump_by_one(name: Mnemonic, text: &[u8]) -> Result<InstrDraft<'_>, Why>
     Ok(jump_draft(instr, to))
 }
 
-/// `jlt`; any other name is `jle`.
+/// The jump with two registers and a target: `jlt`, or `jle` for any other name.
 fn read_jump_by_two(name: Mnemonic, text: &[u8]) -> Result<InstrDraft<'_>, Why>
     ensures { result ≡ two_registers_target text.now followed λ x. jump_draft (of_two_target name x.0 x.1.0) x.1.1 }
 {

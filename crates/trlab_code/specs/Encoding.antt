@@ -10,12 +10,12 @@ use Rattle.trlab_bounds.specs.declared.programs.TheConstants.{MAGIC}
 use Rattle.trlab_code.specs.Program.{Program, IsInRange, IsOfVersion, version_of}
 use Rattle.trlab_code.specs.Machine.{register_number, input_number}
 
--- the byte of a kind
+-- the byte of a program kind: 0 for a motion, 1 for a change
 abbrev pub kind_byte : Kind → ℕ
 kind_byte Motion = 0
 kind_byte Change = 1
 
--- an opcode, three one-byte fields, and a number
+-- the row of an instruction: its opcode, three one-byte fields, and a number
 abbrev pub row : ℕ → ℕ → ℕ → ℕ → ℕ → InstructionRow
 row opcode a b c number = record { opcode = opcode; a = a; b = b; c = c; number = number }
 
@@ -45,19 +45,19 @@ row_of (Go a) = row 0x14 (register_number a) 0 0 0
 row_of Cross = row 0x15 0 0 0 0
 row_of Stay = row 0x16 0 0 0 0
 
--- the two bytes of a count, the lower first
+-- the two bytes of a count below 2 ^ 16, the lower first
 abbrev pub count_bytes : ℕ → List ℕ
 count_bytes n = n % 256 ∷ n / 256 ∷ []
 
--- the four bytes of a number, the lowest first
+-- the four bytes of a number below 2 ^ 32, the lowest first
 abbrev pub number_bytes : ℕ → List ℕ
 number_bytes n = n % 256 ∷ n / 256 % 256 ∷ n / 256 ^ 2 % 256 ∷ n / 256 ^ 3 ∷ []
 
--- the eight bytes of a row
+-- the eight bytes of a row: the opcode, the three fields and the four bytes of the number
 abbrev pub row_bytes : InstructionRow → List ℕ
 row_bytes r = r.opcode ∷ r.a ∷ r.b ∷ r.c ∷ number_bytes r.number
 
--- the eight bytes of an instruction
+-- the eight bytes of an instruction: those of its row
 abbrev pub instr_bytes : Instr → List ℕ
 instr_bytes i = row_bytes (row_of i)
 
@@ -65,15 +65,15 @@ instr_bytes i = row_bytes (row_of i)
 abbrev pub header : ℕ → Kind → ℕ → List ℕ
 header version kind count = MAGIC ++ version ∷ kind_byte kind ∷ count_bytes count
 
--- the encoding of a program
+-- the encoding of a program: its header, and the eight bytes of each instruction in order
 unfoldable pub encoding : Program → List ℕ
 encoding program =
     header (version_of program) program.kind (length program.instrs) ++ flat_map instr_bytes program.instrs
 
--- bytes that spell an instruction of a version with fields in range
+-- the bytes encode the instruction i, whose fields are in range and which this version may have
 abbrev pub Spells : ℕ → Instr → List ℕ → Type 0
 Spells version i bytes = (bytes ≡ instr_bytes i) × IsInRange i × IsOfVersion version i
 
--- an opcode of some instruction
+-- a byte is the opcode of some instruction
 abbrev pub IsOpcode : ℕ → Type 0
 IsOpcode byte = (i : Instr) × (byte ≡ (row_of i).opcode)

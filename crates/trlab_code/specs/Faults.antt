@@ -10,51 +10,51 @@ use Rattle.trlab_bounds.specs.declared.programs.TheConstants.{MAX_INSTRUCTIONS}
 use Rattle.trlab_code.specs.Program.{reads_headspeed}
 use Rattle.trlab_code.specs.Encoding.{kind_byte, instr_bytes, Spells, IsOpcode}
 
--- the version that a header states
+-- the version that a header states: byte 4
 abbrev pub stated_version : List ℕ → ℕ
 stated_version bytes = slice_index bytes 4
 
--- the number of instructions in a header, its lower byte first
+-- the number of instructions that a header states: bytes 6 and 7, the lower first
 abbrev pub stated_count : List ℕ → ℕ
 stated_count bytes = slice_index bytes 6 + 256 * slice_index bytes 7
 
--- the eight bytes of the instruction at pc
+-- the eight bytes of the instruction at pc, after the header; fewer if the bytes end there
 abbrev pub bytes_at : List ℕ → ℕ → List ℕ
 bytes_at bytes pc = take INSTR_BYTES (drop (HEADER_BYTES + INSTR_BYTES * pc) bytes)
 
--- the bytes have room for a header
+-- the bytes are long enough for a header
 abbrev pub HasHeader : List ℕ → Type 0
 HasHeader bytes = HEADER_BYTES ≤ length bytes
 
--- they begin with the four bytes of every program
+-- the bytes begin with MAGIC, the four bytes with which every encoding begins
 abbrev pub HasMagic : List ℕ → Type 0
 HasMagic bytes = take 4 bytes ≡ MAGIC
 
--- then comes one of the two versions
+-- the header states one of the two versions
 abbrev pub HasVersion : List ℕ → Type 0
 HasVersion bytes = (stated_version bytes ≡ PLAIN_VERSION) ⊎ (stated_version bytes ≡ HEADSPEED_VERSION)
 
--- then the byte of a kind
+-- byte 5 is that of a program kind
 abbrev pub HasKind : List ℕ → Type 0
 HasKind bytes = (kind : Kind) × (slice_index bytes 5 ≡ kind_byte kind)
 
--- then a number of instructions that a program may have
+-- the header states 1 to MAX_INSTRUCTIONS instructions
 abbrev pub HasCount : List ℕ → Type 0
 HasCount bytes = (1 ≤ stated_count bytes) × (stated_count bytes ≤ MAX_INSTRUCTIONS)
 
--- the bytes have room for the stated instructions
+-- the bytes are long enough for the header and the stated number of instructions
 abbrev pub HasRoom : List ℕ → Type 0
 HasRoom bytes = HEADER_BYTES + INSTR_BYTES * stated_count bytes ≤ length bytes
 
--- eight bytes with the opcode of an instruction
+-- the first byte of a row is the opcode of some instruction
 abbrev pub HasOpcode : List ℕ → Type 0
 HasOpcode row = IsOpcode (slice_index row 0)
 
--- eight bytes that spell an instruction of a version with fields in range
+-- the bytes of a row encode an instruction with fields in range that this version may have
 abbrev pub SpellsInstr : ℕ → List ℕ → Type 0
 SpellsInstr version row = (i : Instr) × Spells version i row
 
--- a valid header
+-- the bytes begin with a valid header: MAGIC, a version, a kind and a number of instructions
 pub record HasGoodHeader (bytes : List ℕ) : Type 0 where
   pub whole : HasHeader bytes
   pub magic : HasMagic bytes
@@ -62,46 +62,48 @@ pub record HasGoodHeader (bytes : List ℕ) : Type 0 where
   pub kind : HasKind bytes
   pub count : HasCount bytes
 
--- the bytes before the instruction at pc are valid
+-- the header is valid, the stated instructions have room, and those before pc are valid
 pub record IsGoodBefore (bytes : List ℕ) (pc : ℕ) : Type 0 where
   pub header : HasGoodHeader bytes
   pub room : HasRoom bytes
   pub rows : (k : ℕ) → k < pc → SpellsInstr (stated_version bytes) (bytes_at bytes k)
 
--- the bytes end before their header does, or before the instructions that a good header states
+-- the bytes are too short for a header, or have a valid header but are too short for the stated instructions
 abbrev pub EndsEarly : List ℕ → Type 0
 EndsEarly bytes = (¬ (HasHeader bytes)) ⊎ (HasGoodHeader bytes × ¬ (HasRoom bytes))
 
--- the bytes have room for a header and begin as every program does, and `rest` holds
+-- the bytes are long enough for a header and begin with MAGIC, and `rest` holds
 abbrev pub PassesMagic : List ℕ → Type 0 → Type 0
 PassesMagic bytes rest = HasHeader bytes × HasMagic bytes × rest
 
--- the bytes are valid up to the kind, and `rest` holds
+-- the bytes have a header that is valid up to the version and the kind, and `rest` holds
 abbrev pub PassesKind : List ℕ → Type 0 → Type 0
 PassesKind bytes rest = PassesMagic bytes (HasVersion bytes × HasKind bytes × rest)
 
--- pc is that of a stated instruction, the bytes before it are valid, and its own bytes satisfy `IsSo`
+-- pc is below the stated number of instructions, the bytes before the instruction at pc are valid, and its
+-- own bytes satisfy `IsSo`
 abbrev pub ComesToInstr : List ℕ → ℕ → (List ℕ → Type 0) → Type 0
 ComesToInstr bytes pc IsSo = (pc < stated_count bytes) × IsGoodBefore bytes pc × IsSo (bytes_at bytes pc)
 
--- one of the stated instructions reads the speed of the next car ahead
+-- one of the stated instructions reads the headspeed
 abbrev pub HasHeadspeed : List ℕ → Type 0
 HasHeadspeed bytes = (pc : ℕ) × (i : Instr)
     × (pc < stated_count bytes) × (bytes_at bytes pc ≡ instr_bytes i) × IsTrue (reads_headspeed i)
 
--- version 2 is stated only if an instruction needs it
+-- the header states version 2 only if one of the stated instructions needs it to read the headspeed
 abbrev pub NeedsVersion : List ℕ → Type 0
 NeedsVersion bytes = stated_version bytes ≡ HEADSPEED_VERSION → HasHeadspeed bytes
 
--- bytes follow the stated instructions
+-- there are bytes after the last stated instruction
 abbrev pub HasMore : List ℕ → Type 0
 HasMore bytes = HEADER_BYTES + INSTR_BYTES * stated_count bytes < length bytes
 
--- the bytes are valid up to the last stated instruction, and `rest` holds
+-- the header and all stated instructions are valid, and `rest` holds
 abbrev pub PassesInstrs : List ℕ → Type 0 → Type 0
 PassesInstrs bytes rest = IsGoodBefore bytes (stated_count bytes) × rest
 
--- the first fault of bytes with a good header is in the instructions or after them, or allocation failed
+-- the first fault after a valid header: an opcode or a field of the first invalid instruction, a needless
+-- version 2, or bytes after the last instruction; `Memory` is always possible, header faults never
 abbrev pub IsFaultAfterHeader : List ℕ → CodeFault → Type 0
 IsFaultAfterHeader bytes (fault.Opcode pc) = ComesToInstr bytes pc (λ row. ¬ (HasOpcode row))
 IsFaultAfterHeader bytes (fault.Field pc) =
@@ -111,7 +113,8 @@ IsFaultAfterHeader bytes fault.Trailing = PassesInstrs bytes (NeedsVersion bytes
 IsFaultAfterHeader bytes fault.Memory = Unit {0}
 IsFaultAfterHeader bytes _ = ⊥
 
--- the first fault of bytes; memory may run out at any time
+-- the first fault of bytes: that they end early, then MAGIC, the version, the kind, the number of
+-- instructions, and the faults after the header; `Memory` is always possible
 abbrev pub IsFirstFault : List ℕ → CodeFault → Type 0
 IsFirstFault bytes fault.Short = EndsEarly bytes
 IsFirstFault bytes fault.Magic = HasHeader bytes × ¬ (HasMagic bytes)

@@ -7,38 +7,38 @@ use Rattle.trlab_code.specs.declared.instruction.Instr.{Instr}
 use Rattle.trlab_code.specs.declared.fault.CodeFault.{CodeFault}
 use Rattle.trlab_code.specs.declared.fault.CodeFault.TheVariants.{Memory}
 
--- numbers that are bytes
+-- each number in the list is a byte: it is below 2 ^ 8
 abbrev pub AreBytes : List ℕ → Type 0
 AreBytes bytes = All (λ byte. byte < 2 ^ 8) bytes
 
--- an instruction's number or target fits in 32 bits
+-- the number or the target of an instruction, if it has one, is below 2 ^ 32
 abbrev pub HasWord : Instr → Type 0
 HasWord instr = (row_of instr).number < 2 ^ 32
 
--- a program whose numbers and targets fit in 32 bits
+-- a valid program whose numbers and targets are below 2 ^ 32
 pub record IsRepresentable (program : Program) : Type 0 where
   pub is_program : IsProgram program
   pub has_words : All HasWord program.instrs
 
--- the meaning of bytes: the program that they encode, or their first fault
+-- the meaning of bytes: the valid program that they encode, or their first fault, which is not `Memory`
 abbrev pub Says : List ℕ → Result Program CodeFault → Type 0
 Says bytes (Ok program) = (bytes ≡ encoding program) × IsProgram program
 Says bytes (Err fault) = IsFirstFault bytes fault × (fault ≢ Memory)
 
--- any bytes have a meaning
+-- any bytes have a meaning: a program or a first fault
 abbrev pub BytesSaySomething : Type 0
 BytesSaySomething = (bytes : List ℕ) → AreBytes bytes → (said : Result Program CodeFault) × Says bytes said
 
--- no bytes have two meanings
+-- bytes have at most one meaning
 abbrev pub BytesSayOneThing : Type 0
 BytesSayOneThing = (bytes : List ℕ) (said other : Result Program CodeFault)
     → Says bytes said → Says bytes other → said ≡ other
 
--- the bytes that encode a program mean this program, and nothing else
+-- the encoding of a valid program means this program and nothing else
 abbrev pub SpellingSaysTheProgram : Type 0
 SpellingSaysTheProgram = (program : Program) (said : Result Program CodeFault)
     → IsProgram program → Says (encoding program) said ↔ (said ≡ Ok program)
 
--- each representable program can be written down: its encoding consists of bytes
+-- the encoding of a representable program consists of bytes
 abbrev pub SpellingIsBytes : Type 0
 SpellingIsBytes = (program : Program) → IsRepresentable program → AreBytes (encoding program)

@@ -15,14 +15,14 @@ pub fn one_spelling()
     ensures { (first second : Program) → encoding first ≡ encoding second → first ≡ second }
 {}
 
-/// The encoding of a program has no fault, unless allocation fails.
+/// The encoding of a valid program has no fault other than `Memory`.
 #[tactic(auto, using(crate::proofs::EncodedCode::no_fault))]
 pub fn no_fault()
     ensures { (program : Program) (fault : CodeFault) → IsProgram program
         → IsFirstFault (encoding program) fault → fault ≡ CodeFault.Memory }
 {}
 
-/// Bytes have at most one first fault, unless allocation fails.
+/// Bytes have at most one first fault other than `Memory`.
 #[tactic(auto, using(crate::proofs::Apart::one_fault))]
 pub fn one_fault()
     ensures { (bytes : List ℕ) (first second : CodeFault) → IsFirstFault bytes first → IsFirstFault bytes second
@@ -35,13 +35,13 @@ pub fn bytes_say_one_thing()
     ensures one_thing { BytesSayOneThing }
 {}
 
-/// The bytes that encode a program mean this program: decoding its encoding gives the same program.
+/// The encoding of a valid program means this program and nothing else.
 #[tactic(auto, using(crate::proofs::Said::same_again))]
 pub fn spelling_says_the_program()
     ensures { SpellingSaysTheProgram }
 {}
 
-/// The encoding of a program consists of bytes.
+/// The encoding of a program whose numbers and targets are below 2^32 consists of bytes.
 #[tactic(auto, using(crate::proofs::Bytes::spelling_bytes))]
 pub fn spelling_is_bytes()
     ensures { SpellingIsBytes }

@@ -6,11 +6,12 @@ use Rattle.trlab_lines.specs.Cutting.{without_prefix}
 use Rattle.trlab_lines.specs.declared.oddity.Oddity.{Oddity}
 use Rattle.trlab_lines.specs.declared.oddity.Oddity.TheVariants.{ByteOrderMark, CarriageReturn, Empty, Tab, FirstSpace, FinalSpace, Comment}
 
--- a line contains this byte
+-- the line contains this byte
 abbrev pub Contains : List ℕ → ℕ → Type 0
 Contains line byte = IsTrue (list_any (λ c. c == byte) line)
 
--- a line has this oddity
+-- the line has this oddity: a byte order mark, a carriage return, no bytes at all, a tab, a space as its
+-- first or last byte, or a `;` or `#` as in a comment
 abbrev pub Shows : List ℕ → Oddity → Type 0
 Shows line ByteOrderMark = IsTrue (is_some (without_prefix (239 ∷ 187 ∷ 191 ∷ []) line))
 Shows line CarriageReturn = Contains line 13

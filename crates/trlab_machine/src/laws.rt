@@ -38,8 +38,8 @@ pub fn motion_answers()
         (v : ℕ) × (answer ≡ Goes v) × IsAllowed view v }
 {}
 
-/// For every view in range and any sixteen words, an accepted motion program ends within its budget with an allowed
-/// speed.
+/// For every view in range and any sixteen words, an accepted motion program ends within its budget with a speed of at
+/// most the gap and the limit.
 pub fn checked_motions_move()
     ensures { (motion : CheckedProgram) (view : View) (words : List ℕ) →
         IsChecked Motion motion → IsView view → length words ≡ WORDS →

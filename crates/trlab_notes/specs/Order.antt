@@ -5,32 +5,34 @@ use Rattle.trlab_notes.specs.declared.note.AbstractValue.{AbstractValue}
 use Rattle.trlab_notes.specs.declared.note.AbstractValue.TheVariants.{Nothing, Between, Implies}
 use Rattle.trlab_notes.specs.Notes.{Note, said_with_side, known_level}
 
--- one abstract value is no stronger than another: a range contains the other, and a flag implies no more
+-- an abstract value says no more than another: it is `Nothing`, or a range that contains the other range, or
+-- a flag that implies an empty side cell only if the other flag does
 abbrev pub SaysNoMore : AbstractValue → AbstractValue → Type 0
 SaysNoMore Nothing t = Unit {0}
 SaysNoMore (Between lo hi) (Between least most) = (lo ≤ least) × (most ≤ hi)
 SaysNoMore (Implies imp) (Implies other) = IsTrue imp → IsTrue other
 SaysNoMore _ _ = ⊥
 
--- note m is no stronger than note n
+-- note m is no stronger than note n: m knows no more of the values, the order and the side cell
 pub record IsNoStronger (m n : Note) : Type 0 where
   pub said : (x : Variable) → SaysNoMore (said_with_side m x) (said_with_side n x)
   pub order : (x y : Variable) → known_level m x y ≤ known_level n x y
   pub beside : IsTrue m.side → IsTrue n.side
 
--- either both notes are missing, or both are there and the first is no stronger than the second
+-- both notes are missing, or both are there and the first is no stronger than the second
 abbrev pub AreNoStronger : Option Note → Option Note → Type 0
 AreNoStronger None None = Unit {0}
 AreNoStronger (Some m) (Some n) = IsNoStronger m n
 AreNoStronger _ _ = ⊥
 
--- the common knowledge of two abstract values
+-- the common knowledge of two abstract values: the smallest range around two ranges, a flag that implies an
+-- empty side cell only if both flags do, and otherwise `Nothing`
 abbrev pub join_said : AbstractValue → AbstractValue → AbstractValue
 join_said (Between a b) (Between c d) = Between (min a c) (max b d)
 join_said (Implies p) (Implies q) = Implies (p && q)
 join_said _ _ = Nothing
 
--- the join of two notes: their common knowledge of all variables
+-- the join of notes m and n: their common knowledge of the values, the order and the side cell
 unfoldable pub join : Note → Note → Note
 join m n = record {
   said = λ x. join_said (said_with_side m x) (said_with_side n x);

@@ -20,7 +20,8 @@ use Rattle.trlab_notes.specs.declared.reasons.Reason.TheVariants as why
 use Rattle.trlab_notes.specs.Notes.{Note, known_level}
 use Rattle.trlab_notes.specs.Transfer.{register_said, most, register_level}
 
--- the number of a reason that is about the result or the answer of an instruction
+-- the number of a reason that is about the result or the answer of an instruction, 8 to 12; 0 for other
+-- reasons
 abbrev pub range_reason_number : Reason → ℕ
 range_reason_number why.MaybeTooLarge = 8
 range_reason_number why.MaybeBelowZero = 9
@@ -29,7 +30,7 @@ range_reason_number why.MaybeAboveLimit = 11
 range_reason_number why.MaybeOccupied = 12
 range_reason_number _ = 0
 
--- the number of a reason: 1 to 12, in the order in which the reasons are tested
+-- the number of a reason, 1 to 12, in the order in which reasons are tested
 abbrev pub reason_number : Reason → ℕ
 reason_number why.Unreachable = 1
 reason_number why.WrongProgram = 2
@@ -40,11 +41,11 @@ reason_number why.JumpsOut = 6
 reason_number why.FallsOut = 7
 reason_number reason = range_reason_number reason
 
--- an instruction is allowed both in programs of `kind` and in those of `own`, the program's own kind
+-- is the instruction allowed in programs of `kind`, and also in those of `own`, the program's own kind?
 abbrev pub is_of_kind : Kind → Kind → Instr → Bool
 is_of_kind kind own i = allows kind i && allows own i
 
--- the registers that an instruction reads, by the kind of value that each must hold
+-- the registers that an instruction reads, with the kind of value that they must hold
 abbrev pub operands_of : Instr → Operands
 operands_of (Copy d a) = read.Value a
 operands_of (Add d a b) = read.Numbers a b
@@ -63,84 +64,86 @@ operands_of (JumpFalse a t) = read.Flag a
 operands_of (Go a) = read.Number a
 operands_of _ = read.Nothing
 
--- the registers that must hold numbers
+-- the registers among the operands that must hold numbers
 abbrev pub numbers_of : Operands → List Register
 numbers_of (read.Number a) = a ∷ []
 numbers_of (read.Numbers a b) = a ∷ b ∷ []
 numbers_of _ = []
 
--- the registers that must hold flags
+-- the registers among the operands that must hold flags
 abbrev pub flags_of : Operands → List Register
 flags_of (read.Flag a) = a ∷ []
 flags_of (read.Flags a b) = a ∷ b ∷ []
 flags_of _ = []
 
--- the registers that may hold a number or a flag
+-- the registers among the operands that may hold either a number or a flag
 abbrev pub values_of : Operands → List Register
 values_of (read.Value a) = a ∷ []
 values_of _ = []
 
--- nothing is known: the variable may be unset
+-- is nothing known of the value, so that it may be unset?
 abbrev pub is_nothing : AbstractValue → Bool
 is_nothing Nothing = true
 is_nothing _ = false
 
--- a number from a range
+-- is the value known to be a number in a range?
 abbrev pub is_range : AbstractValue → Bool
 is_range (Between lo hi) = true
 is_range _ = false
 
--- a flag
+-- is the value known to be a flag?
 abbrev pub is_flag : AbstractValue → Bool
 is_flag (Implies imp) = true
 is_flag _ = false
 
--- the abstract value of one of the registers passes a test
+-- does some of the registers have an abstract value in note m that passes a test?
 abbrev pub among : (AbstractValue → Bool) → Note → List Register → Bool
 among test m registers = list_any (λ a. test (register_said m a)) registers
 
--- an operand may be unset
+-- may an operand of instruction i be unset, by the note m before it?
 abbrev pub some_unset : Note → Instr → Bool
 some_unset m i =
     among is_nothing m (numbers_of (operands_of i))
     || (among is_nothing m (flags_of (operands_of i)) || among is_nothing m (values_of (operands_of i)))
 
--- an operand is a flag instead of a number, or a number instead of a flag
+-- is an operand of instruction i a flag instead of a number, or a number instead of a flag, by the note m
+-- before it?
 abbrev pub some_of_other_kind : Note → Instr → Bool
 some_of_other_kind m i =
     among is_flag m (numbers_of (operands_of i)) || among is_range m (flags_of (operands_of i))
 
--- whether an instruction may go on past the last of len instructions
+-- may the instruction at pc continue with the next one although it is the last of len instructions?
 abbrev pub falls_out : ℕ → ℕ → Instr → Bool
 falls_out len pc i = falls i && nat_le len (suc pc)
 
--- a sum or a product that may be too large for a register
+-- may a sum or a product be above MAX_NUMBER, by the note m? false for other instructions
 abbrev pub may_be_too_large : Note → Instr → Bool
 may_be_too_large m (Add d a b) = nat_lt MAX_NUMBER (most m a + most m b)
 may_be_too_large m (Mul d a n) = nat_lt MAX_NUMBER (most m a * n)
 may_be_too_large m _ = false
 
--- a difference that may be below zero
+-- may a difference be below zero, by the note m? false for other instructions
 abbrev pub may_be_below_zero : Note → Instr → Bool
 may_be_below_zero m (Sub d a b) = nat_eq (register_level m b a) 0
 may_be_below_zero m _ = false
 
--- a `go` whose speed is not known to be at most an input
+-- may the speed of `go` be above input k, by the note m? false for other instructions
 abbrev pub may_be_above : Input → Note → Instr → Bool
 may_be_above k m (Go a) = nat_eq (known_level m (variable.Register a) (variable.Input k)) 0
 may_be_above k m _ = false
 
--- a `cross` although the side cell is not known to be empty
+-- may the side cell of `cross` be occupied, by the note m? false for other instructions
 abbrev pub may_be_occupied : Note → Instr → Bool
 may_be_occupied m Cross = not m.side
 may_be_occupied m _ = false
 
--- a reason, and whether it holds
+-- a reason to reject an instruction, and whether it holds
 pub record JudgedReason : Type 0 where
   pub reason : Reason
   pub holds : Bool
 
--- reasons 2 to 7: the form, the operands and the jump of the instruction at pc, one of len
+-- the reasons 2 to 7 against instruction i at pc, one of len instructions, and whether each holds: its kind,
+-- its operands, its jump, and control that goes on past the end of the program
 abbrev pub form_checks : Kind → Kind → ℕ → ℕ → Note → Instr → List JudgedReason
 form_checks kind own len pc m i =
     record { reason = why.WrongProgram; holds = not (is_of_kind kind own i) }
@@ -151,7 +154,8 @@ form_checks kind own len pc m i =
     ∷ record { reason = why.FallsOut; holds = falls_out len pc i }
     ∷ []
 
--- reasons 8 to 12: the result or the answer of the instruction
+-- the reasons 8 to 12 against instruction i, and whether each holds: its result or its answer may be out of
+-- range, by the note m
 abbrev pub range_checks : Note → Instr → List JudgedReason
 range_checks m i =
     record { reason = why.MaybeTooLarge; holds = may_be_too_large m i }
@@ -161,11 +165,12 @@ range_checks m i =
     ∷ record { reason = why.MaybeOccupied; holds = may_be_occupied m i }
     ∷ []
 
--- the first reason that holds, if one does
+-- the first reason that holds; `None` if none does
 abbrev pub first_reason : List JudgedReason → Option Reason
 first_reason [] = None
 first_reason (check ∷ checks) = if check.holds then Some check.reason else first_reason checks
 
--- the first of the reasons 2 to 12 to reject the instruction, if one holds
+-- the first of the reasons 2 to 12 that holds against instruction i at pc, one of len instructions, by the
+-- note m; `None` if none holds
 abbrev pub reason_against : Kind → Kind → ℕ → ℕ → Note → Instr → Option Reason
 reason_against kind own len pc m i = first_reason (form_checks kind own len pc m i ++ range_checks m i)

@@ -13,11 +13,11 @@ note_of stored = record {
   side = stored.side;
 }
 
--- the note that is stored, if there is one
+-- the note that is stored, or `None` if there is none
 abbrev pub maybe_note : Option Stored → Option Note
 maybe_note None = None
 maybe_note (Some stored) = Some (note_of stored)
 
--- the stored note of the instruction at q, if there is one
+-- the stored note of the instruction at q; `None` if it has none
 abbrev pub notes_of : List (Option Stored) → ℕ → Option Note
 notes_of notes q = maybe_note (slice_index_or notes q None)

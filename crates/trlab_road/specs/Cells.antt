@@ -2,52 +2,52 @@
 use Rattle.std.specs.Prelude.{◌≡◌, ℕ, is_some, Option, Some, None, List, [], slice_index_or, count_by, sum_by, take}
 use Rattle.trlab_road.specs.declared.car.Car.{Car}
 
--- a cell is empty, or holds a car: its number and its speed
+-- a cell: `None` if it is empty, otherwise the number and the speed of its car
 abbrev pub Cell : Type 0
 Cell = Option (ℕ × ℕ)
 
--- a lane is the list of its cells; the cell after the last is the first
+-- a lane: the list of its cells, numbered from 0; it is a ring, so cell 0 follows the last cell
 abbrev pub Lane : Type 0
 Lane = List Cell
 
--- a road: its speed limit and its lanes
+-- a road: its speed limit, in cells per step, and its lanes, numbered from 0
 pub record Cells : Type 0 where
   pub limit : ℕ
   pub lanes : List Lane
 
--- the cell of a lane at a place
+-- the cell of a lane at place x; empty if x is past the end of the lane
 abbrev pub at : Lane → ℕ → Cell
 at lane x = slice_index_or lane x None
 
--- a lane of the road
+-- lane l of a road; a lane without cells if the road has no lane l
 abbrev pub lane_of : Cells → ℕ → Lane
 lane_of road l = slice_index_or road.lanes l []
 
--- the cell of the road at a lane and a place
+-- the cell of a road on lane l at place x; empty if there is no such lane or place
 abbrev pub cell : Cells → ℕ → ℕ → Cell
 cell road l x = at (lane_of road l) x
 
--- the number of cars of a lane
+-- the number of cars on a lane
 abbrev pub lane_cars : Lane → ℕ
 lane_cars lane = count_by is_some lane
 
--- the number of cars of a lane before a place
+-- the number of cars on a lane at places smaller than x
 abbrev pub cars_before : Lane → ℕ → ℕ
 cars_before lane x = lane_cars (take x lane)
 
--- the number of cars of the road
+-- the number of cars on a road, all lanes together
 abbrev pub cars : Cells → ℕ
 cars road = sum_by lane_cars road.lanes
 
--- the cell at a car's lane and place holds a car with its number and its speed
+-- a car is on a road: the cell at its lane and place holds its number and its speed
 abbrev pub IsAt : Cells → Car → Type 0
 IsAt road car = cell road car.lane car.place ≡ Some (car.number, car.speed)
 
--- some car of the road has this number
+-- some car on the road has this number
 abbrev pub HasNumber : Cells → ℕ → Type 0
 HasNumber road number = (car : Car) × (IsAt road car × (car.number ≡ number))
 
--- two functions of lane and place give the same answer for each car of the road
+-- `answer` and `other`, functions of a lane and a place, have the same value at each car of the road
 abbrev pub AgreeAtCars : {X : Type 0} → (ℕ → ℕ → X) → (ℕ → ℕ → X) → Cells → Type 0
 AgreeAtCars answer other road =
     (car : Car) → IsAt road car → answer car.lane car.place ≡ other car.lane car.place

@@ -3,11 +3,12 @@ use Rattle.std.specs.Prelude.{◌≡◌, ℕ, ◌+◌, ◌<◌, ◌≤◌, List,
 use Rattle.trlab_road.specs.LaneCars.{LaneCar}
 use Rattle.trlab_road.specs.Stored.{no_car}
 
--- a car after it has moved a number of cells ahead
+-- a car after it has moved `speed` cells ahead, its new speed, without passing the end of the lane
 abbrev pub gone_on : LaneCar → ℕ → LaneCar
 gone_on car speed = record { number = car.number; place = car.place + speed; speed = speed }
 
--- the cars before an index have moved by the speeds listed from another index on, and the others have not
+-- the cars `new` are the cars `old` after the first k of them have moved on, car j by the speed at index
+-- `from` + j
 pub record HaveGoneOn (speeds : List ℕ) (from : ℕ) (old new : List LaneCar) (k : ℕ) : Type 0 where
   pub same_count : length new ≡ length old
   pub gone : (j : ℕ) → j < k

@@ -8,12 +8,12 @@ use Rattle.trlab_road.specs.Motion.{IsOnLane, gaps}
 use Rattle.trlab_road.specs.Standing.{IsStanding, standing_from}
 use Rattle.trlab_road.specs.Stored.{car_on, no_car}
 
--- the line of a lane: all its cars, by rising place
+-- the line of a lane: `line` lists all its cars by rising place
 abbrev pub IsLineOf : Cells → ℕ → List LaneCar → Type 0
 IsLineOf road lane line = map (car_on lane) line ≡ standing_from lane 0 (lane_of road lane)
 
--- the line from the k-th car in standing order on to the last car of its lane: its cars are the next ones in
--- standing order, and they end with the last car of the lanes up to this one
+-- a line is not empty, begins with the k-th car in standing order, goes on in standing order, and ends with
+-- the last car of that car's lane
 pub record IsLineFrom (road : Cells) (k : ℕ) (line : List LaneCar) : Type 0 where
   pub lane : ℕ
   pub some : 0 < length line
@@ -21,8 +21,8 @@ pub record IsLineFrom (road : Cells) (k : ℕ) (line : List LaneCar) : Type 0 wh
       → IsStanding road (k + j) (car_on lane (slice_index_or line j no_car))
   pub whole : k + length line ≡ sum_by lane_cars (take (lane + 1) road.lanes)
 
--- the k-th car in standing order and the next car ahead of it, which is at a later place, so the gap does not
--- pass the end of the lane
+-- `car` is the k-th in standing order, and `next` is the next car ahead, at a later place of the same lane,
+-- so the gap between them does not pass the end of the lane
 pub record IsFollowed (road : Cells) (k : ℕ) (car next : LaneCar) : Type 0 where
   pub lane : ℕ
   pub standing : IsStanding road k (car_on lane car)

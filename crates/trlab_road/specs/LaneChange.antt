@@ -1,6 +1,6 @@
--- The lane change, the first phase of a step on two lanes (Rickert, Nagel, Schreckenberg and Latour 1996): all
--- cars that change lanes do so at once. Answers are functions of a lane and a place: does the car there change
--- lanes?
+-- The lane change, the first phase of a step on two lanes (Rickert, Nagel, Schreckenberg and Latour 1996):
+-- all cars that change lanes do so at once. Answers are functions of a lane and a place: does the car there
+-- change lanes?
 use Rattle.std.specs.Prelude.{◌≡◌, ℕ, ◌-◌, ◌<◌, Bool, true, false, cond, Some, None, List, length, map, slice_index_or}
 use Rattle.std.specs.List.{range_with_len}
 use Rattle.std.specs.Option.{option_or}
@@ -10,22 +10,25 @@ use Rattle.trlab_road.specs.Gaps.{side}
 use Rattle.trlab_road.specs.Motion.{in_order}
 use Rattle.trlab_road.specs.Standing.{IsStanding, rank}
 
--- the other of two lanes
+-- the other of the lanes 0 and 1
 abbrev pub other_lane : ℕ → ℕ
 other_lane l = 1 - l
 
--- a cell after the lane change: its own car if that stays, else the car of the side cell if that crosses
+-- the cell `own` after the lane change: its own car if that stays, otherwise the car of the side cell
+-- `beside` if that crosses, otherwise empty
 abbrev pub cell_after_change : Bool → Bool → Cell → Cell → Cell
 cell_after_change own_crosses beside_crosses own beside =
     option_or (cond own_crosses None own) (cond beside_crosses beside None)
 
--- the lane change of one of two lanes
+-- lane `new` is lane `own` after the lane change: its car at place x leaves if `own_crosses x`, and the car
+-- at place x of lane `beside` arrives if `beside_crosses x`, unless a car stays there
 pub record LaneCrosses (own_crosses beside_crosses : ℕ → Bool) (own beside new : Lane) : Type 0 where
   pub same_length : length new ≡ length own
   pub each_cell : (x : ℕ) → x < length own
       → at new x ≡ cell_after_change (own_crosses x) (beside_crosses x) (at own x) (at beside x)
 
--- the lane change of a road
+-- road `new` is road `old` after the lane change, in which the car on lane l at place x crosses if `crosses l
+-- x`
 pub record Crosses (crosses : ℕ → ℕ → Bool) (old new : Cells) : Type 0 where
   pub same_limit : new.limit ≡ old.limit
   pub same_lanes : length new.lanes ≡ length old.lanes
@@ -33,26 +36,26 @@ pub record Crosses (crosses : ℕ → ℕ → Bool) (old new : Cells) : Type 0 w
       → LaneCrosses (crosses l) (crosses (other_lane l))
       (lane_of old l) (lane_of old (other_lane l)) (lane_of new l)
 
--- a lane after the lane change, cell by cell
+-- lane l of a road after the lane change, cell by cell, from the cells of both lanes
 abbrev pub lane_after_change : (ℕ → ℕ → Bool) → Cells → ℕ → Lane
 lane_after_change crosses road l =
     let m = other_lane l in
     let places = range_with_len 0 (length (lane_of road l)) in
     map (λ x. cell_after_change (crosses l x) (crosses m x) (cell road l x) (cell road m x)) places
 
--- the road after the lane change, lane by lane
+-- a road after the lane change, lane by lane, with the same limit
 abbrev pub road_after_change : (ℕ → ℕ → Bool) → Cells → Cells
 road_after_change crosses road =
     let lanes = range_with_len 0 (length road.lanes) in
     record { limit = road.limit; lanes = map (lane_after_change crosses road) lanes }
 
--- two lanes, and a car crosses only if its side cell is empty
+-- the road has two lanes, and a car crosses only if its side cell is empty
 pub record CrossesFree (crosses : ℕ → ℕ → Bool) (road : Cells) : Type 0 where
   pub two_lanes : length road.lanes ≡ 2
   pub side_empty : (car : Car) → IsAt road car → crosses car.lane car.place ≡ true
       → cell road (other_lane car.lane) car.place ≡ None
 
--- a car at the same place on the other lane
+-- a car after it has crossed: at the same place on the other lane, with the same number and speed
 abbrev pub car_beside : Car → Car
 car_beside car = record {
   number = car.number;
@@ -61,38 +64,43 @@ car_beside car = record {
   speed = car.speed;
 }
 
--- a car stayed in its cell, or crossed to its side cell, which was empty; it keeps its speed
+-- a car of road `old` is still in its cell on road `new`, or has crossed to its side cell, which was empty;
+-- its number and its speed are unchanged
 pub data StaysOrCrosses (old new : Cells) (car : Car) : Type 0 where
   on_own_lane : IsAt new car → StaysOrCrosses old new car
   on_other_lane : cell old (other_lane car.lane) car.place ≡ None → IsAt new (car_beside car)
       → StaysOrCrosses old new car
 
--- as many cars as before; each stayed or crossed to an empty cell, and no cell holds another car
+-- the lane change from `old` to `new` loses and adds no car: each stays or crosses to an empty side cell, and
+-- each car of `new` was at the same place of some lane, with the same number and speed
 pub record CleanLaneChange (old new : Cells) : Type 0 where
   pub same_count : cars new ≡ cars old
   pub none_lost : (car : Car) → IsAt old car → StaysOrCrosses old new car
   pub none_made : (car : Car) → IsAt new car
       → (l : ℕ) × (cell old l car.place ≡ Some (car.number, car.speed))
 
--- the value of a function of a lane and a place at the side cell of the k-th car in standing order
+-- `value` is the value of `look` on the other lane at the place of the k-th car in standing order
 abbrev pub IsBeside : {X : Type 0} → (Lane → ℕ → X) → Cells → ℕ → X → Type 0
 IsBeside look road k value = (car : Car) → IsStanding road k car
     → value ≡ look (lane_of road (other_lane car.lane)) car.place
 
--- a gap on the other lane, seen from the k-th car in standing order; it is below the lane length
+-- `gap` is the value of `look` on the other lane at the place of the k-th car in standing order, and it is
+-- below the lane length
 pub record IsGapBeside (look : Lane → ℕ → ℕ) (road : Cells) (k gap : ℕ) : Type 0 where
   pub of_car : IsBeside look road k gap
   pub below : gap < length (lane_of road 0)
 
--- in standing order: is the side cell of each car empty?
+-- for each car of a road, in standing order: is its side cell empty?
 abbrev pub sides : Cells → List Bool
 sides road = in_order (λ l x. side (lane_of road (other_lane l)) x) road
 
--- does the car at a lane and a place cross, if answers are listed in standing order?
+-- does the car on lane l at place x cross, if answers are listed in standing order? false if the list is too
+-- short
 abbrev pub crosses_at : Cells → List Bool → ℕ → ℕ → Bool
 crosses_at road answers l x = slice_index_or answers (rank road l x) false
 
--- two lanes and one answer per car; a car crosses only if its side cell is empty
+-- the road has two lanes, `answers` has one answer per car in standing order, and a car crosses only if its
+-- side cell is empty
 pub record MayCross (road : Cells) (answers : List Bool) : Type 0 where
   pub two_lanes : length road.lanes ≡ 2
   pub one_each : length answers ≡ cars road

@@ -4,30 +4,30 @@ use Rattle.trlab_bounds.specs.declared.roads.TheConstants.{MAX_LIMIT, MAX_LENGTH
 use Rattle.trlab_road.specs.declared.car.Car.{Car}
 use Rattle.trlab_road.specs.Cells.{Cells, IsAt, lane_of, cars}
 
--- a number of lanes that a road may have
+-- a number of lanes that a road may have: 1 to MAX_LANES
 pub record LanesFit (lanes : ℕ) : Type 0 where
   pub some_lane : 1 ≤ lanes
   pub few_lanes : lanes ≤ MAX_LANES
 
--- a number of cells that a lane may have
+-- a number of cells that a lane may have: 1 to MAX_LENGTH
 pub record LengthFits (cells : ℕ) : Type 0 where
   pub some_cell : 1 ≤ cells
   pub few_cells : cells ≤ MAX_LENGTH
 
--- a limit that a road may have
+-- a limit that a road may have: 1 to MAX_LIMIT
 pub record LimitFits (limit : ℕ) : Type 0 where
   pub some_limit : 1 ≤ limit
   pub low_limit : limit ≤ MAX_LIMIT
 
--- lanes of one length; the number of lanes, their length and the limit are in range
+-- all lanes of a road have the same length, and the number of lanes, their length and the limit are in range
 pub record HasShape (road : Cells) : Type 0 where
   pub lanes : LanesFit (length road.lanes)
   pub cells : LengthFits (length (lane_of road 0))
   pub equal : (l : ℕ) → l < length road.lanes → length (lane_of road l) ≡ length (lane_of road 0)
   pub limit : LimitFits road.limit
 
--- a legal road: no car is faster than the limit, and the car numbers are below the number of cars, and each
--- is in one cell only
+-- a legal road: lanes and limit are in range, no car is faster than the limit, each car number is below the
+-- number of cars, and no two cars have the same number
 pub record IsLegal (road : Cells) : Type 0 where
   pub shape : HasShape road
   pub within_limit : (car : Car) → IsAt road car → car.speed ≤ road.limit

@@ -6,13 +6,15 @@ use Rattle.trlab_road.specs.Cells.{Lane, Cells, IsAt, at, lane_of, cars, lane_ca
 use Rattle.trlab_road.specs.Gaps.{ahead, gap}
 use Rattle.trlab_road.specs.Standing.{IsStanding, standing}
 
--- the car of a lane that is at y after the motion was at x before it
+-- the car with this number and speed, at y after the motion of lane `old`, was at x with the speed `before`
+-- and has moved `answer x` cells, its new speed
 pub record ComesFrom (answer : ℕ → ℕ) (old : Lane) (y number speed x before : ℕ) : Type 0 where
   pub was : at old x ≡ Some (number, before)
   pub reaches : y ≡ ahead (length old) x (answer x)
   pub at_speed : speed ≡ answer x
 
--- the motion of one lane: each car moves by its answer, which is its new speed, and no cell holds another car
+-- lane `new` is lane `old` after the motion: the car at x has moved `answer x` cells ahead, its new speed,
+-- and no other cell holds a car
 pub record LaneMoves (answer : ℕ → ℕ) (old new : Lane) : Type 0 where
   pub same_length : length new ≡ length old
   pub arrives : (x number speed : ℕ)
@@ -22,33 +24,35 @@ pub record LaneMoves (answer : ℕ → ℕ) (old new : Lane) : Type 0 where
       → at new y ≡ Some (number, speed)
       → (x : ℕ) × ((before : ℕ) × ComesFrom answer old y number speed x before)
 
--- the motion of a road
+-- road `new` is road `old` after the motion: the car on lane l at place x has moved `answer l x` cells ahead
 pub record Moves (answer : ℕ → ℕ → ℕ) (old new : Cells) : Type 0 where
   pub same_limit : new.limit ≡ old.limit
   pub same_lanes : length new.lanes ≡ length old.lanes
   pub each_lane : (l : ℕ) → l < length old.lanes
       → LaneMoves (answer l) (lane_of old l) (lane_of new l)
 
--- each car's answer is at most the gap ahead of it
+-- the answer of each car on a lane is at most the gap ahead of it
 pub record LaneFits (answer : ℕ → ℕ) (lane : Lane) : Type 0 where
   pub gaps : (x number speed : ℕ)
       → at lane x ≡ Some (number, speed) → answer x ≤ gap lane x
 
--- each car's answer is at most the gap ahead of it and the limit
+-- the answer of each car on a road is at most the gap ahead of it, and at most the limit
 pub record Fits (answer : ℕ → ℕ → ℕ) (road : Cells) : Type 0 where
   pub each_lane : (l : ℕ) → l < length road.lanes → LaneFits (answer l) (lane_of road l)
   pub within_limit : (car : Car) → IsAt road car → answer car.lane car.place ≤ road.limit
 
--- the g cells ahead of x are empty
+-- the g cells ahead of place x on a lane are empty
 pub record IsClearAhead (lane : Lane) (x g : ℕ) : Type 0 where
   pub clear : (j : ℕ) → 1 ≤ j → j ≤ g → at lane (ahead (length lane) x j) ≡ None
 
--- the car at x has moved ahead over empty cells, by its new speed
+-- the car that was at place x of lane `old` is `speed` cells ahead on lane `new`, with this number and speed,
+-- and the cells on its way were empty
 pub record GoesAhead (old new : Lane) (x number speed : ℕ) : Type 0 where
   pub stands : at new (ahead (length old) x speed) ≡ Some (number, speed)
   pub over_empty : IsClearAhead old x speed
 
--- a lane has the same cars as before: each has moved over empty cells, and no car was added
+-- the motion of a lane from `old` to `new` is clean: no car is lost or added, and each has moved ahead over
+-- empty cells by its new speed
 pub record CleanLaneMotion (old new : Lane) : Type 0 where
   pub same_count : lane_cars new ≡ lane_cars old
   pub none_lost : (x number before : ℕ)
@@ -57,25 +61,26 @@ pub record CleanLaneMotion (old new : Lane) : Type 0 where
       → at new y ≡ Some (number, speed)
       → (x : ℕ) × ((before : ℕ) × (at old x ≡ Some (number, before)))
 
--- no lane lost or made a car, and no car went onto or through another
+-- the motion of a road from `old` to `new` is clean: on each lane no car is lost or added, and each has moved
+-- ahead over empty cells
 pub record CleanMotion (old new : Cells) : Type 0 where
   pub same_lanes : length new.lanes ≡ length old.lanes
   pub each_lane : (l : ℕ) → l < length old.lanes → CleanLaneMotion (lane_of old l) (lane_of new l)
 
--- the values of a function of lane and place at the cars, in standing order
+-- the values of f, a function of a lane and a place, at the cars of a road in standing order
 abbrev pub in_order : {X : Type 0} → (ℕ → ℕ → X) → Cells → List X
 in_order f road = map (λ (car : Car). f car.lane car.place) (standing road)
 
--- the value of a function of a lane and a place at the k-th car in standing order
+-- `value` is the value of `look` on its own lane at the place of the k-th car in standing order
 abbrev pub IsOnLane : {X : Type 0} → (Lane → ℕ → X) → Cells → ℕ → X → Type 0
 IsOnLane look road k value = (car : Car) → IsStanding road k car
     → value ≡ look (lane_of road car.lane) car.place
 
--- the gaps in standing order
+-- the gap ahead of each car of a road, in standing order
 abbrev pub gaps : Cells → List ℕ
 gaps road = in_order (λ l x. gap (lane_of road l) x) road
 
--- one answer for each car, at most its gap and the limit
+-- `answers` has one answer per car in standing order, at most its gap and the limit
 pub record MayMove (road : Cells) (answers : List ℕ) : Type 0 where
   pub one_each : length answers ≡ cars road
   pub within_gaps : (k : ℕ) → k < cars road → slice_index answers k ≤ slice_index (gaps road) k

@@ -14,70 +14,71 @@ use Rattle.trlab_road.specs.Standing.{standing}
 abbrev pub point : ℕ
 point = 46
 
--- the character of a speed: its digit, and from 10 on a letter, beginning with a
+-- the character of a speed: a digit up to 9, then a small letter, `a` for 10
 abbrev pub speed_character : ℕ → ℕ
 speed_character speed = cond (nat_lt speed 10) (48 + speed) (97 + (speed - 10))
 
--- the character of a cell
+-- the character of a cell: a point if it is empty, otherwise the character of its car's speed
 abbrev pub character : Cell → ℕ
 character None = point
 character (Some car) = speed_character car.1
 
--- the picture of a lane
+-- the picture of a lane: the character of each cell
 abbrev pub picture : Lane → List ℕ
 picture lane = map character lane
 
--- the cars of a road are numbered in standing order
+-- the cars of a road are numbered 0, 1, 2 and so on in standing order
 pub record AreNumberedInOrder (road : Cells) : Type 0 where
   pub numbers : map (λ (car : Car). car.number) (standing road) ≡ range_with_len 0 (cars road)
 
--- the road that pictures show: their cells, and cars numbered in standing order
+-- a limit and pictures show a road: it has this limit, its lanes have these pictures, and its cars are
+-- numbered in standing order
 pub record Shows (limit : ℕ) (pictures : List (List ℕ)) (road : Cells) : Type 0 where
   pub same_limit : road.limit ≡ limit
   pub drawn : map picture road.lanes ≡ pictures
   pub numbered : AreNumberedInOrder road
 
--- the pictures behind references
+-- the pictures to which the references refer
 abbrev pub pictures_of : List (Bor (List ℕ)) → List (List ℕ)
 pictures_of references = map (λ picture. picture.now) references
 
--- the picture of lane l
+-- the picture of lane l; empty if there is no picture l
 abbrev pub picture_at : List (List ℕ) → ℕ → List ℕ
 picture_at pictures l = slice_index_or pictures l []
 
--- the character of lane l at place x
+-- the character at place x in the picture of lane l
 abbrev pub character_at : List (List ℕ) → ℕ → ℕ → ℕ
 character_at pictures l x = slice_index (picture_at pictures l) x
 
--- pictures of one length, 1 to 100,000 cells
+-- all pictures have the length of the first, 1 to MAX_LENGTH cells
 pub record HaveEqualLengths (pictures : List (List ℕ)) : Type 0 where
   pub cells : LengthFits (length (picture_at pictures 0))
   pub equal : (l : ℕ) → l < length pictures
       → length (picture_at pictures l) ≡ length (picture_at pictures 0)
 
--- the number of pictures, their common length and the limit are in range
+-- the limit, the number of pictures and their common length are in range
 pub record HaveShape (limit : ℕ) (pictures : List (List ℕ)) : Type 0 where
   pub lanes : LanesFit (length pictures)
   pub lengths : HaveEqualLengths pictures
   pub limit_fits : LimitFits limit
 
--- a character shows a speed of at most some number
+-- a character shows a speed of at most `most`
 pub record ShowsSpeed (most character : ℕ) : Type 0 where
   pub speed : ℕ
   pub within : speed ≤ most
   pub shown : character ≡ speed_character speed
 
--- a character shows a cell: it is a point, or that of a speed within the limit
+-- a character shows a cell: it is a point, or the character of a speed of at most the limit
 abbrev pub ShowsCell : ℕ → ℕ → Type 0
 ShowsCell limit character = (character ≡ point) ⊎ ShowsSpeed limit character
 
--- pictures of a legal road
+-- the limit, the number of pictures and their common length are in range, and each character shows a cell
 pub record AreGoodPictures (limit : ℕ) (pictures : List (List ℕ)) : Type 0 where
   pub shape : HaveShape limit pictures
   pub cells : (l x : ℕ) → l < length pictures → x < length (picture_at pictures l)
       → ShowsCell limit (character_at pictures l x)
 
--- the first character that shows no cell, lane by lane and from left to right
+-- the character of lane l at place x is the first that shows no cell, lane by lane and from left to right
 pub record IsFirstBad (limit : ℕ) (pictures : List (List ℕ)) (l x : ℕ) : Type 0 where
   pub on_lane : l < length pictures
   pub inside : x < length (picture_at pictures l)
@@ -86,16 +87,17 @@ pub record IsFirstBad (limit : ℕ) (pictures : List (List ℕ)) (l x : ℕ) : T
       → ShowsCell limit (character_at pictures m y)
   pub earlier_places : (y : ℕ) → y < x → ShowsCell limit (character_at pictures l y)
 
--- the first invalid character is that of lane l at place x; the limit and the number and lengths of lanes are
--- valid
+-- the limit and the number and length of the pictures are in range, and the first character that shows no
+-- cell is that of lane l at place x
 abbrev pub IsFaultAt : ℕ → List (List ℕ) → ℕ → ℕ → Type 0
 IsFaultAt limit pictures l x = HaveShape limit pictures × IsFirstBad limit pictures l x
 
--- the character of lane l at place x shows some speed, within a limit or not
+-- the character of lane l at place x shows a speed of at most MAX_LIMIT, which may be above the road's limit
 abbrev pub ShowsAnySpeed : List (List ℕ) → ℕ → ℕ → Type 0
 ShowsAnySpeed pictures l x = ShowsSpeed MAX_LIMIT (character_at pictures l x)
 
--- the first fault of a limit and pictures, in the order of the faults; allocation may always fail
+-- the first fault of a limit and pictures: first of the number of pictures, then of their lengths, the limit
+-- and the characters; `Memory` is always possible, `TooManyCars` never
 abbrev pub IsFirstFault : ℕ → List (List ℕ) → RoadFault → Type 0
 IsFirstFault limit pictures Lanes = ¬ (LanesFit (length pictures))
 IsFirstFault limit pictures Length = LanesFit (length pictures) × ¬ (HaveEqualLengths pictures)

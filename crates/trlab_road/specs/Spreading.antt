@@ -5,26 +5,27 @@ use Rattle.trlab_road.specs.declared.fault.RoadFault.TheVariants.{Lanes, Length,
 use Rattle.trlab_road.specs.Cells.{Lane, Cells, at, lane_of}
 use Rattle.trlab_road.specs.Legal.{LanesFit, LengthFits, LimitFits}
 
--- the flat cell of car i, one of n cars on lanes of `cells` cells each; flat cells count across the lanes,
--- place by place
+-- the flat cell of car i, one of n cars spread over `lanes` lanes of `cells` cells; flat cells are counted
+-- place by place, at each place across the lanes
 abbrev pub flat_cell : ℕ → ℕ → ℕ → ℕ → ℕ
 flat_cell lanes cells n i = i * (lanes * cells) / n
 
--- the lane of car i
+-- the lane of car i, one of n evenly spaced cars on `lanes` lanes of `cells` cells
 abbrev pub even_lane : ℕ → ℕ → ℕ → ℕ → ℕ
 even_lane lanes cells n i = flat_cell lanes cells n i % lanes
 
--- the place of car i
+-- the place of car i, one of n evenly spaced cars on `lanes` lanes of `cells` cells
 abbrev pub even_place : ℕ → ℕ → ℕ → ℕ → ℕ
 even_place lanes cells n i = flat_cell lanes cells n i / lanes
 
--- a car at a lane and a place is one of the n cars, at the place of its number
+-- lane l and place x are those of the car with this number, one of n evenly spaced cars
 pub record IsInPlace (lanes cells n number l x : ℕ) : Type 0 where
   pub numbered : number < n
   pub on_lane : even_lane lanes cells n number ≡ l
   pub at_place : even_place lanes cells n number ≡ x
 
--- lane l has its share of the n cars, each at its place, and no others
+-- `lane` is lane l of a road with n evenly spaced cars: it has `cells` cells, its cars are at their places
+-- with speed 0, and there are no others
 pub record IsEvenLane (lanes cells n l : ℕ) (lane : Lane) : Type 0 where
   pub same_length : length lane ≡ cells
   pub stands : (i : ℕ) → i < n → even_lane lanes cells n i ≡ l
@@ -32,21 +33,21 @@ pub record IsEvenLane (lanes cells n l : ℕ) (lane : Lane) : Type 0 where
   pub nothing_else : (x number speed : ℕ)
       → at lane x ≡ Some (number, speed) → IsInPlace lanes cells n number l x
 
--- the road has n evenly spaced cars, all with speed 0
+-- the road has `lanes` lanes of `cells` cells, this limit, and n evenly spaced cars with speed 0
 pub record IsEven (lanes cells limit n : ℕ) (road : Cells) : Type 0 where
   pub same_limit : road.limit ≡ limit
   pub same_lanes : length road.lanes ≡ lanes
   pub each_lane : (l : ℕ) → l < lanes → IsEvenLane lanes cells n l (lane_of road l)
 
--- the lanes, their length and the limit are in range, and there is a cell for each car
+-- the lanes, their length and the limit are in range, and there is a cell for each of n cars
 pub record CanSpread (lanes cells limit n : ℕ) : Type 0 where
   pub lanes_fit : LanesFit lanes
   pub length_fits : LengthFits cells
   pub limit_fits : LimitFits limit
   pub room : n ≤ lanes * cells
 
--- the first fault of lanes, cells, limit and number of cars, in the order of the faults; allocation may
--- always fail
+-- the first fault of the number of lanes, their cells, the limit and n cars, tested in this order; `Memory`
+-- is always possible, faults of characters never
 abbrev pub IsEvenFault : ℕ → ℕ → ℕ → ℕ → RoadFault → Type 0
 IsEvenFault lanes cells limit n Lanes = ¬ (LanesFit lanes)
 IsEvenFault lanes cells limit n Length = LanesFit lanes × ¬ (LengthFits cells)

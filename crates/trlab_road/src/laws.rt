@@ -13,7 +13,8 @@ ghost use Rattle.trlab_road.specs.Laws.{OneRoadAfterLaneChange};
 ghost use Rattle.trlab_road.specs.Laws.{EvenRoadHasAllCars, EvenRoadIsLegal, NoFaultInFitting, OneEvenFault, OneEvenRoad};
 ghost use Rattle.trlab_road.specs.Laws.{EvenSaysOneThing, EvenSaysSomething};
 
-/// Good pictures show one road, which is legal; others have one first fault.
+/// A limit and pictures show at most one road, which is legal if they are good. Apart from `Memory`, they have at most
+/// one first fault, and none if they are good.
 pub fn pictures_show_one_road()
     ensures one_road { PicturesShowOneRoad }
     ensures legal { GoodPicturesShowLegalRoads }
@@ -40,14 +41,16 @@ pub fn headspeed_is_of_the_next_car()
     ensures alone { HeadspeedOfLoneCar }
 {}
 
-/// Answers that fit lead to exactly one road after the motion, and only the answers at cars count.
+/// If the answer of each car is at most its gap and the limit, exactly one road results from the motion. Only the
+/// answers at cars count.
 pub fn motion_gives_one_road()
     ensures some_road { SomeRoadAfterMotion }
     ensures one_road { OneRoadAfterMotion }
     ensures by_cars { MotionByCars }
 {}
 
-/// If the answers fit, the motion of a legal road is clean and gives a legal road with the same number of cars.
+/// If the answer of each car is at most its gap and the limit, the motion of a legal road is clean and gives a legal
+/// road with the same number of cars.
 pub fn motion_is_clean()
     ensures clean { MotionIsClean }
     ensures legal { MotionKeepsLegal }
@@ -68,8 +71,8 @@ pub fn lane_change_is_clean()
     ensures legal { LaneChangeKeepsLegal }
 {}
 
-/// Evenly spaced cars make exactly one road. If they fit, it is legal and has all of them; otherwise there is
-/// one first fault.
+/// At most one road has these evenly spaced cars. If lanes, cells and limit are in range and there is a cell for each
+/// car, it is legal and has all of them. Apart from `Memory`, there is at most one first fault, and then none.
 pub fn even_cars_make_one_road()
     ensures one_road { OneEvenRoad }
     ensures legal { EvenRoadIsLegal }

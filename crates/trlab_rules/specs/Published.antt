@@ -1,55 +1,57 @@
--- The published rules, as functions of a car's view and its random words: the motion of Nagel and Schreckenberg
--- (1992), slow starts by Barlovic, Santen, Schadschneider and Schreckenberg (1998), and the lane change of
--- Rickert, Nagel, Schreckenberg and Latour (1996), whose lane-change distances are this project's own.
+-- The published rules, as functions of a car's view and its random words: the motion of Nagel and
+-- Schreckenberg (1992), slow starts by Barlovic, Santen, Schadschneider and Schreckenberg (1998), and the
+-- lane change of Rickert, Nagel, Schreckenberg and Latour (1996), whose lane-change distances are this
+-- project's own.
 use Rattle.std.specs.Prelude.{ℕ, ◌+◌, ◌-◌, ◌&&◌, min, List, Bool, true, false, nat_eq, nat_lt, nat_le, if◌then◌else◌, slice_index}
 use Rattle.trlab_words.specs.Chances.{happens_on}
 use Rattle.trlab_code.specs.declared.view.View.{View}
 
--- the speed after acceleration and slowing down: one cell per step faster, but within the limit and the gap
+-- the speed after acceleration and slowing down: one cell per step faster, at most the limit and the gap
 abbrev pub safe_speed : ℕ → ℕ → ℕ → ℕ
 safe_speed speed limit gap = min (min (speed + 1) limit) gap
 
--- randomization: one cell per step slower if the random event happens, and 0 stays 0
+-- randomization: one cell per step slower if the car brakes, but not below 0; otherwise unchanged
 abbrev pub brake : Bool → ℕ → ℕ
 brake true speed = speed - 1
 brake false speed = speed
 
--- whether an event of probability t / 2 ^ 31 happens on the word at an index
+-- does an event of probability `chance` / 2 ^ 31 happen on word k of the random words?
 abbrev pub happens_at : ℕ → List ℕ → ℕ → Bool
 happens_at chance words k = happens_on chance (slice_index words k)
 
--- the speed of 1992: acceleration, slowing down, and randomization with probability p on word 0
+-- the speed by the rule of 1992: acceleration, slowing down, and braking with probability p / 2 ^ 31 on word
+-- 0
 abbrev pub nasch_speed : ℕ → View → List ℕ → ℕ
 nasch_speed p view words = brake (happens_at p words 0) (safe_speed view.speed view.limit view.gap)
 
--- the probability of braking with slow starts, by the speed before acceleration: p0 for a stopped car, p for a
--- moving one
+-- the probability of braking with slow starts, times 2 ^ 31, from the speed before acceleration: p0 if the
+-- car is stopped, otherwise p
 abbrev pub vdr_chance : ℕ → ℕ → ℕ → ℕ
 vdr_chance p p0 speed = if nat_eq speed 0 then p0 else p
 
--- the speed of 1998: that of 1992 with the probability of slow starts
+-- the speed by the rule of 1998: that of 1992, with p0 for stopped cars and p for others as probability of
+-- braking
 abbrev pub vdr_speed : ℕ → ℕ → View → List ℕ → ℕ
 vdr_speed p p0 view words = nasch_speed (vdr_chance p p0 view.speed) view words
 
--- the lane change of 1996: a car crosses if its side cell is empty, its gap is below its speed plus one, the
--- gap ahead on the other lane is above its speed plus one, the gap behind there is above the limit, and an
--- event of probability c happens on word 1
+-- the lane change of 1996: a car crosses if its side cell is empty, gap < speed + 1, speed + 1 < sidegap,
+-- limit < sideback, and an event of probability c / 2 ^ 31 happens on word 1
 abbrev pub rickert_crosses : ℕ → View → List ℕ → Bool
 rickert_crosses c view words =
     view.side && nat_lt view.gap (view.speed + 1) && nat_lt (view.speed + 1) view.sidegap
     && nat_lt view.limit view.sideback
     && happens_at c words 1
 
--- acceleration as worded in 1992: below the limit, and if the distance to the car ahead is above the speed plus
--- one, one cell per step faster
+-- acceleration as worded in 1992: a speed below the limit grows by one if the distance to the car ahead is
+-- above speed + 1; otherwise it is unchanged
 abbrev pub acceleration_1992 : ℕ → ℕ → ℕ → ℕ
 acceleration_1992 speed limit distance =
     if nat_lt speed limit && nat_lt (speed + 1) distance then speed + 1 else speed
 
--- slowing down as worded in 1992: if the distance is at most the speed, to one less than the distance
+-- slowing down as worded in 1992: the speed becomes distance - 1 if the distance is at most the speed
 abbrev pub slowing_down_1992 : ℕ → ℕ → ℕ
 slowing_down_1992 speed distance = if nat_le distance speed then distance - 1 else speed
 
--- acceleration and slowing down as worded in 1992; the distance is one more than the gap
+-- acceleration and then slowing down as worded in 1992, where the distance to the next car is gap + 1
 abbrev pub wording_1992 : ℕ → ℕ → ℕ → ℕ
 wording_1992 speed limit gap = slowing_down_1992 (acceleration_1992 speed limit (gap + 1)) (gap + 1)

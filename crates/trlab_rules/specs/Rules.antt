@@ -3,12 +3,12 @@ use Rattle.std.specs.Prelude.{Option, IfSome}
 use Rattle.trlab_code.specs.declared.program.Kind.TheVariants.{Motion, Change}
 use Rattle.trlab_verify.specs.CheckedProgram.{CheckedProgram, IsChecked}
 
--- a motion program, and possibly a change program
+-- the programs of a rule: a motion program, and possibly a change program
 pub record Programs : Type 0 where
   pub motion : CheckedProgram
   pub change : Option CheckedProgram
 
--- the programs of a rule are accepted, each as one of its kind
+-- the motion program and the change program, if the rule has one, are accepted as programs of their kind
 pub record IsRule (rule : Programs) : Type 0 where
   pub motion : IsChecked Motion rule.motion
   pub change : IfSome rule.change (IsChecked Change)

@@ -10,30 +10,34 @@ use Rattle.trlab_rules.specs.Published.{nasch_speed, vdr_speed, rickert_crosses}
 use Rattle.trlab_rules.specs.Standard.{nasch_program, vdr_program, rickert_program}
 use Rattle.trlab_rules.specs.Laws.{MovesBy, ChangesBy}
 
--- this motion program is accepted and gives the speed of a rule
+-- `motion` is `program`, which the verifier accepts, and it ends with the speed that the function `speed`
+-- gives
 pub record IsMotion (speed : View → List ℕ → ℕ) (program : Program) (motion : CheckedProgram) : Type 0 where
   pub same : motion.program ≡ program
   pub accepted : IsAccepted Motion program
   pub moves : MovesBy speed motion.program
 
--- this change program is accepted and lets a car cross exactly if a rule does
+-- `change` is `program`, which the verifier accepts, and it lets a car cross exactly if the function
+-- `crosses` says so
 pub record IsChange (crosses : View → List ℕ → Bool) (program : Program) (change : CheckedProgram)
     : Type 0 where
   pub same : change.program ≡ program
   pub accepted : IsAccepted Change program
   pub changes : ChangesBy crosses change.program
 
--- the rule of 1992 with probability p
+-- the rule of 1992 with probability p / 2 ^ 31 of braking, and without a lane change
 pub record IsNasch (p : ℕ) (rule : Programs) : Type 0 where
   pub motion : IsMotion (nasch_speed p) (nasch_program p) rule.motion
   pub change : rule.change ≡ None
 
--- the rule of 1998 with probability p0 for stopped cars, and p for moving ones
+-- the rule of 1998, with probability p0 / 2 ^ 31 of braking for stopped cars and p / 2 ^ 31 for moving ones,
+-- and without a lane change
 pub record IsVdr (p p0 : ℕ) (rule : Programs) : Type 0 where
   pub motion : IsMotion (vdr_speed p p0) (vdr_program p p0) rule.motion
   pub change : rule.change ≡ None
 
--- the rule of 1996: the motion of 1992 with probability p, and the lane change with probability c
+-- the rule of 1996: the motion of 1992 with probability p / 2 ^ 31, and the lane change with probability c /
+-- 2 ^ 31
 pub record IsRickert (p c : ℕ) (rule : Programs) : Type 0 where
   pub motion : IsMotion (nasch_speed p) (nasch_program p) rule.motion
   pub change : MatchOption rule.change ⊥ (IsChange (rickert_crosses c) (rickert_program c))

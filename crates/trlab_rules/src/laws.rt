@@ -14,7 +14,7 @@ pub fn standard_programs_are_accepted()
     ensures rickert { (c : ℕ) → IsAccepted OfChange (rickert_program c) }
 {}
 
-/// A draw of a program is true exactly if an event of its probability happens on its word.
+/// `draw` writes a true flag exactly if an event of its probability happens on its random word.
 pub fn chances_are_those_of_draws()
     ensures { DrawsHappenAsChances }
 {}
@@ -35,7 +35,7 @@ pub fn rickert_is_published()
     ensures { (c : ℕ) → ChangesBy (rickert_crosses c) (rickert_program c) }
 {}
 
-/// The wording of 1992 gives the minimum of the speed plus one, the limit and the gap.
+/// For a speed of at most the limit, the wording of 1992 gives the minimum of the speed plus one, limit and gap.
 pub fn wording_is_safe_speed()
     ensures { (speed limit gap : ℕ) → speed ≤ limit → wording_1992 speed limit gap ≡ safe_speed speed limit gap }
 {}

@@ -23,7 +23,7 @@ pub enum StandardFault {
     /// An allocation failed.
     #[error("out of memory")]
     Memory,
-    /// The verifier refuses a program of the rule. No call returns this, because the verifier accepts these
+    /// The verifier rejects a program of the rule. No call returns this, because the verifier accepts these
     /// programs (law `standard_programs_are_accepted`).
     #[error("a program of the rule is refused")]
     Refused,

@@ -5,13 +5,13 @@ use Rattle.trlab_code.specs.Program.{Program, IsProgram}
 use Rattle.trlab_code.specs.Machine.{IsSafe}
 use Rattle.trlab_verify.specs.Longest.{IsLongest, IsForward}
 
--- a program with its budget
+-- an accepted program with its budget, in instructions
 pub record CheckedProgram : Type 0 where
   pub program : Program
   pub budget : ℕ
 
--- the invariant of an accepted program of a kind: it is of that kind, its jumps go forward, and it is safe
--- within its budget, which is its longest path
+-- the invariant of an accepted program of a kind: it is a valid program of that kind, its jumps go forward
+-- and stay in it, and it is safe within its budget, which is its longest path
 pub record IsChecked (kind : Kind) (checked : CheckedProgram) : Type 0 where
   pub program : IsProgram checked.program
   pub kind_is : checked.program.kind ≡ kind

@@ -7,13 +7,14 @@ use Rattle.trlab_verify.specs.declared.verify.VerifyFault.TheVariants.{Why, Memo
 use Rattle.trlab_verify.specs.Tables.{SomeTableChecks}
 use Rattle.trlab_verify.specs.Verdict.{IsRefused}
 
--- the program is rejected for the reason of a fault; a failed allocation says nothing about the program
+-- a fault of the program as one of a kind: `Why` is the verdict's rejection of its instruction at `at`;
+-- `Memory` is always possible
 abbrev pub IsFaultOf : Kind → Program → VerifyFault → Type 0
 IsFaultOf kind program (Why at reason) = IsRefused kind program at reason
 IsFaultOf kind program Memory = Unit {0}
 
--- If a program is rejected as one of a kind, no table of notes checks for that kind. Nor does one check for
--- the program's own kind, unless the reason is that an instruction is of the wrong kind (2).
+-- if the fault rejects the program as one of a kind, no table of notes checks for that kind, nor for the
+-- program's own kind unless the reason is 2, an instruction of the wrong kind; `Memory` says nothing
 abbrev pub NoTableChecks : Kind → Program → VerifyFault → Type 0
 NoTableChecks kind program (Why at reason) =
     ¬ (SomeTableChecks kind program) × (reason ≢ 2 → ¬ (SomeTableChecks program.kind program))

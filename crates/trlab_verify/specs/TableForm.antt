@@ -17,42 +17,44 @@ use Rattle.trlab_verify.specs.declared.table.NotesFault.{NotesFault}
 use Rattle.trlab_verify.specs.declared.table.NotesFault.TheVariants.{Refused, Memory}
 use Rattle.trlab_verify.specs.Verdict.{IsRefused}
 
--- the abstract value of a register's mark
+-- the abstract value that a register's mark means
 abbrev pub said_of : Mark → AbstractValue
 said_of Unset = Nothing
 said_of (Num lo hi) = Between lo hi
 said_of (Flag imp) = Implies imp
 
--- the abstract value of a variable in a form: the mark of a register, or the range of an input of the kind
+-- the abstract value of a variable in a form: that of a register's mark, or the range of an input of programs
+-- of this kind
 abbrev pub form_said : Kind → Form → Variable → AbstractValue
 form_said kind form (variable.Register r) = said_of (slice_index_or form.regs (register_number r) Unset)
 form_said kind form (variable.Input k) = entry_said kind (variable.Input k)
 
--- the note that a form means
+-- the note that a form means, for programs of this kind
 abbrev pub meaning : Kind → Form → Note
 meaning kind form = record { said = form_said kind form; level = levels_in form.levels; side = form.side }
 
--- the table of notes that forms mean
+-- the table of the notes that forms mean, for programs of this kind
 abbrev pub table_of : Kind → List Form → List Note
 table_of kind forms = map (meaning kind) forms
 
--- the form of the empty note
+-- the form in which nothing is known
 abbrev pub empty_form : Form
 empty_form = record { regs = []; levels = []; side = false }
 
--- the note that the form for the instruction at pc means
+-- the note that the form of the instruction at pc means; if there is none, the meaning of the empty form
 abbrev pub meaning_at : Kind → List Form → ℕ → Note
 meaning_at kind forms pc = meaning kind (slice_index_or forms pc empty_form)
 
--- no known level is above 2
+-- each known level of a note is at most 2
 abbrev pub HasLevels : Note → Type 0
 HasLevels note = (x y : Variable) → known_level note x y ≤ 2
 
--- a note contains the ranges of the inputs
+-- a note gives each input the abstract value that it has at the start of programs of this kind
 abbrev pub SaysRanges : Kind → Note → Type 0
 SaysRanges kind note = (k : Input) → note.said (variable.Input k) ≡ entry_said kind (variable.Input k)
 
--- the meaning of a fault for a program without notes
+-- a fault instead of the notes of a program: `Refused` if the verdict rejects it as one of its own kind;
+-- `Memory` is always possible
 abbrev pub HasNoNotes : Program → NotesFault → Type 0
 HasNoNotes program Refused = (at : ℕ) × (reason : ℕ) × IsRefused program.kind program at reason
 HasNoNotes program Memory = Unit {0}

@@ -13,16 +13,16 @@ use Rattle.trlab_verify.specs.Longest.{Follows}
 use Rattle.trlab_verify.specs.Incoming.{note_at}
 use Rattle.trlab_verify.specs.Verdict.{IsRefused}
 
--- the empty note
+-- the empty note, in which nothing is known
 abbrev pub blank : Note
 blank = record { said = λ x. Nothing; level = λ x y. 0; side = false }
 
--- the note of a table for the instruction at pc
+-- the note of a table for the instruction at pc; the empty note if the table has none
 abbrev pub note_in : List Note → ℕ → Note
 note_in table pc = slice_index_or table pc blank
 
--- The notes check at the instruction i, which is at pc: another instruction leads to it, unless it is the
--- first; there is no reason to reject it; and no note after it is stronger than its transfer gives.
+-- the notes check at instruction i at pc: unless it is the first, some instruction leads to it; no reason
+-- holds against it; and no note after it is stronger than the one that it sends there
 pub record ChecksAt (kind : Kind) (program : Program) (note : ℕ → Note) (pc : ℕ) (i : Instr) : Type 0 where
   pub reached : 0 < pc → (p : ℕ) × Follows program.instrs p pc
   pub clear : reason_against kind program.kind (length program.instrs) pc (note pc) i ≡ None
@@ -30,37 +30,40 @@ pub record ChecksAt (kind : Kind) (program : Program) (note : ℕ → Note) (pc 
   pub jumps : (t : ℕ) → target i ≡ Some t → t < length program.instrs
       → IsNoStronger (note t) (jump_note (note pc) i)
 
--- a table checks: the first note is no stronger than the entry note, and the notes check at each instruction
+-- a table checks: it has one note per instruction, the first note is no stronger than the entry note, and the
+-- notes check at each instruction
 pub record Checks (kind : Kind) (program : Program) (table : List Note) : Type 0 where
   pub one_each : length table ≡ length program.instrs
   pub first : IsNoStronger (note_in table 0) (entry kind)
   pub each : (pc : ℕ) (i : Instr) → slice_get program.instrs pc ≡ Some i
       → ChecksAt kind program (note_in table) pc i
 
--- some table of notes checks
+-- some table of notes checks for the program as one of a kind
 abbrev pub SomeTableChecks : Kind → Program → Type 0
 SomeTableChecks kind program = (table : List Note) × Checks kind program table
 
--- the notes with which the verdict judges a program, as a table
+-- the table has the note with which the verdict judges each instruction of the program
 pub record AreVerdictNotes (kind : Kind) (program : Program) (table : List Note) : Type 0 where
   pub one_each : length table ≡ length program.instrs
   pub each : (pc : ℕ) → pc < length program.instrs → note_at kind program.instrs pc ≡ Some (note_in table pc)
 
--- the note with which the verdict judges the instruction at pc is at least as strong as this one
+-- a note is no stronger than the verdict's note of the instruction at pc, which has one
 abbrev pub IsNoStrongerAt : Kind → Program → ℕ → Note → Type 0
 IsNoStrongerAt kind program pc note =
     (best : Note) × (note_at kind program.instrs pc ≡ Some best) × IsNoStronger note best
 
--- the number of instructions with a note when the verdict ends: an unreachable instruction has none
+-- the number of instructions that have a note if the verdict rejects the one at `at`: it has none if it is
+-- unreachable, which is reason 1
 abbrev pub noted_count : ℕ → ℕ → ℕ
 noted_count at reason = if reason == 1 then at else at + 1
 
--- the notes of the first `count` instructions of a program, as a table
+-- the table has the notes of the first `count` instructions of the program, and no others
 pub record AreFirstNotes (kind : Kind) (program : Program) (count : ℕ) (table : List Note) : Type 0 where
   pub one_each : length table ≡ count
   pub each : (pc : ℕ) → pc < count → note_at kind program.instrs pc ≡ Some (note_in table pc)
 
--- the notes of a rejected program, up to the rejected instruction
+-- the program is rejected, and the table has the notes up to the rejected instruction, which has none itself
+-- if it is unreachable
 abbrev pub AreNotesOfRefused : Kind → Program → List Note → Type 0
 AreNotesOfRefused kind program table = (at : ℕ) × (reason : ℕ)
     × IsRefused kind program at reason × AreFirstNotes kind program (noted_count at reason) table

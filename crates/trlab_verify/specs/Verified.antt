@@ -10,8 +10,8 @@ use Rattle.trlab_verify.specs.Longest.{IsLongest}
 use Rattle.trlab_verify.specs.Tables.{SomeTableChecks}
 use Rattle.trlab_verify.specs.Verdict.{IsAccepted}
 
--- the accepted program of a code: it is safe within its budget, which is its longest path, and some table of
--- notes checks
+-- the accepted program of a code: it is the code, safe within its budget, which is its longest path, and some
+-- table of notes checks
 pub record IsAcceptedAs (kind : Kind) (code : Program) (program : CheckedProgram) : Type 0 where
   pub same : program.program ≡ code
   pub accepted : IsAccepted kind code
@@ -19,7 +19,7 @@ pub record IsAcceptedAs (kind : Kind) (code : Program) (program : CheckedProgram
   pub safe : IsSafe kind code.instrs program.budget
   pub some_table : SomeTableChecks kind code
 
--- a code that is not accepted, returned with its fault: a rejection, and then no table of notes checks, or a
+-- a code that is not accepted, returned with its fault: a rejection, for which no table of notes checks, or a
 -- failed allocation
 pub record IsRefusedAs (kind : Kind) (code : Program) (back : Program × VerifyFault) : Type 0 where
   pub same : back.0 ≡ code

@@ -30,7 +30,7 @@ pub fn verdict_is_one()
         (at ≡ other_at) × (reason ≡ other_reason) }
 {}
 
-/// Each program is accepted as one of a kind, or rejected.
+/// Each program is accepted as one of a kind, or rejected at some instruction for some reason.
 pub fn each_is_judged()
     ensures { (kind : Kind) (program : Program) → IsAccepted kind program ⊎
         ((at : ℕ) × (reason : ℕ) × IsRefused kind program at reason) }

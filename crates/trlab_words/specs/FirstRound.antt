@@ -3,7 +3,7 @@
 use Rattle.std.specs.Prelude.{◌≡◌, ℕ, ◌*◌, ◌^◌, List, [], ◌∷◌, slice_index}
 use Rattle.rand_chacha.specs.Block.{quarter_round_at, initial_state}
 
--- a state with the number of a car as word 14
+-- the state x with the number of a car as word 14
 abbrev pub with_car : List ℕ → ℕ → List ℕ
 with_car x car =
     slice_index x 0 ∷ slice_index x 1 ∷ slice_index x 2 ∷ slice_index x 3
@@ -11,11 +11,11 @@ with_car x car =
     ∷ slice_index x 8 ∷ slice_index x 9 ∷ slice_index x 10 ∷ slice_index x 11
     ∷ slice_index x 12 ∷ slice_index x 13 ∷ car ∷ slice_index x 15 ∷ []
 
--- the initial state of the blocks of a step of a road, with 0 for the number of the car
+-- the initial state of the random words of car 0, in a step of a road, under a key
 abbrev pub step_state : List ℕ → ℕ → ℕ → List ℕ
 step_state key road step = initial_state key step (road * 2 ^ 32)
 
--- the quarter round on each column but the third, which is the column of word 14
+-- the state x after a quarter round on each column but the third, which is the column of word 14
 unfoldable pub other_columns : List ℕ → List ℕ
 other_columns x =
     let q0 = quarter_round_at x 0 4 8 12 in
@@ -26,7 +26,7 @@ other_columns x =
     ∷ q0.2 ∷ q1.2 ∷ slice_index x 10 ∷ q3.2
     ∷ q0.3 ∷ q1.3 ∷ slice_index x 14 ∷ q3.3 ∷ []
 
--- the quarter round on the third column
+-- the state x after a quarter round on its third column, the column of word 14
 unfoldable pub car_column : List ℕ → List ℕ
 car_column x =
     let q = quarter_round_at x 2 6 10 14 in
@@ -35,7 +35,8 @@ car_column x =
     ∷ slice_index x 8 ∷ slice_index x 9 ∷ q.2 ∷ slice_index x 11
     ∷ slice_index x 12 ∷ slice_index x 13 ∷ q.3 ∷ slice_index x 15 ∷ []
 
--- the initial state of a step, and this state after three columns of its first round
+-- `initial` is the initial state of a step of a road under a key, and `columns` is this state after the
+-- quarter rounds on its three columns without word 14
 abbrev pub StartsStep : List ℕ → ℕ → ℕ → List ℕ → List ℕ → Type 0
 StartsStep key road step initial columns =
     (initial ≡ step_state key road step) × (columns ≡ other_columns (step_state key road step))
