@@ -17,6 +17,6 @@ Gave Holds before after = (bytes : List ℕ) × ((after ≡ before ++ bytes) × 
 abbrev pub ConsumesUpTo : ℕ → Option (List ℕ) → Option (List ℕ) → Type 0
 ConsumesUpTo most old new = (read : List ℕ) × (length read ≤ most) × Consumes old new read
 
--- the bytes `text`, read of an input, are all of it, or both are longer than TEXT_LIMIT and so too long
+-- `text` is the whole input, or both are longer than TEXT_LIMIT bytes and so too long
 abbrev pub IsReadOf : List ℕ → List ℕ → Type 0
 IsReadOf text input = (text ≡ input) ⊎ ((TEXT_LIMIT < length text) × (TEXT_LIMIT < length input))

@@ -14,7 +14,7 @@ use Rattle.trlab_campaign.specs.Flushes.{AtMostOnce, HandedOnce}
 use Rattle.trlab_campaign.specs.Refusal.{Outputs}
 use Rattle.trlab_campaign.specs.Writers.{HasWritten, AddsNone, AddsPrefix, SinkBytes, bytes_of}
 
--- between `old` and `new`, a whole output was written, which is a refusal if `refused` is true
+-- between `old` and `new`, a whole output was written, which is a refusal exactly if `refused` is true
 abbrev pub WroteAll : Outputs → Bool → SinkBytes → SinkBytes → Type 0
 WroteAll IsWhole refused old new = (out : List ℕ) × (IsWhole refused out × HasWritten old new out)
 

@@ -8,7 +8,7 @@ pub record SinkBytes : Type 0 where
   pub accepted : List ℕ
   pub told : Option (List ℕ)
 
--- the bytes of this writer, as its sink remembers them
+-- the bytes of this writer, by the ghost functions of its sink
 abbrev pub bytes_of : {K : Type 0} → Sink.Ghosts K → K → SinkBytes
 bytes_of sink writer = record { accepted = sink.accepted writer; told = sink.written writer }
 
