@@ -11,24 +11,24 @@ use Rattle.trlab_texts.specs.Words.{is_word, as_word, two_words, number_of, with
 use Rattle.trlab_lines.specs.Cutting.{without_prefix, cut}
 use Rattle.trlab_asm.specs.Results.{◌>>=◌}
 
--- the line `rule own`, which has no parameters; none for any other line
+-- the rule `own`, which has no words of its own, if the line is `rule own`; none for any other line
 abbrev pub own_words : List ℕ → Option (RuleLine (List ℕ))
 own_words text = if bytes_eq text (codes "rule own") then Some Own else None
 
--- the words t and c of `rule rickert t c`, from the text after its name, or none if it is not two words;
--- `others` if the line has another name
+-- the words t and c of `rule rickert t c`, from the text after its name, or none if that text is not two
+-- words; `others` if the line has another name
 abbrev pub rickert_words : Option (List ℕ) → Option (RuleLine (List ℕ)) → Option (RuleLine (List ℕ))
 rickert_words None others = others
 rickert_words (Some words) others = option_map (λ two. Rickert two.0 two.1) (two_words words)
 
--- the words t and t0 of `rule vdr t t0`, from the text after its name, or none if it is not two words;
+-- the words t and t0 of `rule vdr t t0`, from the text after its name, or none if that text is not two words;
 -- `others` if the line has another name
 abbrev pub vdr_words : Option (List ℕ) → Option (RuleLine (List ℕ)) → Option (RuleLine (List ℕ))
 vdr_words None others = others
 vdr_words (Some words) others = option_map (λ two. Vdr two.0 two.1) (two_words words)
 
--- the word t of `rule nasch t`, from the text after its name, or none if it is not one word; `others` if the
--- line has another name
+-- the word t of `rule nasch t`, from the text after its name, or none if that text is not one word; `others`
+-- if the line has another name
 abbrev pub nasch_words : Option (List ℕ) → Option (RuleLine (List ℕ)) → Option (RuleLine (List ℕ))
 nasch_words None others = others
 nasch_words (Some words) others = option_map Nasch (as_word words)
@@ -40,19 +40,21 @@ rule_words text =
     (vdr_words (without_prefix (codes "rule vdr ") text)
     (rickert_words (without_prefix (codes "rule rickert ") text) (own_words text)))
 
--- the chance that a word writes, from 0 to CERTAIN: a probability times 2^31
+-- the chance that a word writes, from 0 to CERTAIN, which is a probability times 2^31; otherwise the cause
+-- `Number`
 abbrev pub chance_of : List ℕ → Result ℕ Cause
 chance_of word = within 0 CERTAIN (number_of word)
 
--- the rule with chances for its words, read from left to right; the first word that does not write a chance
--- is the fault
+-- the rule with chances for its words, read from left to right; the cause `Number` at the first word that
+-- does not write a chance
 abbrev pub rule_numbers : RuleLine (List ℕ) → Result (RuleLine ℕ) Cause
 rule_numbers (Nasch p) = chance_of p >>= λ p. Ok (Nasch p)
 rule_numbers (Vdr p p0) = chance_of p >>= λ p. chance_of p0 >>= λ p0. Ok (Vdr p p0)
 rule_numbers (Rickert p c) = chance_of p >>= λ p. chance_of c >>= λ c. Ok (Rickert p c)
 rule_numbers Own = Ok Own
 
--- the rule that a line states; wrong words come before wrong numbers as a cause
+-- the rule that a line states: the cause `Line` if its words are wrong, and only then the cause `Number` for
+-- its numbers
 abbrev pub rule_line : List ℕ → Result (RuleLine ℕ) Cause
 rule_line text = ok_or (rule_words text) Line >>= rule_numbers
 
@@ -66,7 +68,7 @@ abbrev pub later_words : List ℕ → Option (List ℕ × RuleLine (List ℕ))
 later_words text =
     option_and_then step_and_rule (option_and_then (cut 32) (without_prefix (codes "at ") text))
 
--- the step that a word writes, from 0 to LONGEST_NUMBER
+-- the step that a word writes, from 0 to LONGEST_NUMBER; otherwise the cause `Number`
 abbrev pub step_of : List ℕ → Result ℕ Cause
 step_of word = within 0 LONGEST_NUMBER (number_of word)
 

@@ -20,7 +20,8 @@ IsNoNumberAt line at size least most = (word : List ℕ)
     × (HasBytesAt line at word × ((length word ≡ size) × (within least most (number_of word) ≡ Err NoNumber)))
 
 -- a reader can want this input when `line` has this cause: one kind of input for each cause, or `Nothing`;
--- wanted positions are in the line, and a wanted program is one that the verifier rejects for this reason
+-- wanted positions are in the line, and a wanted program is one that the verifier rejects for the cause's
+-- reason
 abbrev pub IsWantedIn : List ℕ → Cause → Wish → Type 0
 IsWantedIn line Line (Lines names) = Unit {0}
 IsWantedIn line NoNumber (Number at size least most quantity) = IsNoNumberAt line at size least most
