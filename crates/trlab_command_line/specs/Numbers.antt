@@ -11,7 +11,7 @@ use Rattle.clap.specs.declared.builder.value_parser.ValueParser.TheVariants.{Boo
 abbrev pub numeral_value : Text → ℕ
 numeral_value numeral = digits_value 10 (without_leading_plus numeral)
 
--- among the matches of a command, `option` has the decimal numeral of `number`
+-- among the matches of a command, `option` has a value that is `number` as a decimal numeral
 abbrev pub GivesNumber : Text → List Row → ℕ → Type 0
 GivesNumber option rows number =
     (numeral : Text) × (one_of option rows ≡ Some numeral) × (numeral_value numeral ≡ number)
