@@ -10,22 +10,22 @@ use Rattle.trlab_jobs.specs.RuleLines.{rule_line}
 use Rattle.trlab_jobs.specs.Sweep.{Setup, Sweep, SweepText}
 use Rattle.trlab_campaign.specs.SweepOutput.{ArePoints}
 
--- the empty cells at a point
+-- the number of empty cells at a point
 abbrev pub empty_cells_at : Point → ℕ
 empty_cells_at point = point.cells - point.cars
 
--- the capacity at a point, which is the largest distance of a step: either each car moves at the limit, or a
--- car passes each empty cell, whichever gives less
+-- the capacity at a point, a bound for the distance of a step: the limit times the number of cars, or the
+-- number of empty cells, whichever is smaller
 abbrev pub capacity_at : ℕ → Point → ℕ
 capacity_at limit point = min (limit * point.cars) (empty_cells_at point)
 
--- the flow at a point if each step has this distance, in millionths and rounded down
+-- the flow at a point if each step has this distance, in millionths, rounded down
 abbrev pub steady_flow : Point → ℕ → ℕ
 steady_flow point distance = distance * 1000000 / point.cells
 
--- a point under the triangle: its mean distance per step is at most the number of empty cells, and at most
--- the limit times the number of cars; so the flow is at most 1 minus the density, and at most the limit times
--- the density
+-- a point under the triangle or on it: it has at most as many cars as cells, and its mean distance per step
+-- is at most the number of empty cells and at most the limit times the number of cars; so its flow is at most
+-- 1 minus the density, and at most the limit times the density
 pub record IsUnderTriangle (limit : ℕ) (point : Point) : Type 0 where
   pub room : point.cars ≤ point.cells
   pub by_empty_cells : point.distance ≤ point.steps * empty_cells_at point
@@ -33,54 +33,58 @@ pub record IsUnderTriangle (limit : ℕ) (point : Point) : Type 0 where
   pub flow_by_empty_cells : flow_of point ≤ steady_flow point (empty_cells_at point)
   pub flow_by_limit : flow_of point ≤ steady_flow point (limit * point.cars)
 
--- each point of the table for a sweep text is under the triangle, under any rule that the text may state
+-- each point of a sweep text's table is under the triangle or on it, under any rule that the text may state
 abbrev pub SweepsKeepToCapacity : Type 0
 SweepsKeepToCapacity =
     (text : List ℕ) (sweep : Sweep) (points : List Point)
     → SweepText text (Ok sweep) → ArePoints sweep points
     → All (IsUnderTriangle sweep.setup.shape.limit) points
 
--- a point below the peak of the triangle: its flow is at most limit / (limit + 1)
+-- a point that is not above the peak of the triangle: its mean distance per cell and step, and so its flow,
+-- is at most limit / (limit + 1)
 pub record IsBelowPeak (limit : ℕ) (point : Point) : Type 0 where
   pub distance : (limit + 1) * point.distance ≤ point.steps * (limit * point.cells)
   pub flow : flow_of point ≤ limit * 1000000 / (limit + 1)
 
--- each point of a table is below the peak, under any rule that a sweep text may state
+-- no point of a sweep text's table is above the peak of the triangle, under any rule that the text may state
 abbrev pub SweepsKeepBelowPeak : Type 0
 SweepsKeepBelowPeak =
     (text : List ℕ) (sweep : Sweep) (points : List Point)
     → SweepText text (Ok sweep) → ArePoints sweep points
     → All (IsBelowPeak sweep.setup.shape.limit) points
 
--- the moving cars of a point, counted once per step, went on average at least one cell, and at most the limit
+-- the moving cars of a point, each counted once per step, went on average at least one cell, and at most the
+-- limit
 pub record PointGoesByMovingCars (limit : ℕ) (point : Point) : Type 0 where
   pub cell_each : point.steps * point.cars ≤ point.distance + point.stopped
   pub limit_each : point.distance + limit * point.stopped ≤ point.steps * (limit * point.cars)
 
--- the moving cars of each point of a table went these distances, under any rule that a sweep text may state
+-- at each point of a sweep text's table, moving cars, each counted once per step, went on average at least
+-- one cell, and at most the limit, under any rule that the text may state
 abbrev pub SweepsGoByMovingCars : Type 0
 SweepsGoByMovingCars =
     (text : List ℕ) (sweep : Sweep) (points : List Point)
     → SweepText text (Ok sweep) → ArePoints sweep points
     → All (PointGoesByMovingCars sweep.setup.shape.limit) points
 
--- a point on the triangle: its distance is the capacity times its number of steps
+-- a point on the triangle: its distance is the capacity times its number of steps, and its flow is the flow
+-- of the capacity
 pub record IsOnTriangle (limit : ℕ) (point : Point) : Type 0 where
   pub distance : point.distance ≡ point.steps * capacity_at limit point
   pub flow : flow_of point ≡ steady_flow point (capacity_at limit point)
 
--- the rule on the sixth line of a sweep text
+-- the rule that the sixth line of a text states, or its cause; a missing line counts as empty
 abbrev pub rule_stated : List ℕ → Result (RuleLine ℕ) Cause
 rule_stated text = rule_line (slice_index_or (lines_of text) 5 [])
 
--- a sweep text asks for the triangle: it states the rule of 1992 without randomization, by the line `rule
--- nasch 0`, has one lane, and counts no step before cars could reach the limit
+-- a sweep text with this common part asks for the triangle: it states the rule of 1992 without randomization,
+-- by its sixth line, `rule nasch 0`, it has one lane, and it counts no step before cars could reach the limit
 pub record AsksForTriangle (text : List ℕ) (common : Setup) : Type 0 where
   pub rule : rule_stated text ≡ Ok (Nasch 0)
   pub lanes : common.shape.lanes ≡ 1
   pub warm : common.shape.limit ≤ common.span.warm + 1
 
--- each point of the table for such a text is on the triangle
+-- each point of the table of a sweep text that asks for the triangle is on the triangle
 abbrev pub DiagramIsTriangle : Type 0
 DiagramIsTriangle =
     (text : List ℕ) (sweep : Sweep) (points : List Point)

@@ -10,27 +10,28 @@ use Rattle.trlab_jobs.specs.Check.{Check, CheckText}
 use Rattle.trlab_campaign.specs.NoteLines.{notes_text}
 use Rattle.trlab_campaign.specs.Refusal.{Outputs, OutputOfText}
 
--- the text of an accepted program: its budget, and its canonical text
+-- the text of an accepted program: the line of its budget, and its canonical text
 abbrev pub accepted_text : ℕ → Program → List ℕ
 accepted_text budget program = codes "accepted budget " ++ (decimal budget ++ (10 ∷ text_of program.instrs))
 
--- the output for an accepted program, by the question of the check
+-- the output for an accepted program, by the question of the check: its budget and canonical text, and its
+-- notes too if the question is for notes
 abbrev pub answer_text : Question → ℕ → Program → List ℕ
 answer_text Verdict budget program = accepted_text budget program
 answer_text Notes budget program = accepted_text budget program ++ notes_text program
 
--- the output for a refused program: the instruction and the reason
+-- the line for a rejected program: the instruction and the verifier's reason
 abbrev pub refused_line : ℕ → ℕ → List ℕ
 refused_line at reason =
     codes "refused at " ++ (decimal at ++ (codes " reason " ++ (decimal reason ++ (10 ∷ []))))
 
--- the output for a check; its program is judged as a program of its own kind
+-- a whole output for a check, marked as a refusal or not; its program is judged as one of its own kind
 abbrev pub VerdictOutput : Check → Outputs
 VerdictOutput check false out = IsAccepted check.program.kind check.program × ((budget : ℕ)
     × (IsLongest check.program.instrs 0 budget × (out ≡ answer_text check.question budget check.program)))
 VerdictOutput check true out = (at reason : ℕ)
     × (IsRefused check.program.kind check.program at reason × (out ≡ refused_line at reason))
 
--- the whole output for a check text, and whether it is a refusal
+-- a whole output for a check text, marked as a refusal or not
 abbrev pub IsCheckOutput : List ℕ → Outputs
 IsCheckOutput text refused out = OutputOfText CheckText VerdictOutput text refused out

@@ -5,19 +5,20 @@ use Rattle.trlab_road.specs.LaneCars.{LaneCar}
 use Rattle.trlab_step.specs.Progress.{Progress}
 use Rattle.trlab_diagram.specs.declared.point.LaneCount.{LaneCount}
 
--- the same run, `count` steps later
+-- `new` is the run `old`, `count` steps later
 pub record IsStepsOn (count : ℕ) (old new : Progress) : Type 0 where
   pub same_seed : new.seed ≡ old.seed
   pub same_sheet : new.sheet ≡ old.sheet
   pub later : new.step ≡ old.step + count
 
--- bounds for the counts of a lane, summed over the roads after `steps` steps
+-- the counts of a lane, summed over the roads after `steps` steps, are at most those of full lanes:
+-- MAX_LENGTH cars per step, a distance of MAX_LIMIT for each, and MAX_LENGTH stopped cars per step
 pub record IsFewCars (steps : ℕ) (count : LaneCount) : Type 0 where
   pub cars : count.cars ≤ MAX_LENGTH * steps
   pub distance : count.distance ≤ MAX_LIMIT * MAX_LENGTH * steps
   pub stopped : count.stopped ≤ MAX_LENGTH * steps
 
--- the count of the cars on a lane: their number, the sum of their speeds, and the number of stopped cars
+-- the counts of a lane, from its cars: their number, the sum of their speeds, and the number of stopped cars
 abbrev pub line_count : List LaneCar → LaneCount
 line_count line = record {
   cars = length line;

@@ -14,40 +14,41 @@ use Rattle.trlab_campaign.specs.Flushes.{AtMostOnce, HandedOnce}
 use Rattle.trlab_campaign.specs.Refusal.{Outputs}
 use Rattle.trlab_campaign.specs.Writers.{HasWritten, AddsNone, AddsPrefix, SinkBytes, bytes_of}
 
--- a whole output was written, which is a refusal or not
+-- between `old` and `new`, a whole output was written, which is a refusal exactly if `refused` is true
 abbrev pub WroteAll : Outputs → Bool → SinkBytes → SinkBytes → Type 0
 WroteAll IsWhole refused old new = (out : List ℕ) × (IsWhole refused out × HasWritten old new out)
 
--- nothing was written, or a prefix of a whole output
+-- between `old` and `new`, nothing was written, or a prefix of a whole output
 abbrev pub WrotePrefix : Outputs → SinkBytes → SinkBytes → Type 0
 WrotePrefix IsWhole old new =
     AddsNone old new
     ⊎ ((refused : Bool) × ((out : List ℕ) × (IsWhole refused out × AddsPrefix old new out)))
 
--- a successful call wrote a whole output that is not a refusal; a failed call wrote nothing, or a prefix of
--- an output
+-- between `old` and `new`, a successful call wrote a whole output that is not a refusal; a failed call wrote
+-- nothing, or a prefix of a whole output
 abbrev pub WroteBy : {A E : Type 0} → Outputs → Result A E
     → SinkBytes → SinkBytes → Type 0
 WroteBy IsWhole (Ok done) old new = WroteAll IsWhole false old new
 WroteBy IsWhole (Err fault) old new = WrotePrefix IsWhole old new
 
--- the bytes that an engine has written, by its end: the output for a text with a fault, or for a refused
--- program, is a refusal
+-- the bytes that an engine has written, by its end: a whole output at `Done`, a whole refusal at `Refused`,
+-- and otherwise nothing or a prefix of a whole output
 abbrev pub EndsSo : Outputs → End → SinkBytes → SinkBytes → Type 0
 EndsSo IsWhole Done old new = WroteAll IsWhole false old new
 EndsSo IsWhole Refused old new = WroteAll IsWhole true old new
 EndsSo IsWhole Memory old new = WrotePrefix IsWhole old new
 EndsSo IsWhole DeviceFault old new = WrotePrefix IsWhole old new
 
--- how an engine has flushed its writer, by its end: a whole output by one flush, not at all if an allocation
--- failed, and at most once if a device failed
+-- how an engine has flushed its writer, by its end: everything by one flush if it wrote a whole output, not
+-- at all if an allocation failed, and at most once if a device failed
 abbrev pub HandsOn : End → Bool → Flushes → Flushes → Type 0
 HandsOn Done handed_on old new = HandedOnce handed_on old new
 HandsOn Refused handed_on old new = HandedOnce handed_on old new
 HandsOn Memory handed_on old new = new ≡ old
 HandsOn DeviceFault handed_on old new = AtMostOnce old new
 
--- the bytes of one whole output that were written, depending on the end
+-- the bytes that were written of the whole output `out`, by the end: all of it at `Done` or `Refused`, which
+-- must agree with `refused`, none if an allocation failed, and a prefix if a device failed
 abbrev pub OutputEnds : Bool → List ℕ → End → SinkBytes → SinkBytes → Type 0
 OutputEnds refused out Done old new = (refused ≡ false) × HasWritten old new out
 OutputEnds refused out Refused old new = (refused ≡ true) × HasWritten old new out
@@ -62,8 +63,8 @@ pub record WritesOn {A K : Type 0} (sink : Sink.Ghosts K) (result : Result A Fai
   pub fails : IfErr result (λ fault. (fault ≡ Device) ↔ (sink.failed new ≡ true))
   pub flushed : sink.flushes new ≡ sink.flushes old
 
--- the writer after a call that flushes it: `Wrote` holds of the written bytes and this end, a whole output
--- was flushed once, and the end is a device fault exactly if the writer has failed
+-- the writer when an engine has ended: `Wrote` holds of the end and the written bytes, the flushes are those
+-- of the end, and the end is `DeviceFault` exactly if the writer has failed
 pub record LeavesWriter {K : Type 0} (sink : Sink.Ghosts K)
     (Wrote : End → SinkBytes → SinkBytes → Type 0)
     (end : End) (old new : K) : Type 0 where
@@ -79,13 +80,16 @@ pub record EngineEnds {S K : Type 0} (source : Source.Ghosts S) (sink : Sink.Gho
   -- output if the end allows it
   pub exact : Gave (λ text. EndsSo (outputs text) end (bytes_of sink old) (bytes_of sink new))
       (source.given before) (source.given after)
-  -- this is also the output for all bytes that were left to read, if the reader makes them known
+  -- the written output is also that of all bytes that were left to read, if the reader makes them known
   pub answer : IfSome (source.left before)
       (λ text. EndsSo (outputs text) end (bytes_of sink old) (bytes_of sink new))
   -- nothing was written if the input was not read
   pub silent : source.failed after ≡ true → AddsNone (bytes_of sink old) (bytes_of sink new)
+  -- a whole output was flushed once; nothing was flushed if an allocation failed
   pub handed : HandsOn end (sink.handed_on new) (sink.flushes old) (sink.flushes new)
+  -- the end is `DeviceFault` exactly if the reader or the writer has failed
   pub device : (end ≡ DeviceFault) ↔ ((source.failed after || sink.failed new) ≡ true)
-  -- at most one byte more than the size limit of an input was read
+  -- at most one byte more than the size limit of an input was read, of the bytes that were left
   pub read : ConsumesUpTo (TEXT_LIMIT + 1) (source.left before) (source.left after)
+  -- the reader's calls gave at most one byte more than the size limit of an input
   pub stops : Gave (λ bytes. length bytes ≤ TEXT_LIMIT + 1) (source.given before) (source.given after)

@@ -3,16 +3,16 @@ use Rattle.std.specs.Prelude.{◌≡◌, ◌⊎◌, Bool, true}
 use Rattle.trlab_campaign.specs.declared.device.Flushes.{Flushes}
 use Rattle.trlab_campaign.specs.declared.device.Flushes.TheVariants.{Never, Once, Often}
 
--- the count after one more flush
+-- the number of flushes after one more: twice or more often is `Often`
 abbrev pub once_more : Flushes → Flushes
 once_more Never = Once
 once_more Once = Often
 once_more Often = Often
 
--- everything was flushed, by one flush
+-- between `old` and `new` the writer was flushed once more, and everything has been flushed
 abbrev pub HandedOnce : Bool → Flushes → Flushes → Type 0
 HandedOnce handed_on old new = (handed_on ≡ true) × (new ≡ once_more old)
 
--- one flush, or none
+-- between `old` and `new` the writer was flushed at most once
 abbrev pub AtMostOnce : Flushes → Flushes → Type 0
 AtMostOnce old new = (new ≡ old) ⊎ (new ≡ once_more old)

@@ -14,8 +14,8 @@ use Rattle.trlab_campaign.specs.Output.{IsShownOutput, steps_text}
 use Rattle.trlab_campaign.specs.SweepOutput.{IsSweepOutput, point_of}
 use Rattle.trlab_campaign.specs.SweepOutput as sweep
 
--- the output for a job text: the text is a job, one worker drives the job's road, and the pictures show the
--- roads of this run, at the steps that are shown
+-- `out` is the output for the job text `text`: one worker drives the job's road, and the pictures show the
+-- roads of this run at the steps that are shown
 pub record IsDrivenJob (shown : ℕ → Bool) (text out : List ℕ) : Type 0 where
   pub job : Job
   pub says : JobText text (Ok job)
@@ -30,8 +30,8 @@ JobTextsAreDriven =
     (shown : ℕ → Bool) (text out : List ℕ)
     → IsShownOutput shown text false out → IsDrivenJob shown text out
 
--- a point of a sweep: one worker drives its road, whose cars are evenly spread at the start, and its numbers
--- are the counts of this run
+-- a point of a sweep with this common part: one worker drives road `number`, whose `cars` cars are evenly
+-- spread at the start, and the point has the counts of this run
 pub record IsDrivenPoint (setup : Setup) (number cars : ℕ) (point : Point) : Type 0 where
   pub start : Cells
   pub tally : StepTally
@@ -43,7 +43,8 @@ pub record IsDrivenPoint (setup : Setup) (number cars : ℕ) (point : Point) : T
       (all_steps setup.span) tally
   pub told : point ≡ point_of setup cars tally
 
--- the output for a sweep text: the text is a sweep, and the table has its points, in their order
+-- `out` is the output for the sweep text `text`: one worker drives the road of each point, and the table has
+-- the points in the order of the text
 pub record IsDrivenSweep (text out : List ℕ) : Type 0 where
   pub said : Sweep
   pub says : SweepText text (Ok said)

@@ -12,12 +12,12 @@ use Rattle.trlab_notes.specs.declared.note.AbstractValue.TheVariants.{Nothing, B
 use Rattle.trlab_notes.specs.Notes.{Note, with_side}
 use Rattle.trlab_verify.specs.Incoming.{note_at}
 
--- the name of a register and its content, each after a space
+-- the name of a register and its content `held`, each after a space
 abbrev pub register_entry : Register → List ℕ → List ℕ
 register_entry register held = 32 ∷ (register_text register ++ (32 ∷ held))
 
--- the text for a register: nothing if it may be unset, the smallest and the largest number, or `flag`, which
--- is `side` if a true flag implies that the side cell is empty
+-- the text for the value of a register: nothing if it may be unset, the smallest and the largest number, or
+-- `flag`, which is `side` if a true flag implies that the side cell is empty
 abbrev pub said_text : Register → AbstractValue → List ℕ
 said_text register Nothing = []
 said_text register (Between lo hi) = register_entry register (decimal lo ++ (32 ∷ decimal hi))
@@ -29,25 +29,26 @@ abbrev pub said_of_register : Note → Register → List ℕ
 said_of_register note register =
     said_text register (with_side note.side (note.said (variable.Register register)))
 
--- the text for the registers of a note
+-- the text for the registers of a note, in their order
 abbrev pub registers_text : Note → List ℕ
 registers_text note = flat_map (said_of_register note) REGISTERS
 
--- the word for a side cell that is known to be empty
+-- the word ` side` if the side cell is known to be empty, and otherwise nothing
 abbrev pub side_text : Bool → List ℕ
 side_text side = if side then codes " side" else []
 
--- the line of the note before the instruction at pc
+-- the line of the note before the instruction at pc: the registers, and whether the side cell is known to be
+-- empty
 abbrev pub note_line : ℕ → Note → List ℕ
 note_line pc note =
     codes "note " ++ (decimal pc ++ (registers_text note ++ (side_text note.side ++ (10 ∷ []))))
 
--- the line of the note at pc, if the instruction has a note
+-- the line of the note at pc, if the instruction has a note; otherwise nothing
 abbrev pub maybe_note_line : ℕ → Option Note → List ℕ
 maybe_note_line pc None = []
 maybe_note_line pc (Some note) = note_line pc note
 
--- the lines of the notes of a program, as a program of its own kind; in an accepted program each instruction
+-- the lines of the notes of a program, judged as one of its own kind; each instruction of an accepted program
 -- has a note
 abbrev pub notes_text : Program → List ℕ
 notes_text program =

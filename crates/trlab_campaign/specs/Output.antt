@@ -12,45 +12,48 @@ use Rattle.trlab_jobs.specs.Job.{Job, JobText, seed_of, sheet_of}
 abbrev pub picture_line : List ℕ → List ℕ
 picture_line bytes = bytes ++ (10 ∷ [])
 
--- the text of a step: the line of the step, then a line for each lane
+-- the text of a step: the line `step N`, and then the picture of each lane of the road on a line of its own
 abbrev pub step_text : ℕ → Cells → List ℕ
 step_text step road =
     codes "step " ++ (decimal step ++ (10 ∷ flat_map (λ lane. picture_line (picture lane)) road.lanes))
 
--- the steps that are shown: each step, or `from`, `from + every`, `from + 2 * every` and so on
+-- every step is shown
 abbrev pub each_step : ℕ → Bool
 each_step step = true
 
+-- whether a step is one of `from`, `from + every`, `from + 2 * every` and so on
 abbrev pub every_from : ℕ → ℕ → ℕ → Bool
 every_from every from step = nat_le from step && nat_eq ((step - from) % every) 0
 
--- the text of a step that is shown; empty for another step
+-- the text of a step if it is shown, and otherwise no text
 abbrev pub shown_text : (ℕ → Bool) → ℕ → Cells → List ℕ
 shown_text shown step road = if shown step then step_text step road else []
 
--- the text of the shown steps among a run's first `count` steps, from its road at each step
+-- the text of the shown steps among the first `count` steps, from 0 on; `roads` gives the road at each step
 abbrev pub steps_text : (ℕ → Bool) → (ℕ → Cells) → ℕ → List ℕ
 steps_text shown roads count = flat_map (λ step. shown_text shown step (roads step)) (range_with_len 0 count)
 
--- the output of a job: the pictures of its road at each step that is shown, from the start to the last step
+-- `out` is the text of a job's run: the pictures of its road at each step that is shown, from step 0 to the
+-- last
 pub record IsRunText (job : Job) (shown : ℕ → Bool) (roads : ℕ → Cells) (out : List ℕ) : Type 0 where
   pub road_at : (step : ℕ) → step ≤ job.steps
       → IsRoadAt (seed_of job) (sheet_of job) step (roads step)
   pub pictures : out ≡ steps_text shown roads (job.steps + 1)
 
--- the whole output for a job, which is not a refusal
+-- a whole output for a job: the text of its run at the steps that are shown, which is not a refusal
 abbrev pub JobOutput : (ℕ → Bool) → Job → Outputs
 JobOutput shown job refused out =
     (refused ≡ false) × ((roads : ℕ → Cells) × IsRunText job shown roads out)
 
--- the whole output for a job text, from the output for a job, and whether it is a refusal
+-- a whole output for a job text, marked as a refusal or not: the output for its job, or the line of its first
+-- fault
 abbrev pub IsOutputOf : (Job → Outputs) → List ℕ → Outputs
 IsOutputOf Output text refused out = OutputOfText JobText Output text refused out
 
--- the whole output for a text by the steps that are shown, and whether it is a refusal
+-- a whole output of `run` for a job text at the steps that are shown, marked as a refusal or not
 abbrev pub IsShownOutput : (ℕ → Bool) → List ℕ → Outputs
 IsShownOutput shown text refused out = IsOutputOf (JobOutput shown) text refused out
 
--- the whole output for a text with each step shown, and whether it is a refusal
+-- a whole output of `run` for a job text with each step shown, marked as a refusal or not
 abbrev pub IsOutput : List ℕ → Outputs
 IsOutput text refused out = IsShownOutput each_step text refused out

@@ -3,7 +3,7 @@ use Rattle.std.specs.Prelude.{◌≡◌, ℕ, Bool, true, List, [], ◌∷◌, �
 use Rattle.trlab_texts.specs.Causes.{cause_number}
 use Rattle.trlab_texts.specs.Reading.{Fault}
 
--- the line that is written for a refused text
+-- the line for a text that is refused for this fault: `fault line N cause K`, and the LF that ends it
 abbrev pub fault_line : Fault → List ℕ
 fault_line fault =
     codes "fault line " ++ (decimal fault.line
@@ -13,12 +13,12 @@ fault_line fault =
 abbrev pub Outputs : Type 1
 Outputs = Bool → List ℕ → Type 0
 
--- the output for the result of a text: the fault line if the text has a fault
+-- the output for the result of reading a text: that of its value, or the line of its fault, as a refusal
 abbrev pub OutputFor : {A : Type 0} → (A → Outputs) → Result A Fault → Outputs
 OutputFor Output (Ok x) refused out = Output x refused out
 OutputFor Output (Err fault) refused out = (refused ≡ true) × (out ≡ fault_line fault)
 
--- the whole output for a text: the output for the text's result
+-- a whole output for a text, marked as a refusal or not: the output for a result that `Says` gives the text
 abbrev pub OutputOfText : {A : Type 0} → (List ℕ → Result A Fault → Type 0) → (A → Outputs) → List ℕ → Outputs
 OutputOfText {A} Says Output text refused out =
     (says : Result A Fault) × (Says text says × OutputFor Output says refused out)

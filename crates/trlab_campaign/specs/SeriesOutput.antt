@@ -17,14 +17,14 @@ use Rattle.trlab_jobs.specs.Job.{Job, seed_of, sheet_of}
 use Rattle.trlab_campaign.specs.Output.{IsOutputOf}
 use Rattle.trlab_campaign.specs.Refusal.{Outputs}
 
--- a step of a run under the rule in force: from one road to the next, with its tally
+-- the step from `before` to `after` in a run, under the rule in force, with its tally
 pub record IsStepAt (seed : Seed) (sheet : Sheet) (step : ℕ) (before after : Cells)
     (tally : StepTally) : Type 0 where
   pub rule : Programs
   pub under : in_force sheet step ≡ Some rule
   pub next : IsNext rule (dice_at seed step) before after tally
 
--- the roads of a run, one at each step
+-- `roads` gives the road of a run at each step
 abbrev pub AreRoads : Seed → Sheet → (ℕ → Cells) → Type 0
 AreRoads seed sheet roads = (step : ℕ) → IsRoadAt seed sheet step (roads step)
 
@@ -39,17 +39,19 @@ pub record IsCourse (seed : Seed) (sheet : Sheet) (roads : ℕ → Cells)
 abbrev pub is_on : ℕ → Car → Bool
 is_on lane car = nat_eq car.lane lane
 
--- the counts of a lane of a road: its cars, the sum of their speeds, and its stopped cars
+-- the number of cars on a lane of a road
 abbrev pub cars_on : ℕ → Cells → ℕ
 cars_on lane road = count_by (is_on lane) (standing road)
 
+-- the sum of the speeds of the cars on a lane of a road
 abbrev pub speed_on : ℕ → Cells → ℕ
 speed_on lane road = sum_by (λ (car : Car). cond (is_on lane car) car.speed 0) (standing road)
 
+-- the number of stopped cars on a lane of a road
 abbrev pub stopped_on : ℕ → Cells → ℕ
 stopped_on lane road = count_by (λ (car : Car). is_on lane car && nat_eq car.speed 0) (standing road)
 
--- these counts of a lane, summed over some roads
+-- the cars, speeds and stopped cars of a lane, each summed over these roads
 abbrev pub lane_count : ℕ → List Cells → LaneCount
 lane_count lane roads = record {
   cars = sum_by (cars_on lane) roads;
@@ -61,11 +63,12 @@ lane_count lane roads = record {
 abbrev pub tallies_from : (ℕ → StepTally) → ℕ → ℕ → List StepTally
 tallies_from tallies first count = map tallies (range_with_len first count)
 
--- the roads after these steps, one after each
+-- the roads after `count` steps of a course, from the step `first` on: one after each step
 abbrev pub roads_after : (ℕ → Cells) → ℕ → ℕ → List Cells
 roads_after roads first count = map roads (range_with_len (first + 1) count)
 
--- the counts of a road in some steps, by their tallies
+-- the counts of a road in `steps` steps, whose tallies are given: its cars and cells, and the sums of the
+-- tallies
 abbrev pub sum_point : Cells → ℕ → List StepTally → Point
 sum_point road steps tallies = record {
   cars = cars road;
@@ -76,8 +79,8 @@ sum_point road steps tallies = record {
   changes = sum_by (λ (tally : StepTally). tally.changes) tallies;
 }
 
--- the window of these steps: the counts of the road in them, and the counts of each lane, summed over the
--- roads after each of them
+-- the window of `count` steps of a course, from the step `first` on: the counts of the road in them, and the
+-- counts of each lane, summed over the roads after each of them
 abbrev pub window_of : (ℕ → Cells) → (ℕ → StepTally) → ℕ → ℕ → Window
 window_of roads tallies first count = record {
   step = first + count;
@@ -86,21 +89,21 @@ window_of roads tallies first count = record {
   lane1 = lane_count 1 (roads_after roads first count);
 }
 
--- window k of a series, whose windows have `every` steps each, from the step `from` on
+-- window k of a series, whose windows have `every` steps each, from the step `from` on; k counts from 0
 abbrev pub nth_window : (ℕ → Cells) → (ℕ → StepTally) → ℕ → ℕ → ℕ → Window
 nth_window roads tallies every from k = window_of roads tallies (from + k * every) every
 
--- the first `count` windows
+-- the first `count` windows of a series, whose windows have `every` steps each, from the step `from` on
 abbrev pub first_windows : (ℕ → Cells) → (ℕ → StepTally) → ℕ → ℕ → ℕ → List Window
 first_windows roads tallies every from count =
     map (nth_window roads tallies every from) (range_with_len 0 count)
 
--- a run of `steps` steps completes `count` windows: window k is one of them exactly if the
--- run reaches its end
+-- a run of `steps` steps completes `count` windows of `every` steps each, from the step `from` on: exactly
+-- the windows k with k below `count` end at or before the run's last step
 abbrev pub HasWindows : ℕ → ℕ → ℕ → ℕ → Type 0
 HasWindows every from steps count = (k : ℕ) → (k < count) ↔ (from + (k + 1) * every ≤ steps)
 
--- the series of a job: the windows that its run completes
+-- the series of a job: the windows of `every` steps each, from the step `from` on, that its run completes
 pub record IsSeries (job : Job) (every from : ℕ) (windows : List Window) : Type 0 where
   pub roads : ℕ → Cells
   pub tallies : ℕ → StepTally
@@ -109,12 +112,13 @@ pub record IsSeries (job : Job) (every from : ℕ) (windows : List Window) : Typ
   pub whole : HasWindows every from job.steps count
   pub told : windows ≡ first_windows roads tallies every from count
 
--- the whole output for a job, which is not a refusal
+-- a whole output for a job: the table of its series, with windows of `every` steps from the step `from` on,
+-- which is not a refusal
 abbrev pub SeriesOutput : ℕ → ℕ → Job → Outputs
 SeriesOutput every from job refused out =
     (refused ≡ false)
     × ((windows : List Window) × (IsSeries job every from windows × (out ≡ series_text windows)))
 
--- the whole output for a text, and whether it is a refusal
+-- a whole output of `series` for a job text, marked as a refusal or not
 abbrev pub IsSeriesOutput : ℕ → ℕ → List ℕ → Outputs
 IsSeriesOutput every from text refused out = IsOutputOf (SeriesOutput every from) text refused out

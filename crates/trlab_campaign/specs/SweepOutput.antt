@@ -13,7 +13,7 @@ use Rattle.trlab_jobs.specs.Shapes.{cell_count, all_steps}
 use Rattle.trlab_jobs.specs.Sweep.{Setup, Sweep, SweepText}
 use Rattle.trlab_campaign.specs.Refusal.{Outputs, OutputOfText}
 
--- the seed of a point's run; the road has this number, and the first `warm` steps are not counted
+-- the seed of a point's run on this road, which has the number `number`; the warm steps are not counted
 abbrev pub point_seed : Setup → ℕ → Cells → Seed
 point_seed setup number road =
     record { road = road; key = setup.key; number = number; warm = setup.span.warm }
@@ -22,7 +22,7 @@ point_seed setup number road =
 abbrev pub sweep_sheet : Setup → Sheet
 sweep_sheet setup = (0, setup.rule) ∷ []
 
--- the point of the diagram with these cars and this sum of tallies
+-- the point of the diagram with `cars` cars, and this sum of tallies of the counted steps
 abbrev pub point_of : Setup → ℕ → StepTally → Point
 point_of setup cars tally = record {
   cars = cars;
@@ -33,8 +33,8 @@ point_of setup cars tally = record {
   changes = tally.changes;
 }
 
--- a point of a sweep: its cars are evenly spread at the start, and its numbers are the counts after all steps
--- of the run
+-- a point of a sweep with this common part: road `number` has its `cars` cars evenly spread at the start, and
+-- the point has the counts after all steps of the run
 pub record IsPoint (setup : Setup) (number cars : ℕ) (point : Point) : Type 0 where
   pub start : Cells
   pub tally : StepTally
@@ -42,29 +42,32 @@ pub record IsPoint (setup : Setup) (number cars : ℕ) (point : Point) : Type 0 
   pub counted : IsTallyAt (point_seed setup number start) (sweep_sheet setup) (all_steps setup.span) tally
   pub told : point ≡ point_of setup cars tally
 
--- the points of a sweep, in the order of its numbers of cars; roads are numbered in this order, from 0
+-- the points of a sweep, one for each number of cars and in the same order; roads are numbered in this order,
+-- from 0
 pub record ArePoints (sweep : Sweep) (points : List Point) : Type 0 where
   pub one_each : length points ≡ length sweep.cars
   pub each : (i cars : ℕ) (point : Point) → i < length sweep.cars
       → IsPoint sweep.setup i (slice_index_or sweep.cars i cars) (slice_index_or points i point)
 
--- the first points of a sweep, in the same order, each with at least one cell and one step
+-- the first points of a sweep, in the order of its numbers of cars, each with at least one cell and one step
 pub record AreFirstPoints (sweep : Sweep) (points : List Point) : Type 0 where
   pub few : length points ≤ length sweep.cars
   pub each : (i cars : ℕ) (point : Point) → i < length points
       → IsPoint sweep.setup i (slice_index_or sweep.cars i cars) (slice_index_or points i point)
   pub measured : All IsMeasured points
 
--- the whole output for a sweep, which is not a refusal
+-- a whole output for a sweep: the table of its points, which is not a refusal
 abbrev pub SweepOutput : Sweep → Outputs
 SweepOutput sweep refused out =
     (refused ≡ false) × ((points : List Point) × (ArePoints sweep points × (out ≡ points_text points)))
 
--- the whole output for a sweep text, and whether it is a refusal
+-- a whole output for a sweep text, marked as a refusal or not: the table of its points, or the line of its
+-- first fault
 abbrev pub IsSweepOutput : List ℕ → Outputs
 IsSweepOutput text refused out = OutputOfText SweepText SweepOutput text refused out
 
--- a call that can be made for any sweep, and returns its table unless an allocation fails
+-- a call with the contract `pre` and `post` can be made for any sweep, and returns the sweep's table unless
+-- it fails
 abbrev pub TellsTable : {A B E : Type 0} → (A → Bor Sweep → Type 0)
     → (A → Bor Sweep → Result (Vec ℕ B) E → Type 0) → Type 0
 TellsTable pre post = (alloc : _) (sweep : Bor Sweep) → pre alloc sweep

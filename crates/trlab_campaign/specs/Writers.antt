@@ -3,30 +3,31 @@ use Rattle.std.specs.Prelude.{◌≡◌, ℕ, List, ◌++◌, take, Option, Resu
 use Rattle.std.specs.Io.KnownBytes.{Appends, Keeps}
 use Rattle.trlab_campaign.specs.declared.device.Sink as Sink
 
--- the bytes of a writer: all that its calls have taken, and the bytes that it makes known, if it does
+-- the bytes of a writer: all that its calls have taken, and the bytes that it makes known, if it does so
 pub record SinkBytes : Type 0 where
   pub accepted : List ℕ
   pub told : Option (List ℕ)
 
+-- the bytes of this writer, by the ghost functions of its sink
 abbrev pub bytes_of : {K : Type 0} → Sink.Ghosts K → K → SinkBytes
 bytes_of sink writer = record { accepted = sink.accepted writer; told = sink.written writer }
 
--- exactly these bytes were written
+-- between `old` and `new`, exactly `bytes` were written
 pub record HasWritten (old new : SinkBytes) (bytes : List ℕ) : Type 0 where
   pub accepted : new.accepted ≡ old.accepted ++ bytes
   pub told : Appends old.told new.told bytes
 
--- nothing was written
+-- between `old` and `new`, nothing was written
 pub record AddsNone (old new : SinkBytes) : Type 0 where
   pub accepted : new.accepted ≡ old.accepted
   pub told : Keeps old.told new.told
 
--- some prefix of a text was written
+-- between `old` and `new`, a prefix of `text` was written, possibly none or all of it
 pub record AddsPrefix (old new : SinkBytes) (text : List ℕ) : Type 0 where
   pub count : ℕ
   pub prefix : HasWritten old new (take count text)
 
--- a successful call wrote the text; a failed call wrote a prefix of it
+-- between `old` and `new`, a successful call wrote the text; a failed call wrote a prefix of it
 abbrev pub AddsBy : {A E : Type 0} → Result A E → SinkBytes → SinkBytes → List ℕ → Type 0
 AddsBy (Ok done) old new text = HasWritten old new text
 AddsBy (Err fault) old new text = AddsPrefix old new text

@@ -70,7 +70,7 @@ pub trait Sink {
     ghost accepted: { Self → List ℕ };
     // Whether everything that was written has been flushed.
     ghost handed_on: { Self → Bool };
-    // How often it was flushed.
+    // How often the writer was flushed.
     ghost flushes: { Self → Flushes };
     // Whether a call has failed.
     ghost failed: { Self → Bool };

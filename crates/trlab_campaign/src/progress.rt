@@ -46,7 +46,7 @@ impl ProgressObserver for NoProgress {
     fn reached(&self, _milestone: Milestone) {}
 }
 
-/// The whole hundredths of the work that are done with `done` of its `whole` parts.
+/// The percentage of work that is done with `done` of `whole` parts, rounded down; 100 if no part is left.
 fn hundredths(done: u64, whole: u64) -> u32
     ensures { result ≡ hundredths done whole }
 {

@@ -6,7 +6,7 @@ use Rattle.clap.specs.declared.builder.action.ArgAction.TheVariants.{SetTrue}
 use Rattle.clap.specs.declared.builder.value_parser.ValueParser.TheVariants.{Signed}
 use Rattle.trlab_bounds.specs.declared.runs.TheConstants.{MAX_RUNNERS, MAX_STEPS, MAX_WORKERS}
 
--- the option `--name n`: an integer in a range, and its value if none is given
+-- the option `--name n`: an integer from `least` to `most`, which is `default` if the option is not given
 abbrev pub number_option : Text → ℕ → ℕ → Text → Rule
 number_option name least most default = record (new_rule name) {
   long = Some name;
@@ -15,23 +15,23 @@ number_option name least most default = record (new_rule name) {
   defaults = default ∷ [];
 }
 
--- the option `--name n`: an integer from 1 to a maximum, and 1 if none is given
+-- the option `--name n`: an integer from 1 to `most`, and 1 if the option is not given
 abbrev pub count_option : Text → ℕ → Rule
 count_option name most = number_option name 1 most (codes "1")
 
--- the option `--workers n`
+-- the option `--workers n`, from 1 to MAX_WORKERS
 abbrev pub workers_option : Rule
 workers_option = count_option (codes "workers") MAX_WORKERS
 
--- the option `--runners n`
+-- the option `--runners n`, from 1 to MAX_RUNNERS
 abbrev pub runners_option : Rule
 runners_option = count_option (codes "runners") MAX_RUNNERS
 
--- the option `--every n`
+-- the option `--every n`, from 1 to MAX_STEPS
 abbrev pub every_option : Rule
 every_option = count_option (codes "every") MAX_STEPS
 
--- the option `--from s`, which is 0 if it is not given
+-- the option `--from s`, from 0 to MAX_STEPS, which is 0 if the option is not given
 abbrev pub from_option : Rule
 from_option = number_option (codes "from") 0 MAX_STEPS (codes "0")
 
@@ -51,7 +51,7 @@ json_flag = flag (codes "json")
 abbrev pub what_argument : Rule
 what_argument = new_rule (codes "what")
 
--- the second argument of `explain`: a number
+-- the second argument of `explain`: a number of 32 bits
 abbrev pub number_argument : Rule
 number_argument = record (new_rule (codes "number")) { parser = Some (Signed (pos 0) (pos 4294967295)) }
 
@@ -68,7 +68,7 @@ abbrev pub job_command : Text → App
 job_command name =
     command name (every_option ∷ from_option ∷ workers_option ∷ progress_flag ∷ [])
 
--- the command `run`
+-- the command `run`, with the options of a job
 abbrev pub run_command : App
 run_command = job_command (codes "run")
 
@@ -76,7 +76,7 @@ run_command = job_command (codes "run")
 abbrev pub sweep_command : App
 sweep_command = command (codes "sweep") (runners_option ∷ workers_option ∷ progress_flag ∷ [])
 
--- the command `series`
+-- the command `series`, with the options of a job
 abbrev pub series_command : App
 series_command = job_command (codes "series")
 

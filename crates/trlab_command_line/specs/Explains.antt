@@ -14,26 +14,27 @@ use Rattle.trlab_command_line.specs.Numbers.{is_given, argument_number}
 use Rattle.trlab_command_line.specs.declared.arguments.explain.Explaining.{Explaining}
 use Rattle.trlab_command_line.specs.declared.arguments.explain.Explaining.TheVariants.{Text, Number}
 
--- the kind of text that the command of this name reads
+-- the kind of input that the command of this name reads; none for a name that is not `run`, `sweep` or
+-- `check`
 abbrev pub subject_of_command : List ℕ → Option Subject
 subject_of_command name =
     if bytes_eq name (codes "run") then Some Job
     else if bytes_eq name (codes "sweep") then Some Sweep
     else if bytes_eq name (codes "check") then Some Check else None
 
--- the topic that is named before a number
+-- the topic of this name, `cause` or `reason`; none for any other name
 abbrev pub topic_named : List ℕ → Option Topic
 topic_named name =
     if bytes_eq name (codes "cause") then Some Cause
     else if bytes_eq name (codes "reason") then Some Reason else None
 
--- the form of an explanation, by whether `--json` is given
+-- the form of an explanation, JSON exactly if `--json` is given
 abbrev pub form_by : Bool → Form
 form_by false = Lines
 form_by true = Json
 
--- the request, or why the arguments are refused: the first argument names this command or this topic, the
--- second is a number, and the flag is `--json`
+-- the request of `explain` with a first argument, or its kind of error, by the command and the topic that the
+-- first argument names, by the number that is the second, and by whether `--json` is given
 abbrev pub asked_by : Option Subject → Option Topic → Option ℕ → Bool → Result Explaining ErrorKind
 asked_by (Some subject) topic None json = Ok (Text (Some subject) (form_by json))
 asked_by (Some subject) topic (Some number) json = Err UnknownArgument
@@ -42,23 +43,25 @@ asked_by None (Some topic) (Some number) false = Ok (Number topic number)
 asked_by None (Some topic) None false = Err MissingRequiredArgument
 asked_by None None number json = Err InvalidValue
 
--- the request of `explain`, by its two optional arguments and by whether `--json` is given
+-- the request of `explain`, or its kind of error, by its two optional arguments and by whether `--json` is
+-- given
 abbrev pub explained : Option Word → Option ℕ → Bool → Result Explaining ErrorKind
 explained None number json = Ok (Text None (form_by json))
 explained (Some name) number json = asked_by (subject_of_command name) (topic_named name) number json
 
--- the request of `explain`, by its matches
+-- the request of `explain`, or its kind of error, by its matches
 abbrev pub explained_in : List Row → Result Explaining ErrorKind
 explained_in rows =
     explained (first_of (codes "what") rows) (argument_number (codes "number") rows)
     (is_given (codes "json") rows)
 
--- the kinds of error of a request: none if it is accepted
+-- the kinds of error of a request of `explain`: none if it is accepted
 abbrev pub error_kinds : Result Explaining ErrorKind → Kinds
 error_kinds (Ok asked) = []
 error_kinds (Err kind) = kind ∷ []
 
--- the kinds of error of the command that was entered: arguments of `explain` that do not go together
+-- the kinds of error of the command that was entered: if it is `explain`, that its arguments do not go
+-- together, and otherwise none
 abbrev pub pair_fault : Option (Word × List Row) → Kinds
 pair_fault None = []
 pair_fault (Some (name, rows)) =

@@ -20,7 +20,8 @@ command_name (Sweep runners workers progress) = codes "sweep"
 command_name (Series workers every from progress) = codes "series"
 command_name (Explain explained) = codes "explain"
 
--- the matches of a command give a request: the numbers of its options, and whether progress is reported
+-- the matches of a command give a request: the numbers of its options, and whether progress is reported, or
+-- for `explain` the request of its arguments
 abbrev pub Give : List Row → Request → Type 0
 Give rows Check = ⊤
 Give rows (Run workers every from progress) =
@@ -38,7 +39,8 @@ Give rows (Explain explained) = explained_in rows ≡ Ok explained
 abbrev pub Asks : Option (Text × List Row) → Request → Type 0
 Asks entered request = (rows : List Row) × (entered ≡ Some (command_name request, rows)) × Give rows request
 
--- the numbers of runners, workers and steps are in the ranges of the engines
+-- the numbers of a request are in the ranges of the engines: 1 to MAX_WORKERS workers, 1 to MAX_RUNNERS
+-- runners, 1 to MAX_STEPS for `every`, and at most MAX_STEPS for `from`
 abbrev pub FitsEngines : Request → Type 0
 FitsEngines Check = ⊤
 FitsEngines (Run workers every from progress) =
@@ -51,24 +53,24 @@ FitsEngines (Series workers every from progress) =
     × ((1 ≤ every) × (every ≤ MAX_STEPS)) × (from ≤ MAX_STEPS)
 FitsEngines (Explain explained) = ⊤
 
--- the first argument is the name of the command
+-- the first argument is the name of the command of the request
 abbrev pub IsNamedFirst : List Text → Request → Type 0
 IsNamedFirst arguments request = (rest : List Text) × (arguments ≡ command_name request ∷ rest)
 
--- the kinds of error that the arguments have: those of `clap`, or that the arguments of `explain` do not go
--- together
+-- the kinds of error that the arguments have: those of `clap`, and if it has none, that the arguments of
+-- `explain` do not go together
 abbrev pub arguments_fault : List Text → Kinds
 arguments_fault arguments =
     or_else (fault_of command_line arguments) (pair_fault (subcommand_of command_line arguments))
 
--- a command of this name accepts these arguments, with these matches
+-- a command of this name accepts these arguments, and its matches are `rows`
 abbrev pub Takes : Text → List Text → List Row → Type 0
 Takes name arguments rows = (level : Shape)
     × (find (λ s. answers_to name (label_of s)) (built command_line).subs ≡ Some level)
     × (level_fault level [] nothing_held arguments false [] ≡ [])
     × (rows ≡ rows_after level.rules [] arguments)
 
--- a command of this name, which is not `help`, accepts some arguments with these matches
+-- a command of this name, which is not `help`, accepts some arguments with the matches `rows`
 abbrev pub IsEntered : Text → List Row → Type 0
 IsEntered name rows =
     (name ≡ codes "help" → ⊥) × ((arguments : List Text) × Takes name arguments rows)

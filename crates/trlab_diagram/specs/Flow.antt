@@ -7,6 +7,6 @@ pub record IsMeasured (point : Point) : Type 0 where
   pub cells : 1 ≤ point.cells
   pub steps : 1 ≤ point.steps
 
--- the distance per cell and step, in millionths, rounded down
+-- the flow at a point: the distance per cell and step, in millionths, rounded down
 abbrev pub flow_of : Point → ℕ
 flow_of point = point.distance * 1000000 / (point.cells * point.steps)

@@ -5,16 +5,16 @@ use Rattle.trlab_diagram.specs.declared.point.LaneCount.{LaneCount}
 use Rattle.trlab_diagram.specs.declared.point.Window.{Window}
 use Rattle.trlab_diagram.specs.Table.{line_text, numbers}
 
--- the first line, which names the columns
+-- the first line of the table of a series: the names of its columns
 abbrev pub series_heading : List ℕ
 series_heading = codes
     "step,cars,cells,steps,distance,stopped,changes,flow,cars0,distance0,stopped0,cars1,distance1,stopped1"
 
--- the columns of a lane
+-- the columns of a lane: its cars, their distance and the stopped cars
 abbrev pub lane_numbers : LaneCount → List ℕ
 lane_numbers lane = lane.cars ∷ lane.distance ∷ lane.stopped ∷ []
 
--- the columns of a window: its step, its point and its two lanes
+-- the columns of a window: its step, then the columns of its point, of lane 0 and of lane 1
 abbrev pub window_numbers : Window → List ℕ
 window_numbers window =
     window.step ∷ (numbers window.point ++ (lane_numbers window.lane0 ++ lane_numbers window.lane1))
@@ -23,10 +23,10 @@ window_numbers window =
 abbrev pub window_line : Window → List ℕ
 window_line window = join_with_byte 44 (map decimal (window_numbers window))
 
--- the text of a line of the table
+-- the line of a window, and the LF that ends it
 abbrev pub window_text : Window → List ℕ
 window_text window = line_text (window_line window)
 
--- the text of the table: the heading, and a line for each window
+-- the text of the table of a series: the heading, and a line for each window
 abbrev pub series_text : List Window → List ℕ
 series_text windows = line_text series_heading ++ flat_map window_text windows

@@ -4,11 +4,11 @@ use Rattle.std.specs.List.{join_with_byte}
 use Rattle.trlab_diagram.specs.declared.point.Point.{Point}
 use Rattle.trlab_diagram.specs.Flow.{flow_of}
 
--- the first line, which names the columns
+-- the first line of the table of points: the names of its columns
 abbrev pub heading : List ℕ
 heading = codes "cars,cells,steps,distance,stopped,changes,flow"
 
--- the columns of a point
+-- the columns of a point: its counts and its flow
 abbrev pub numbers : Point → List ℕ
 numbers point =
     point.cars ∷ point.cells ∷ point.steps
@@ -18,7 +18,7 @@ numbers point =
 abbrev pub point_line : Point → List ℕ
 point_line point = join_with_byte 44 (map decimal (numbers point))
 
--- the lines of the table
+-- the lines of the table of points: the heading, and a line for each point
 abbrev pub table_lines : List Point → List (List ℕ)
 table_lines points = heading ∷ map point_line points
 
@@ -26,6 +26,6 @@ table_lines points = heading ∷ map point_line points
 abbrev pub line_text : List ℕ → List ℕ
 line_text line = line ++ (10 ∷ [])
 
--- the text of the table
+-- the text of the table of points: its lines, each of which ends with LF
 abbrev pub points_text : List Point → List ℕ
 points_text points = flat_map line_text (table_lines points)

@@ -13,25 +13,26 @@ use Rattle.trlab_jobs.specs.declared.subject.Subject.TheVariants.{Job, Sweep, Ch
 abbrev pub edited : ℕ → ℕ → List ℕ → List ℕ → List ℕ
 edited at removed inserted text = take at text ++ (inserted ++ drop (at + removed) text)
 
--- the line and the cause of a text's first fault, if its reading found one
+-- the line and the cause of the fault in a result, or none if the result is a value
 abbrev pub fault_of : {A : Type 0} → Result A Fault → Option (ℕ × Cause)
 fault_of (Ok said) = None
 fault_of (Err fault) = Some (fault.line, fault.cause)
 
--- the first fault of a text that is read as this kind, if it has one
+-- `fault` is the line and the cause of the first fault of a text that is read as this kind, or none if it has
+-- no fault
 abbrev pub HasFirst : Subject → List ℕ → Option (ℕ × Cause) → Type 0
 HasFirst Job text fault = (says : Result JobSaid Fault) × JobText text says × (fault ≡ fault_of says)
 HasFirst Sweep text fault = (says : Result SweepSaid Fault) × SweepText text says × (fault ≡ fault_of says)
 HasFirst Check text fault = (says : Result CheckSaid Fault) × CheckText text says × (fault ≡ fault_of says)
 
--- the changed text has no fault, or its first fault is after the line `number` and has fewer lines after it
--- than the other text has after that line
+-- the changed text has no fault, or its first fault is after the line `number` and fewer lines follow it than
+-- follow that line in the other text
 abbrev pub IsAfter : List (List ℕ) → ℕ → List (List ℕ) → Option (ℕ × Cause) → Type 0
 IsAfter lines number changed None = Unit {0}
 IsAfter lines number changed (Some fault) =
     (number < fault.0) × (length changed + number < length lines + fault.0)
 
--- the changed text, read as this kind, gets further than a text with its first fault at this line
+-- the changed text, read as this kind, gets further than `text`, whose first fault is at the line `number`
 abbrev pub GetsFurther : List ℕ → ℕ → Subject → List ℕ → Type 0
 GetsFurther text number subject changed = (fault : Option (ℕ × Cause))
     × HasFirst subject changed fault × IsAfter (lines_of text) number (lines_of changed) fault

@@ -4,7 +4,7 @@
 
 ghost use Rattle.trlab_explain.specs.Laws.{EveryTextHasAHead};
 
-/// Every text has the head of an explanation, for each kind of input.
+/// Each text, read as any kind of input, has the head of an explanation.
 pub fn every_text_has_a_head()
     ensures { EveryTextHasAHead }
 {}

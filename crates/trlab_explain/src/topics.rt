@@ -56,7 +56,7 @@ fn push_topic(page: &mut Page, topic: Topic, number: u32) -> Result<()>
     page.say(": ")
 }
 
-/// Whether a number is unknown, and the words about it.
+/// Whether a number of this topic is unknown, and the words about the number.
 fn number_words(alloc: Global, topic: Topic, number: u32) -> Result<(bool, Page)>
     ensures { IfOk result (λ words. words.0 ≡ not (is_known topic number)) }
 {
@@ -65,7 +65,7 @@ fn number_words(alloc: Global, topic: Topic, number: u32) -> Result<(bool, Page)
     Ok((is_none, page_of(alloc, text.text()?)?))
 }
 
-/// Whether a number is unknown, and the page about it.
+/// Whether a number of this topic is unknown, and its page.
 fn number_page(alloc: Global, topic: Topic, number: u32) -> Result<(bool, Vec<u8>)>
     ensures { IfOk result (λ page. IsNumberPage topic number page.0 page.1.items) }
 {

@@ -17,7 +17,7 @@ use Rattle.trlab_jobs.specs.Lanes.{lanes}
 use Rattle.trlab_jobs.specs.RuleParts.{rule}
 use Rattle.trlab_jobs.specs.Later.{later_rules}
 
--- the job of a job text
+-- a job: its key, its road, the rule from step 0 on, the rules of later steps, and the number of steps
 pub record Job : Type 0 where
   pub key : List ℕ
   pub road : Cells
@@ -25,33 +25,35 @@ pub record Job : Type 0 where
   pub later : Sheet
   pub steps : ℕ
 
--- the line `road 1`
+-- the first line of a job text, `road 1`; the cause `Line` for any other line
 abbrev pub road_line : List ℕ → Result (Unit {0}) Cause
 road_line text = if bytes_eq text (codes "road 1") then Ok tt else Err Line
 
--- the key that hexadecimal digits write
+-- the key that decoded hexadecimal digits give; the cause `Key` if they are invalid
 abbrev pub key_of_hex : Result (List ℕ) FromHexError → Result (List ℕ) Cause
 key_of_hex (Ok key) = Ok key
 key_of_hex (Err fault) = Err Key
 
--- the key that a word writes: 64 hexadecimal digits of either case
+-- the key that a word writes: 64 hexadecimal digits of either case, or else the cause `Key`; if there is no
+-- word, its cause stays
 abbrev pub key_of : Result (List ℕ) Cause → Result (List ℕ) Cause
 key_of (Ok word) = key_of_hex (decode_sized word 32)
 key_of (Err cause) = Err cause
 
--- the line `key H`
+-- the key on the line `key H`
 abbrev pub key_line : List ℕ → Result (List ℕ) Cause
 key_line text = key_of (word_after (codes "key ") text)
 
--- the line `limit n`
+-- the limit on the line `limit n`, from 1 to MAX_LIMIT
 abbrev pub limit_line : List ℕ → Result ℕ Cause
 limit_line text = number_within 1 MAX_LIMIT (word_after (codes "limit ") text)
 
--- the line `steps n`
+-- the number of steps on the line `steps n`, from 0 to MAX_STEPS
 abbrev pub steps_line : List ℕ → Result ℕ Cause
 steps_line text = number_within 0 MAX_STEPS (word_after (codes "steps ") text)
 
--- the lines of a job text after its lanes: a rule, the number of steps, and rules of later steps
+-- reads the lines of a job text after its lanes, and gives the job with this key and road: a rule, the number
+-- of steps, and rules of later steps
 abbrev pub job_after : List ℕ → Cells → Reading Job
 job_after key road = do
   first ← rule (length road.lanes)
@@ -59,7 +61,8 @@ job_after key road = do
   later ← later_rules (length road.lanes) steps
   say (record { key = key; road = road; first = first; later = later; steps = steps })
 
--- the lines of a job text, in their order
+-- reads a job, line by line: `road 1`, the key, the limit, the lanes, a rule, the number of steps, and rules
+-- of later steps
 unfoldable pub job : Reading Job
 job = do
   line (exactly road_line)
@@ -68,12 +71,12 @@ job = do
   road ← lanes limit
   job_after key road
 
--- the result of a reading from a place on, without the rest that it leaves
+-- the result of `reading` from `place` on, without the rest that a value leaves
 abbrev pub UpToTheEnd : {A : Type 0} → Reading A → Rest → Result A Fault → Type 0
 UpToTheEnd reading place (Ok say) = (rest : Rest) × reading place (Ok (say, rest))
 UpToTheEnd reading place (Err fault) = reading place (Err fault)
 
--- the result for the lines of a job text
+-- the result for the lines of a job text: a job, or the first fault
 abbrev pub LinesSay : List ℕ → Result Job Fault → Type 0
 LinesSay text = UpToTheEnd job (all_lines text)
 
@@ -81,10 +84,10 @@ LinesSay text = UpToTheEnd job (all_lines text)
 abbrev pub JobText : List ℕ → Result Job Fault → Type 0
 JobText text says = TextSays LinesSay text says
 
--- the start of a job's run
+-- the start of a job's run: its road and key, as road 0, with tallies counted from step 0 on
 abbrev pub seed_of : Job → Seed
 seed_of job = record { road = job.road; key = job.key; number = 0; warm = 0 }
 
--- the sheet of rules of a job
+-- the sheet of a job: its first rule from step 0 on, and its later rules
 abbrev pub sheet_of : Job → Sheet
 sheet_of job = sheet_with job.first job.later

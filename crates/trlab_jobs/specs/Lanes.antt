@@ -10,24 +10,24 @@ use Rattle.trlab_texts.specs.declared.fault.Cause.TheVariants.{Road}
 use Rattle.trlab_texts.specs.Words.{word_after, next_word_is}
 use Rattle.trlab_texts.specs.Reading.{Fault, Reading, ◌>>=◌, line, exactly, perhaps, before}
 
--- the picture of the line `lane P`
+-- the picture on the line `lane P`
 abbrev pub lane_word : List ℕ → Result (List ℕ) Cause
 lane_word text = word_after (codes "lane ") text
 
--- the picture of a second lane, if the first word of the next line is `lane`
+-- reads the picture of a second lane if the first word of the next line is `lane`, and otherwise gives none
 abbrev pub second_lane : Reading (Option (List ℕ))
 second_lane rest out = perhaps (next_word_is (codes "lane") rest.left) (line (exactly lane_word)) rest out
 
--- the line of the last lane, if the first lane is on the line `first`
+-- the line of the last lane: `first` if there is no second lane, and otherwise the next line
 abbrev pub last_line : ℕ → Option (List ℕ) → ℕ
 last_line first None = first
 last_line first (Some second) = first + 1
 
--- the line of a lane: `first` for lane 0, and `last` for lane 1
+-- the line of a lane: `first` for lane 0, and `last` for any other lane
 abbrev pub line_of_lane : ℕ → ℕ → ℕ → ℕ
 line_of_lane first last lane = if lane == 0 then first else last
 
--- the line of a fault: its lane's line, or the last line if it is not about one lane
+-- the line of a fault: that of its lane for a fault of a character or a speed, and `last` for any other fault
 abbrev pub line_of_fault : ℕ → ℕ → RoadFault → ℕ
 line_of_fault first last Lanes = last
 line_of_fault first last Length = last
@@ -38,24 +38,25 @@ line_of_fault first last Memory = last
 line_of_fault first last TooManyCars = last
 
 -- the result for the pictures of lanes under a limit, on the lines from `first` to `last`: the legal road
--- that they show, or their first fault
+-- that they show, or their first fault, at its line; a failed allocation is not a fault of pictures
 abbrev pub LanesSay : ℕ → ℕ → ℕ → List (List ℕ) → Result Cells Fault → Type 0
 LanesSay first last limit pictures (Ok road) = IsLegal road × Shows limit pictures road
 LanesSay first last limit pictures (Err fault) =
     (wrong : RoadFault) × (IsFirstFault limit pictures wrong × ((wrong ≢ Memory)
     × (fault ≡ record { line = line_of_fault first last wrong; cause = Road wrong })))
 
--- the result for one or two pictures, from the line `first` on
+-- the result for one or two pictures under a limit, of which the first is on the line `first`
 abbrev pub PicturesSay : ℕ → ℕ → List ℕ → Option (List ℕ) → Result Cells Fault → Type 0
 PicturesSay first limit picture second says =
     LanesSay first (last_line first second) limit (picture ∷ option_to_list second) says
 
--- the road, from its pictures
+-- gives the result for one or two pictures under a limit, whose lines were read already; the first is on the
+-- line `first`
 abbrev pub road_of : ℕ → ℕ → List ℕ → Option (List ℕ) → Reading Cells
 road_of first limit picture second rest out =
     (says : Result Cells Fault) × (PicturesSay first limit picture second says × (out ≡ before rest says))
 
--- the lanes of a road: the line `lane P`, and the next line if it begins with `lane`
+-- reads the lanes of a road with this limit: the line `lane P`, and the next line if its first word is `lane`
 abbrev pub lanes : ℕ → Reading Cells
 lanes limit rest out =
     (line (exactly lane_word) >>= λ picture. second_lane >>= road_of rest.number limit picture) rest out

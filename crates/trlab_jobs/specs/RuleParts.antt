@@ -19,76 +19,84 @@ use Rattle.trlab_texts.specs.Reading.{Fault, Reading, say, ◌>>=◌, line, exac
 use Rattle.trlab_texts.specs.Programs.{Part, part, part_of, heading_line}
 use Rattle.trlab_jobs.specs.RuleLines.{rule_line}
 
--- the verifier accepts this program of a kind, and `checked` is the program with its budget
+-- the verifier accepts `program` as one of this kind, and `checked` is `program` with its budget
 abbrev pub Accepts : Kind → Program → CheckedProgram → Type 0
 Accepts kind program checked =
     (checked.program ≡ program) × (IsAccepted kind program × IsChecked kind checked)
 
--- the result for a rule line with this standard motion program: always the rule, because the verifier accepts
--- the program
+-- the result for a rule with this standard motion program and no change program: never a fault, but always a
+-- rule whose program the verifier accepts
 abbrev pub MotionSays : Program → Result Programs Cause → Type 0
 MotionSays motion (Ok rule) = Accepts Motion motion rule.motion × (rule.change ≡ None)
 MotionSays motion (Err cause) = ⊥
 
--- the result for a rule line with these standard programs: always the rule, because the verifier accepts both
+-- the result for a rule with these standard programs: never a fault, but always a rule whose two programs the
+-- verifier accepts
 abbrev pub BothSay : Program → Program → Result Programs Cause → Type 0
 BothSay motion change (Ok rule) =
     Accepts Motion motion rule.motion × MatchOption rule.change ⊥ (Accepts Change change)
 BothSay motion change (Err cause) = ⊥
 
--- the result for these programs: a fault on a road with one lane, and the rule on a road with two lanes
+-- the result for a rule with these standard programs, by whether the road has one lane: the cause `OneLane`
+-- if `true`, and otherwise the rule
 abbrev pub ExchangeSays : Bool → Program → Program → Result Programs Cause → Type 0
 ExchangeSays true motion change says = says ≡ Err OneLane
 ExchangeSays false motion change says = BothSay motion change says
 
--- the cause for the digits of a change program on a road with one lane
+-- the cause for the decoded digits of a change program on a road with one lane: `Hex` if they are invalid,
+-- and otherwise `OneLane`
 abbrev pub digits_misplacement : Result (List ℕ) FromHexError → Cause
 digits_misplacement (Ok bytes) = OneLane
 digits_misplacement (Err fault) = Hex
 
--- the cause for the line `code X` of a change program on a road with one lane
+-- the cause for the line `code X` of a change program on a road with one lane, from its word X: the word's
+-- own cause, or that of its digits
 abbrev pub code_misplacement : Result (List ℕ) Cause → Cause
 code_misplacement (Ok digits) = digits_misplacement (decode_of digits)
 code_misplacement (Err cause) = cause
 
--- the fault of a change program's block on a road with one lane, if it begins on the line `first`
+-- the fault of a change program's block on a road with one lane: `OneLane` at its first line, `first`;
+-- without a line `end`, a missing line after the last line
 abbrev pub block_misplacement : ℕ → List (List ℕ) → Option Part → Fault
 block_misplacement first left None = record { line = first + 1 + length left; cause = Line }
 block_misplacement first left (Some parts) = record { line = first; cause = OneLane }
 
--- the fault of a change program on a road with one lane, by whether the program is a block
+-- the fault of a change program on a road with one lane, from its first line `text`, of number `first`: that
+-- of a block if `true`, and otherwise that of the line `code X`
 abbrev pub part_misplacement : Bool → ℕ → List ℕ → List (List ℕ) → Fault
 part_misplacement true first text left = block_misplacement first left (part_of left)
 part_misplacement false first text left =
     record { line = first; cause = code_misplacement (word_after (codes "code ") text) }
 
--- the first fault of a change part on a road with one lane, from a line on: wrong words or a missing line
--- `end` come first, then digits that are not hexadecimal, then the missing lane
+-- the first fault of a change part on a road with one lane, from the line `first` on: wrong words or a
+-- missing line come first, then digits that are not hexadecimal, then the missing lane
 abbrev pub misplacement : ℕ → List (List ℕ) → Fault
 misplacement first [] = record { line = first; cause = Line }
 misplacement first (text ∷ left) = part_misplacement (bytes_eq text (heading_line Change)) first text left
 
--- a change part, which is a fault on a road with one lane
+-- reads a change part; on a road with one lane (`true`) it is a fault
 abbrev pub change_by : Bool → Reading CheckedProgram
 change_by true rest out = out ≡ Err (misplacement rest.number rest.left)
 change_by false rest out = part Change rest out
 
--- a change part begins on the next line: its first word is `change` or `code`
+-- whether a change part begins on the next line: its first word is `change` or `code`
 abbrev pub next_is_change : List (List ℕ) → Bool
 next_is_change left = next_word_is (codes "change") left || next_word_is (codes "code") left
 
--- a change part, if it begins on the next line, on a road with `lanes` lanes
+-- reads a change part if the next line begins one, and otherwise gives none, on a road with `lanes` lanes
 abbrev pub change_part : ℕ → Reading (Option CheckedProgram)
 change_part lanes rest out = perhaps (next_is_change rest.left) (change_by (nat_eq lanes 1)) rest out
 
--- own programs: a motion part, and optionally a change part
+-- reads the programs of `rule own` on a road with `lanes` lanes: a motion part, and a change part if one
+-- follows
 abbrev pub own_rule : ℕ → Reading Programs
 own_rule lanes = do
   motion ← part Motion
   change ← change_part lanes
   say (record { motion = motion; change = change })
 
--- a rule for a road with `lanes` lanes, by its line, which was read already
+-- reads a rule for a road with `lanes` lanes, from its line `number`, which was read already: only the
+-- programs of `rule own` take more lines
 abbrev pub rule_from : ℕ → ℕ → RuleLine ℕ → Reading Programs
 rule_from lanes number (Nasch p) = of_line number (MotionSays (nasch_program p))
 rule_from lanes number (Vdr p p0) = of_line number (MotionSays (vdr_program p p0))
@@ -96,6 +104,6 @@ rule_from lanes number (Rickert p c) =
     of_line number (ExchangeSays (nat_eq lanes 1) (nasch_program p) (rickert_program c))
 rule_from lanes number Own = own_rule lanes
 
--- a rule for a road with `lanes` lanes
+-- reads a rule for a road with `lanes` lanes: a rule line, and the programs of `rule own` after it
 abbrev pub rule : ℕ → Reading Programs
 rule lanes rest out = (line (exactly rule_line) >>= rule_from lanes rest.number) rest out

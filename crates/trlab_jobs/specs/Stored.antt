@@ -10,14 +10,15 @@ use Rattle.trlab_jobs.specs.declared.sweep.Shape.{Shape}
 use Rattle.trlab_jobs.specs.Shapes.{all_steps}
 use Rattle.trlab_jobs.specs.Sweep.{Sweep}
 
--- later rules for roads with `lanes` lanes: their steps increase, from `least` on, and are below `steps`
+-- later rules for roads with `lanes` lanes: their steps increase, are at least `least`, and are below `steps`
 abbrev pub AreLaterRules : ℕ → ℕ → ℕ → Sheet → Type 0
 AreLaterRules lanes steps least [] = Unit {0}
 AreLaterRules lanes steps least (entry ∷ later) =
     (least ≤ entry.0) × ((entry.0 < steps)
     × (IsRuleFor lanes entry.1 × AreLaterRules lanes steps (entry.0 + 1) later))
 
--- a job as the code keeps it: a legal road, and rules for its lanes
+-- a job as the code keeps it: its road is legal, its rules are for its number of lanes, and the steps of its
+-- later rules increase and are below its number of steps
 pub record IsStoredJob (job : Job) : Type 0 where
   pub legal : IsLegal job.road
   pub first : IsRuleFor (length job.road.lanes) job.first
@@ -27,8 +28,8 @@ pub record IsStoredJob (job : Job) : Type 0 where
 abbrev pub Spreads : Shape → ℕ → Type 0
 Spreads shape count = CanSpread shape.lanes shape.cells shape.limit count
 
--- a sweep as the code keeps it: a rule for its lanes, room for the cars of each point, at most MAX_POINTS
--- points, at least one counted step, and at most MAX_WORK steps per point
+-- a sweep as the code keeps it: a rule for its number of lanes, cars that can be spread evenly at each point,
+-- at most MAX_POINTS points, at least one counted step, and at most MAX_WORK steps per point
 pub record IsStoredSweep (sweep : Sweep) : Type 0 where
   pub rule : IsRuleFor sweep.setup.shape.lanes sweep.setup.rule
   pub spreads : All (Spreads sweep.setup.shape) sweep.cars

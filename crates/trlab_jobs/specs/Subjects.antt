@@ -6,15 +6,16 @@ use Rattle.std.specs.Char.{to_ascii_lowercase}
 use Rattle.trlab_jobs.specs.declared.subject.Subject.{Subject}
 use Rattle.trlab_jobs.specs.declared.subject.Subject.TheVariants.{Job, Sweep, Check}
 
--- a word is this name, in small letters or capitals
+-- whether a word is this name, in small or capital letters
 abbrev pub is_named : List ℕ → List ℕ → Bool
 is_named word name = bytes_eq (map to_ascii_lowercase word) (map to_ascii_lowercase name)
 
--- the first words of programs
+-- the first words of a check text
 abbrev pub program_words : List (List ℕ)
 program_words = codes "motion" ∷ codes "change" ∷ codes "code" ∷ codes "notes" ∷ []
 
--- the kind of input that begins with this word: a job with `road`, a sweep with `sweep`, a check with a program
+-- the kind of input that begins with this word, in small or capital letters: a job with `road`, a sweep with
+-- `sweep`, a check with `motion`, `change`, `code` or `notes`; none for any other word
 abbrev pub subject_named : List ℕ → Option Subject
 subject_named word =
     if is_named word (codes "road") then Some Job

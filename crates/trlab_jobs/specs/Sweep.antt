@@ -14,34 +14,35 @@ use Rattle.trlab_jobs.specs.RuleParts.{rule}
 use Rattle.trlab_jobs.specs.Shapes.{shape, span, cell_count, all_steps}
 use Rattle.trlab_jobs.specs.Counts.{counts}
 
--- the common part of a sweep's points
+-- the common part of a sweep's points: the key, the shape of the roads, the rule, and the steps
 pub record Setup : Type 0 where
   pub key : List ℕ
   pub shape : Shape
   pub rule : Programs
   pub span : Span
 
--- the sweep of a sweep text: the common part of its points, and the number of cars of each point
+-- a sweep: the common part of its points, and the number of cars of each point
 pub record Sweep : Type 0 where
   pub setup : Setup
   pub cars : List ℕ
 
--- a sweep from its parts
+-- the sweep with these parts: the key, the roads (limit, cells per lane, lanes), the rule, the steps (not
+-- counted and counted), and the cars of each point
 abbrev pub sweep_of : List ℕ → ℕ → ℕ → ℕ → Programs → ℕ → ℕ → List ℕ → Sweep
 sweep_of key limit cells lanes rule warm measure cars =
     let shape : Shape = record { limit = limit; cells = cells; lanes = lanes } in
     let span : Span = record { warm = warm; measure = measure } in
     record { setup = record { key = key; shape = shape; rule = rule; span = span }; cars = cars }
 
--- the line `sweep 1`
+-- the first line of a sweep text, `sweep 1`; the cause `Line` for any other line
 abbrev pub sweep_line : List ℕ → Result (Unit {0}) Cause
 sweep_line text = if bytes_eq text (codes "sweep 1") then Ok tt else Err Line
 
--- the key, after the line `sweep 1`
+-- reads the line `sweep 1`, and then the key
 abbrev pub sweep_heading : Reading (List ℕ)
 sweep_heading = line (exactly sweep_line) >> line (exactly key_line)
 
--- the lines of a sweep text before its points
+-- reads the lines of a sweep text before its points: `sweep 1`, the key, the shape, a rule and the steps
 unfoldable pub setup : Reading Setup
 setup = do
   key ← sweep_heading
@@ -50,14 +51,15 @@ setup = do
   steps ← span
   say (record { key = key; shape = roads; rule = rule; span = steps })
 
--- the sweep, from the common part of its points and from the lines that are left
+-- the result for a sweep, from its common part: the fault if that has one, and otherwise the sweep with the
+-- numbers of cars on all lines that are left, or the first fault in them
 abbrev pub with_counts : Result (Setup × Rest) Fault → Result Sweep Fault
 with_counts (Err fault) = Err fault
 with_counts (Ok found) =
     map_ok (λ cars. record { setup = found.0; cars = cars })
     (counts (cell_count found.0.shape) (all_steps found.0.span) found.1.number found.1.left)
 
--- the result for the lines of a sweep text
+-- the result for the lines of a sweep text: a sweep, or the first fault
 abbrev pub SweepLinesSay : List ℕ → Result Sweep Fault → Type 0
 SweepLinesSay text says =
     (found : Result (Setup × Rest) Fault) × (setup (all_lines text) found × (says ≡ with_counts found))

@@ -40,7 +40,7 @@ fn second_lane(rest: Rest<'_>) -> Result<(Option<Excerpt<'_>>, Rest<'_>), Refusa
     }
 }
 
-/// The line of a fault: the line of its lane, or the last line if it is not about one lane.
+/// The line of a fault: that of its lane for a fault of a character or a speed, and `last` for any other fault.
 fn line_of_fault(first: u32, last: u32, fault: RoadFault) -> u32
     ensures { result ≡ line_of_fault first last fault }
 {

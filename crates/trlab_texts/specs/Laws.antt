@@ -2,7 +2,8 @@
 use Rattle.std.specs.Prelude.{◌≡◌, ℕ, ◌<◌, ◌≤◌, ◌^◌, ◌↔◌, List, ◌++◌, Ok, decimal}
 use Rattle.trlab_texts.specs.Words.{number_within, word_after}
 
--- a line with a name and a number is read exactly if the number's decimal digits follow the name
+-- for `high` below 2^32: the number that is read after `name` in the line `text` is n exactly if the line is
+-- the name followed by the decimal digits of n, and n is from `low` to `high`
 abbrev pub NumbersAreAsWritten : Type 0
 NumbersAreAsWritten = (name text : List ℕ) (low high n : ℕ) → high < 2 ^ 32
     → (number_within low high (word_after name text) ≡ Ok n)

@@ -2,15 +2,15 @@
 use Rattle.std.specs.Prelude.{◌≡◌, ℕ, ◌+◌, List, ◌∷◌}
 use Rattle.trlab_lines.specs.Lines.{lines_of}
 
--- the rest of a text: the lines that are left, and the number of the first
+-- the rest of a text that is read line by line: the lines that are `left`, and the number of the next line
 pub record Rest : Type 0 where
   pub number : ℕ
   pub left : List (List ℕ)
 
--- all lines of a text
+-- the rest before anything is read: all lines of the text, of which the first has the number 1
 abbrev pub all_lines : List ℕ → Rest
 all_lines text = record { number = 1; left = lines_of text }
 
--- the next line of a rest, and the rest after it
+-- the next line of `rest` is `text`, and `after` is the rest after this line
 abbrev pub IsNextLine : Rest → List ℕ → Rest → Type 0
 IsNextLine rest text after = (rest.left ≡ text ∷ after.left) × (after.number ≡ rest.number + 1)

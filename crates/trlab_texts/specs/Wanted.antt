@@ -14,12 +14,14 @@ use Rattle.trlab_texts.specs.declared.refusal.Wanted.TheVariants.{Nothing, Lines
 use Rattle.trlab_texts.specs.Places.{HasBytesAt}
 use Rattle.trlab_texts.specs.Words.{number_of, within}
 
--- a word of a line, at this position and of this size, is not a number of the range
+-- the `size` bytes of `line` at the position `at` do not write a number from `least` to `most`
 abbrev pub IsNoNumberAt : List ℕ → ℕ → ℕ → ℕ → ℕ → Type 0
 IsNoNumberAt line at size least most = (word : List ℕ)
     × (HasBytesAt line at word × ((length word ≡ size) × (within least most (number_of word) ≡ Err NoNumber)))
 
--- a cause and the input that can be wanted for it, in a line; no other pair occurs
+-- a reader can want this input when `line` has this cause: one kind of input for each cause, or `Nothing`;
+-- wanted positions are in the line, and a wanted program is one that the verifier rejects for the cause's
+-- reason
 abbrev pub IsWantedIn : List ℕ → Cause → Wish → Type 0
 IsWantedIn line Line (Lines names) = Unit {0}
 IsWantedIn line NoNumber (Number at size least most quantity) = IsNoNumberAt line at size least most
@@ -41,12 +43,12 @@ IsWantedIn line (Road fault) Nothing = Unit {0}
 IsWantedIn line StandardRefused Nothing = Unit {0}
 IsWantedIn line cause wanted = ⊥
 
--- the input that can be wanted at a fault of a line; nothing if an allocation failed
+-- a reader can want this input at a fault of `line`; `Nothing` if an allocation failed
 abbrev pub IsWantedAt : List ℕ → LineFault → Wish → Type 0
 IsWantedAt line (Wrong cause) wanted = IsWantedIn line cause wanted
 IsWantedAt line NoMemory wanted = wanted ≡ Nothing
 
--- the input that can be wanted at a fault of a text; nothing if an allocation failed
+-- a reader can want this input at a fault of a text, which is in `line`; `Nothing` if an allocation failed
 abbrev pub IsWanted : List ℕ → TextFault → Wish → Type 0
 IsWanted line (At number cause) wanted = IsWantedIn line cause wanted
 IsWanted line Memory wanted = wanted ≡ Nothing

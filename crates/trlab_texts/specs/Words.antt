@@ -7,55 +7,57 @@ use Rattle.trlab_lines.specs.Cutting.{without_prefix, cut, front_or_all}
 use Rattle.trlab_texts.specs.declared.fault.Cause.{Cause}
 use Rattle.trlab_texts.specs.declared.fault.Cause.TheVariants.{Line, Number}
 
--- a text with a space in it
+-- whether a text contains a space
 abbrev pub has_space : List ℕ → Bool
 has_space text = list_any (λ c. c == 32) text
 
--- a word: not empty, and no space in it
+-- whether a text is one word: not empty, and without spaces
 abbrev pub is_word : List ℕ → Bool
 is_word text = nat_lt 0 (length text) && not (has_space text)
 
--- the text after a name, if it is one word; anything else has the cause Line
+-- the text after a line's name, if it is one word; the cause `Line` if it is not, or if the line has another
+-- name
 abbrev pub one_word : Option (List ℕ) → Result (List ℕ) Cause
 one_word None = Err Line
 one_word (Some word) = if is_word word then Ok word else Err Line
 
--- the only word of a line after its name, which ends with a space
+-- the text after `name` in the line `text`, if it is one word; the cause `Line` for any other line
 abbrev pub word_after : List ℕ → List ℕ → Result (List ℕ) Cause
 word_after name text = one_word (without_prefix name text)
 
--- the number that a word writes in decimal digits, without a leading 0
+-- the number that a word writes in decimal digits, without a leading 0; none if it does not write a number
 abbrev pub number_of : List ℕ → Option ℕ
 number_of word = if bytes_eq (decimal (digits_value 10 word)) word then Some (digits_value 10 word) else None
 
--- a number, if it is from low to high
+-- the number, if it is from `low` to `high`; the cause `Number` if it is not, or if there is no number
 abbrev pub within : ℕ → ℕ → Option ℕ → Result ℕ Cause
 within low high None = Err Number
 within low high (Some n) = if nat_le low n && nat_le n high then Ok n else Err Number
 
--- the number from low to high that a word writes, if the line has the word
+-- the number from `low` to `high` that a word writes, and otherwise the cause `Number`; if there is no word,
+-- its cause stays
 abbrev pub number_within : ℕ → ℕ → Result (List ℕ) Cause → Result ℕ Cause
 number_within low high (Err cause) = Err cause
 number_within low high (Ok word) = within low high (number_of word)
 
--- the first word of a line: the bytes before its first space, or all of them
+-- the first word of a line: the bytes before its first space, or all of them if it has no space
 abbrev pub head_word : List ℕ → List ℕ
 head_word text = front_or_all text (cut 32 text)
 
--- the next line begins with this word
+-- whether the next line begins with this word; false if no line is left
 abbrev pub next_word_is : List ℕ → List (List ℕ) → Bool
 next_word_is word [] = false
 next_word_is word (text ∷ left) = bytes_eq (head_word text) word
 
--- the text, if it is one word
+-- the text, if it is one word, and otherwise none
 abbrev pub as_word : List ℕ → Option (List ℕ)
 as_word text = if is_word text then Some text else None
 
--- two parts, if each is a word
+-- the two parts, if each of them is one word, and otherwise none
 abbrev pub both_words : Option (List ℕ × List ℕ) → Option (List ℕ × List ℕ)
 both_words None = None
 both_words (Some parts) = if is_word parts.0 && is_word parts.1 then Some parts else None
 
--- the two words of a text with one space between them
+-- the two words of a text, if it is two words with one space between them, and otherwise none
 abbrev pub two_words : List ℕ → Option (List ℕ × List ℕ)
 two_words text = both_words (cut 32 text)

@@ -4,7 +4,7 @@
 
 ghost use Rattle.trlab_texts.specs.Laws.{NumbersAreAsWritten};
 
-/// A line with a name and a number is read exactly if the number's decimal digits follow the name.
+/// A line is read as a number from `low` to `high` exactly if it is a name and then the number's decimal digits.
 pub fn numbers_are_as_written()
     ensures { NumbersAreAsWritten }
 {}
