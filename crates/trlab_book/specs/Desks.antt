@@ -24,7 +24,7 @@ use Rattle.trlab_book.specs.declared.desk.SharedBook.{SharedBook}
 use Rattle.trlab_book.specs.declared.running.RunFault.{RunFault}
 use Rattle.trlab_book.specs.declared.running.RunFault.TheVariants as run
 
--- the two are the same shared book: no other book shares its list of events
+-- both are the same shared book, with the same list of events; no other book shares this list
 abbrev pub IsSameBook : {L : Type 0} {ledger : Ghosts L} → SharedBook L ledger → SharedBook L ledger → Type 0
 IsSameBook old new = new.strands.table.shared.table_id ≡ old.strands.table.shared.table_id
 

@@ -27,7 +27,7 @@ abbrev pub ticket_of : {A : Type 0} → Part A → ℕ
 ticket_of p = p.number
 
 -- the part `p` has a program's answers for the cars of its segment, if the road is cut into `count` segments;
--- `answers` says which lists are a program's answers for some cars
+-- `answers` says whether a list is a program's answers for successive cars
 abbrev pub AnswersSegment : {P A : Type 0} → (P → Dice → Cells → ℕ → ℕ → List A → Type 0)
     → P → Dice → Cells → ℕ → Part A → Type 0
 AnswersSegment answers program dice road count p =
@@ -35,7 +35,7 @@ AnswersSegment answers program dice road count p =
     answers program dice road (first p.number) (first (p.number + 1)) p.answers.items
 
 -- a part has the answers of the phase's program for the cars of its segment, if the road is cut into the
--- given number of segments; `answers` says which lists are a program's answers for some cars
+-- given number of segments; `answers` says whether a list is a program's answers for successive cars
 abbrev pub IsPart : {P A : Type 0} → (P → Dice → Cells → ℕ → ℕ → List A → Type 0)
     → Phase P → ℕ → Part A → Type 0
 IsPart answers phase = AnswersSegment answers phase.program.now phase.dice.now phase.road.now

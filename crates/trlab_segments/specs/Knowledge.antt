@@ -40,8 +40,8 @@ at_end k = ticket_knowledge k.plan k.passes k.tickets k.least true
 abbrev pub less_a_pass : TicketKnowledge → TicketKnowledge
 less_a_pass k = ticket_knowledge k.plan (k.passes - 1) k.tickets k.least k.ended
 
--- the knowledge of the drawer to which a drawer has given one pass: it has no ticket, and has ended if the
--- other has
+-- the knowledge of a new drawer with the one pass that another has given away: it has no ticket, and has
+-- ended if the other has
 abbrev pub one_pass : TicketKnowledge → TicketKnowledge
 one_pass k = ticket_knowledge k.plan 1 [] 0 k.ended
 

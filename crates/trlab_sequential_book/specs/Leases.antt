@@ -10,7 +10,7 @@ use Rattle.trlab_sequential_book.specs.declared.lease.ExecutedStep.{ExecutedStep
 use Rattle.trlab_sequential_book.specs.declared.order.Order.{Order}
 
 -- steps that were run, the first of them step `step`, lead from `road` to `last`, each under its rule, with
--- the random words of `key` and of the road with number `number`
+-- the random words of `key` and of the road with number `number`; no steps lead from a road to itself
 abbrev pub LeadsTo : List ℕ → ℕ → ℕ → Cells → List ExecutedStep → Cells → Type 0
 LeadsTo key number step road [] last = last ≡ road
 LeadsTo key number step road (ran ∷ more) last =

@@ -80,15 +80,15 @@ abbrev pub is_out : ℕ → Option ℕ → Bool
 is_out number None = false
 is_out number (Some out) = out == number
 
--- is the lease the one that is out? It began at the steps done, has run no step that was not ordered, and
--- runs the job's road
+-- does the job accept the lease as its own? It is the one that is out, began at the steps done, has run no
+-- step that was not ordered, and runs the job's road
 abbrev pub is_own : Offered → JobState → Bool
 is_own lease job =
     is_out lease.number job.out && ((lease.base == job.done) && (not (ltb job.high lease.step) && lease.same))
 
--- the lease's next step is ordered, and the reply has the step from which its rule is in force. The fault is
--- `Ended` if the job was cancelled or the lease has run all its steps, otherwise `StrangerLease` if the lease
--- is not the one that is out
+-- the lease's next step is ordered, so `high` is above it, and the reply has the step from which its rule is
+-- in force. The fault is `Ended` if the job was cancelled or the lease has run all its steps, otherwise
+-- `StrangerLease` if the job does not accept the lease as its own
 abbrev pub ordering : Offered → JobState → Outcome
 ordering lease job =
     if job.cancelled || (lease.step == job.steps) then refused fault.Ended job
@@ -97,8 +97,8 @@ ordering lease job =
       job = record job { high = max job.high (lease.step + 1) };
     } else refused fault.StrangerLease job
 
--- the job takes over the steps of the lease, and no lease is out; the fault is `StrangerLease` if the lease
--- is not the one that is out
+-- the job takes over the steps of the lease, and no lease is out; the fault is `StrangerLease` if the job
+-- does not accept the lease as its own
 abbrev pub giving_back : Offered → JobState → Outcome
 giving_back lease job =
     if is_own lease job then record { reply = reply.Done; job = record job { done = lease.step; out = None } }
@@ -136,14 +136,15 @@ pub record Served : Type 0 where
   pub reply : Reply
   pub jobs : List JobState
 
--- a call on the job with number `index`, with its outcome; the fault is `NoSuchJob` if there is no such job
+-- the call on the job with number `index` has this outcome; the fault is `NoSuchJob` if there is no such job
 abbrev pub on_job : List JobState → ℕ → (JobState → Outcome) → Served
 on_job jobs index outcome = elim (slice_get jobs index) [
   | None ↦ record { reply = reply.Refused fault.NoSuchJob; jobs = jobs }
   | Some job ↦ record { reply = (outcome job).reply; jobs = slice_set jobs index (outcome job).job }
 ]
 
--- a lease, under this number, of the free job that was found; `NoLease` if none was found
+-- the free job that was found is leased under this number; for `None`, if no job is free, the reply is
+-- `NoLease`
 abbrev pub on_free : List JobState → ℕ → Option ℕ → Served
 on_free jobs number None = record { reply = reply.NoLease; jobs = jobs }
 on_free jobs number (Some index) = on_job jobs index (leasing index number)

@@ -17,14 +17,14 @@ abbrev pub IsSubmit : List Event → ℕ → Seed → Programs → ℕ → ℕ �
 IsSubmit history k seed rule steps number =
     slice_get history k ≡ Some (event (call.Submit seed rule steps) (reply.Number number))
 
--- an event of the history submitted the job with this number: its reply is the number, and it has the seed
--- and the steps of the job
+-- an event of the history submitted the job with this number: it is a submit with the seed and the steps of
+-- the job, and its reply is the number
 pub record IsSubmitted (history : List Event) (number : ℕ) (job : JobState) : Type 0 where
   pub k : ℕ
   pub rule : Programs
   pub submit : IsSubmit history k job.seed rule job.steps number
 
--- if a history replays to a book, one of its events submitted each job of the book
+-- if a history replays to a book, each job of the book was submitted by one of its events
 abbrev pub JobsAreSubmitted : Type 0
 JobsAreSubmitted =
     (history : List Event) (book : BookState) (number : ℕ) (job : JobState) → Replays history book

@@ -1,5 +1,5 @@
--- The calls of programs in a step: each is safe. Its view is one that a car on a road can have, and it ends with an
--- answer within its budget.
+-- The calls of programs in a step. Each is safe: its view is one that a car on a road can have, and it ends
+-- with an answer within its budget.
 use Rattle.std.specs.Prelude.{IfSome}
 use Rattle.trlab_code.specs.declared.program.Kind.{Kind}
 use Rattle.trlab_code.specs.declared.program.Kind.TheVariants.{Motion, Change}

@@ -18,7 +18,7 @@ pub record IsDrivenStep (seed : Seed) (sheet : Sheet) (step : ℕ) (road next : 
   pub clean : IsCleanNext rule (dice_at seed step) road next tally
 
 -- a run is driven for `steps` steps: it begins at the road of the start, each step is driven, and each road
--- is legal, with the limit and the numbers of lanes and cars of the start
+-- up to that after the last step is legal, with the limit and the numbers of lanes and cars of the start
 pub record IsDriven (seed : Seed) (sheet : Sheet) (steps : ℕ) (roads : ℕ → Cells) : Type 0 where
   pub start : roads 0 ≡ seed.road
   pub legal : (step : ℕ) → step ≤ steps → IsLegalLike seed.road (roads step)

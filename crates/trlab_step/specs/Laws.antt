@@ -111,7 +111,7 @@ ViewsAreInRange =
     (kind : Kind) (road : Cells) (car : Car) → IsLegal road → (kind ≡ Change → length road.lanes ≡ 2)
     → IsAt road car → IsView (view_by kind road car)
 
--- a checked motion program that answers a speed for a car of a legal road has executed at most as many
+-- an accepted motion program that answers a speed for a car of a legal road has executed at most as many
 -- instructions as its budget
 abbrev pub SpeedsComeInTime : Type 0
 SpeedsComeInTime =
@@ -119,7 +119,7 @@ SpeedsComeInTime =
     → IsChecked Motion motion → IsLegal road → IsAt road car
     → (answer : AnswersSpeed motion dice road car speed) → answer.0 ≤ motion.budget
 
--- a checked change program that answers for a car of a legal road of two lanes has executed at most as many
+-- an accepted change program that answers for a car of a legal road of two lanes has executed at most as many
 -- instructions as its budget
 abbrev pub CrossingsComeInTime : Type 0
 CrossingsComeInTime =

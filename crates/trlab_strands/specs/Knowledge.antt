@@ -64,8 +64,8 @@ list_alone k = strand_knowledge 0 [] 0 k.keeps k.all
 abbrev pub less_a_part : {E : Type 0} → StrandKnowledge E → StrandKnowledge E
 less_a_part k = strand_knowledge (k.parts - 1) k.own k.least k.keeps k.all
 
--- the knowledge of the strand to which a strand has given one part: it has no event, and has seen as much of
--- the list
+-- the knowledge of a new strand with the one part that another has given away: it has no event, and has seen
+-- as much of the list as the other
 abbrev pub one_part : {E : Type 0} → StrandKnowledge E → StrandKnowledge E
 one_part k = strand_knowledge 1 [] k.least false []
 

@@ -1,5 +1,5 @@
--- Detectors: the number of cars that pass the end of a cell in a step, and its relation to the cars between two
--- detectors.
+-- Detectors: the number of cars that pass the end of a cell in a step, and its relation to the cars between
+-- two detectors.
 use Rattle.std.specs.Prelude.{◌≡◌, ℕ, ◌+◌, ◌-◌, ◌<◌, ◌≤◌, Bool, count_by, length, nat_lt, sum_by}
 use Rattle.std.specs.List.{range_with_len}
 use Rattle.trlab_road.specs.declared.car.Car.{Car}

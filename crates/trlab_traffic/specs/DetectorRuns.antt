@@ -10,7 +10,7 @@ use Rattle.trlab_traffic.specs.Capacity.{lane_empty_cells}
 use Rattle.trlab_traffic.specs.Detector.{IsContinuous, passages}
 use Rattle.trlab_traffic.specs.Runs.{EachRule, StaysInLane}
 
--- the detector at the end of cell x on lane l counts `count` cars in the counted ones of the first `step`
+-- the detector at the end of cell x on lane l counts `count` cars in the counted steps among the first `step`
 -- steps of a run
 abbrev pub Counts : Seed → Sheet → ℕ → ℕ → ℕ → ℕ → Type 0
 Counts seed sheet l x zero count = count ≡ 0

@@ -1,6 +1,6 @@
 -- The fundamental diagram without randomization: each lane of a run comes to its capacity, and stays at it.
--- So the diagram of one lane is a triangle: its flow is the smaller of the limit times the density, and one minus
--- the density.
+-- So the diagram of one lane is a triangle: its flow is the smaller of the limit times the density, and one
+-- minus the density.
 use Rattle.std.specs.Prelude.{◌≡◌, ℕ, ◌+◌, ◌*◌, ◌≤◌, length, sum_by}
 use Rattle.trlab_road.specs.Legal.{IsLegal}
 use Rattle.trlab_road.specs.Cells.{Cells, lane_of}

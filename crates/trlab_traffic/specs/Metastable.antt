@@ -1,6 +1,6 @@
--- Slow starts make free flow metastable (Barlovic and others 1998). If moving cars never brake at random, free
--- flow lasts for ever; if stopped cars always do, a road of stopped cars stays so for ever, however few they
--- are. So at one density there are two flows, and the initial state decides which.
+-- Slow starts make free flow metastable (Barlovic and others 1998). If moving cars never brake at random,
+-- free flow lasts for ever; if stopped cars always brake, a road of stopped cars stays so for ever, however
+-- few they are. So at one density there are two flows, and the initial state decides which.
 use Rattle.std.specs.Prelude.{◌≡◌, ℕ, ◌+◌, ◌*◌, ◌≤◌, length}
 use Rattle.trlab_bounds.specs.declared.programs.TheConstants.{CERTAIN}
 use Rattle.trlab_road.specs.declared.car.Car.{Car}
@@ -35,8 +35,8 @@ SlowStartsTurnFreeFlow =
     → IsVdr 0 p0 rule → IsLegal seed.road → IsFree seed.road → ComesTo seed (always rule) step road sum
     → MovesAsOne seed step road
 
--- under the rule of 1998, if stopped cars brake with probability 1, a legal road of stopped cars stays as it
--- is, and its distance is 0, whatever the probability p for moving cars is
+-- under the rule of 1998, if stopped cars brake with probability 1, a run from a legal road of stopped cars
+-- keeps this road, and its distance is 0, whatever the probability p for moving cars is
 abbrev pub SlowStartsKeepJams : Type 0
 SlowStartsKeepJams =
     (p : ℕ) (rule : Programs) (seed : Seed) (step : ℕ) (road : Cells) (sum : StepTally)
@@ -53,7 +53,7 @@ pub record IsRing (cells limit n : ℕ) (road : Cells) : Type 0 where
 
 -- the rule has two flows on rings of `cells` cells with n cars and this limit: in each run from the ring
 -- `free` all cars drive at the limit in every counted step, and in each run from the ring `jam` no car moves
--- in any
+-- in a counted step
 pub record HasTwoFlows (cells limit n : ℕ) (rule : Programs) : Type 0 where
   pub free : Cells
   pub jam : Cells

@@ -9,7 +9,8 @@ use Rattle.trlab_traffic.specs.Capacity.{all_cells}
 use Rattle.trlab_traffic.specs.Certainty.{IsCertain}
 use Rattle.trlab_traffic.specs.Runs.{always}
 
--- a run is periodic: from step `first` on each of its roads comes again after `period` steps, at least one
+-- a run is periodic: from step `first` on, the road at each step comes again `period` steps later, and
+-- `period` is at least 1
 pub record IsPeriodic (seed : Seed) (sheet : Sheet) (first period : ℕ) : Type 0 where
   pub some_step : 1 ≤ period
   pub comes_again : (step : ℕ) (road later : Cells) → first ≤ step
