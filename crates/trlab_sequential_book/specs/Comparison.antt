@@ -60,7 +60,7 @@ pub record IsFresh (job : JobState) (number : ℕ) (lease : LeaseState) : Type 0
   pub own : IsOwnRun job lease
 
 -- the job of the lease that went out exists, and the lease is a fresh one of this job, with this number; for
--- `None` no lease went out
+-- `None`, if no lease went out, nothing is required
 abbrev pub IsLent : List JobState → ℕ → Option LeaseState → Type 0
 IsLent jobs number None = Unit {0}
 IsLent jobs number (Some lease) = MatchOption (slice_get jobs lease.job) ⊥ (λ job. IsFresh job number lease)

@@ -58,8 +58,8 @@ tally_sum a b = record {
 abbrev pub dice_at : Seed → ℕ → Dice
 dice_at seed step = dice_of seed.key seed.number step
 
--- step `step` of a run leads from `before` to `after` under the rule in force; its tally is added to the sum
--- from step `warm` on, and not before
+-- step `step` of a run leads from `before` to `after` under the rule in force, with this tally; from step
+-- `warm` on `sum` is `sum_before` plus the tally, and at earlier steps it is `sum_before`
 pub record GoesOn (seed : Seed) (sheet : Sheet) (step : ℕ) (before after : Cells)
     (sum_before sum : StepTally) (rule : Programs) (tally : StepTally) : Type 0 where
   pub under : in_force sheet step ≡ Some rule

@@ -73,8 +73,8 @@ DetectorsCountRun =
     → ((x : ℕ) → Counts seed sheet 0 x step (count x))
     → sum_by count (range_with_len 0 (length (lane_of seed.road 0))) ≡ sum.distance
 
--- `count` measures the flow on a ring of n cells: n times the count differs from the distance by at most n
--- times the number of cars or of empty cells, whichever is smaller
+-- `count` measures the flow on a ring of n cells: n times `count` differs from `distance` by at most n times
+-- the number of the ring's cars or of its empty cells, whichever is smaller
 abbrev pub Measures : Lane → ℕ → ℕ → Type 0
 Measures lane count distance = AreWithin (length lane * scarcer lane) (length lane * count) distance
 

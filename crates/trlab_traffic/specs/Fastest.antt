@@ -59,8 +59,7 @@ pub record GoesAtOnce (rule : Programs) : Type 0 where
 abbrev pub gap_program : Program
 gap_program = record { kind = Motion; instrs = Get R0 Limit ∷ Get R1 Gap ∷ Min R0 R0 R1 ∷ Go R0 ∷ [] }
 
--- a rule with the gap program as its motion program, and without lane changes, lets cars reach their speed at
--- once
+-- a rule without lane changes whose motion program is `gap_program` lets cars reach their speed at once
 abbrev pub GapProgramGoesAtOnce : Type 0
 GapProgramGoesAtOnce =
     (rule : Programs) → rule.motion.program ≡ gap_program → StaysInLane rule → GoesAtOnce rule

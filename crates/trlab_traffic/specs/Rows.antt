@@ -30,9 +30,9 @@ StepIsContinuousByRows =
     → let end = ahead (length (lane_of old 0)) x k in
     cars_ahead_of_row new x k + row_passages new end ≡ cars_ahead_of_row old x k + row_passages new x
 
--- from step `warm`, at which the detectors begin to count, to any later step of a run, the cars in the k
--- cells ahead of place x grow by the count of the row at x, and shrink by that of the row k cells ahead;
--- `first l` and `second l` are the counts on lane l
+-- in a run from a legal road, under any sheet of rules, from step `warm`, at which the detectors begin to
+-- count, to each step from there on, the cars in the k cells ahead of place x grow by the count of the row at
+-- x, and shrink by that of the row k cells ahead; `first l` and `second l` are the counts on lane l
 abbrev pub RunIsContinuousByRows : Type 0
 RunIsContinuousByRows =
     (seed : Seed) (sheet : Sheet) (step : ℕ) (start road : Cells) (x k : ℕ) (first second : ℕ → ℕ)
@@ -43,8 +43,9 @@ RunIsContinuousByRows =
     → let lanes = range_with_len 0 (length seed.road.lanes) in
     cars_ahead_of_row road x k + sum_by second lanes ≡ cars_ahead_of_row start x k + sum_by first lanes
 
--- under any sheet of rules the counts of two rows at most one lap apart differ by at most the number of all
--- cars, and by at most that of all empty cells; `first l` and `second l` are the counts on lane l
+-- in a run from a legal road, under any sheet of rules, the counts of two rows at most one lap apart differ
+-- by at most the number of all cars, and by at most that of all empty cells; `first l` and `second l` are the
+-- counts on lane l
 abbrev pub RowsAgree : Type 0
 RowsAgree =
     (seed : Seed) (sheet : Sheet) (step : ℕ) (road : Cells) (sum : StepTally) (x k : ℕ) (first second : ℕ → ℕ)
@@ -55,8 +56,9 @@ RowsAgree =
     → let lanes = range_with_len 0 (length seed.road.lanes) in
     AreWithin (min (cars seed.road) (empty_cells seed.road)) (sum_by first lanes) (sum_by second lanes)
 
--- under any sheet of rules each row measures the flow of a run on lanes of n cells: n times its count differs
--- from the distance by at most n times the number of all cars or of all empty cells, whichever is smaller
+-- in a run from a legal road with lanes of n cells, under any sheet of rules, each row measures the flow: n
+-- times its count differs from the distance by at most n times the number of all cars or of all empty cells,
+-- whichever is smaller; `count l` is the count on lane l
 abbrev pub RowMeasuresFlow : Type 0
 RowMeasuresFlow =
     (seed : Seed) (sheet : Sheet) (step : ℕ) (road : Cells) (sum : StepTally) (x : ℕ) (count : ℕ → ℕ)
