@@ -14,49 +14,54 @@ use Rattle.trlab_verify.specs.CheckedProgram.{CheckedProgram}
 use Rattle.std.specs.Borrow.{Bor}
 use Rattle.trlab_road.specs.declared.road.Road.{Road}
 
--- motion programs run on any road
+-- a road on which a motion program can run: any road
 abbrev pub HasLanes : Cells → Type 0
 HasLanes road = Unit {0}
 
--- change programs run on a road of two lanes
+-- a road on which a change program can run: it has two lanes
 abbrev pub HasTwoLanes : Cells → Type 0
 HasTwoLanes road = length road.lanes ≡ 2
 
--- the number of a part's segment
+-- the ticket of a part, which is the number of its segment
 abbrev pub ticket_of : {A : Type 0} → Part A → ℕ
 ticket_of p = p.number
 
--- a part has the answers of a program to the cars of its segment, one of `count`
+-- the part `p` has a program's answers for the cars of its segment, if the road is cut into `count` segments;
+-- `answers` says whether a list is a program's answers for successive cars
 abbrev pub AnswersSegment : {P A : Type 0} → (P → Dice → Cells → ℕ → ℕ → List A → Type 0)
     → P → Dice → Cells → ℕ → Part A → Type 0
 AnswersSegment answers program dice road count p =
     let first = first_car (cars road) count in
     answers program dice road (first p.number) (first (p.number + 1)) p.answers.items
 
--- a part has the answers of a phase's program to the cars of its segment
+-- a part has the answers of the phase's program for the cars of its segment, if the road is cut into the
+-- given number of segments; `answers` says whether a list is a program's answers for successive cars
 abbrev pub IsPart : {P A : Type 0} → (P → Dice → Cells → ℕ → ℕ → List A → Type 0)
     → Phase P → ℕ → Part A → Type 0
 IsPart answers phase = AnswersSegment answers phase.program.now phase.dice.now phase.road.now
 
--- a drawer has ended, and these are the parts of the tickets that it drew, in its order
+-- the drawer `d` has ended, and `parts` has one part for each ticket that it drew, in its order; `Fits` holds
+-- for each part
 pub record HasParts {A : Type 0} (Fits : Part A → Type 0) (d : Drawer) (parts : List (Part A)) : Type 0 where
   pub tickets : map ticket_of parts ≡ tickets_of d
   pub right : All Fits parts
   pub ended : is_ended d ≡ true
 
--- workers return their drawer with its passes, and the parts, unless an allocation failed
+-- a worker's result `told`: a drawer of these tickets with the passes of `d`, and, unless an allocation
+-- failed, the parts of this drawer, which has then ended; `Fits` holds for each part
 abbrev pub HasWorked : {A B E : Type 0} → (Part A → Type 0) → Tickets → Drawer
     → Drawer × Result (Vec (Part A) B) E → Type 0
 HasWorked Fits tickets d told =
     IsFrom tickets told.0 × (passes_of told.0 ≡ passes_of d)
     × IfOk told.1 (λ parts. HasParts Fits told.0 parts.items)
 
--- the part at this index has this number
+-- the part at index `place` of the list has the ticket `number`
 abbrev pub IsPlaceOf : {A : Type 0} → List (Part A) → ℕ → ℕ → Type 0
 IsPlaceOf parts place number =
     (place < length parts) × ((other : Part _) → ticket_of (slice_index_or parts place other) ≡ number)
 
--- a call on any road returns the speeds of all its cars, unless an allocation fails
+-- a call with precondition `pre` and postcondition `post` can be made on any road and, unless an allocation
+-- fails, returns the speeds of all its cars in standing order
 abbrev pub TellsSpeeds : {A B E : Type 0} → (A → Bor Road → Bor CheckedProgram → Bor Dice → Type 0)
     → (A → Bor Road → Bor CheckedProgram → Bor Dice → Result (Vec ℕ B) E → Type 0) → Type 0
 TellsSpeeds pre post = (alloc : _) (road : Bor Road) (motion : Bor CheckedProgram) (dice : Bor Dice)
@@ -64,7 +69,8 @@ TellsSpeeds pre post = (alloc : _) (road : Bor Road) (motion : Bor CheckedProgra
     × ((told : _) → post alloc road motion dice told
     → IfOk told (λ speeds. IsSpeedsPart motion.now dice.now road.now 0 (cars road.now) speeds.items))
 
--- a call on a road of two lanes returns which of its cars cross, unless an allocation fails
+-- a call with precondition `pre` and postcondition `post` can be made on any road of two lanes and, unless an
+-- allocation fails, returns which of its cars cross, in standing order
 abbrev pub TellsCrosses : {A B E : Type 0} → (A → Bor Road → Bor CheckedProgram → Bor Dice → Type 0)
     → (A → Bor Road → Bor CheckedProgram → Bor Dice → Result (Vec Bool B) E → Type 0) → Type 0
 TellsCrosses pre post = (alloc : _) (road : Bor Road) (change : Bor CheckedProgram) (dice : Bor Dice)

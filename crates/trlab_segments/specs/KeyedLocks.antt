@@ -5,15 +5,16 @@ use lib.ListN.{get_elem?}
 use Rattle.atomic_table.specs.Table.{State, Me}
 
 module _ {T K : Type 0} where
-  -- a value is at home, and fits
+  -- the slot of the lock holds a value for which `Fits` holds
   abbrev pub HasAtHome : (T → Type 0) → State (Option T) K → Type 0
   HasAtHome Fits s = (value : T) × (get_elem? s.homes 0 ≡ some (some (Some value))) × Fits value
 
-  -- while the word is 0, a value is at home, and fits
+  -- the rule of the lock: it has one word, and while this word is 0, the slot holds a value for which `Fits`
+  -- holds
   abbrev pub Guarded : (T → Type 0) → State (Option T) K → Type 0
   Guarded Fits s = (length s.words ≡ 1) × (slice_index s.words 0 ≡ 0 → HasAtHome Fits s)
 
-  -- a thread that finds 0 has the slot, with a value that fits
+  -- a thread has taken the slot, with a value for which `Fits` holds, and no other slot
   abbrev pub Seized : (T → Type 0) → Me (Option T) K → Type 0
   Seized Fits m = (value : T) × (m.1 ≡ (0, Some value) ∷ []) × Fits value
 
@@ -21,6 +22,6 @@ module _ {T K : Type 0} where
   abbrev pub Acquires : (T → Type 0) → ℕ → Me (Option T) K → Type 0
   Acquires Fits found m = found ≡ 0 → Seized Fits m
 
-  -- a thread has the slot, and nothing else
+  -- a thread has taken the slot, which may be empty now, and no other slot
   abbrev pub HasOnly : Me (Option T) K → Type 0
   HasOnly m = (held : Option T) × (m.1 ≡ (0, held) ∷ [])

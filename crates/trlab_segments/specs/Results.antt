@@ -10,11 +10,11 @@ use Rattle.trlab_segments.specs.declared.parts.Part.{Part}
 use Rattle.trlab_segments.specs.declared.pool.brief.Brief.{Brief}
 use Rattle.trlab_segments.specs.declared.pool.results.Results.{Results}
 
--- a brief has this program, these dice and this road
+-- the brief asks this program with these dice, for the cars of this road
 abbrev pub AsksOf : {P : Type 0} → P → Dice → Cells → Brief P → Type 0
 AsksOf program dice road b = (b.program ≡ program) × (b.dice ≡ dice) × (b.road ≡ road)
 
--- after the last segment there is no car
+-- the segments of a brief end with the last car of its road
 abbrev pub IsCutWhole : {P : Type 0} → Brief P → Type 0
 IsCutWhole b = first_car (cars b.road) (count_of b.tickets) (count_of b.tickets) ≡ cars b.road
 
@@ -23,29 +23,33 @@ abbrev pub IsRight : {P A : Type 0} → (P → Dice → Cells → ℕ → ℕ �
     → Brief P → Part A → Type 0
 IsRight answers b = AnswersSegment answers b.program b.dice b.road (count_of b.tickets)
 
--- a drawer came from the brief's tickets, and these are the right answers of its segments
+-- the drawer belongs to the brief's tickets and has ended, and `parts` has the right part for each ticket
+-- that it drew
 abbrev pub HasDone : {P A : Type 0} → (P → Dice → Cells → ℕ → ℕ → List A → Type 0)
     → Brief P → Drawer → List (Part A) → Type 0
 HasDone answers b d parts = IsFrom b.tickets d × HasParts (IsRight answers b) d parts
 
--- a drawer and its parts are those of the brief, unless an allocation failed
+-- the drawer belongs to the brief's tickets; unless an allocation failed, it has ended, and there is the
+-- right part for each ticket that it drew
 abbrev pub TellsDone : {P A B E : Type 0} → (P → Dice → Cells → ℕ → ℕ → List A → Type 0)
     → Brief P → Drawer → Result (Vec (Part A) B) E → Type 0
 TellsDone answers b d told =
     IsFrom b.tickets d × IfOk told (λ parts. HasParts (IsRight answers b) d parts.items)
 
--- the deposit, if a helper has made one
+-- the deposit is right: if no helper has made one (`None`), there are no parts; otherwise the drawer belongs
+-- to the brief's tickets and has the right parts. In both cases an allocation may have failed instead
 abbrev pub IsDeposited : {P A B E : Type 0} → (P → Dice → Cells → ℕ → ℕ → List A → Type 0)
     → Brief P → Option Drawer → Result (Vec (Part A) B) E → Type 0
 IsDeposited answers b deposited told =
     MatchOption deposited (IfOk told (λ parts. parts.items ≡ [])) (λ d. TellsDone answers b d told)
 
--- the list has the answers of the brief's program for all cars
+-- the list `found` has the answers of the brief's program for all cars of its road
 abbrev pub AnswersAll : {P A : Type 0} → (P → Dice → Cells → ℕ → ℕ → List A → Type 0)
     → Brief P → List A → Type 0
 AnswersAll answers b found = answers b.program b.dice b.road 0 (cars b.road) found
 
--- the program can be run on the road, the passes that are left are new, and the deposit is right
+-- the results of a phase so far are right: the brief's program can run on its road, the passes in reserve
+-- have drawn no ticket, and the deposit is right
 pub record AreResults {P A : Type 0} (answers : P → Dice → Cells → ℕ → ℕ → List A → Type 0)
     (can_ask : Cells → Type 0) (b : Brief P) (r : Results A) : Type 0 where
   pub lanes : can_ask b.road

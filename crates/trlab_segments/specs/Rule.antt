@@ -11,47 +11,53 @@ use Rattle.trlab_strands.specs.Knowledge.{once_below}
 use Rattle.trlab_segments.specs.Knowledge.{occurrences, IsWhole, no_knowledge, with_ticket, at_end}
 use Rattle.trlab_segments.specs.Knowledge.{passes_at_end}
 
--- the counter, the word that drawers share: no ticket below it is left
+-- the counter, the word that drawers share: it is the next ticket, and no ticket below it is left
 abbrev pub counter_of : State ℕ TicketKnowledge → ℕ
 counter_of s = slice_index s.words 0
 
--- a seat without a pass knows nothing; the others know this plan, and have ended only if no ticket is left
+-- the knowledge of a seat is true of the plan and the counter: a seat without passes knows nothing; any other
+-- knows this plan, has ended only if the counter has reached the number of tickets, and may draw the ticket
+-- of the counter
 pub record IsSoundDrawer (plan : Plan) (counter : ℕ) (k : TicketKnowledge) : Type 0 where
   pub idle : k.passes ≡ 0 → k ≡ no_knowledge
   pub same_plan : 0 < k.passes → k.plan ≡ plan
   pub late : k.ended ≡ true → plan.count ≤ counter
   pub rises : k.least ≤ counter
 
--- each ticket that the counter has passed was drawn by one drawer, once, and no other number was drawn; the
--- passes add up to the drawers, and beyond the count the counter rises only by passes that have ended
+-- the knowledge of all seats is true: each ticket below the counter was drawn by one drawer, once, and no
+-- other number was drawn; the passes add up to the drawers of the plan, and beyond the last ticket the
+-- counter rises at most by the passes of drawers that have ended
 pub record AreSoundDrawers (plan : Plan) (counter : ℕ) (known : List TicketKnowledge) : Type 0 where
   pub passes : sum_by (λ k. k.passes) known ≡ plan.drawers
   pub once : (x : ℕ) → sum_by (λ k. occurrences x k.tickets) known ≡ once_below x (min plan.count counter)
   pub counter_is : counter ≤ plan.count + sum_by passes_at_end known
   pub each : (seat : ℕ) (k : TicketKnowledge) → get_elem? known seat ≡ some k → IsSoundDrawer plan counter k
 
--- the rule
+-- the rule of tickets: the only word is the counter, the numbers of tickets and drawers are in range, and the
+-- knowledge of all seats is true of the plan and the counter
 pub record KeepsTickets (plan : Plan) (s : State ℕ TicketKnowledge) : Type 0 where
   pub one_word : length s.words ≡ 1
   pub count : plan.count < 2 ^ 32
   pub drawers : plan.drawers ≤ MAX_WORKERS
   pub known : AreSoundDrawers plan (counter_of s) s.views
 
--- to draw: a number below the count is the drawer's next ticket, and any other number ends it
+-- the step that draws a ticket: a number `found` below the number of tickets is the drawer's next ticket, and
+-- with any other number the drawer has ended
 abbrev pub DrawsTicket : Step ℕ → Me ℕ TicketKnowledge → ℕ → Me ℕ TicketKnowledge → Type 0
 DrawsTicket s old found new =
     (new.1 ≡ old.1) × (old.0.least ≤ found)
     × (found < old.0.plan.count → new.0 ≡ with_ticket old.0 found)
     × (old.0.plan.count ≤ found → new.0 ≡ at_end old.0)
 
--- the counter shows that a drawer has at most all passes. If it has all passes, it has each ticket that the
--- counter has passed; if it has ended, the counter has passed all tickets
+-- facts about a drawer that the counter shows. It has at most all passes, of which there are at most
+-- `MAX_WORKERS`; if it has all, it has each ticket below the counter exactly once; if it has ended, the
+-- counter has reached the number of tickets
 pub record LearnsCounter (counter : ℕ) (k : TicketKnowledge) : Type 0 where
   pub passes : k.passes ≤ k.plan.drawers
   pub drawers : k.plan.drawers ≤ MAX_WORKERS
   pub whole : k.passes ≡ k.plan.drawers → IsWhole k.tickets (min k.plan.count counter)
   pub late : k.ended ≡ true → k.plan.count ≤ counter
 
--- to read the counter: nothing changes
+-- the step that reads the counter: it changes nothing, and shows how drawer and counter agree
 abbrev pub ReadsCounter : Step ℕ → Me ℕ TicketKnowledge → ℕ → Me ℕ TicketKnowledge → Type 0
 ReadsCounter s old found new = (new ≡ old) × LearnsCounter found old.0

@@ -20,7 +20,8 @@ use std::thread::{Threads, join_mut};
 
 /// The number of cars that keep a worker busy for longer than it takes to wake one, if no program draws random numbers.
 pub const CARS_PER_WORKER: u32 = 2000;
-/// The same if a program draws random numbers, which then take most of the time per car.
+/// The number of cars that keep a worker busy for longer than it takes to wake one, if a program draws random numbers.
+/// These take most of the time per car.
 pub const DRAWING_CARS_PER_WORKER: u32 = 500;
 
 /// 1 to 16 workers and their gate. The calling thread is worker 0; the others are started once, for a

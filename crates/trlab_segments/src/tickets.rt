@@ -169,7 +169,7 @@ impl Tickets {
 impl Drawer {
     ghost use Rattle.trlab_segments.specs.Drawers.{passes_of};
 
-    /// The number of its passes, 1 to 16.
+    /// The number of passes of the drawer, 1 to 16.
     pub fn passes(&self) -> u32
         ensures { result ≡ passes_of self.now }
     {

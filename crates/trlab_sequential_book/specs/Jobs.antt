@@ -8,7 +8,8 @@ use Rattle.trlab_sequential_book.specs.declared.seed.Seed.{Seed}
 use Rattle.trlab_sequential_book.specs.Machine.{JobState}
 use Rattle.trlab_sequential_book.specs.Sheets.{BeginBy}
 
--- the initial state of a run from this seed
+-- the start of a run from this seed: its road, key, number and `warm`, the step from which on tallies are
+-- counted
 abbrev pub run_start : Seed → Start
 run_start seed = record { road = seed.road; key = seed.key.0; number = seed.number; warm = seed.warm }
 
@@ -17,8 +18,8 @@ abbrev pub run_of : Seed → Sheet → ℕ → Cells → StepTally → Progress
 run_of seed sheet step road sum =
     record { seed = run_start seed; sheet = sheet; step = step; road = road; sum = sum }
 
--- the job's run has this road and this sum at the steps done, and each of its rules begins at `high` or
--- before
+-- the run of a job has this road and this sum at the steps done; the steps done are at most those ordered
+-- (`high`), these are at most all its steps, and each of its rules begins at step `high` or before
 pub record IsJob (job : JobState) (road : Cells) (sum : StepTally) : Type 0 where
   pub ordered : job.done ≤ job.high
   pub within : job.high ≤ job.steps

@@ -9,7 +9,8 @@ use Rattle.trlab_step.specs.declared.tally.StepTally.{StepTally}
 use Rattle.trlab_sequential_book.specs.declared.lease.ExecutedStep.{ExecutedStep}
 use Rattle.trlab_sequential_book.specs.declared.order.Order.{Order}
 
--- these steps, numbered from `step`, lead from one road to another
+-- steps that were run, the first of them step `step`, lead from `road` to `last`, each under its rule, with
+-- the random words of `key` and of the road with number `number`; no steps lead from a road to itself
 abbrev pub LeadsTo : List ℕ → ℕ → ℕ → Cells → List ExecutedStep → Cells → Type 0
 LeadsTo key number step road [] last = last ≡ road
 LeadsTo key number step road (ran ∷ more) last =
@@ -21,8 +22,8 @@ pub record Base : Type 0 where
   pub step : ℕ
   pub road : Cells
 
--- a lease: the job, the number of the lease, the steps of the job, the key and the number that determine the
--- random numbers, its base, its next step and the road before it, and the steps that were run
+-- a lease: its job, its own number, the steps of the job, the key and the number of the road, which determine
+-- the random words, its base, its next step, the road before this step, and the steps that it has run
 pub record LeaseState : Type 0 where
   pub job : ℕ
   pub number : ℕ
@@ -34,7 +35,7 @@ pub record LeaseState : Type 0 where
   pub road : Cells
   pub applied : List ExecutedStep
 
--- a lease from its parts
+-- a lease with these fields
 abbrev pub lease_state : ℕ → ℕ → ℕ → Key → ℕ → Base → ℕ → Cells → List ExecutedStep → LeaseState
 lease_state job number steps key road_number base step road applied = record {
   job = job;
@@ -48,28 +49,28 @@ lease_state job number steps key road_number base step road applied = record {
   applied = applied;
 }
 
--- the steps that were run lead from the base of the lease to its road
+-- the steps that a lease has run lead from its base to its road, and its next step is the one after them
 pub record IsLease (lease : LeaseState) : Type 0 where
   pub steps_run : lease.step ≡ lease.base.step + length lease.applied
   pub leads : LeadsTo lease.key.0 lease.road_number lease.base.step lease.base.road lease.applied lease.road
 
--- all steps have the same rule
+-- all these steps were run under the same rule, or there is no step
 abbrev pub IsSteady : List ExecutedStep → Type 0
 IsSteady [] = Unit {0}
 IsSteady (first ∷ more) = All (λ (ran : ExecutedStep). ran.rule ≡ first.rule) more
 
--- a rule suits a road: a change program needs two lanes
+-- does a rule suit a road? Not if it has a change program and the road has one lane
 abbrev pub suits : Programs → Cells → Bool
 suits rule road = not (is_some rule.change && length road.lanes == 1)
 
--- the order is for the next step of this lease, and its rule suits the road
+-- the order is for the next step of this lease, and its rule suits the road of the lease
 pub record FitsOrder (lease : LeaseState) (order : Order) : Type 0 where
   pub job : order.job ≡ lease.job
   pub number : order.lease ≡ lease.number
   pub step : order.step ≡ lease.step
   pub rule : suits order.rule lease.road ≡ true
 
--- a lease with one more step, run under a rule
+-- the lease after one more step under `rule`, with this tally, to the road `next`
 abbrev pub one_more : LeaseState → Programs → StepTally → Cells → LeaseState
 one_more lease rule tally next = record lease {
   step = lease.step + 1;
@@ -77,7 +78,7 @@ one_more lease rule tally next = record lease {
   applied = lease.applied ++ record { rule = rule; tally = tally } ∷ [];
 }
 
--- the order fits, and the lease has run one more step, under its rule
+-- the order fits the lease `old`, and `new` is this lease after one more step, run under the order's rule
 pub record HasRun (old : LeaseState) (order : Order) (new : LeaseState) : Type 0 where
   pub fits : FitsOrder old order
   pub tally : StepTally

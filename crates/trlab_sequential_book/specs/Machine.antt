@@ -15,8 +15,8 @@ use Rattle.trlab_sequential_book.specs.declared.event.Reply.TheVariants as reply
 use Rattle.trlab_sequential_book.specs.Leases.{suits}
 use Rattle.trlab_sequential_book.specs.Sheets.{begin_in_force, entered}
 
--- a job: its seed and its rules, how many steps it has, how many were ever ordered and how many are done,
--- whether it was cancelled, and the number of the lease that is out
+-- a job: its seed and its sheet, how many steps it has, how many were ever ordered (`high`) and how many are
+-- done, whether it was cancelled, and the number of the lease that is out, if one is
 pub record JobState : Type 0 where
   pub seed : Seed
   pub sheet : Sheet
@@ -26,7 +26,7 @@ pub record JobState : Type 0 where
   pub cancelled : Bool
   pub out : Option ℕ
 
--- a job from its parts
+-- a job with these fields
 abbrev pub job_state : Seed → Sheet → ℕ → ℕ → ℕ → Bool → Option ℕ → JobState
 job_state seed sheet steps high done cancelled out = record {
   seed = seed;
@@ -38,30 +38,33 @@ job_state seed sheet steps high done cancelled out = record {
   out = out;
 }
 
--- a book: how many events there were, the number of the next lease, and the jobs
+-- a book: how many events it has had, the number of its next lease, and its jobs
 pub record BookState : Type 0 where
   pub count : ℕ
   pub next : ℕ
   pub jobs : List JobState
 
--- an empty book
+-- an empty book: no event and no job; its first lease has number 0
 abbrev pub empty_book : BookState
 empty_book = record { count = 0; next = 0; jobs = [] }
 
--- the reply to a call on one job, and the job after it
+-- the outcome of a call on one job: the reply, and the job after the call
 pub record Outcome : Type 0 where
   pub reply : Reply
   pub job : JobState
 
--- a refusal does not change the job
+-- the call is refused with this fault, and the job stays as it is
 abbrev pub refused : BookFault → JobState → Outcome
 refused fault job = record { reply = reply.Refused fault; job = job }
 
--- a job when it is submitted
+-- a job that was just submitted: its rule is in force from step 0 on, no step is ordered or done, and no
+-- lease is out
 abbrev pub new_job : Seed → Programs → ℕ → JobState
 new_job seed rule steps = job_state seed ((0, rule) ∷ []) steps 0 0 false None
 
--- a rule enters at the first step that was never ordered
+-- the rule enters at step `high`, the first that was never ordered, and the reply has this step. The first
+-- fault that applies is `Ended` if the job was cancelled or all its steps were ordered, `LanesMismatch` if
+-- the rule does not suit the road, and `SheetFull` if the sheet would have more than 1024 entries
 abbrev pub replacing : Programs → JobState → Outcome
 replacing rule job =
     if job.cancelled || (job.high == job.steps) then refused fault.Ended job
@@ -72,18 +75,20 @@ replacing rule job =
       job = record job { sheet = entered job.sheet job.high rule };
     }
 
--- the lease that is out has this number
+-- is a lease out, and does it have this number?
 abbrev pub is_out : ℕ → Option ℕ → Bool
 is_out number None = false
 is_out number (Some out) = out == number
 
--- the lease is the one that is out, it began at the steps done, it has run no step that was not ordered, and
--- it runs the job's road
+-- does the job accept the lease as its own? It is the one that is out, began at the steps done, has run no
+-- step that was not ordered, and runs the job's road
 abbrev pub is_own : Offered → JobState → Bool
 is_own lease job =
     is_out lease.number job.out && ((lease.base == job.done) && (not (ltb job.high lease.step) && lease.same))
 
--- the reply has the rule in force at the lease's next step
+-- the lease's next step is ordered, so `high` is above it, and the reply has the step from which its rule is
+-- in force. The fault is `Ended` if the job was cancelled or the lease has run all its steps, otherwise
+-- `StrangerLease` if the job does not accept the lease as its own
 abbrev pub ordering : Offered → JobState → Outcome
 ordering lease job =
     if job.cancelled || (lease.step == job.steps) then refused fault.Ended job
@@ -92,55 +97,60 @@ ordering lease job =
       job = record job { high = max job.high (lease.step + 1) };
     } else refused fault.StrangerLease job
 
--- the job takes over the steps of the lease
+-- the job takes over the steps of the lease, and no lease is out; the fault is `StrangerLease` if the job
+-- does not accept the lease as its own
 abbrev pub giving_back : Offered → JobState → Outcome
 giving_back lease job =
     if is_own lease job then record { reply = reply.Done; job = record job { done = lease.step; out = None } }
     else refused fault.StrangerLease job
 
--- the lease that is out ends
+-- the lease that is out ends; the fault is `StrangerLease` if none is out
 abbrev pub revoking : JobState → Outcome
 revoking job =
     if is_some job.out then record { reply = reply.Done; job = record job { out = None } }
     else refused fault.StrangerLease job
 
--- the job and its lease end
+-- the job is cancelled, and no lease is out; the fault is `Ended` if it was cancelled before or all its steps
+-- are done
 abbrev pub cancelling : JobState → Outcome
 cancelling job =
     if job.cancelled || (job.done == job.steps) then refused fault.Ended job
     else record { reply = reply.Done; job = record job { cancelled = true; out = None } }
 
--- a read changes nothing
+-- the reply has the steps done and the number of entries of the sheet, and the job stays as it is
 abbrev pub reading : JobState → Outcome
 reading job = record { reply = reply.Seen job.done (length job.sheet); job = job }
 
--- a job that can be leased
+-- can the job be leased? No lease is out, it was not cancelled, and not all its steps are done
 abbrev pub is_free : JobState → Bool
 is_free job = not (is_some job.out) && (not job.cancelled && ltb job.done job.steps)
 
--- the job goes out under a number
+-- the job with number `index` is leased; `number` is that of the lease, and the reply has both, the steps
+-- done and all steps
 abbrev pub leasing : ℕ → ℕ → JobState → Outcome
 leasing index number job =
     record { reply = reply.Leased index number job.done job.steps; job = record job { out = Some number } }
 
--- the reply to a call, and the jobs after it
+-- the outcome of a call on the jobs of a book: the reply, and the jobs after the call
 pub record Served : Type 0 where
   pub reply : Reply
   pub jobs : List JobState
 
--- a call on the job with this number
+-- the call on the job with number `index` has this outcome; the fault is `NoSuchJob` if there is no such job
 abbrev pub on_job : List JobState → ℕ → (JobState → Outcome) → Served
 on_job jobs index outcome = elim (slice_get jobs index) [
   | None ↦ record { reply = reply.Refused fault.NoSuchJob; jobs = jobs }
   | Some job ↦ record { reply = (outcome job).reply; jobs = slice_set jobs index (outcome job).job }
 ]
 
--- a lease of the free job that was found
+-- the free job that was found is leased under this number; for `None`, if no job is free, the reply is
+-- `NoLease`
 abbrev pub on_free : List JobState → ℕ → Option ℕ → Served
 on_free jobs number None = record { reply = reply.NoLease; jobs = jobs }
 on_free jobs number (Some index) = on_job jobs index (leasing index number)
 
--- a job is accepted if its rule suits its road and there are fewer than 256
+-- a job is added, and the reply is its number. The fault is `LanesMismatch` if its rule does not suit its
+-- road, otherwise `Full` if there are 256 jobs
 abbrev pub submitting : List JobState → Seed → Programs → ℕ → Served
 submitting jobs seed rule steps =
     if not (suits rule seed.road) then record { reply = reply.Refused fault.LanesMismatch; jobs = jobs }
@@ -148,7 +158,8 @@ submitting jobs seed rule steps =
     then record { reply = reply.Number (length jobs); jobs = jobs ++ new_job seed rule steps ∷ [] }
     else record { reply = reply.Refused fault.Full; jobs = jobs }
 
--- `lease` lends the first job that is free; `submit` adds a job; each other call is on the job that it names
+-- the outcome of a call on the jobs of a book: `submit` adds a job, `lease` lends the first free job, and
+-- each other call is on the job with the number that it names
 abbrev pub served : BookState → Call → Served
 served book (call.Submit seed rule steps) = submitting book.jobs seed rule steps
 served book (call.Replace job rule) = on_job book.jobs job (replacing rule)
@@ -159,20 +170,20 @@ served book (call.Revoke job) = on_job book.jobs job revoking
 served book (call.Cancel job) = on_job book.jobs job cancelling
 served book (call.Read job) = on_job book.jobs job reading
 
--- the number of the next lease rises if a lease went out
+-- the number of the next lease after a reply: one more if a lease went out
 abbrev pub next_after : ℕ → Reply → ℕ
 next_after next (reply.Leased job number step steps) = next + 1
 next_after next _ = next
 
--- a book that has had 1000000 events refuses each call
+-- is the history of a book full? It is after 1000000 events, and the book then refuses each call
 abbrev pub is_full : BookState → Bool
 is_full book = not (ltb book.count 1000000)
 
--- the reply to a call
+-- the reply of a book to a call: `HistoryFull` if its history is full
 abbrev pub reply_of : BookState → Call → Reply
 reply_of book call = if is_full book then reply.Refused fault.HistoryFull else (served book call).reply
 
--- the state after a call: each counts as an event, unless the book is full
+-- the book after a call, which counts as an event; a book with a full history stays as it is
 abbrev pub after : BookState → Call → BookState
 after book call = if is_full book then book else record {
   count = book.count + 1;

@@ -5,12 +5,12 @@ use Rattle.trlab_sequential_book.specs.declared.event.Reply.{Reply}
 use Rattle.trlab_sequential_book.specs.declared.event.Event.{Event}
 use Rattle.trlab_sequential_book.specs.Machine.{BookState, empty_book, reply_of, after}
 
--- the machine's replies to calls, one after another
+-- the replies of a book to calls that are made one after another
 abbrev pub replies_from : BookState → List Call → List Reply
 replies_from book [] = []
 replies_from book (call ∷ calls) = reply_of book call ∷ replies_from (after book call) calls
 
--- the state to which calls lead, one after another
+-- the book after calls that are made one after another
 abbrev pub state_from : BookState → List Call → BookState
 state_from book [] = book
 state_from book (call ∷ calls) = state_from (after book call) calls
@@ -23,12 +23,12 @@ call_of event = event.call
 abbrev pub told_by : Event → Reply
 told_by event = event.reply
 
--- an event from its call and its reply
+-- an event with this call and this reply
 abbrev pub event : Call → Reply → Event
 event call reply = record { call = call; reply = reply }
 
--- each reply in the history is the machine's, and the calls lead to this state, whose count is the
--- length of the history
+-- the calls of the history, made on an empty book, have the replies of the history and lead to this book,
+-- whose count is the length of the history
 pub record Replays (history : List Event) (book : BookState) : Type 0 where
   pub replies : map told_by history ≡ replies_from empty_book (map call_of history)
   pub state_is : book ≡ state_from empty_book (map call_of history)

@@ -6,36 +6,39 @@ use Rattle.trlab_sequential_book.specs.declared.lease.ExecutedStep.{ExecutedStep
 use Rattle.trlab_sequential_book.specs.declared.fault.BookFault.{BookFault}
 use Rattle.trlab_sequential_book.specs.declared.fault.BookFault.TheVariants.{Memory, SheetFull}
 
--- the entry in force at a step: the last entry that begins there or before
+-- the entry in force at a step of a sheet whose steps rise: the last one that begins at this step or before;
+-- `None` if there is none
 abbrev pub entry_in_force : Sheet → ℕ → Option (ℕ × Programs)
 entry_in_force [] step = None
 entry_in_force (entry ∷ sheet) step =
     if nat_le entry.0 step then Some (unwrap_or (entry_in_force sheet step) entry) else None
 
--- the step from which the rule of `step` is in force
+-- the step at which the entry in force at `step` begins; 0 if there is none
 abbrev pub begin_in_force : Sheet → ℕ → ℕ
 begin_in_force sheet step = elim (entry_in_force sheet step) [ None ↦ 0 | Some entry ↦ entry.0 ]
 
--- the sheet with a rule that is in force from a step, instead of the entries that began there or later
+-- the sheet with `rule` in force from step `from` on; it replaces the entries that begin at this step or
+-- later
 abbrev pub entered : Sheet → ℕ → Programs → Sheet
 entered sheet from rule = filter (λ (entry : ℕ × Programs). ltb entry.0 from) sheet ++ (from, rule) ∷ []
 
--- each entry begins at this step or before
+-- each entry of the sheet begins at step `step` or before
 abbrev pub BeginBy : ℕ → Sheet → Type 0
 BeginBy step [] = Unit {0}
 BeginBy step (entry ∷ sheet) = (entry.0 ≤ step) × BeginBy step sheet
 
--- a sheet of the book has at most 1024 entries
+-- a sheet that the book can keep: it has at most 1024 entries
 pub record IsBookSheet (sheet : Sheet) : Type 0 where
   pub is_sheet : IsSheet sheet
   pub at_most_max : length sheet ≤ 1024
 
--- the steps, numbered from `step`, were run under the rules in force
+-- the steps that were run, the first of them step `step`, were each run under the rule in force in the sheet
 abbrev pub AreInForce : Sheet → ℕ → List ExecutedStep → Type 0
 AreInForce sheet step applied =
     (k : ℕ) (ran : ExecutedStep) → slice_get applied k ≡ Some ran → in_force sheet (step + k) ≡ Some ran.rule
 
--- a rule is refused because an allocation failed, or because the sheet would have more than 1024 entries
+-- the faults for which a rule that leads to this sheet may be refused: `Memory`, always possible;
+-- `SheetFull`, if the sheet has more than 1024 entries; no other
 abbrev pub MayRefuse : BookFault → Sheet → Type 0
 MayRefuse Memory sheet = Unit {0}
 MayRefuse SheetFull sheet = 1024 < length sheet

@@ -12,40 +12,41 @@ use Rattle.trlab_sequential_book.specs.Machine.{JobState, BookState}
 use Rattle.trlab_sequential_book.specs.Comparison.{IsSeen, IsSnapshotOf}
 use Rattle.trlab_sequential_book.specs.Replay.{Replays, event}
 
--- the k-th event of a history is a submit with these arguments, answered with this number
+-- the k-th event of a history is a submit of this seed, this rule and these steps, and its reply is `number`
 abbrev pub IsSubmit : List Event → ℕ → Seed → Programs → ℕ → ℕ → Type 0
 IsSubmit history k seed rule steps number =
     slice_get history k ≡ Some (event (call.Submit seed rule steps) (reply.Number number))
 
--- an event submitted the job of this number: it was answered with the number, and had the seed and the steps
--- of the job
+-- an event of the history submitted the job with this number: it is a submit with the seed and the steps of
+-- the job, and its reply is the number
 pub record IsSubmitted (history : List Event) (number : ℕ) (job : JobState) : Type 0 where
   pub k : ℕ
   pub rule : Programs
   pub submit : IsSubmit history k job.seed rule job.steps number
 
--- each job of a book was submitted
+-- if a history replays to a book, each job of the book was submitted by one of its events
 abbrev pub JobsAreSubmitted : Type 0
 JobsAreSubmitted =
     (history : List Event) (book : BookState) (number : ℕ) (job : JobState) → Replays history book
     → slice_get book.jobs number ≡ Some job → IsSubmitted history number job
 
--- no two submits of a history were answered with the same number
+-- no two submits of a history have the same number as their reply
 abbrev pub SubmitsHaveTheirNumbers : Type 0
 SubmitsHaveTheirNumbers =
     (history : List Event) (book : BookState) (j k number : ℕ) (seed other : Seed) (rule another : Programs)
     (steps more : ℕ) → Replays history book → IsSubmit history j seed rule steps number
     → IsSubmit history k other another more number → j ≡ k
 
--- a snapshot of a job has the seed of the submit that was answered with the job's number
+-- if a history replays to a book, a snapshot of one of its jobs has the seed of an event that submitted a job
+-- with this number
 abbrev pub SnapshotsAreOfSubmits : Type 0
 SnapshotsAreOfSubmits =
     (history : List Event) (book : BookState) (number : ℕ) (seen : Progress) → Replays history book
     → IsSeen book.jobs number seen
     → (job : JobState) × IsSubmitted history number job × IsSnapshotOf job seen
 
--- the result of a read: the road of one worker who runs the steps done from the seed of the job's submit,
--- under the job's sheet
+-- the snapshot `seen` of the job with this number shows the last road of a driven run: one worker runs the
+-- steps done, from the seed that was submitted and under the job's sheet
 pub record IsDrivenRead (history : List Event) (number : ℕ) (seen : Progress) : Type 0 where
   pub job : JobState
   pub submitted : IsSubmitted history number job
@@ -54,7 +55,8 @@ pub record IsDrivenRead (history : List Event) (number : ℕ) (seen : Progress) 
   pub driven : IsDriven seen.seed seen.sheet seen.step roads
   pub road : roads seen.step ≡ seen.road
 
--- each snapshot of a job is the result of a read
+-- if a history replays to a book, each snapshot of one of its jobs that is under way shows the last road of a
+-- driven run from the seed that was submitted
 abbrev pub ReadsAreDriven : Type 0
 ReadsAreDriven =
     (history : List Event) (book : BookState) (number : ℕ) (seen : Progress) → Replays history book

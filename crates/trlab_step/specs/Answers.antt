@@ -15,17 +15,18 @@ use Rattle.trlab_road.specs.Motion.{gaps}
 use Rattle.trlab_road.specs.Gaps.{gap, headspeed, side, sidegap, sideback}
 use Rattle.trlab_road.specs.LaneChange.{other_lane, sides}
 
--- the dice for a key, the number of a road and the number of a step
+-- the dice of step `step` for the road with number `road`, under `key`
 abbrev pub dice_of : List ℕ → ℕ → ℕ → Dice
 dice_of key road step = record { key = key; road = road; step = step }
 
--- the view of a car for a motion program
+-- the view of a car for a motion program: its speed, the limit, its gap and its headspeed
 abbrev pub motion_view_of : Cells → Car → View
 motion_view_of road car =
     let own = lane_of road car.lane in
     motion_view car.speed road.limit (gap own car.place) (headspeed own car.place)
 
--- the view of a car for a change program
+-- the view of a car for a change program: its speed, the limit, its gap, its lane and its headspeed, and of
+-- the other lane whether the side cell is empty, the sidegap and the sideback
 abbrev pub change_view_of : Cells → Car → View
 change_view_of road car =
     let own = lane_of road car.lane in
@@ -33,63 +34,70 @@ change_view_of road car =
     change_view car.speed road.limit (gap own car.place) (side other car.place)
     (sidegap other car.place) (sideback other car.place) car.lane (headspeed own car.place)
 
--- a motion program answers this speed for a car
+-- the motion program, run for `car` on `road` with the car's random words from `dice`, ends with the speed
+-- `answer`
 abbrev pub AnswersSpeed : CheckedProgram → Dice → Cells → Car → ℕ → Type 0
 AnswersSpeed motion dice road car answer =
     (n : ℕ) × EndsWith Motion motion.program.instrs
     (motion_view_of road car) (words_of dice car.number) (Goes answer) n
 
--- a change program answers whether a car crosses
+-- the change program, run for `car` on `road` with the car's random words from `dice`, ends with the answer
+-- to cross if `crosses` is true, and otherwise with the answer to stay
 abbrev pub AnswersCrossing : CheckedProgram → Dice → Cells → Car → Bool → Type 0
 AnswersCrossing change dice road car crosses =
     (n : ℕ) × EndsWith Change change.program.instrs
     (change_view_of road car) (words_of dice car.number) (crossing_answer crosses) n
 
--- answers by lane and place, correct for each car of a road
+-- `answers`, a function of lane and place, has for each car of `road` an answer for which `IsAnswer` holds
 pub record AreAnswers {X : Type 0} (IsAnswer : Car → X → Type 0) (road : Cells)
     (answers : ℕ → ℕ → X) : Type 0 where
   pub each : (car : Car) → IsAt road car → IsAnswer car (answers car.lane car.place)
 
--- a list of answers, correct for the cars `from..to` in standing order
+-- `answers` has one answer for each index `from..to` of the standing order, and `IsAnswer` holds for the car
+-- at this index, if there is one
 pub record AreAnswersPart {X : Type 0} (IsAnswer : Car → X → Type 0) (road : Cells) (from to : ℕ)
     (answers : List X) : Type 0 where
   pub one_each : from + length answers ≡ to
   pub each : (k : ℕ) (car : Car) (answer : X) → slice_get answers k ≡ Some answer
       → IsStanding road (from + k) car → IsAnswer car answer
 
--- the speeds, by lane and place, that a motion program answers for all cars of a road
+-- a function of lane and place has the speed that the motion program answers for each car of the road
 abbrev pub AnswersSpeeds : CheckedProgram → Dice → Cells → (ℕ → ℕ → ℕ) → Type 0
 AnswersSpeeds motion dice road = AreAnswers (AnswersSpeed motion dice road) road
 
--- which cars of a road cross, by lane and place, as a change program answers
+-- a function of lane and place says for each car of the road whether it crosses, as the change program
+-- answers
 abbrev pub AnswersCrossings : CheckedProgram → Dice → Cells → (ℕ → ℕ → Bool) → Type 0
 AnswersCrossings change dice road = AreAnswers (AnswersCrossing change dice road) road
 
--- a motion program answers these speeds for the cars `from..to` in standing order
+-- a list has the speeds that the motion program answers for the cars `from..to` in standing order
 abbrev pub AnswersSpeedsPart : CheckedProgram → Dice → Cells → ℕ → ℕ → List ℕ → Type 0
 AnswersSpeedsPart motion dice road = AreAnswersPart (AnswersSpeed motion dice road) road
 
--- a change program answers for the cars `from..to` in standing order whether each of them crosses
+-- a list says for the cars `from..to` in standing order whether each crosses, as the change program answers
 abbrev pub AnswersCrossingsPart : CheckedProgram → Dice → Cells → ℕ → ℕ → List Bool → Type 0
 AnswersCrossingsPart change dice road = AreAnswersPart (AnswersCrossing change dice road) road
 
--- the speeds of the cars from an index of the standing order on are at most their gaps and the limit
+-- `speeds`, for the cars from index `from` of the standing order on, are at most the limit and the cars' gaps
 pub record FitsPart (road : Cells) (from : ℕ) (speeds : List ℕ) : Type 0 where
   pub within_gaps : (k : ℕ) → k < length speeds
       → slice_index speeds k ≤ slice_index (gaps road) (from + k)
   pub within_limit : (k : ℕ) → k < length speeds → slice_index speeds k ≤ road.limit
 
--- the cars from an index of the standing order on cross only to empty side cells
+-- `crosses`, for the cars from index `from` of the standing order on, is true only if the car's side cell is
+-- empty
 pub record CrossesFreePart (road : Cells) (from : ℕ) (crosses : List Bool) : Type 0 where
   pub side_empty : (k : ℕ) → k < length crosses → slice_index_or crosses k false ≡ true
       → slice_index_or (sides road) (from + k) false ≡ true
 
--- a motion program answers these speeds for `from..to`, and they are at most the gaps and the limit
+-- the motion program answers `speeds` for the cars `from..to` in standing order, and each speed is at most
+-- the limit and the car's gap
 abbrev pub IsSpeedsPart : CheckedProgram → Dice → Cells → ℕ → ℕ → List ℕ → Type 0
 IsSpeedsPart motion dice road from to speeds =
     AnswersSpeedsPart motion dice road from to speeds × FitsPart road from speeds
 
--- a change program answers which of the cars `from..to` cross, and they do so only to empty cells
+-- the change program answers `crosses` for the cars `from..to` in standing order, and only cars with an empty
+-- side cell cross
 abbrev pub IsCrossesPart : CheckedProgram → Dice → Cells → ℕ → ℕ → List Bool → Type 0
 IsCrossesPart change dice road from to crosses =
     AnswersCrossingsPart change dice road from to crosses × CrossesFreePart road from crosses

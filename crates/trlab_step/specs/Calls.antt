@@ -1,5 +1,5 @@
--- The calls of programs in a step: each is safe. Its view is one that a car on a road can have, and it ends with an
--- answer within its budget.
+-- The calls of programs in a step. Each is safe: its view is one that a car on a road can have, and it ends
+-- with an answer within its budget.
 use Rattle.std.specs.Prelude.{IfSome}
 use Rattle.trlab_code.specs.declared.program.Kind.{Kind}
 use Rattle.trlab_code.specs.declared.program.Kind.TheVariants.{Motion, Change}
@@ -13,8 +13,8 @@ use Rattle.trlab_road.specs.Cells.{Cells, IsAt}
 use Rattle.trlab_rules.specs.Rules.{Programs}
 use Rattle.trlab_step.specs.Block.{view_by}
 
--- a call of a program for a car of a road is safe: the view is in range, and on the car's words the program ends
--- with an answer within its budget
+-- a call of the program `checked` for a car is safe: the car's view is in range, and with the car's random
+-- words the program ends with an answer within its budget
 pub record IsSafeCall (kind : Kind) (checked : CheckedProgram) (dice : Dice) (road : Cells)
     (car : Car) : Type 0 where
   pub in_range : IsView (view_by kind road car)
@@ -26,8 +26,8 @@ abbrev pub AreSafeCalls : Kind → CheckedProgram → Dice → Cells → Type 0
 AreSafeCalls kind checked dice road =
     (car : Car) → IsAt road car → IsSafeCall kind checked dice road car
 
--- the calls of both phases are safe: of the change program, if there is one, on the road before the step, and of
--- the motion program on the middle road
+-- the calls of both phases of a step are safe: those of the change program, if there is one, on the road
+-- before the step, and those of the motion program on the middle road
 pub record StepCallsAreSafe (rule : Programs) (dice : Dice) (road middle : Cells) : Type 0 where
   pub lane_change : IfSome rule.change (λ change. AreSafeCalls Change change dice road)
   pub motion : AreSafeCalls Motion rule.motion dice middle

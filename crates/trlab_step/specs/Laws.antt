@@ -18,32 +18,34 @@ use Rattle.trlab_step.specs.Calls.{StepCallsAreSafe}
 use Rattle.trlab_step.specs.Next.{IsNext, IsCleanNext, IsStep}
 use Rattle.trlab_step.specs.Run.{Seed, Sheet, IsSheet, in_force, tally_sum, dice_at, ComesTo}
 
--- a rule for roads of `lanes` lanes: programs that are safe within their budgets; a change program needs two lanes
+-- a rule for roads with `lanes` lanes: its programs are safe within their budgets, and if it has a change
+-- program, there are two lanes
 pub record IsRuleFor (lanes : ℕ) (rule : Programs) : Type 0 where
   pub motion : IsChecked Motion rule.motion
   pub change : IfSome rule.change (λ change. IsChecked Change change)
   pub two_lanes : IsSome rule.change → lanes ≡ 2
 
--- a sheet for roads of `lanes` lanes: each of its rules is for such roads
+-- a sheet whose rules are all for roads with `lanes` lanes
 pub record IsSheetFor (lanes : ℕ) (sheet : Sheet) : Type 0 where
   pub is_sheet : IsSheet sheet
   pub rules : All (λ (entry : ℕ × Programs). IsRuleFor lanes entry.1) sheet
 
--- a legal road with the same limit and the same numbers of lanes and cars as another
+-- `new` is legal, and has the limit and the numbers of lanes and cars of `old`
 pub record IsLegalLike (old new : Cells) : Type 0 where
   pub legal : IsLegal new
   pub same_lanes : length new.lanes ≡ length old.lanes
   pub same_limit : new.limit ≡ old.limit
   pub same_count : cars new ≡ cars old
 
--- each part of the standing order has only one list of speeds
+-- for the cars `from..to` of a road, with given dice, a motion program answers only one list of speeds
 abbrev pub SpeedsAreOne : Type 0
 SpeedsAreOne =
     (motion : CheckedProgram) (dice : Dice) (road : Cells) (from to : ℕ) (speeds others : List ℕ)
     → to ≤ cars road → AnswersSpeedsPart motion dice road from to speeds
     → AnswersSpeedsPart motion dice road from to others → speeds ≡ others
 
--- the speeds of a part and of the next part join to the speeds of both
+-- the speeds of the cars `from..middle`, followed by those of the cars `middle..to`, are the speeds of the
+-- cars `from..to`
 abbrev pub SpeedsJoin : Type 0
 SpeedsJoin =
     (motion : CheckedProgram) (dice : Dice) (road : Cells) (from middle to : ℕ) (first second : List ℕ)
@@ -51,14 +53,16 @@ SpeedsJoin =
     → AnswersSpeedsPart motion dice road middle to second
     → AnswersSpeedsPart motion dice road from to (first ++ second)
 
--- each part of the standing order has only one list of flags that say which cars cross
+-- for the cars `from..to` of a road, with given dice, a change program answers only one list that says which
+-- of them cross
 abbrev pub CrossingsAreOne : Type 0
 CrossingsAreOne =
     (change : CheckedProgram) (dice : Dice) (road : Cells) (from to : ℕ) (crosses others : List Bool)
     → to ≤ cars road → AnswersCrossingsPart change dice road from to crosses
     → AnswersCrossingsPart change dice road from to others → crosses ≡ others
 
--- the flags of a part and of the next part join to the flags of both
+-- a change program's answers for the cars `from..middle`, followed by those for the cars `middle..to`, are
+-- its answers for the cars `from..to`
 abbrev pub CrossingsJoin : Type 0
 CrossingsJoin =
     (change : CheckedProgram) (dice : Dice) (road : Cells) (from middle to : ℕ) (first second : List Bool)
@@ -66,21 +70,24 @@ CrossingsJoin =
     → AnswersCrossingsPart change dice road middle to second
     → AnswersCrossingsPart change dice road from to (first ++ second)
 
--- the lane change by answers in standing order: if there is a change program, all cars that cross do so at once; if
--- there is none, there are no answers
+-- the lane change from `road` to `middle` by the list `crosses`. With a change program the road has two
+-- lanes, the list has the program's answers for all cars in standing order, and all cars that cross do so at
+-- once. With `None` the list is empty, and the road stays as it is
 abbrev pub CrossByAnswers : Option CheckedProgram → Dice → Cells → Cells → List Bool → Type 0
 CrossByAnswers None dice road middle crosses = (middle ≡ road) × (crosses ≡ [])
 CrossByAnswers (Some change) dice road middle crosses =
     (length road.lanes ≡ 2) × AnswersCrossingsPart change dice road 0 (cars road) crosses
     × ((answer : ℕ → ℕ → Bool) → crosses ≡ in_order answer road → Crosses answer road middle)
 
--- the motion by answers in standing order: all cars move at once
+-- the motion from `road` to `next` by the list `speeds`: these are the motion program's answers for all cars
+-- in standing order, each at most the limit and the car's gap, and all cars move by them at once
 pub record GoByAnswers (motion : CheckedProgram) (dice : Dice) (road next : Cells) (speeds : List ℕ)
     : Type 0 where
   pub answers : IsSpeedsPart motion dice road 0 (cars road) speeds
   pub moves : (answer : ℕ → ℕ → ℕ) → speeds ≡ in_order answer road → Moves answer road next
 
--- the tally of answers: the sum of the speeds, the number of stopped cars, and the number of cars that cross
+-- the tally of a step, from its answers: the distance is the sum of `speeds`, the stopped cars are its zeros,
+-- and the lane changes are the entries of `crosses` that are true
 abbrev pub tally_of_answers : List Bool → List ℕ → StepTally
 tally_of_answers crosses speeds = record {
   distance = sum speeds;
@@ -88,7 +95,8 @@ tally_of_answers crosses speeds = record {
   changes = count_by (λ crosses. crosses) crosses;
 }
 
--- the answers of all cars in standing order lead through the two phases to the next road and its tally
+-- if a lane change and a motion by lists of answers lead from `road` over `middle` to `next`, then `next` is
+-- the next road, with the tally of these answers
 abbrev pub AnswersLeadOn : Type 0
 AnswersLeadOn =
     (rule : Programs) (dice : Dice) (road middle next : Cells) (crosses : List Bool) (speeds : List ℕ)
@@ -96,62 +104,67 @@ AnswersLeadOn =
     → GoByAnswers rule.motion dice middle next speeds
     → IsNext rule dice road next (tally_of_answers crosses speeds)
 
--- on a legal road the views of both kinds of programs are in range; a change program needs two lanes
+-- on a legal road the view of each car is in range, for a motion program and, on two lanes, for a change
+-- program
 abbrev pub ViewsAreInRange : Type 0
 ViewsAreInRange =
     (kind : Kind) (road : Cells) (car : Car) → IsLegal road → (kind ≡ Change → length road.lanes ≡ 2)
     → IsAt road car → IsView (view_by kind road car)
 
--- on a legal road an accepted motion program answers within its budget
+-- an accepted motion program that answers a speed for a car of a legal road has executed at most as many
+-- instructions as its budget
 abbrev pub SpeedsComeInTime : Type 0
 SpeedsComeInTime =
     (motion : CheckedProgram) (dice : Dice) (road : Cells) (car : Car) (speed : ℕ)
     → IsChecked Motion motion → IsLegal road → IsAt road car
     → (answer : AnswersSpeed motion dice road car speed) → answer.0 ≤ motion.budget
 
--- on a legal road of two lanes an accepted change program answers within its budget
+-- an accepted change program that answers for a car of a legal road of two lanes has executed at most as many
+-- instructions as its budget
 abbrev pub CrossingsComeInTime : Type 0
 CrossingsComeInTime =
     (change : CheckedProgram) (dice : Dice) (road : Cells) (car : Car) (crosses : Bool)
     → IsChecked Change change → IsLegal road → length road.lanes ≡ 2 → IsAt road car
     → (answer : AnswersCrossing change dice road car crosses) → answer.0 ≤ change.budget
 
--- in a step of a legal road under a rule for its lanes each call of a program is safe, in both phases
+-- in a step of a legal road, under a rule for its lanes, the calls of both phases are safe
 abbrev pub StepsCallSafely : Type 0
 StepsCallSafely =
     (rule : Programs) (dice : Dice) (road middle next : Cells) (tally : StepTally)
     → IsRuleFor (length road.lanes) rule → IsLegal road → IsStep rule dice road middle next tally
     → StepCallsAreSafe rule dice road middle
 
--- each legal road has a next road under a rule for its lanes, and it is legal; no car moves onto or through another
+-- a legal road has a next road under a rule for its lanes, by a clean step; the next road is legal, with the
+-- same limit and the same numbers of lanes and cars
 abbrev pub NextRoadExists : Type 0
 NextRoadExists =
     (rule : Programs) (dice : Dice) (road : Cells) → IsRuleFor (length road.lanes) rule → IsLegal road
     → (next : Cells) × (tally : StepTally) × IsCleanNext rule dice road next tally × IsLegalLike road next
 
--- a road has only one next road, and only one tally
+-- under one rule and with given dice a road has at most one next road, and at most one tally
 abbrev pub NextRoadIsOne : Type 0
 NextRoadIsOne =
     (rule : Programs) (dice : Dice) (road next other : Cells) (tally count : StepTally)
     → IsNext rule dice road next tally → IsNext rule dice road other count
     → (next ≡ other) × (tally ≡ count)
 
--- a run under a sheet for its lanes has a road at each step, and a sum of tallies; the road is legal
+-- a run from a legal road, under a sheet for its lanes, has at each step a sum of tallies and a legal road,
+-- with the limit and the numbers of lanes and cars of the start
 abbrev pub RoadExists : Type 0
 RoadExists =
     (seed : Seed) (sheet : Sheet) (step : ℕ) → IsLegal seed.road → IsSheetFor (length seed.road.lanes) sheet
     → (road : Cells) × (sum : StepTally) × ComesTo seed sheet step road sum
     × IsLegalLike seed.road road
 
--- a run has only one road at each step, and only one sum of tallies
+-- a run has at most one road at each step, and at most one sum of tallies
 abbrev pub RoadIsOne : Type 0
 RoadIsOne =
     (seed : Seed) (sheet : Sheet) (step : ℕ) (road other : Cells) (sum count : StepTally)
     → ComesTo seed sheet step road sum → ComesTo seed sheet step other count
     → (road ≡ other) × (sum ≡ count)
 
--- a run goes on from its road at a step to the next road under the rule in force; from step `warm` on the tally of
--- the step is added
+-- from its road at a step a run goes on to the next road under the rule in force; if the step is `warm` or a
+-- later one, its tally is added to the sum
 abbrev pub RunGoesOn : Type 0
 RunGoesOn =
     (seed : Seed) (sheet : Sheet) (step : ℕ) (road next : Cells) (sum tally : StepTally) (rule : Programs)
@@ -159,7 +172,7 @@ RunGoesOn =
     → IsNext rule (dice_at seed step) road next tally
     → ComesTo seed sheet (suc step) next (if nat_le seed.warm step then tally_sum sum tally else sum)
 
--- in each step of a run from a legal road, under a sheet for its lanes, each call of a program is safe
+-- in each step of a run from a legal road, under a sheet for its lanes, the calls of both phases are safe
 abbrev pub RunsCallSafely : Type 0
 RunsCallSafely =
     (seed : Seed) (sheet : Sheet) (step : ℕ) (road middle next : Cells) (sum : StepTally) (rule : Programs)

@@ -23,25 +23,26 @@ total_speed road = sum_by (λ (car : Car). car.speed) (standing road)
 abbrev pub stopped_cars : Cells → ℕ
 stopped_cars road = count_by (λ (car : Car). nat_eq car.speed 0) (standing road)
 
--- the number of cars of a road that cross
+-- the number of cars of a road that cross: `crosses`, a function of lane and place, is true for them
 abbrev pub crossing_cars : (ℕ → ℕ → Bool) → Cells → ℕ
 crossing_cars crosses road = count_by (λ (car : Car). crosses car.lane car.place) (standing road)
 
--- the lane change: a change program needs two lanes, and exactly the cars cross for which it answers so.
--- Without a change program no car crosses
+-- the lane change from `road` to `middle`, in which `changes` cars cross. With a change program the road has
+-- two lanes, and exactly those cars cross for which the program answers so. With `None` no car crosses
 abbrev pub IsLaneChangePhase : Option CheckedProgram → Dice → Cells → Cells → ℕ → Type 0
 IsLaneChangePhase None dice road middle changes = (middle ≡ road) × (changes ≡ 0)
 IsLaneChangePhase (Some change) dice road middle changes =
     (length road.lanes ≡ 2) × (crosses : ℕ → ℕ → Bool) × AnswersCrossings change dice road crosses
     × Crosses crosses road middle × (changes ≡ crossing_cars crosses road)
 
--- the motion: each car moves by the speed that the motion program answers on this very road
+-- the motion from `road` to `next`: each car moves by the speed that the motion program answers for it on
+-- `road`
 abbrev pub IsMotionPhase : CheckedProgram → Dice → Cells → Cells → Type 0
 IsMotionPhase motion dice road next =
     (speeds : ℕ → ℕ → ℕ) × AnswersSpeeds motion dice road speeds × Moves speeds road next
 
--- the motion and its tally; no car moves onto or through another, no car is lost or added, and the next road is
--- legal
+-- the motion from `road` to `next`, with a tally that counts no lane change; no car moves onto or through
+-- another, no car is lost or added, and `next` is legal
 pub record IsCountedMotion (motion : CheckedProgram) (dice : Dice) (road next : Cells)
     (tally : StepTally) : Type 0 where
   pub phase : IsMotionPhase motion dice road next
@@ -51,8 +52,9 @@ pub record IsCountedMotion (motion : CheckedProgram) (dice : Dice) (road next : 
   pub clean : CleanMotion road next
   pub legal : IsLegal next
 
--- a step of a road under a rule, over the middle road between the two phases (Nagel and Schreckenberg 1992
--- for the parallel motion, Rickert and others 1996 for the lane change before it)
+-- a step under a rule: the lane change from `road` to `middle` (Rickert and others 1996), then the motion
+-- from there to `next` (Nagel and Schreckenberg 1992); `tally` has the lane changes, the sum of the new
+-- speeds and the stopped cars
 pub record IsStep (rule : Programs) (dice : Dice) (road middle next : Cells)
     (tally : StepTally) : Type 0 where
   pub lane_change : IsLaneChangePhase rule.change dice road middle tally.changes
@@ -60,12 +62,13 @@ pub record IsStep (rule : Programs) (dice : Dice) (road middle next : Cells)
   pub distance : tally.distance ≡ total_speed next
   pub stopped : tally.stopped ≡ stopped_cars next
 
--- the next road under a rule, and the tally of the step
+-- `next` is the next road after `road` under a rule, with the dice of the step, and `tally` is the tally of
+-- the step
 abbrev pub IsNext : Programs → Dice → Cells → Cells → StepTally → Type 0
 IsNext rule dice road next tally = (middle : Cells) × IsStep rule dice road middle next tally
 
--- a step whose two phases are clean: no car moves onto or through another, no car is lost or added, and each called
--- program ends within its budget
+-- a step in which no car moves onto or through another, no car is lost or added, and each called program sees
+-- a view in range and ends within its budget
 pub record IsCleanStep (rule : Programs) (dice : Dice) (road middle next : Cells)
     (tally : StepTally) : Type 0 where
   pub step : IsStep rule dice road middle next tally
@@ -73,12 +76,12 @@ pub record IsCleanStep (rule : Programs) (dice : Dice) (road middle next : Cells
   pub clean_motion : CleanMotion middle next
   pub calls : StepCallsAreSafe rule dice road middle
 
--- the next road under a rule, and the tally of the step, by a clean step
+-- `next` is the next road after `road` under a rule, and `tally` the tally of the step, which is clean
 abbrev pub IsCleanNext : Programs → Dice → Cells → Cells → StepTally → Type 0
 IsCleanNext rule dice road next tally = (middle : Cells) × IsCleanStep rule dice road middle next tally
 
--- the result of a step: the next road, which is legal, and its tally, or a fault. The fault is `LanesMismatch` exactly
--- if there is a change program and one lane
+-- `told` is the result of a step: the next road, which is legal, and its tally, by a clean step; or a fault,
+-- which is `LanesMismatch` exactly if the rule has a change program and the road has one lane
 pub record TellsNext (rule : Programs) (dice : Dice) (road : Cells)
     (told : Result (Cells × StepTally) StepFault) : Type 0 where
   pub mismatch : (told ≡ Err LanesMismatch) ↔ (IsSome rule.change × (length road.lanes ≡ 1))

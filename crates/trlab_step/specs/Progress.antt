@@ -6,7 +6,7 @@ use Rattle.trlab_step.specs.Laws.{IsSheetFor}
 use Rattle.trlab_step.specs.Run.{Seed, Sheet, ComesTo, no_tally}
 use Rattle.trlab_step.specs.declared.tally.StepTally.{StepTally}
 
--- the start and the rules of a run, the current step, and the road and the sum of tallies there
+-- how far a run is: its start, its sheet, the current step, and the road and the sum of tallies at this step
 pub record Progress : Type 0 where
   pub seed : Seed
   pub sheet : Sheet
@@ -14,17 +14,18 @@ pub record Progress : Type 0 where
   pub road : Cells
   pub sum : StepTally
 
--- a run at step 0
+-- a run at step 0, where its road is that of the start and no tally is counted
 abbrev pub at_start : Seed → Sheet → Progress
 at_start seed sheet = record { seed = seed; sheet = sheet; step = 0; road = seed.road; sum = no_tally }
 
--- from a legal road, under a sheet for its lanes, the run comes to this road and this sum
+-- the run comes to its road and its sum at its step, from a legal road and under a sheet for the lanes of
+-- this road
 pub record IsUnderway (run : Progress) : Type 0 where
   pub legal : IsLegal run.seed.road
   pub suits : IsSheetFor (length run.seed.road.lanes) run.sheet
   pub comes : ComesTo run.seed run.sheet run.step run.road run.sum
 
--- the same run, one step later
+-- `new` has the start and the sheet of the run `old`, and is one step further
 pub record IsOneStepOn (old new : Progress) : Type 0 where
   pub same_seed : new.seed ≡ old.seed
   pub same_sheet : new.sheet ≡ old.sheet

@@ -9,14 +9,15 @@ ghost use Rattle.trlab_step.specs.Laws.{CrossingsComeInTime, RunsCallSafely, Spe
 ghost use Rattle.trlab_step.specs.Laws.{StepsCallSafely, ViewsAreInRange};
 ghost use Rattle.trlab_step.specs.Driven.{RunsAreDriven};
 
-/// Each part of the standing order has exactly one list of speeds, and the lists of the parts join to the list of the
-/// whole. So it does not matter which thread computes a part, or in which order.
+/// For each part of the standing order a motion program answers only one list of speeds, and the lists of adjacent
+/// parts join to the list of both. So it does not matter which thread computes a part, or in which order.
 pub fn parts_make_the_whole()
     ensures one { SpeedsAreOne }
     ensures join { SpeedsJoin }
 {}
 
-/// The same holds for the answers of change programs.
+/// For each part of the standing order a change program answers only one list that says which cars cross, and the lists
+/// of adjacent parts join to the list of both.
 pub fn crossings_make_the_whole()
     ensures one { CrossingsAreOne }
     ensures join { CrossingsJoin }
@@ -59,8 +60,8 @@ pub fn next_road_is_one()
     ensures { NextRoadIsOne }
 {}
 
-/// A run from a legal road, under a schedule of such rules that begins at step 0, has a legal road at each step, with
-/// the same numbers of lanes and cars.
+/// A run from a legal road, under a schedule of rules for its lanes, has a legal road at each step, with the same limit
+/// and the same numbers of lanes and cars.
 pub fn road_exists()
     ensures { RoadExists }
 {}

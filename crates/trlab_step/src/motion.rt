@@ -52,7 +52,7 @@ pub fn move_part(
     Ok(speeds)
 }
 
-/// The same speeds, each in 32 bits.
+/// The speeds as numbers of 32 bits.
 fn in_words(alloc: Global, speeds: &[u8]) -> Result<Vec<u32>, AllocError>
     ensures { IfOk result (λ words. words.items ≡ speeds.now) }
 {
@@ -158,7 +158,7 @@ pub fn commit_motion(alloc: Global, road: &Road, speeds: &[u32]) -> Result<Road,
     Ok(next)
 }
 
-/// The same speeds, each in a byte.
+/// The speeds as bytes; each is at most `MAX_LIMIT`.
 fn in_bytes(alloc: Global, speeds: &[u32]) -> Result<Vec<u8>, AllocError>
     requires { (k : ℕ) → k < length speeds.now → slice_index speeds.now k ≤ MAX_LIMIT }
     ensures { IfOk result (λ bytes. bytes.items ≡ speeds.now) }

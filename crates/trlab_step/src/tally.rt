@@ -50,7 +50,7 @@ pub fn tally_of(speeds: &[u8]) -> StepTally
     }
 }
 
-/// The tally of no step.
+/// The sum of no tallies: all counts are 0.
 pub fn no_tally() -> StepTally
     ensures { result ≡ no_tally }
 {

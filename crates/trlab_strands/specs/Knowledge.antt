@@ -6,11 +6,11 @@ use Rattle.trlab_strands.specs.declared.knowledge.TheConstants.{ALL_PARTS}
 use Rattle.trlab_strands.specs.declared.knowledge.Noted.{Noted}
 use Rattle.trlab_strands.specs.declared.knowledge.StrandKnowledge.{StrandKnowledge}
 
--- how often a number occurs: once if it is below the count, else never
+-- how often the number k occurs in a list that has each number below `count` once, and no other
 abbrev pub once_below : ℕ → ℕ → ℕ
 once_below k count = cond (ltb k count) 1 0
 
--- an event with the list before it
+-- an event with the list `before` it
 abbrev pub noted : {E : Type 0} → List E → E → Noted E
 noted before event = record { before = before; event = event }
 
@@ -18,27 +18,28 @@ noted before event = record { before = before; event = event }
 abbrev pub event_number : {E : Type 0} → Noted E → ℕ
 event_number n = length n.before
 
--- how many of these events have this number
+-- how many of the events `own` have the number k
 abbrev pub times : {E : Type 0} → ℕ → List (Noted E) → ℕ
 times k own = count_by (λ n. eqb (event_number n) k) own
 
--- the list begins with the events before this one, and continues with it
+-- the list `events` begins with the events before `n`, and continues with the event of `n`
 abbrev pub StandsIn : {E : Type 0} → List E → Noted E → Type 0
 StandsIn {E} events n = (later : List E) × (events ≡ n.before ++ n.event ∷ later)
 
--- each of these events is in the list
+-- each event of `own` is in the list `events`, right after the events before it
 abbrev pub StandIn : {E : Type 0} → List E → List (Noted E) → Type 0
 StandIn events own = All (StandsIn events) own
 
--- the list is a linearization of these events, that is, all of them in the order of their numbers: there are
--- as many, each is in the list after its earlier events, and each index of the list is the number of exactly
--- one
+-- the list `events` is a linearization of the events `own`, that is, all of them in the order of their
+-- numbers: both have as many, each event is in the list right after the events before it, and each index of
+-- the list is the number of exactly one of them
 pub record IsLinearization {E : Type 0} (events : List E) (own : List (Noted E)) : Type 0 where
   pub count : length own ≡ length events
   pub stand : StandIn events own
   pub once : (k : ℕ) → times k own ≡ once_below k (length events)
 
--- the knowledge of a seat, by its parts
+-- the knowledge of a seat: its parts, its own events, its clock, which is the smallest number that its next
+-- event may have, whether it keeps the list, and this list
 abbrev pub strand_knowledge : {E : Type 0} → ℕ → List (Noted E) → ℕ → Bool → List E → StrandKnowledge E
 strand_knowledge parts own least keeps all =
     record { parts = parts; own = own; least = least; keeps = keeps; all = all }
@@ -47,35 +48,37 @@ strand_knowledge parts own least keeps all =
 abbrev pub nothing : {E : Type 0} → StrandKnowledge E
 nothing = strand_knowledge 0 [] 0 false []
 
--- the first seat has all parts, no event, and the empty list
+-- the knowledge of the first seat: it has all parts, no event, and keeps the empty list
 abbrev pub first_seat : {E : Type 0} → StrandKnowledge E
 first_seat = strand_knowledge ALL_PARTS [] 0 true []
 
--- a strand that the list has left
+-- the knowledge of a strand from which the list was taken
 abbrev pub without_list : {E : Type 0} → StrandKnowledge E → StrandKnowledge E
 without_list k = strand_knowledge k.parts k.own k.least false []
 
--- the list by itself, if it was there
+-- the knowledge of a seat that took the list from a strand, if that had it, and nothing else
 abbrev pub list_alone : {E : Type 0} → StrandKnowledge E → StrandKnowledge E
 list_alone k = strand_knowledge 0 [] 0 k.keeps k.all
 
--- the knowledge of a strand that has given a part away
+-- the knowledge of a strand that has given one part away
 abbrev pub less_a_part : {E : Type 0} → StrandKnowledge E → StrandKnowledge E
 less_a_part k = strand_knowledge (k.parts - 1) k.own k.least k.keeps k.all
 
--- the part that it gives away, which has seen as much of the list
+-- the knowledge of a new strand with the one part that another has given away: it has no event, and has seen
+-- as much of the list as the other
 abbrev pub one_part : {E : Type 0} → StrandKnowledge E → StrandKnowledge E
 one_part k = strand_knowledge 1 [] k.least false []
 
--- the knowledge of a strand without the list, joined with that of another seat
+-- the knowledge of a strand without the list, joined with that of another seat: the parts and events of both,
+-- the larger clock, and the list if the other seat keeps it
 abbrev pub both_seats : {E : Type 0} → StrandKnowledge E → StrandKnowledge E → StrandKnowledge E
 both_seats k l = strand_knowledge (k.parts + l.parts) (k.own ++ l.own) (max k.least l.least) l.keeps l.all
 
--- a strand that has seen the whole list
+-- the knowledge of a strand with the list after it has seen the whole list: its clock is the list's length
 abbrev pub up_to_date : {E : Type 0} → StrandKnowledge E → StrandKnowledge E
 up_to_date k = strand_knowledge k.parts k.own (length k.all) k.keeps k.all
 
--- one event more, after the list
+-- the knowledge of a strand with the list after one more event, the next of the list and of the strand
 abbrev pub with_event : {E : Type 0} → StrandKnowledge E → E → StrandKnowledge E
 with_event k e =
     strand_knowledge k.parts (k.own ++ noted k.all e ∷ []) (length k.all + 1) k.keeps (k.all ++ e ∷ [])

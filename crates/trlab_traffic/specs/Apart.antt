@@ -8,20 +8,22 @@ use Rattle.trlab_step.specs.Next.{IsNext}
 use Rattle.trlab_step.specs.Run.{Seed, Sheet, ComesTo}
 use Rattle.trlab_traffic.specs.Runs.{EachRule, StaysInLane}
 
--- two roads with the same limit have a lane in common, with the same cars in its cells; their other lanes may
--- differ
+-- the two roads have the same limit and the same lane `l`, with the same cars in its cells; their other lanes
+-- may differ
 pub record ShareLane (l : ℕ) (road other : Cells) : Type 0 where
   pub same_limit : other.limit ≡ road.limit
   pub same_lane : lane_of other l ≡ lane_of road l
 
--- under any rule without lane changes their next roads, with the same dice, also have this lane in common
+-- if two roads share lane `l`, so do their next roads under the same rule without lane changes, with the same
+-- dice
 abbrev pub StepKeepsLanesApart : Type 0
 StepKeepsLanesApart =
     (rule : Programs) (dice : Dice) (road other next beside : Cells) (tally count : StepTally) (l : ℕ)
     → StaysInLane rule → IsNext rule dice road next tally → IsNext rule dice other beside count
     → ShareLane l road other → ShareLane l next beside
 
--- the same holds in every step of a run, under any sheet of such rules
+-- if two roads share lane `l`, so do the runs from them at each step, under the same sheet of rules without
+-- lane changes and with the same key and number
 abbrev pub RunKeepsLanesApart : Type 0
 RunKeepsLanesApart =
     (seed : Seed) (start : Cells) (sheet : Sheet) (step : ℕ) (road other : Cells) (sum count : StepTally)

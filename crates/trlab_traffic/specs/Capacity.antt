@@ -11,58 +11,62 @@ use Rattle.trlab_step.specs.Next.{IsNext}
 use Rattle.trlab_step.specs.Run.{Seed, Sheet, ComesTo}
 use Rattle.trlab_traffic.specs.Runs.{counted_steps}
 
--- the cells of a lane
+-- the number of cells of a lane
 abbrev pub lane_cells : Lane → ℕ
 lane_cells lane = length lane
 
--- the empty cells of a lane
+-- the number of empty cells of a lane
 abbrev pub lane_empty_cells : Lane → ℕ
 lane_empty_cells lane = count_by is_none lane
 
--- the cells of a road
+-- the number of cells of a road, on all lanes together
 abbrev pub all_cells : Cells → ℕ
 all_cells road = sum_by lane_cells road.lanes
 
--- the empty cells of a road
+-- the number of empty cells of a road, on all lanes together
 abbrev pub empty_cells : Cells → ℕ
 empty_cells road = sum_by lane_empty_cells road.lanes
 
--- a cell has one car, or is empty
+-- the cars and the empty cells of a road are together as many as its cells
 abbrev pub CellsAreTakenOrEmpty : Type 0
 CellsAreTakenOrEmpty = (road : Cells) → cars road + empty_cells road ≡ all_cells road
 
--- the distance of a step in which each car drives at the limit
+-- the distance of a step in which each car of a road drives at the limit
 abbrev pub distance_at_limit : Cells → ℕ
 distance_at_limit road = road.limit * cars road
 
--- the capacity of a road, the maximum distance of a step: each car drives at the limit, or each empty cell is
--- passed
+-- the capacity of a road, which no distance of a step exceeds: the limit times the number of cars, or the
+-- number of empty cells, whichever is smaller
 abbrev pub capacity : Cells → ℕ
 capacity road = min (distance_at_limit road) (empty_cells road)
 
--- the capacity of a lane by itself, on a road with a limit
+-- the capacity of a single lane with this limit: the limit times the number of its cars, or the number of its
+-- empty cells, whichever is smaller
 abbrev pub lane_capacity : ℕ → Lane → ℕ
 lane_capacity limit lane = min (limit * lane_cars lane) (lane_empty_cells lane)
 
--- a distance is within the capacity of a road for a number of steps
+-- in `steps` steps `distance` is within the capacity of a road: per step at most the number of empty cells,
+-- and at most the limit times the number of cars
 pub record IsWithinCapacity (road : Cells) (steps distance : ℕ) : Type 0 where
   pub by_empty_cells : distance ≤ steps * empty_cells road
   pub by_limit : distance ≤ steps * distance_at_limit road
 
--- the distance of a step is within the capacity, under any rule
+-- under any rule the distance of a step of a legal road is within the capacity of the road
 abbrev pub StepKeepsToCapacity : Type 0
 StepKeepsToCapacity =
     (rule : Programs) (dice : Dice) (road next : Cells) (tally : StepTally)
     → IsLegal road → IsNext rule dice road next tally → IsWithinCapacity road 1 tally.distance
 
--- the distance of a run's counted steps is within the capacity of the initial road, under any sheet of rules
+-- under any sheet of rules the distance of the counted steps of a run is within the capacity of the road of
+-- the start, which is legal
 abbrev pub RunKeepsToCapacity : Type 0
 RunKeepsToCapacity =
     (seed : Seed) (sheet : Sheet) (step : ℕ) (road : Cells) (sum : StepTally)
     → IsLegal seed.road → ComesTo seed sheet step road sum
     → IsWithinCapacity seed.road (counted_steps seed step) sum.distance
 
--- so no flow is above v / (v + 1), the peak of the triangle; v is the limit
+-- under any sheet of rules the flow of a run from a legal road is at most v / (v + 1), the peak of the
+-- triangle; v is the limit
 abbrev pub RunKeepsBelowPeak : Type 0
 RunKeepsBelowPeak =
     (seed : Seed) (sheet : Sheet) (step : ℕ) (road : Cells) (sum : StepTally)

@@ -12,12 +12,12 @@ use Rattle.trlab_step.specs.Next.{IsNext}
 use Rattle.trlab_step.specs.Run.{Seed, Sheet, ComesTo}
 use Rattle.trlab_traffic.specs.Runs.{EachRule}
 
--- an instruction has one outcome: if it is a draw, its probability is 0 or 1
+-- an instruction has only one outcome: if it is a draw, its probability is 0 or 1
 abbrev pub HasOneOutcome : Instr → Type 0
 HasOneOutcome (Draw d k chance) = (chance ≡ 0) ⊎ (chance ≡ CERTAIN)
 HasOneOutcome _ = Unit {0}
 
--- the programs of a rule are deterministic
+-- a rule is deterministic: each draw of its programs has probability 0 or 1
 pub record IsCertain (rule : Programs) : Type 0 where
   pub motion : All HasOneOutcome rule.motion.program.instrs
   pub change : IfSome rule.change (λ change. All HasOneOutcome change.program.instrs)
@@ -26,13 +26,14 @@ pub record IsCertain (rule : Programs) : Type 0 where
 abbrev pub NaschWithoutRandomization : Type 0
 NaschWithoutRandomization = (rule : Programs) → IsNasch 0 rule → IsCertain rule
 
--- the next road and the tally are the same for all dice, so for all keys, road numbers and steps
+-- under a deterministic rule the next road and the tally are the same for all dice, so for all keys, road
+-- numbers and steps
 abbrev pub StepIsDeterministic : Type 0
 StepIsDeterministic =
     (rule : Programs) (dice other : Dice) (road next : Cells) (tally : StepTally)
     → IsCertain rule → IsNext rule dice road next tally → IsNext rule other road next tally
 
--- the same holds for a run under any sheet of such rules, for all keys and numbers of its road
+-- under a sheet of deterministic rules a run is the same for all keys and all numbers of its road
 abbrev pub RunIsDeterministic : Type 0
 RunIsDeterministic =
     (seed : Seed) (key : List ℕ) (number : ℕ) (sheet : Sheet) (step : ℕ) (road : Cells) (sum : StepTally)

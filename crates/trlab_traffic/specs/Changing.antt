@@ -10,18 +10,21 @@ use Rattle.trlab_step.specs.Run.{Seed, Sheet, ComesTo}
 use Rattle.trlab_traffic.specs.Capacity.{empty_cells}
 use Rattle.trlab_traffic.specs.Runs.{counted_steps}
 
--- per step there are at most as many lane changes as cars, and at most as many as empty cells
+-- in `steps` steps of a road there are `changes` lane changes: per step at most as many as cars, and at most
+-- as many as empty cells
 pub record ChangesFew (road : Cells) (steps changes : ℕ) : Type 0 where
   pub by_cars : changes ≤ steps * cars road
   pub by_empty_cells : changes ≤ steps * empty_cells road
 
--- this holds for every step, under any rule: each car that changes lanes needs an empty cell of its own
+-- under any rule at most as many cars change lanes in a step of a legal road as there are cars, and at most
+-- as many as there are empty cells, because each needs an empty cell of its own
 abbrev pub StepChangesFew : Type 0
 StepChangesFew =
     (rule : Programs) (dice : Dice) (road next : Cells) (tally : StepTally)
     → IsLegal road → IsNext rule dice road next tally → ChangesFew road 1 tally.changes
 
--- and for the counted steps of a run, under any sheet of rules
+-- under any sheet of rules the counted steps of a run from a legal road have per step at most as many lane
+-- changes as cars, and at most as many as empty cells
 abbrev pub RunChangesFew : Type 0
 RunChangesFew =
     (seed : Seed) (sheet : Sheet) (step : ℕ) (road : Cells) (sum : StepTally)

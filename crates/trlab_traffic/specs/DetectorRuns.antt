@@ -10,28 +10,29 @@ use Rattle.trlab_traffic.specs.Capacity.{lane_empty_cells}
 use Rattle.trlab_traffic.specs.Detector.{IsContinuous, passages}
 use Rattle.trlab_traffic.specs.Runs.{EachRule, StaysInLane}
 
--- the detector of cell x on lane l counts this number of cars in the counted steps among the first steps of a
--- run
+-- the detector at the end of cell x on lane l counts `count` cars in the counted steps among the first `step`
+-- steps of a run
 abbrev pub Counts : Seed → Sheet → ℕ → ℕ → ℕ → ℕ → Type 0
 Counts seed sheet l x zero count = count ≡ 0
 Counts seed sheet l x (suc step) count =
     (road : Cells) × (before : ℕ) × IsRoadAt seed sheet (suc step) road × Counts seed sheet l x step before
     × (count ≡ (if nat_le seed.warm step then before + passages (lane_of road l) x else before))
 
--- each detector of a run has a count
+-- each detector of a run has a count after each number of steps
 abbrev pub CountExists : Type 0
 CountExists =
     (seed : Seed) (sheet : Sheet) (step : ℕ) (road : Cells) (sum : StepTally) (l x : ℕ)
     → ComesTo seed sheet step road sum → (count : ℕ) × Counts seed sheet l x step count
 
--- the counts of two detectors on lane l: that of cell x, and that of the cell k cells ahead
+-- two detectors on lane l have these counts after `step` steps of a run: `first` that of cell x, and `second`
+-- that of the cell k cells ahead
 pub record CountBoth (seed : Seed) (sheet : Sheet) (step l x k first second : ℕ) : Type 0 where
   pub is_cell : x < length (lane_of seed.road l)
   pub here : Counts seed sheet l x step first
   pub there : Counts seed sheet l (ahead (length (lane_of seed.road l)) x k) step second
 
--- continuity of runs, from the road on at which the count begins, under any sheet of rules without lane
--- changes. The count may begin at any step, so these are any steps of a run
+-- the continuity equation holds from step `warm`, at which the count begins, to each step from there on, for
+-- any two detectors of a lane and under any sheet of rules without lane changes
 abbrev pub RunIsContinuous : Type 0
 RunIsContinuous =
     (seed : Seed) (sheet : Sheet) (step : ℕ) (start road : Cells) (l x k first second : ℕ)
@@ -39,31 +40,32 @@ RunIsContinuous =
     → IsRoadAt seed sheet step road → CountBoth seed sheet step l x k first second
     → IsContinuous (lane_of start l) (lane_of road l) x k first second
 
--- two counts differ by no more than k
+-- the numbers `first` and `second` differ by at most k
 pub record AreWithin (k first second : ℕ) : Type 0 where
   pub no_less : first ≤ second + k
   pub no_more : second ≤ first + k
 
--- however long a run is, the counts of two detectors differ by no more than the cells between them
+-- under any sheet of rules without lane changes, the counts of two detectors of a lane differ by at most k,
+-- the number of cells from one to the other, however long the run is
 abbrev pub DetectorsAgree : Type 0
 DetectorsAgree =
     (seed : Seed) (sheet : Sheet) (step : ℕ) (road : Cells) (sum : StepTally) (l x k first second : ℕ)
     → EachRule StaysInLane sheet → ComesTo seed sheet step road sum
     → CountBoth seed sheet step l x k first second → AreWithin k first second
 
--- the cars of a lane or its empty cells, whichever are fewer
+-- the number of cars of a lane, or of its empty cells, whichever is smaller
 abbrev pub scarcer : Lane → ℕ
 scarcer lane = min (lane_cars lane) (lane_empty_cells lane)
 
--- if two detectors are at most one lap apart, their counts differ by no more than the lane has cars, or empty
--- cells
+-- under any sheet of rules without lane changes, the counts of two detectors of a lane at most one lap apart
+-- differ by at most the number of its cars, and by at most that of its empty cells
 abbrev pub DetectorsAgreeByCars : Type 0
 DetectorsAgreeByCars =
     (seed : Seed) (sheet : Sheet) (step : ℕ) (road : Cells) (sum : StepTally) (l x k first second : ℕ)
     → EachRule StaysInLane sheet → ComesTo seed sheet step road sum → k ≤ length (lane_of seed.road l)
     → CountBoth seed sheet step l x k first second → AreWithin (scarcer (lane_of seed.road l)) first second
 
--- the detectors of a run on one lane together count its distance, under any sheet of rules
+-- in a run on one lane, under any sheet of rules, the counts of all detectors add up to the distance
 abbrev pub DetectorsCountRun : Type 0
 DetectorsCountRun =
     (seed : Seed) (sheet : Sheet) (step : ℕ) (road : Cells) (sum : StepTally) (count : ℕ → ℕ)
@@ -71,13 +73,13 @@ DetectorsCountRun =
     → ((x : ℕ) → Counts seed sheet 0 x step (count x))
     → sum_by count (range_with_len 0 (length (lane_of seed.road 0))) ≡ sum.distance
 
--- on a ring of n cells, n times the count of a detector differs from the distance by at most n times the
--- minimum of the cars and the empty cells
+-- `count` measures the flow on a ring of n cells: n times `count` differs from `distance` by at most n times
+-- the number of the ring's cars or of its empty cells, whichever is smaller
 abbrev pub Measures : Lane → ℕ → ℕ → Type 0
 Measures lane count distance = AreWithin (length lane * scarcer lane) (length lane * count) distance
 
--- so in a run on one lane, under any sheet of rules without lane changes, each detector by itself measures
--- the flow: the more steps, the better
+-- in a run on one lane, under any sheet of rules without lane changes, each detector measures the flow; the
+-- bound of its error does not grow with the number of steps
 abbrev pub DetectorMeasuresFlow : Type 0
 DetectorMeasuresFlow =
     (seed : Seed) (sheet : Sheet) (step : ℕ) (road : Cells) (sum : StepTally) (x count : ℕ)
@@ -85,8 +87,8 @@ DetectorMeasuresFlow =
     → x < length (lane_of seed.road 0) → Counts seed sheet 0 x step count
     → Measures (lane_of seed.road 0) count sum.distance
 
--- in at most v + 1 consecutive steps a detector counts at most v cars, under any sheet of rules without lane
--- changes; v is the limit
+-- if at most v + 1 steps of a run from a legal road are counted, a detector counts at most v cars, under any
+-- sheet of rules without lane changes; v is the limit
 abbrev pub DetectorCountsBelowPeak : Type 0
 DetectorCountsBelowPeak =
     (seed : Seed) (sheet : Sheet) (step l x count : ℕ)

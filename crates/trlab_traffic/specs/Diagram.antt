@@ -1,6 +1,6 @@
 -- The fundamental diagram without randomization: each lane of a run comes to its capacity, and stays at it.
--- So the diagram of one lane is a triangle: its flow is the smaller of the limit times the density, and one minus
--- the density.
+-- So the diagram of one lane is a triangle: its flow is the smaller of the limit times the density, and one
+-- minus the density.
 use Rattle.std.specs.Prelude.{◌≡◌, ℕ, ◌+◌, ◌*◌, ◌≤◌, length, sum_by}
 use Rattle.trlab_road.specs.Legal.{IsLegal}
 use Rattle.trlab_road.specs.Cells.{Cells, lane_of}
@@ -12,12 +12,13 @@ use Rattle.trlab_step.specs.Run.{Seed, ComesTo}
 use Rattle.trlab_traffic.specs.Capacity.{all_cells, capacity, lane_capacity}
 use Rattle.trlab_traffic.specs.Runs.{always, counted_steps}
 
--- the distance of a run's counted steps is the capacity of the initial road times the number of these steps
+-- the distance of a run's counted steps is their number times the capacity of the road of the start
 abbrev pub FlowsAtCapacity : Seed → ℕ → StepTally → Type 0
 FlowsAtCapacity seed step sum = sum.distance ≡ counted_steps seed step * capacity seed.road
 
--- from any initial state, with any cells and speeds of the cars, a run flows at capacity if no step is
--- counted before the cars had time to reach the limit and then to go round the ring
+-- under the rule of 1992 without randomization a run from any legal road of one lane flows at capacity, if
+-- the limit plus the number of cells is at most `warm` + 1: before the count the cars have time to reach the
+-- limit, and then to go once round the ring
 abbrev pub NaschComesToCapacity : Type 0
 NaschComesToCapacity =
     (rule : Programs) (seed : Seed) (step : ℕ) (road : Cells) (sum : StepTally)
@@ -25,8 +26,10 @@ NaschComesToCapacity =
     → seed.road.limit + all_cells seed.road ≤ seed.warm + 1 → ComesTo seed (always rule) step road sum
     → FlowsAtCapacity seed step sum
 
--- on any number of lanes each comes to its own capacity. Together this is less than the capacity of the road
--- if one lane is held back by the limit and another by its empty cells
+-- under the rule of 1992 without randomization each lane of a run from a legal road comes to its own
+-- capacity, and the distance of the counted steps is their number times the sum of these, if the limit plus
+-- the length of a lane is at most `warm` + 1. The sum is less than the capacity of the road if one lane is
+-- held back by the limit and another by its empty cells
 abbrev pub NaschComesToCapacityByLane : Type 0
 NaschComesToCapacityByLane =
     (rule : Programs) (seed : Seed) (step : ℕ) (road : Cells) (sum : StepTally)
@@ -34,7 +37,9 @@ NaschComesToCapacityByLane =
     → ComesTo seed (always rule) step road sum
     → sum.distance ≡ counted_steps seed step * sum_by (lane_capacity seed.road.limit) seed.road.lanes
 
--- with the limit 1, which is rule 184, the time to go round the ring is enough
+-- with the limit 1, which makes it rule 184, the rule of 1992 without randomization lets a run from any legal
+-- road of one lane flow at capacity, if the number of cells is at most `warm` + 1: the time to go once round
+-- the ring is enough
 abbrev pub Rule184ComesToCapacity : Type 0
 Rule184ComesToCapacity =
     (rule : Programs) (seed : Seed) (step : ℕ) (road : Cells) (sum : StepTally)
@@ -42,7 +47,8 @@ Rule184ComesToCapacity =
     → all_cells seed.road ≤ seed.warm + 1 → ComesTo seed (always rule) step road sum
     → FlowsAtCapacity seed step sum
 
--- if n cars are evenly spaced at the start, the time to reach the limit is enough
+-- under the rule of 1992 without randomization a run from n evenly spaced, stopped cars on one lane flows at
+-- capacity, if the limit is at most `warm` + 1: the time to reach the limit is enough
 abbrev pub EvenCarsFlowAtCapacity : Type 0
 EvenCarsFlowAtCapacity =
     (cells limit n : ℕ) (rule : Programs) (seed : Seed) (step : ℕ) (road : Cells) (sum : StepTally)

@@ -18,62 +18,70 @@ use Rattle.trlab_step.specs.Run.{Seed, Sheet, ComesTo}
 use Rattle.trlab_traffic.specs.Gone.{HasGone}
 use Rattle.trlab_traffic.specs.Runs.{EachRule, StaysInLane, always}
 
--- two runs from the same initial state: after a number of steps no car has gone further in the slow run than in
--- the fast one, and neither have all cars together, if every step is counted
+-- of two runs from the same start, after `step` steps no car has gone further under the sheet `slow` than
+-- under `fast`; if every step is counted (`warm` is 0), neither have all cars together
 pub record IsNoFaster (seed : Seed) (slow fast : Sheet) (step : ℕ) : Type 0 where
   pub each_car : (number far most : ℕ)
       → HasGone seed slow step number far → HasGone seed fast step number most → far ≤ most
   pub all_cars : (road other : Cells) (sum most : StepTally) → seed.warm ≡ 0
       → ComesTo seed slow step road sum → ComesTo seed fast step other most → sum.distance ≤ most.distance
 
--- a motion program never answers more than the car's speed + 1, so cars accelerate by at most one
+-- a rule accelerates by at most one: for every view in range and all random words its motion program answers
+-- at most the car's speed plus one
 abbrev pub SpeedsUpByOne : Programs → Type 0
 SpeedsUpByOne rule =
     (view : View) (words : List ℕ) (speed n : ℕ) → IsView view
     → EndsWith Motion rule.motion.program.instrs view words (Goes speed) n → speed ≤ view.speed + 1
 
--- the rules of 1992 and of 1998 are such rules, for every probability
+-- the rule of 1992 accelerates by at most one, for every probability p
 abbrev pub NaschSpeedsUpByOne : Type 0
 NaschSpeedsUpByOne = (p : ℕ) (rule : Programs) → IsNasch p rule → SpeedsUpByOne rule
 
+-- the rule of 1998 accelerates by at most one, for all probabilities p and p0
 abbrev pub VdrSpeedsUpByOne : Type 0
 VdrSpeedsUpByOne = (p p0 : ℕ) (rule : Programs) → IsVdr p p0 rule → SpeedsUpByOne rule
 
--- among such rules the rule of 1992 without randomization is the fastest, at each step of a run
+-- a run from a legal road, under any sheet of rules that accelerate by at most one and have no lane changes,
+-- is at no step faster than the run under the rule of 1992 without randomization
 abbrev pub NobodyBeatsNasch : Type 0
 NobodyBeatsNasch =
     (rule : Programs) (sheet : Sheet) (seed : Seed) (step : ℕ)
     → IsNasch 0 rule → EachRule SpeedsUpByOne sheet → EachRule StaysInLane sheet → IsLegal seed.road
     → IsNoFaster seed sheet (always rule) step
 
--- a rule under which cars reach their speed at once: each goes as far as its gap and the limit allow
+-- a rule without lane changes under which cars reach their speed at once: each moves as far as its gap and
+-- the limit allow
 pub record GoesAtOnce (rule : Programs) : Type 0 where
   pub motion : MovesBy (λ view words. min view.limit view.gap) rule.motion.program
   pub stays : StaysInLane rule
 
--- a motion program for such a rule: the limit or the gap, whichever is smaller
+-- a motion program that answers the limit or the car's gap, whichever is smaller
 abbrev pub gap_program : Program
 gap_program = record { kind = Motion; instrs = Get R0 Limit ∷ Get R1 Gap ∷ Min R0 R0 R1 ∷ Go R0 ∷ [] }
 
+-- a rule without lane changes whose motion program is `gap_program` lets cars reach their speed at once
 abbrev pub GapProgramGoesAtOnce : Type 0
 GapProgramGoesAtOnce =
     (rule : Programs) → rule.motion.program ≡ gap_program → StaysInLane rule → GoesAtOnce rule
 
--- no sheet of rules without lane changes is faster than such a rule
+-- a run from a legal road, under any sheet of rules without lane changes, is at no step faster than the run
+-- under a rule that lets cars reach their speed at once
 abbrev pub NobodyBeatsGap : Type 0
 NobodyBeatsGap =
     (rule : Programs) (sheet : Sheet) (seed : Seed) (step : ℕ)
     → GoesAtOnce rule → EachRule StaysInLane sheet → IsLegal seed.road
     → IsNoFaster seed sheet (always rule) step
 
--- with the limit 1 a greater probability of braking slows whole runs; with a greater limit it need not
+-- with the limit 1 a run under the rule of 1992 with probability q of braking is at no step faster than the
+-- run with p, if p is at most q; with a larger limit it may be
 abbrev pub RandomizationSlowsRuns : Type 0
 RandomizationSlowsRuns =
     (p q : ℕ) (light heavy : Programs) (seed : Seed) (step : ℕ)
     → p ≤ q → IsNasch p light → IsNasch q heavy → IsLegal seed.road → seed.road.limit ≡ 1
     → IsNoFaster seed (always heavy) (always light) step
 
--- and so do slow starts, compared with the rule of 1992 if its probability is not greater
+-- with the limit 1 a run under the rule of 1998, with probabilities q and q0 of braking, is at no step faster
+-- than the run under the rule of 1992 with p, if p is at most q and q0
 abbrev pub SlowStartsSlowRuns : Type 0
 SlowStartsSlowRuns =
     (p q q0 : ℕ) (light heavy : Programs) (seed : Seed) (step : ℕ)

@@ -15,36 +15,39 @@ use Rattle.trlab_traffic.specs.Capacity.{distance_at_limit}
 use Rattle.trlab_traffic.specs.Homogeneity.{turned}
 use Rattle.trlab_traffic.specs.Runs.{always, counted_steps}
 
--- a road in free flow
+-- a road in free flow: each car drives at the limit, with a gap of at least the limit
 pub record IsFree (road : Cells) : Type 0 where
   pub at_limit : (car : Car) → IsAt road car → car.speed ≡ road.limit
   pub room : (car : Car) → IsAt road car → road.limit ≤ gap (lane_of road car.lane) car.place
 
--- without randomization each car goes on by the limit, and the next road is in free flow again
+-- under the rule of 1992 without randomization each car of a legal road in free flow moves by the limit, and
+-- the next road is in free flow too
 abbrev pub FreeFlowGoesOn : Type 0
 FreeFlowGoesOn =
     (rule : Programs) (dice : Dice) (old new : Cells) (tally : StepTally)
     → IsNasch 0 rule → IsLegal old → IsFree old → IsNext rule dice old new tally
     → AllGo (λ car. old.limit) old new × IsFree new
 
--- a run has come to a road in free flow, and the distance of its counted steps is that of all cars driving at
--- the limit: the flow is the limit times the density
+-- after `step` steps a run is in free flow, and the distance of its counted steps is that of all cars driving
+-- at the limit, so the flow is the limit times the density
 abbrev pub FlowsFreely : Seed → ℕ → Cells → StepTally → Type 0
 FlowsFreely seed step road sum =
     IsFree road × (sum.distance ≡ counted_steps seed step * distance_at_limit seed.road)
 
--- and free flow continues in every step of a run
+-- under the rule of 1992 without randomization a run from a legal road in free flow stays in free flow
 abbrev pub FreeFlowStaysFree : Type 0
 FreeFlowStaysFree =
     (rule : Programs) (seed : Seed) (step : ℕ) (road : Cells) (sum : StepTally)
     → IsNasch 0 rule → IsLegal seed.road → IsFree seed.road → ComesTo seed (always rule) step road sum
     → FlowsFreely seed step road sum
 
--- a run has moved as one: its road, turned by the limit for each step, is the road of the start
+-- a run has moved as one: turned by the limit times `step`, its road after `step` steps is the road of the
+-- start
 abbrev pub MovesAsOne : Seed → ℕ → Cells → Type 0
 MovesAsOne seed step road = turned (seed.road.limit * step) road ≡ seed.road
 
--- free flow moves as one: all cars keep their distances from one another
+-- under the rule of 1992 without randomization a run from a legal road in free flow moves as one: all cars
+-- keep their distances from one another
 abbrev pub FreeFlowTurns : Type 0
 FreeFlowTurns =
     (rule : Programs) (seed : Seed) (step : ℕ) (road : Cells) (sum : StepTally)

@@ -10,23 +10,24 @@ use Rattle.trlab_step.specs.declared.tally.StepTally.{StepTally}
 use Rattle.trlab_step.specs.Next.{IsNext}
 use Rattle.trlab_step.specs.Run.{Seed, Sheet, ComesTo}
 
--- a lane rotated by r cells: each place has the old cell of the place r cells ahead
+-- a lane turned by r cells: each place has the cell that was r cells ahead of it
 abbrev pub turned_lane : ℕ → Lane → Lane
 turned_lane r lane = map (λ x. at lane (ahead (length lane) x r)) (range_with_len 0 (length lane))
 
--- a road with all lanes rotated by r cells; the cars keep their lanes, numbers and speeds
+-- a road with all lanes turned by r cells; the cars keep their lanes, numbers and speeds
 abbrev pub turned : ℕ → Cells → Cells
 turned r road = record { limit = road.limit; lanes = map (turned_lane r) road.lanes }
 
--- if a road is rotated, its next road is rotated by as many cells, with the same tally, for every rule and
--- all dice
+-- under any rule and with any dice, turning a legal road by r cells turns its next road by r cells, and the
+-- tally stays the same
 abbrev pub StepIsHomogeneous : Type 0
 StepIsHomogeneous =
     (rule : Programs) (dice : Dice) (road next : Cells) (tally : StepTally) (r : ℕ)
     → IsLegal road → IsNext rule dice road next tally
     → IsNext rule dice (turned r road) (turned r next) tally
 
--- the same holds in every step of a run from a rotated road
+-- under any sheet of rules, turning the legal road of the start by r cells turns the road at each step by r
+-- cells, and the sums of tallies stay the same
 abbrev pub RunIsHomogeneous : Type 0
 RunIsHomogeneous =
     (seed : Seed) (sheet : Sheet) (step : ℕ) (road : Cells) (sum : StepTally) (r : ℕ)

@@ -9,11 +9,11 @@ use Rattle.trlab_step.specs.declared.tally.StepTally.{StepTally}
 use Rattle.trlab_step.specs.Next.{IsNext}
 use Rattle.trlab_traffic.specs.Runs.{StaysInLane}
 
--- a car, stopped in its cell
+-- a car, stopped in its cell: its speed is 0
 abbrev pub stopped_car : Car → Car
 stopped_car car = record car { speed = 0 }
 
--- under any rule without lane changes a car that has no gap stops
+-- under any rule without lane changes a car that has no gap stays in its cell and is stopped
 abbrev pub CarWithoutGapStops : Type 0
 CarWithoutGapStops =
     (rule : Programs) (dice : Dice) (old new : Cells) (tally : StepTally) (car : Car)

@@ -1,6 +1,6 @@
--- Slow starts make free flow metastable (Barlovic and others 1998). If moving cars never brake at random, free
--- flow lasts for ever; if stopped cars always do, a road of stopped cars stays so for ever, however few they
--- are. So at one density there are two flows, and the initial state decides which.
+-- Slow starts make free flow metastable (Barlovic and others 1998). If moving cars never brake at random,
+-- free flow lasts for ever; if stopped cars always brake, a road of stopped cars stays so for ever, however
+-- few they are. So at one density there are two flows, and the initial state decides which.
 use Rattle.std.specs.Prelude.{◌≡◌, ℕ, ◌+◌, ◌*◌, ◌≤◌, length}
 use Rattle.trlab_bounds.specs.declared.programs.TheConstants.{CERTAIN}
 use Rattle.trlab_road.specs.declared.car.Car.{Car}
@@ -19,28 +19,31 @@ use Rattle.trlab_traffic.specs.Runs.{always, counted_steps}
 pub record IsStopped (road : Cells) : Type 0 where
   pub stopped : (car : Car) → IsAt road car → car.speed ≡ 0
 
--- free flow lasts if moving cars brake with probability 0, and stopped cars with any probability p0
+-- under the rule of 1998, if moving cars brake with probability 0, a run from a legal road in free flow stays
+-- in free flow, whatever the probability p0 for stopped cars is
 abbrev pub SlowStartsKeepFreeFlow : Type 0
 SlowStartsKeepFreeFlow =
     (p0 : ℕ) (rule : Programs) (seed : Seed) (step : ℕ) (road : Cells) (sum : StepTally)
     → IsVdr 0 p0 rule → IsLegal seed.road → IsFree seed.road → ComesTo seed (always rule) step road sum
     → FlowsFreely seed step road sum
 
--- and the road, which is in free flow, then moves as one
+-- under the rule of 1998, if moving cars brake with probability 0, a run from a legal road in free flow moves
+-- as one, whatever the probability p0 for stopped cars is
 abbrev pub SlowStartsTurnFreeFlow : Type 0
 SlowStartsTurnFreeFlow =
     (p0 : ℕ) (rule : Programs) (seed : Seed) (step : ℕ) (road : Cells) (sum : StepTally)
     → IsVdr 0 p0 rule → IsLegal seed.road → IsFree seed.road → ComesTo seed (always rule) step road sum
     → MovesAsOne seed step road
 
--- a road of stopped cars stays as it is if stopped cars brake with probability 1, and moving cars with any p
+-- under the rule of 1998, if stopped cars brake with probability 1, a run from a legal road of stopped cars
+-- keeps this road, and its distance is 0, whatever the probability p for moving cars is
 abbrev pub SlowStartsKeepJams : Type 0
 SlowStartsKeepJams =
     (p : ℕ) (rule : Programs) (seed : Seed) (step : ℕ) (road : Cells) (sum : StepTally)
     → IsVdr p CERTAIN rule → IsLegal seed.road → IsStopped seed.road
     → ComesTo seed (always rule) step road sum → (road ≡ seed.road) × (sum.distance ≡ 0)
 
--- a legal road of one lane with this number of cells, this limit and n cars
+-- a legal road of one lane with `cells` cells, n cars and this limit
 pub record IsRing (cells limit n : ℕ) (road : Cells) : Type 0 where
   pub legal : IsLegal road
   pub one_lane : length road.lanes ≡ 1
@@ -48,8 +51,9 @@ pub record IsRing (cells limit n : ℕ) (road : Cells) : Type 0 where
   pub same_limit : road.limit ≡ limit
   pub same_cars : cars road ≡ n
 
--- two such roads: under this rule all cars of the first drive at the limit in every counted step, and no car
--- of the second ever moves
+-- the rule has two flows on rings of `cells` cells with n cars and this limit: in each run from the ring
+-- `free` all cars drive at the limit in every counted step, and in each run from the ring `jam` no car moves
+-- in a counted step
 pub record HasTwoFlows (cells limit n : ℕ) (rule : Programs) : Type 0 where
   pub free : Cells
   pub jam : Cells
@@ -60,8 +64,8 @@ pub record HasTwoFlows (cells limit n : ℕ) (rule : Programs) : Type 0 where
   pub stands : (seed : Seed) (step : ℕ) (road : Cells) (sum : StepTally) → seed.road ≡ jam
       → ComesTo seed (always rule) step road sum → sum.distance ≡ 0
 
--- if moving cars never brake at random and stopped cars always do, there are two such roads at every density
--- that leaves room to drive at the limit
+-- the rule of 1998, if moving cars brake with probability 0 and stopped cars with 1, has two flows on rings
+-- at each density that leaves room to drive at the limit: limit + 1 cells for each of the n cars
 abbrev pub TwoFlowsAtOneDensity : Type 0
 TwoFlowsAtOneDensity =
     (cells limit n : ℕ) (rule : Programs)

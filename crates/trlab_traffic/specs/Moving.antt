@@ -10,19 +10,21 @@ use Rattle.trlab_step.specs.Run.{Seed, Sheet, ComesTo}
 use Rattle.trlab_traffic.specs.Capacity.{distance_at_limit}
 use Rattle.trlab_traffic.specs.Runs.{counted_steps}
 
--- in a number of steps each car has moved at least one cell in every step in which it was not stopped, and at
--- most as many as the limit
+-- in `steps` steps of a road, with the tally `sum`, the distance is at least one cell, and at most as many
+-- cells as the limit, for each car and step in which the car is not stopped
 pub record GoesByMovingCars (road : Cells) (steps : ℕ) (sum : StepTally) : Type 0 where
   pub cell_each : steps * cars road ≤ sum.distance + sum.stopped
   pub limit_each : sum.distance + road.limit * sum.stopped ≤ steps * distance_at_limit road
 
--- in a step, under any rule
+-- under any rule the distance of a step of a legal road is at least one cell, and at most as many cells as
+-- the limit, for each car that is not stopped in it
 abbrev pub StepGoesByMovingCars : Type 0
 StepGoesByMovingCars =
     (rule : Programs) (dice : Dice) (road next : Cells) (tally : StepTally)
     → IsLegal road → IsNext rule dice road next tally → GoesByMovingCars road 1 tally
 
--- and in the counted steps of a run, under any sheet of rules
+-- under any sheet of rules the distance of the counted steps of a run from a legal road is at least one cell,
+-- and at most as many cells as the limit, for each car and counted step in which the car is not stopped
 abbrev pub RunGoesByMovingCars : Type 0
 RunGoesByMovingCars =
     (seed : Seed) (sheet : Sheet) (step : ℕ) (road : Cells) (sum : StepTally)

@@ -11,7 +11,8 @@ use Rattle.trlab_step.specs.Run.{Seed, Sheet, ComesTo}
 use Rattle.trlab_traffic.specs.Following.{IsNextAhead}
 use Rattle.trlab_traffic.specs.Runs.{EachRule, StaysInLane}
 
--- the car `next` is the next one ahead of the car `number`
+-- the car with number `next` is the next one ahead of the car with number `number` on its lane; the two are
+-- the same car if the lane has no other
 pub record IsNextOf (road : Cells) (number next : ℕ) : Type 0 where
   pub car : Car
   pub next_car : Car
@@ -21,23 +22,24 @@ pub record IsNextOf (road : Cells) (number next : ℕ) : Type 0 where
   pub next_numbered : next_car.number ≡ next
   pub follows : IsNextAhead road car next_car
 
--- each car has a next one
+-- each car of a road has a next car ahead, possibly itself
 abbrev pub EachCarHasNext : Type 0
 EachCarHasNext = (road : Cells) (car : Car) → IsAt road car → (next : ℕ) × IsNextOf road car.number next
 
--- and no car has two different next cars
+-- no car of a legal road has two different next cars ahead
 abbrev pub NextCarIsOne : Type 0
 NextCarIsOne = (road : Cells) (number next other : ℕ) → IsLegal road
     → IsNextOf road number next → IsNextOf road number other → next ≡ other
 
--- under any rule without lane changes a car keeps its next car ahead in a step
+-- under any rule without lane changes a car has the same next car ahead after a step as before it
 abbrev pub StepKeepsNextCar : Type 0
 StepKeepsNextCar =
     (rule : Programs) (dice : Dice) (old new : Cells) (tally : StepTally) (number next : ℕ)
     → StaysInLane rule → IsNext rule dice old new tally
     → IsNextOf old number next → IsNextOf new number next
 
--- the same holds in every step of a run, under any sheet of such rules
+-- under any sheet of rules without lane changes a car has at each step of a run the same next car ahead as at
+-- the start
 abbrev pub RunKeepsNextCar : Type 0
 RunKeepsNextCar =
     (seed : Seed) (sheet : Sheet) (step : ℕ) (road : Cells) (sum : StepTally) (number next : ℕ)

@@ -13,15 +13,16 @@ use Rattle.trlab_traffic.specs.Capacity.{empty_cells}
 use Rattle.trlab_traffic.specs.Detector.{cars_ahead_of, passages}
 use Rattle.trlab_traffic.specs.DetectorRuns.{AreWithin, Counts}
 
--- the number of cars in the k cells ahead of a place, on all lanes together
+-- the number of cars in the k cells ahead of place x, on all lanes together
 abbrev pub cars_ahead_of_row : Cells → ℕ → ℕ → ℕ
 cars_ahead_of_row road x k = sum_by (λ (lane : Lane). cars_ahead_of lane x k) road.lanes
 
--- the passages at the detectors of a place, one on each lane, together
+-- the number of cars that passed the end of the cell at place x in the last step, on all lanes together
 abbrev pub row_passages : Cells → ℕ → ℕ
 row_passages road x = sum_by (λ (lane : Lane). passages lane x) road.lanes
 
--- continuity of all lanes together, under any rule: a lane change takes no car past a row
+-- in a step of a legal road, under any rule, the cars in the k cells ahead of place x grow by those that pass
+-- the row at x, and shrink by those that pass the row k cells ahead: a lane change takes no car past a row
 abbrev pub StepIsContinuousByRows : Type 0
 StepIsContinuousByRows =
     (rule : Programs) (dice : Dice) (old new : Cells) (tally : StepTally) (x k : ℕ)
@@ -29,7 +30,9 @@ StepIsContinuousByRows =
     → let end = ahead (length (lane_of old 0)) x k in
     cars_ahead_of_row new x k + row_passages new end ≡ cars_ahead_of_row old x k + row_passages new x
 
--- continuity of all lanes together in a run, from the road at which the detectors begin to count
+-- in a run from a legal road, under any sheet of rules, from step `warm`, at which the detectors begin to
+-- count, to each step from there on, the cars in the k cells ahead of place x grow by the count of the row at
+-- x, and shrink by that of the row k cells ahead; `first l` and `second l` are the counts on lane l
 abbrev pub RunIsContinuousByRows : Type 0
 RunIsContinuousByRows =
     (seed : Seed) (sheet : Sheet) (step : ℕ) (start road : Cells) (x k : ℕ) (first second : ℕ → ℕ)
@@ -40,8 +43,9 @@ RunIsContinuousByRows =
     → let lanes = range_with_len 0 (length seed.road.lanes) in
     cars_ahead_of_row road x k + sum_by second lanes ≡ cars_ahead_of_row start x k + sum_by first lanes
 
--- so the counts of two rows at most one lap apart differ by no more than all cars, or all empty cells,
--- however cars change lanes
+-- in a run from a legal road, under any sheet of rules, the counts of two rows at most one lap apart differ
+-- by at most the number of all cars, and by at most that of all empty cells; `first l` and `second l` are the
+-- counts on lane l
 abbrev pub RowsAgree : Type 0
 RowsAgree =
     (seed : Seed) (sheet : Sheet) (step : ℕ) (road : Cells) (sum : StepTally) (x k : ℕ) (first second : ℕ → ℕ)
@@ -52,7 +56,9 @@ RowsAgree =
     → let lanes = range_with_len 0 (length seed.road.lanes) in
     AreWithin (min (cars seed.road) (empty_cells seed.road)) (sum_by first lanes) (sum_by second lanes)
 
--- and each row by itself measures the flow of a run, under any sheet of rules
+-- in a run from a legal road with lanes of n cells, under any sheet of rules, each row measures the flow: n
+-- times its count differs from the distance by at most n times the number of all cars or of all empty cells,
+-- whichever is smaller; `count l` is the count on lane l
 abbrev pub RowMeasuresFlow : Type 0
 RowMeasuresFlow =
     (seed : Seed) (sheet : Sheet) (step : ℕ) (road : Cells) (sum : StepTally) (x : ℕ) (count : ℕ → ℕ)

@@ -16,28 +16,30 @@ use Rattle.trlab_traffic.specs.Runs.{EachRule}
 abbrev pub exchanged : Cells → Cells
 exchanged road = record { limit = road.limit; lanes = lane_of road 1 ∷ lane_of road 0 ∷ [] }
 
--- an instruction that reads on which lane the car is
+-- does an instruction read the car's lane?
 abbrev pub reads_lane : Instr → Bool
 reads_lane (Get d Lane) = true
 reads_lane _ = false
 
--- the programs of a rule do not read the car's lane; a motion program never does
+-- the change program of a rule, if there is one, does not read the car's lane; a motion program never does
 abbrev pub IgnoresLane : Programs → Type 0
 IgnoresLane rule =
     IfSome rule.change (λ change. All (λ instr. reads_lane instr ≡ false) change.program.instrs)
 
--- the rule of 1996 does not read the car's lane
+-- the rule of 1996 does not read the car's lane, whatever its probabilities p and c are
 abbrev pub RickertIgnoresLane : Type 0
 RickertIgnoresLane = (p c : ℕ) (rule : Programs) → IsRickert p c rule → IgnoresLane rule
 
--- if the lanes of a road are exchanged, those of its next road are exchanged too, with the same tally
+-- under a rule that does not read the car's lane, exchanging the lanes of a road exchanges those of its next
+-- road, and the tally stays the same
 abbrev pub StepIsSymmetric : Type 0
 StepIsSymmetric =
     (rule : Programs) (dice : Dice) (road next : Cells) (tally : StepTally)
     → IgnoresLane rule → length road.lanes ≡ 2 → IsNext rule dice road next tally
     → IsNext rule dice (exchanged road) (exchanged next) tally
 
--- the same holds in every step of a run, under any sheet of such rules
+-- under a sheet of rules that do not read the car's lane, exchanging the lanes of the road of the start
+-- exchanges those of the road at each step, and the sums of tallies stay the same
 abbrev pub RunIsSymmetric : Type 0
 RunIsSymmetric =
     (seed : Seed) (sheet : Sheet) (step : ℕ) (road : Cells) (sum : StepTally)

@@ -41,8 +41,9 @@ pub fn step_keeps_to_capacity()
     ensures { StepKeepsToCapacity }
 {}
 
-/// The same holds per step for the counted steps of a run, under any schedule of rules. The number of cells of a road
-/// is that of its cars plus that of its empty cells.
+/// Per counted step of a run, under any schedule of rules, the cars of a legal road together move at most as many cells
+/// as are empty, and at most as many as the limit times the number of cars. The number of cells of a road is that of
+/// its cars plus that of its empty cells.
 pub fn run_keeps_to_capacity()
     ensures cells { CellsAreTakenOrEmpty }
     ensures run { RunKeepsToCapacity }
@@ -84,9 +85,9 @@ pub fn slow_starts_are_metastable()
     ensures jam { SlowStartsKeepJams }
 {}
 
-/// So at every density that leaves room to drive at the limit there are two roads with the same numbers of cars and
-/// cells. If moving cars never brake at random and stopped cars always do, the cars of one drive at the limit for ever
-/// and those of the other never move.
+/// At every density that leaves room to drive at the limit there are two roads with the same numbers of cars and cells,
+/// such that the cars of one drive at the limit for ever and those of the other never move. This is so under the rule
+/// of 1998, if moving cars never brake at random and stopped cars always do.
 pub fn two_flows_at_one_density()
     ensures { TwoFlowsAtOneDensity }
 {}

@@ -16,7 +16,7 @@ pub trait Keyed<K> {
     ghost fits: { K → Self → Type 0 };
 }
 
-/// The rule of the lock.
+/// The rule of the lock: while its word is 0, the value is in its slot and fits the key.
 pub struct LockRule<T, K> {
     marker: PhantomData<(T, K)>,
 }
