@@ -10,7 +10,7 @@ use Rattle.trlab_asm.specs.Names.{register_text, input_text, mnemonic_text}
 use Rattle.trlab_asm.specs.Operands.{Target}
 use Rattle.trlab_asm.specs.Reading.{InstrDraft, draft_of, body}
 use Rattle.trlab_asm.specs.Canonical.{target_text, ◌comma◌, row_text, instr_text}
-use Rattle.trlab_code.specs.Laws.{HasWord}
+use Rattle.trlab_code.specs.Laws.{FitsIn32Bits}
 use Rattle.trlab_asm.specs.declared.names.Mnemonic.{Mnemonic}
 use Rattle.trlab_asm.specs.declared.names.Mnemonic.TheVariants as name
 use Rattle.trlab_asm.proofs.UncutWords.{word_and_more}
@@ -18,7 +18,7 @@ use Rattle.trlab_asm.proofs.Printed.{goal_of, name_again, register_again, target
 
 -- the fields are in range, and the number has 32 bits
 abbrev pub Fits : Instr → Type 0
-Fits instr = IsInRange instr × HasWord instr
+Fits instr = IsInRange instr × FitsIn32Bits instr
 
 abbrev pub jump_draft : (ℕ → Instr) → Target → InstrDraft
 jump_draft instr to = record { instr = instr to.pc; label = to.label }

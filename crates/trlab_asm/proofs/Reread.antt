@@ -17,8 +17,8 @@ use Rattle.trlab_asm.specs.Operands.{Target}
 use Rattle.trlab_asm.specs.Reading.{Labels, line_says}
 use Rattle.trlab_asm.specs.Assembly.{LineDraft, with_label, first_pass, with_target, resolve_label, resolve, second_pass, code_of}
 use Rattle.trlab_asm.specs.Canonical.{label_text, instr_line, is_pc, is_jumped_to, text_from, text_of}
-use Rattle.trlab_code.specs.Laws.{HasWord}
-use Rattle.trlab_asm.specs.Laws.{CanonicalTextSaysTheProgram, OneProgramOfAText}
+use Rattle.trlab_code.specs.Laws.{FitsIn32Bits}
+use Rattle.trlab_asm.specs.Laws.{CanonicalTextGivesProgram, TextDeterminesProgram}
 use Rattle.trlab_lines.proofs.Cuts.{line_and_rest}
 use Rattle.trlab_asm.proofs.Passes.{first_next}
 use Rattle.trlab_asm.proofs.Printed.{goal_of}
@@ -156,13 +156,13 @@ length_reads count number (i ∷ instrs) = ap suc (length_reads count (number + 
 some_read : (instrs : List Instr) → 0 < length instrs → (length (reads_of (length instrs) 1 instrs) == 0) ≡ false
 some_read instrs some = rw (length_reads (length instrs) 1 instrs) (ne_eqb (length instrs) 0 (λ e. absurd (omega arith)))
 
-all_fit : (instrs : List Instr) → All IsInRange instrs → All HasWord instrs → AllByRecursion Fits instrs
+all_fit : (instrs : List Instr) → All IsInRange instrs → All FitsIn32Bits instrs → AllByRecursion Fits instrs
 all_fit [] in_range has_word = tt
 all_fit (i ∷ instrs) in_range has_word =
-    ((All-head IsInRange i instrs in_range, All-head HasWord i instrs has_word), all_fit instrs (All-tail IsInRange i instrs in_range) (All-tail HasWord i instrs has_word))
+    ((All-head IsInRange i instrs in_range, All-head FitsIn32Bits i instrs has_word), all_fit instrs (All-tail IsInRange i instrs in_range) (All-tail FitsIn32Bits i instrs has_word))
 
 -- the text of a program says the program
-pub again : CanonicalTextSaysTheProgram
+pub again : CanonicalTextGivesProgram
 again program stored =
     let instrs = program.instrs in
     let some = stored.is_program.some in
@@ -173,14 +173,14 @@ again program stored =
     rw (first, some_read program.instrs (omega arith), second_again program.instrs 1 program.instrs (omega arith) (λ t here. here)) refl
 
 -- so programs of one kind with one text are one
-pub one_program : OneProgramOfAText
+pub one_program : TextDeterminesProgram
 one_program first second stored stored_too kinds texts =
     let one = again first stored in
     let other = again second stored_too in
     cc
 
 -- the same where a machine has seen all the words
-pub reread : (program : Program) (instrs : List Instr) (text : List ℕ) (n : ℕ) → instrs ≡ program.instrs → IsProgram program → length instrs ≤ n → All HasWord (take n instrs) → text ≡ text_of instrs
+pub reread : (program : Program) (instrs : List Instr) (text : List ℕ) (n : ℕ) → instrs ≡ program.instrs → IsProgram program → length instrs ≤ n → All FitsIn32Bits (take n instrs) → text ≡ text_of instrs
     → code_of program.kind (lines_of text) ≡ Ok program
 reread program instrs text n same stored all words canonical =
     let whole : take n program.instrs ≡ program.instrs = take_all n program.instrs (rw same at all) in

@@ -16,7 +16,7 @@ use Rattle.trlab_asm.specs.Operands.{◌then◌, digits_of, input, is_label, no_
 use Rattle.trlab_asm.specs.Results.{◌>>=◌}
 use Rattle.trlab_asm.specs.Reading.{InstrDraft, Labels, Line, body, draft_of, if_free, instruction, label_of, line_says, new_label}
 use Rattle.trlab_asm.specs.Assembly.{Parts, LineDraft, with_target, jump_to, code_of, resolve, first_pass, in_line, instrs_of, no_parts, resolve_label, second_pass, with_line, with_draft}
-use Rattle.trlab_asm.specs.Laws.{TextsSaySomething}
+use Rattle.trlab_asm.specs.Laws.{TextsHaveMeaning}
 use Rattle.trlab_lines.specs.Lines.{lines_of}
 use Rattle.trlab_bounds.specs.declared.programs.TheConstants.{MAX_NUMBER, MAX_DIGITS}
 use Rattle.trlab_asm.specs.declared.names.Mnemonic.{Mnemonic}
@@ -312,5 +312,5 @@ lines_say kind lines =
     then_tells Whole IsProgram (instrs_of parts) _ (instrs_tell parts (length parts.reads == 0) refl kept) (λ instrs h.
     record { some = h.some; few = h.few; in_range = h.fit }))
 
-pub something : TextsSaySomething
+pub something : TextsHaveMeaning
 something kind text = lines_say kind (lines_of text)

@@ -13,18 +13,18 @@ use Rattle.trlab_asm.specs.declared.names.Mnemonic.{Mnemonic}
 use Rattle.trlab_asm.specs.declared.fault.Why.TheVariants.{Memory}
 
 -- the lines of any text give a valid program of each kind, or a first fault, which is never `Memory`
-abbrev pub TextsSaySomething : Type 0
-TextsSaySomething = (kind : Kind) (text : List ℕ)
+abbrev pub TextsHaveMeaning : Type 0
+TextsHaveMeaning = (kind : Kind) (text : List ℕ)
     → MatchResult (code_of kind (lines_of text)) IsProgram (λ fault. fault.why ≢ Memory)
 
 -- the lines of the canonical text of a representable program give this program again
-abbrev pub CanonicalTextSaysTheProgram : Type 0
-CanonicalTextSaysTheProgram = (program : Program) → IsRepresentable program
+abbrev pub CanonicalTextGivesProgram : Type 0
+CanonicalTextGivesProgram = (program : Program) → IsRepresentable program
     → code_of program.kind (lines_of (text_of program.instrs)) ≡ Ok program
 
 -- two representable programs of one kind with the same canonical text are equal
-abbrev pub OneProgramOfAText : Type 0
-OneProgramOfAText = (first second : Program) → IsRepresentable first → IsRepresentable second
+abbrev pub TextDeterminesProgram : Type 0
+TextDeterminesProgram = (first second : Program) → IsRepresentable first → IsRepresentable second
     → first.kind ≡ second.kind → text_of first.instrs ≡ text_of second.instrs → first ≡ second
 
 -- a word names a register exactly if it is the name of this register

@@ -2,7 +2,7 @@
 //!
 //! Each law is the contract of a function with an empty body.
 
-ghost use Rattle.trlab_asm.specs.Laws.{CanonicalTextSaysTheProgram, OneProgramOfAText, TextsSaySomething};
+ghost use Rattle.trlab_asm.specs.Laws.{CanonicalTextGivesProgram, TextDeterminesProgram, TextsHaveMeaning};
 ghost use Rattle.trlab_asm.specs.Laws.{InputsAreNamed, InstructionsAreNamed, RegistersAreNamed};
 
 /// A word names a register, an input or an instruction exactly if it is the name that is printed for it.
@@ -15,17 +15,17 @@ pub fn names()
 /// The lines of any text give a valid program of each kind, or a first fault, which is never `Memory`.
 #[tactic(auto, using(crate::proofs::Said::something))]
 pub fn texts_say_something()
-    ensures { TextsSaySomething }
+    ensures { TextsHaveMeaning }
 {}
 
 /// Reading the canonical text of a program returns this program.
 #[tactic(auto, using(crate::proofs::Reread::again))]
 pub fn canonical_text_says_the_program()
-    ensures { CanonicalTextSaysTheProgram }
+    ensures { CanonicalTextGivesProgram }
 {}
 
 /// Two programs of one kind with the same canonical text are equal.
 #[tactic(auto, using(crate::proofs::Reread::one_program))]
 pub fn one_program_of_a_text()
-    ensures { OneProgramOfAText }
+    ensures { TextDeterminesProgram }
 {}

@@ -1,7 +1,7 @@
 //! The disassembler: prints a program in its canonical form.
 
 ghost use Rattle.std.specs.Prelude.{◌≡◌, ◌++◌, decimal, OnOk, Ok, IfOk};
-ghost use Rattle.trlab_code.specs.Laws.{HasWord};
+ghost use Rattle.trlab_code.specs.Laws.{FitsIn32Bits};
 ghost use Rattle.trlab_asm.specs.Canonical.{operand_text, target_text, ◌comma◌, row_text, row_says, instr_text, instr_line, is_pc, is_jumped_to, text_of};
 ghost use Rattle.trlab_code.specs.Flow.{target};
 ghost use Rattle.trlab_lines.specs.Lines.{lines_of};
@@ -93,7 +93,7 @@ fn row_of(count: usize, instr: Instr) -> Operation
     ensures value { row_says result ≡ instr_text count instr }
 
     // Holds for each `u32`.
-    ensures word { HasWord instr }
+    ensures word { FitsIn32Bits instr }
 {
     match instr {
         Instr::Num(d, n) => Two(Mnemonic::Num, Register(d), Number(n)),
@@ -153,7 +153,7 @@ pub(crate) fn push_line(
     ensures line { OnOk result (out.new.items ≡ out.old.items ++ instr_line count marked pc instr) }
 
     // Holds for each `u32`.
-    ensures word { HasWord instr }
+    ensures word { FitsIn32Bits instr }
 {
     if marked {
         push_number(alloc, out, "L", pc)?;

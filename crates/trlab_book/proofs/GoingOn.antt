@@ -11,7 +11,7 @@ use Rattle.trlab_sequential_book.specs.declared.fault.BookFault.{BookFault}
 use Rattle.trlab_sequential_book.specs.declared.fault.BookFault.TheVariants.{Ended, Full, HistoryFull, LanesMismatch, Memory, NoSuchJob, SheetFull, StrangerLease}
 use Rattle.trlab_book.specs.declared.running.RunFault.{RunFault}
 use Rattle.trlab_book.specs.declared.running.RunFault.TheVariants as run
-use Rattle.trlab_sequential_book.specs.Answers.{is_event, tells_full}
+use Rattle.trlab_sequential_book.specs.Answers.{is_event, is_history_full}
 use Rattle.trlab_sequential_book.specs.Comparison.{OrderCall, offered}
 use Rattle.trlab_sequential_book.specs.Leases.{LeaseState}
 use Rattle.trlab_sequential_book.specs.Machine.{BookState}
@@ -51,7 +51,7 @@ module _ {L : Type 0} {ledger : Ghosts L} where
 
   -- a call that is not an event adds nothing to the desk's calls, and the clock does not go back
   is_none : (a b : Desk L ledger) (told : Reply) → IsNoEvent a told b → (subhistory_of b ≡ subhistory_of a) × (clock_of a ≤ clock_of b)
-  is_none a b told none = by_full (tells_full told) none
+  is_none a b told none = by_full (is_history_full told) none
     where
       by_full : (whole : Bool) → MatchBool whole (HasSeen a MAX_EVENTS b) (IsSameStrand a.strand b.strand) → (subhistory_of b ≡ subhistory_of a) × (clock_of a ≤ clock_of b)
       by_full true seen = (seen.1, seen.2)

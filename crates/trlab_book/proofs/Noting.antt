@@ -6,7 +6,7 @@ use Rattle.std.proofs.Common.{◌≡◌, ◌≤◌, length, arith, Bool, true, f
 use Rattle.trlab_sequential_book.specs.declared.event.Call.{Call}
 use Rattle.trlab_sequential_book.specs.declared.event.Event.{Event}
 use Rattle.trlab_sequential_book.specs.declared.event.Reply.{Reply}
-use Rattle.trlab_sequential_book.specs.Answers.{is_event, tells_full}
+use Rattle.trlab_sequential_book.specs.Answers.{is_event, is_history_full}
 use Rattle.trlab_sequential_book.specs.Machine.{BookState, is_full}
 use Rattle.trlab_sequential_book.specs.declared.fault.BookFault.TheVariants.{HistoryFull}
 use Rattle.trlab_sequential_book.specs.declared.event.Reply.TheVariants.{Refused}
@@ -16,8 +16,8 @@ use Rattle.trlab_strands.specs.declared.knowledge.Ledger.{Ghosts}
 use Rattle.trlab_strands.specs.Tokens.{Adds, CatchesUp, IsSameStrand, strand_events}
 use Rattle.trlab_book.specs.declared.desk.Desk.{Desk}
 use Rattle.trlab_book.specs.declared.kept.Kept.{Kept}
-use Rattle.trlab_book.specs.Desks.{IsNoEvent, IsOneEvent, MakesOf, PutsDown, clock_of, parts_of}
-use Rattle.trlab_book.specs.Events.{Appends, HasCome, IsUnchanged, Records, TellsFull}
+use Rattle.trlab_book.specs.Desks.{IsNoEvent, IsOneEvent, MakesOf, NotesCall, clock_of, parts_of}
+use Rattle.trlab_book.specs.Events.{Appends, WasMadeAfter, IsUnchanged, Records, RefusesIfFull}
 
 appended : (old new : Kept) (call : Call) (told : Reply) (one : Bool) → MatchBool one (Appends old call told new) (IsUnchanged old new)
     → MatchBool one (new.history.items ≡ old.history.items ++ event call told ∷ []) (new.history.items ≡ old.history.items)
@@ -25,7 +25,7 @@ appended old new call told true made = made.history ∙ ap (λ r. old.history.it
 appended old new call told false made = made.history
 
 -- a call under the lock comes to the events that the keeper knows
-pub has_come : (old new : Kept) (call : Call) (told : Reply) (list : List Event) → Records old call told new → old.history.items ≡ list → HasCome list call told new
+pub has_come : (old new : Kept) (call : Call) (told : Reply) (list : List Event) → Records old call told new → old.history.items ≡ list → WasMadeAfter list call told new
 has_come old new call told list made was =
     subst (λ (l : List Event). MatchBool (is_event told) (new.history.items ≡ l ++ event call told ∷ []) (new.history.items ≡ l)) was (appended old new call told (is_event told) made)
 
@@ -35,34 +35,34 @@ history_is_full kept full =
     let most : MAX_EVENTS ≤ kept.book.count = ltb-false kept.book.count MAX_EVENTS (not-true _ full) in
     ∥∥₁_elim kept.replays (hlevel props) (λ (r : Replays kept.history.items kept.book). omega (arith, r.count_is, most))
 
-full_reply : (told : Reply) → tells_full told ≡ true → told ≡ Refused HistoryFull
+full_reply : (told : Reply) → is_history_full told ≡ true → told ≡ Refused HistoryFull
 full_reply (Refused HistoryFull) is = refl
 full_reply told is = absurd (cc is)
 
 -- a reply says that the history is full exactly if it is
-pub full_told : (old : Kept) (told : Reply) → TellsFull old told → tells_full told ≡ is_full old.book
-full_told old told full = by (tells_full told) (is_full old.book) refl refl
+pub full_told : (old : Kept) (told : Reply) → RefusesIfFull old told → is_history_full told ≡ is_full old.book
+full_told old told full = by (is_history_full told) (is_full old.book) refl refl
   where
-    by : (says is : Bool) → tells_full told ≡ says → is_full old.book ≡ is → says ≡ is
+    by : (says is : Bool) → is_history_full told ≡ says → is_full old.book ≡ is → says ≡ is
     by true true says is = refl
     by false false says is = refl
     by true false says is = absurd (false≢true (sym is ∙ full.0 (full_reply told says)))
-    by false true says is = absurd (false≢true (sym says ∙ ap tells_full (full.1 is)))
+    by false true says is = absurd (false≢true (sym says ∙ ap is_history_full (full.1 is)))
 
 -- a call that is not an event leaves the book as full as it was
-pub full_after : (old new : Kept) (call : Call) (told : Reply) → Records old call told new → TellsFull old told
-    → is_event told ≡ false → tells_full told ≡ is_full new.book
+pub full_after : (old new : Kept) (call : Call) (told : Reply) → Records old call told new → RefusesIfFull old told
+    → is_event told ≡ false → is_history_full told ≡ is_full new.book
 full_after old new call told made full none =
     let same : IsUnchanged old new = MatchBool-at_false _ _ none made in
     full_told old told full ∙ ap is_full (sym same.book)
 
 module _ {L : Type 0} {ledger : Ghosts L} where
   -- a call that is not an event
-  pub is_none : (old : Kept) (told : Reply) (list : List Event) (from to : Desk L ledger) → parts_of to ≡ parts_of from → old.history.items ≡ list → TellsFull old told
-      → MatchBool (tells_full told) (CatchesUp from.strand (length list) to.strand) (IsSameStrand from.strand to.strand) → IsNoEvent from told to
-  is_none old told list from to parts was full down = by_full (tells_full told) refl down
+  pub is_none : (old : Kept) (told : Reply) (list : List Event) (from to : Desk L ledger) → parts_of to ≡ parts_of from → old.history.items ≡ list → RefusesIfFull old told
+      → MatchBool (is_history_full told) (CatchesUp from.strand (length list) to.strand) (IsSameStrand from.strand to.strand) → IsNoEvent from told to
+  is_none old told list from to parts was full down = by_full (is_history_full told) refl down
     where
-      by_full : (whole : Bool) → tells_full told ≡ whole → MatchBool whole (CatchesUp from.strand (length list) to.strand) (IsSameStrand from.strand to.strand)
+      by_full : (whole : Bool) → is_history_full told ≡ whole → MatchBool whole (CatchesUp from.strand (length list) to.strand) (IsSameStrand from.strand to.strand)
           → MatchBool whole ((parts_of to ≡ parts_of from) × (strand_events to.strand ≡ strand_events from.strand) × (clock_of from ≤ clock_of to) × (MAX_EVENTS ≤ clock_of to)) (IsSameStrand from.strand to.strand)
       by_full true is seen =
           let most = history_is_full old (full.0 (full_reply told is)) in
@@ -72,13 +72,13 @@ module _ {L : Type 0} {ledger : Ghosts L} where
 
   -- a call that is made under the lock, and put down at a desk, is one of this desk
   pub is_made : (Holds : BookState → Type 0) (old new : Kept) (call : Call) (told : Reply) (list : List Event) (from to : Desk L ledger)
-      → Records old call told new → old.history.items ≡ list → (is_event told ≡ true → Holds old.book) → TellsFull old told
-      → PutsDown from list call told to → MakesOf Holds from call told to
+      → Records old call told new → old.history.items ≡ list → (is_event told ≡ true → Holds old.book) → RefusesIfFull old told
+      → NotesCall from list call told to → MakesOf Holds from call told to
   is_made Holds old new call told list from to made was holds full noted =
       (noted.0, by_event (is_event told) refl made noted.1)
     where
       by_event : (one : Bool) → is_event told ≡ one → MatchBool one (Appends old call told new) (IsUnchanged old new)
-          → MatchBool one (Adds from.strand list (event call told) to.strand) (MatchBool (tells_full told) (CatchesUp from.strand (length list) to.strand) (IsSameStrand from.strand to.strand))
+          → MatchBool one (Adds from.strand list (event call told) to.strand) (MatchBool (is_history_full told) (CatchesUp from.strand (length list) to.strand) (IsSameStrand from.strand to.strand))
           → MatchBool one ((book : BookState) × IsOneEvent from call told to book × Holds book) (IsNoEvent from told to)
       by_event true is appends adds = (
         old.book,

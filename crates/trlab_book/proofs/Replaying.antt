@@ -21,9 +21,9 @@ use Rattle.trlab_sequential_book.specs.Machine.{JobState, Outcome, Served, BookS
 use Rattle.trlab_sequential_book.specs.Sheets.{begin_in_force, entered}
 use Rattle.trlab_sequential_book.specs.declared.seed.Seed.{Seed}
 use Rattle.trlab_rules.specs.Rules.{Programs}
-use Rattle.trlab_sequential_book.specs.Replay.{Replays, call_of, event, replies_from, state_from, told_by}
+use Rattle.trlab_sequential_book.specs.Replay.{Replays, call_of, event, replies_from, state_from, reply_of_event}
 use Rattle.trlab_book.specs.declared.kept.Kept.{Kept}
-use Rattle.trlab_book.specs.Events.{Appends, IsUnchanged, Records, TellsFull}
+use Rattle.trlab_book.specs.Events.{Appends, IsUnchanged, Records, RefusesIfFull}
 
 replies_more : (s : BookState) (cs : List Call) (c : Call)
     → replies_from s (cs ++ c ∷ []) ≡ replies_from s cs ++ reply_of (state_from s cs) c ∷ []
@@ -44,7 +44,7 @@ replays_more history s c r room =
     let count : (after s c).count ≡ s.count + 1 = ap (λ t. t.count) (cond-false (is_full s) s made room) in
     let len = length-append history (event c (reply_of s c) ∷ []) in
     record {
-      replies = map-append told_by history (event c (reply_of s c) ∷ [])
+      replies = map-append reply_of_event history (event c (reply_of s c) ∷ [])
           ∙ ap (λ rs. rs ++ reply_of s c ∷ []) r.replies
           ∙ ap (λ t. replies_from empty_book (map call_of history) ++ reply_of t c ∷ []) r.state_is
           ∙ sym (replies_more empty_book (map call_of history) c)
@@ -296,7 +296,7 @@ makes_put old ready new call said same p = by (settled p)
 
 -- its answer says that the history is full exactly if it is
 pub tells_put : {t : BookState} {call : Call} {items : List Event} (old ready : Kept) (said : Reply) → IsUnchanged old ready
-    → IsPut ready.book t call said ready.history.items items → TellsFull old said
+    → IsPut ready.book t call said ready.history.items items → RefusesIfFull old said
 tells_put {t} {call} {items} old ready said same p =
     subst (λ (b : BookState). (said ≡ Refused HistoryFull) ↔ (is_full b ≡ true)) same.book (by (settled p))
   where

@@ -13,7 +13,7 @@ use Rattle.trlab_sequential_book.specs.declared.event.Event.{Event}
 use Rattle.trlab_sequential_book.specs.declared.event.Reply.{Reply}
 use Rattle.trlab_sequential_book.specs.declared.event.Reply.TheVariants.{NoLease}
 use Rattle.trlab_sequential_book.specs.Machine.{BookState, reply_of}
-use Rattle.trlab_sequential_book.specs.Answers.{is_event, tells_full}
+use Rattle.trlab_sequential_book.specs.Answers.{is_event, is_history_full}
 use Rattle.trlab_sequential_book.specs.Replay.{Replays, event}
 use Rattle.trlab_strands.specs.declared.knowledge.Noted.{Noted}
 use Rattle.trlab_strands.specs.Knowledge.{event_number}
@@ -56,7 +56,7 @@ LacksSome old new = HasSeen old (length (subhistory_of old) + 1) new
 -- has now seen a full history; otherwise the desk is unchanged
 abbrev pub IsNoEvent : {L : Type 0} {ledger : Ghosts L} → Desk L ledger → Reply → Desk L ledger → Type 0
 IsNoEvent old told new =
-    MatchBool (tells_full told) (HasSeen old MAX_EVENTS new) (IsSameStrand old.strand new.strand)
+    MatchBool (is_history_full told) (HasSeen old MAX_EVENTS new) (IsSameStrand old.strand new.strand)
 
 -- a call is one event: the events before it replay to `book`, the reply is that of this book, and the desk
 -- adds the event
@@ -86,34 +86,34 @@ Makes old call told new = MakesOf (λ book. Unit {0}) old call told new
 -- a desk notes a call that was made after the events `before`, and keeps its parts. If the reply makes the
 -- call an event, the desk adds it. If the reply says that the history is full, the desk has now seen all of
 -- `before`. Otherwise the desk is unchanged
-abbrev pub PutsDown : {L : Type 0} {ledger : Ghosts L} → Desk L ledger → List Event → Call → Reply
+abbrev pub NotesCall : {L : Type 0} {ledger : Ghosts L} → Desk L ledger → List Event → Call → Reply
     → Desk L ledger → Type 0
-PutsDown old before call told new =
+NotesCall old before call told new =
     (parts_of new ≡ parts_of old)
     × MatchBool (is_event told)
     (Adds old.strand before (event call told) new.strand)
-    (MatchBool (tells_full told)
+    (MatchBool (is_history_full told)
     (CatchesUp old.strand (length before) new.strand)
     (IsSameStrand old.strand new.strand))
 
 -- `same` says whether the lease runs the road of its job in the book
-abbrev pub TellsSame : LeaseState → Bool → BookState → Type 0
-TellsSame lease same book = IsTrue same ↔ comparison.IsSame book.jobs lease
+abbrev pub SameIsCorrect : LeaseState → Bool → BookState → Type 0
+SameIsCorrect lease same book = IsTrue same ↔ comparison.IsSame book.jobs lease
 
 -- if the call `lease` succeeded and a lease went out, it is a fresh lease of a job of the book, with the
 -- book's next number
-abbrev pub IsOfLease : Result (Option LeaseState) BookFault → BookState → Type 0
-IsOfLease answer book = IfOk answer (λ lent. IsLent book.jobs book.next lent)
+abbrev pub LeaseIsFresh : Result (Option LeaseState) BookFault → BookState → Type 0
+LeaseIsFresh answer book = IfOk answer (λ lent. IsLent book.jobs book.next lent)
 
 -- `same` says whether the lease runs the road of its job in the book; and if the call `order` succeeded, the
 -- order has the rule that is in force at its step in its job's sheet
-abbrev pub IsOfOrder : LeaseState → Bool → Result Order BookFault → BookState → Type 0
-IsOfOrder lease same answer book =
-    TellsSame lease same book × IfOk answer (λ order. IsRuleAt book.jobs order)
+abbrev pub OrderMatchesJob : LeaseState → Bool → Result Order BookFault → BookState → Type 0
+OrderMatchesJob lease same answer book =
+    SameIsCorrect lease same book × IfOk answer (λ order. IsRuleAt book.jobs order)
 
 -- if the call `read` succeeded, the snapshot is one of the job of the book with number `job`
-abbrev pub IsOfRead : ℕ → Result Progress BookFault → BookState → Type 0
-IsOfRead job answer book = IfOk answer (λ seen. IsSeen book.jobs job seen)
+abbrev pub ReadShowsJob : ℕ → Result Progress BookFault → BookState → Type 0
+ReadShowsJob job answer book = IfOk answer (λ seen. IsSeen book.jobs job seen)
 
 -- is this one of the calls that runners make: `lease`, `order`, `give_back` or `revoke`?
 abbrev pub is_of_runner : Call → Bool

@@ -28,10 +28,10 @@ Records old c told new = MatchBool (is_event told) (Appends old c told new) (IsU
 
 -- a call with the reply `told` was made after the events `before`: if it is an event, the history is now
 -- `before` followed by it; if not, the history is `before`
-abbrev pub HasCome : List Event → Call → Reply → Kept → Type 0
-HasCome before c told kept = MatchBool (is_event told)
+abbrev pub WasMadeAfter : List Event → Call → Reply → Kept → Type 0
+WasMadeAfter before c told kept = MatchBool (is_event told)
     (kept.history.items ≡ before ++ event c told ∷ []) (kept.history.items ≡ before)
 
 -- the call is refused as `HistoryFull` exactly if the history was full
-abbrev pub TellsFull : Kept → Reply → Type 0
-TellsFull old told = (told ≡ Refused HistoryFull) ↔ (is_full old.book ≡ true)
+abbrev pub RefusesIfFull : Kept → Reply → Type 0
+RefusesIfFull old told = (told ≡ Refused HistoryFull) ↔ (is_full old.book ≡ true)

@@ -55,10 +55,10 @@ pub struct Desk<L: Ledger> {
 impl<L: Ledger> Desk<L> {
     ghost use Rattle.trlab_sequential_book.specs.declared.event.Call.{Call};
     ghost use Rattle.trlab_sequential_book.specs.declared.event.Reply.{Reply};
-    ghost use Rattle.trlab_sequential_book.specs.Answers.{is_event, tells_full};
+    ghost use Rattle.trlab_sequential_book.specs.Answers.{is_event, is_history_full};
     ghost use Rattle.trlab_sequential_book.specs.Machine.{is_full};
-    ghost use Rattle.trlab_book.specs.Events.{HasCome};
-    ghost use Rattle.trlab_book.specs.Desks.{PutsDown, parts_of};
+    ghost use Rattle.trlab_book.specs.Events.{WasMadeAfter};
+    ghost use Rattle.trlab_book.specs.Desks.{NotesCall, parts_of};
 
     /// The number of parts, from 1 to 1024.
     pub fn parts(&self) -> u32
@@ -80,10 +80,10 @@ impl<L: Ledger> Desk<L> {
         before: usize,
     )
         requires { before ≡ length (list_of keeper.old) }
-        ensures { (call : Call) (told : Reply) → HasCome (list_of keeper.old) call told kept.now
-            → (is_event told ≡ false → tells_full told ≡ is_full kept.now.book)
+        ensures { (call : Call) (told : Reply) → WasMadeAfter (list_of keeper.old) call told kept.now
+            → (is_event told ≡ false → is_history_full told ≡ is_full kept.now.book)
             → (kept.now.history.items ≡ list_of keeper.new)
-            × PutsDown self.old (list_of keeper.old) call told self.new }
+            × NotesCall self.old (list_of keeper.old) call told self.new }
     {
         if let Some(event) = kept.history.get(before) {
             keeper.note(strands, &mut self.strand, event);
@@ -101,8 +101,8 @@ impl<L: Ledger> SharedBook<L> {
     ghost use Rattle.trlab_sequential_book.specs.Replay.{Replays};
     ghost use Rattle.trlab_sequential_book.specs.declared.event.Call.TheVariants.{Cancel, GiveBack, Read};
     ghost use Rattle.trlab_sequential_book.specs.declared.event.Call.TheVariants.{Replace, Revoke, Submit};
-    ghost use Rattle.trlab_book.specs.Desks.{IsNoEvent, IsOfLease, IsOfOrder, IsOfRead, IsSameBook, LacksSome};
-    ghost use Rattle.trlab_book.specs.Desks.{Makes, MakesOf, TellsSame, clock_of, parts_of, subhistory_of};
+    ghost use Rattle.trlab_book.specs.Desks.{IsNoEvent, LeaseIsFresh, OrderMatchesJob, ReadShowsJob, IsSameBook, LacksSome};
+    ghost use Rattle.trlab_book.specs.Desks.{Makes, MakesOf, SameIsCorrect, clock_of, parts_of, subhistory_of};
 
     /// An empty book, and the desk with all 1024 parts. Only the blank takes memory.
     pub fn start(alloc: Global, blank: Blank<Event>) -> (SharedBook<L>, Desk<L>)
@@ -270,7 +270,7 @@ impl<L: Ledger> SharedBook<L> {
         alloc: Global,
         desk: &mut Desk<L>,
     ) -> Result<Option<Lease>, BookFault>
-        ensures { MakesOf (IsOfLease result) desk.old LeaseCall (lease_reply result) desk.new }
+        ensures { MakesOf (LeaseIsFresh result) desk.old LeaseCall (lease_reply result) desk.new }
     {
         let mut guard = self.lock.lock(rt);
         let Locked { kept, keeper } = &mut *guard;
@@ -293,7 +293,7 @@ impl<L: Ledger> SharedBook<L> {
         lease: &Lease,
     ) -> Result<Order, BookFault>
         ensures { (same : Bool)
-            × MakesOf (IsOfOrder lease.now same result) desk.old
+            × MakesOf (OrderMatchesJob lease.now same result) desk.old
             (OrderCall (offered lease.now same)) (order_reply result) desk.new }
     {
         let mut guard = self.lock.lock(rt);
@@ -316,7 +316,7 @@ impl<L: Ledger> SharedBook<L> {
         lease: Lease,
     ) -> Result<(), (Lease, BookFault)>
         ensures made { (same : Bool)
-            × MakesOf (TellsSame lease same) desk.old
+            × MakesOf (SameIsCorrect lease same) desk.old
             (GiveBack (offered lease same)) (back_reply result) desk.new }
         ensures err { IfErr result (λ e. e.0 ≡ lease) }
     {
@@ -372,7 +372,7 @@ impl<L: Ledger> SharedBook<L> {
         desk: &mut Desk<L>,
         job: u32,
     ) -> Result<Snapshot, BookFault>
-        ensures { MakesOf (IsOfRead job result) desk.old (Read job) (seen_reply result) desk.new }
+        ensures { MakesOf (ReadShowsJob job result) desk.old (Read job) (seen_reply result) desk.new }
     {
         let mut guard = self.lock.lock(rt);
         let Locked { kept, keeper } = &mut *guard;

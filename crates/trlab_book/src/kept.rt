@@ -31,7 +31,7 @@ pub struct Kept {
 }
 
 impl Kept {
-    ghost use Rattle.trlab_book.specs.Events.{IsUnchanged, Records, TellsFull};
+    ghost use Rattle.trlab_book.specs.Events.{IsUnchanged, Records, RefusesIfFull};
 
     /// An empty book with an empty history.
     pub fn new(alloc: Global) -> Kept
@@ -84,7 +84,7 @@ impl Kept {
     ) -> Result<u32, BookFault>
         requires { call ≡ Submit seed rule steps }
         ensures made { Records self.old (Submit seed rule steps) (number_reply result) self.new }
-        ensures full { TellsFull self.old (number_reply result) }
+        ensures full { RefusesIfFull self.old (number_reply result) }
     {
         self.make_room()?;
         let answer = self.book.submit_boxed(alloc, seed, rule, steps);
@@ -97,7 +97,7 @@ impl Kept {
     pub(crate) fn replace(&mut self, job: u32, rule: Rule, call: Call) -> Result<u32, BookFault>
         requires { call ≡ Replace job rule }
         ensures made { Records self.old (Replace job rule) (number_reply result) self.new }
-        ensures full { TellsFull self.old (number_reply result) }
+        ensures full { RefusesIfFull self.old (number_reply result) }
     {
         self.make_room()?;
         let answer = self.book.replace(job, rule);
@@ -114,7 +114,7 @@ impl Kept {
     pub fn lease(&mut self, alloc: Global) -> Result<Option<Lease>, BookFault>
         ensures made { Records self.old LeaseCall (lease_reply result) self.new }
         ensures lent { IfOk result (λ o. IsLent self.old.book.jobs self.old.book.next o) }
-        ensures full { TellsFull self.old (lease_reply result) }
+        ensures full { RefusesIfFull self.old (lease_reply result) }
     {
         self.make_room()?;
         let answer = self.book.lease(alloc);
@@ -132,7 +132,7 @@ impl Kept {
         ensures made { (same : Bool) → (IsTrue same ↔ IsSame self.old.book.jobs lease.now)
             → Records self.old (OrderCall (offered lease.now same)) (order_reply result) self.new }
         ensures rule { IfOk result (λ o. IsRuleAt self.old.book.jobs o) }
-        ensures full { TellsFull self.old (order_reply result) }
+        ensures full { RefusesIfFull self.old (order_reply result) }
         ensures noted { (same : Bool)
             × OnTrue (is_event (order_reply result)) (IsTrue same ↔ IsSame self.old.book.jobs lease.now)
             × Records self.old (OrderCall (offered lease.now same)) (order_reply result) self.new }
@@ -155,7 +155,7 @@ impl Kept {
         ensures made { (same : Bool) → (IsTrue same ↔ IsSame self.old.book.jobs lease)
             → Records self.old (GiveBack (offered lease same)) (back_reply result) self.new }
         ensures err { IfErr result (λ e. e.0 ≡ lease) }
-        ensures full { TellsFull self.old (back_reply result) }
+        ensures full { RefusesIfFull self.old (back_reply result) }
         ensures noted { (same : Bool)
             × OnTrue (is_event (back_reply result)) (IsTrue same ↔ IsSame self.old.book.jobs lease)
             × Records self.old (GiveBack (offered lease same)) (back_reply result) self.new }
@@ -178,7 +178,7 @@ impl Kept {
     /// Those of `Book::revoke`, or `Memory` if the history cannot grow.
     pub fn revoke(&mut self, job: u32) -> Result<(), BookFault>
         ensures made { Records self.old (Revoke job) (done_reply result) self.new }
-        ensures full { TellsFull self.old (done_reply result) }
+        ensures full { RefusesIfFull self.old (done_reply result) }
     {
         self.make_room()?;
         let answer = self.book.revoke(job);
@@ -194,7 +194,7 @@ impl Kept {
     /// Those of `Book::cancel`, or `Memory` if the history cannot grow.
     pub fn cancel(&mut self, job: u32) -> Result<(), BookFault>
         ensures made { Records self.old (Cancel job) (done_reply result) self.new }
-        ensures full { TellsFull self.old (done_reply result) }
+        ensures full { RefusesIfFull self.old (done_reply result) }
     {
         self.make_room()?;
         let answer = self.book.cancel(job);
@@ -211,7 +211,7 @@ impl Kept {
     pub fn read(&mut self, alloc: Global, job: u32) -> Result<Snapshot, BookFault>
         ensures made { Records self.old (Read job) (seen_reply result) self.new }
         ensures seen { IfOk result (λ s. IsSeen self.old.book.jobs job s) }
-        ensures full { TellsFull self.old (seen_reply result) }
+        ensures full { RefusesIfFull self.old (seen_reply result) }
     {
         self.make_room()?;
         let answer = self.book.read(alloc, job);

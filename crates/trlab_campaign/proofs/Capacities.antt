@@ -18,8 +18,8 @@ use Rattle.trlab_traffic.proofs.Capacities.{run_keeps_to_capacity}
 use Rattle.trlab_traffic.proofs.EvenFlows.{even_cars_flow_at_capacity}
 use Rattle.trlab_traffic.proofs.Moving.{run_goes_by_moving_cars, run_keeps_below_peak}
 use Rattle.trlab_traffic.proofs.RoomAhead.{taken_or_empty}
-use Rattle.trlab_campaign.specs.Capacity.{DiagramIsTriangle, IsBelowPeak, IsOnTriangle, IsUnderTriangle, AsksForTriangle}
-use Rattle.trlab_campaign.specs.Capacity.{PointGoesByMovingCars, SweepsGoByMovingCars, SweepsKeepBelowPeak, SweepsKeepToCapacity}
+use Rattle.trlab_campaign.specs.Capacity.{DiagramIsTriangle, IsNotAbovePeak, IsOnTriangle, IsUnderTriangle, AsksForTriangle}
+use Rattle.trlab_campaign.specs.Capacity.{HasBoundedMovingSpeed, SweepsBoundMovingSpeed, SweepsDoNotExceedPeak, SweepsKeepToCapacity}
 use Rattle.trlab_campaign.specs.SweepOutput.{ArePoints, IsPoint, point_seed, sweep_sheet}
 use Rattle.trlab_campaign.proofs.Points.{some_cells}
 use Rattle.trlab_campaign.proofs.StatedRules.{stated_nasch}
@@ -99,7 +99,7 @@ module _ (common : Setup) (counted : 1 ≤ common.span.measure) where
       })
 
   -- and that it is below the peak
-  told_below_peak : (number cars : ℕ) (point : Point) → Spreads common.shape cars → IsPoint common number cars point → IsBelowPeak common.shape.limit point
+  told_below_peak : (number cars : ℕ) (point : Point) → Spreads common.shape cars → IsPoint common number cars point → IsNotAbovePeak common.shape.limit point
   told_below_peak number count point fits is =
       let shape = common.shape in
       let span = common.span in
@@ -110,13 +110,13 @@ module _ (common : Setup) (counted : 1 ≤ common.span.measure) where
       let cells : cells_of_road start ≡ shape.lanes * shape.cells = even_cells shape.lanes shape.cells shape.limit count start is.even in
       let low : (shape.limit + 1) * is.tally.distance ≤ span.measure * (shape.limit * (shape.lanes * shape.cells)) = rw (← steps, ← cells, ← is.even.same_limit) below in
       let some = some_cells shape.lanes shape.cells fits.lanes_fit.some_lane fits.length_fits.some_cell in
-      subst (IsBelowPeak shape.limit) (sym is.told) (record {
+      subst (IsNotAbovePeak shape.limit) (sym is.told) (record {
         distance = low;
         flow = flow_below_peak is.tally.distance (shape.lanes * shape.cells) span.measure shape.limit some counted low;
       })
 
   -- and how far its moving cars went
-  told_by_moving_cars : (number cars : ℕ) (point : Point) → Spreads common.shape cars → IsPoint common number cars point → PointGoesByMovingCars common.shape.limit point
+  told_by_moving_cars : (number cars : ℕ) (point : Point) → Spreads common.shape cars → IsPoint common number cars point → HasBoundedMovingSpeed common.shape.limit point
   told_by_moving_cars number count point fits is =
       let shape = common.shape in
       let span = common.span in
@@ -129,7 +129,7 @@ module _ (common : Setup) (counted : 1 ≤ common.span.measure) where
       let stops : start.limit * is.tally.stopped ≡ shape.limit * is.tally.stopped = ap (λ k. k * is.tally.stopped) is.even.same_limit in
       let cell_each : span.measure * count ≤ is.tally.distance + is.tally.stopped = rw (← steps, ← all) moving.cell_each in
       let limit_each : is.tally.distance + shape.limit * is.tally.stopped ≤ span.measure * (shape.limit * count) = rw (← steps, ← most, ← stops) moving.limit_each in
-      subst (PointGoesByMovingCars shape.limit) (sym is.told) (record { cell_each = cell_each; limit_each = limit_each })
+      subst (HasBoundedMovingSpeed shape.limit) (sym is.told) (record { cell_each = cell_each; limit_each = limit_each })
 
 -- what is so of each point of a sweep, once it is told of any
 module _ (IsSo : ℕ → Point → Type 0) (told : (common : Setup) → 1 ≤ common.span.measure → (number cars : ℕ) (point : Point) → Spreads common.shape cars → IsPoint common number cars point → IsSo common.shape.limit point) where
@@ -145,11 +145,11 @@ module _ (IsSo : ℕ → Point → Type 0) (told : (common : Setup) → 1 ≤ co
 pub sweeps_keep_to_capacity : SweepsKeepToCapacity
 sweeps_keep_to_capacity = each_point IsUnderTriangle told_within
 
-pub sweeps_keep_below_peak : SweepsKeepBelowPeak
-sweeps_keep_below_peak = each_point IsBelowPeak told_below_peak
+pub sweeps_keep_below_peak : SweepsDoNotExceedPeak
+sweeps_keep_below_peak = each_point IsNotAbovePeak told_below_peak
 
-pub sweeps_go_by_moving_cars : SweepsGoByMovingCars
-sweeps_go_by_moving_cars = each_point PointGoesByMovingCars told_by_moving_cars
+pub sweeps_go_by_moving_cars : SweepsBoundMovingSpeed
+sweeps_go_by_moving_cars = each_point HasBoundedMovingSpeed told_by_moving_cars
 
 -- a flow by the distance of each step
 flow_is : (distance cells steps each : ℕ) → 1 ≤ steps → distance ≡ steps * each → distance * 1000000 / (cells * steps) ≡ each * 1000000 / cells

@@ -17,7 +17,7 @@ use Rattle.trlab_step.specs.Run.{Seed, Sheet, ComesTo, IsRoadAt, IsTallyAt, dice
 use Rattle.trlab_step.proofs.NextLaws.{next_road_is_one}
 use Rattle.trlab_step.proofs.RunLaws.{run_comes_to_road, road_is_one, road_at_is_one}
 use Rattle.trlab_step.specs.Progress.{Progress, IsUnderway}
-use Rattle.trlab_campaign.specs.Counting.{IsFewCars, IsStepsOn}
+use Rattle.trlab_campaign.specs.Counting.{IsBoundedCount, IsStepsLater}
 use Rattle.trlab_campaign.specs.SeriesOutput.{AreRoads, IsCourse, IsStepAt, cars_on, lane_count, roads_after, speed_on, stopped_on, tallies_from, window_of}
 
 -- a run that has come to a step came there by one more step
@@ -175,8 +175,8 @@ pub road_here : (seed other : Seed) (sheet also : Sheet) (n step : ℕ) (roads :
 road_here seed other sheet also n step roads road a b c each at = road_at_is_one seed sheet n (roads n) road (each n) (rw (← a, ← b, ← c) at)
 
 -- after one step more still few cars are counted
-pub few_more : (steps : ℕ) (old now new : LaneCount) → IsFewCars steps old → IsFewCars 1 now → new.cars ≡ old.cars + now.cars → new.distance ≡ old.distance + now.distance
-    → new.stopped ≡ old.stopped + now.stopped → IsFewCars (steps + 1) new
+pub few_more : (steps : ℕ) (old now new : LaneCount) → IsBoundedCount steps old → IsBoundedCount 1 now → new.cars ≡ old.cars + now.cars → new.distance ≡ old.distance + now.distance
+    → new.stopped ≡ old.stopped + now.stopped → IsBoundedCount (steps + 1) new
 few_more steps old now new few more a b c =
     let d = few.cars in
     let e = few.distance in
@@ -187,7 +187,7 @@ few_more steps old now new few more a b c =
     record { cars = omega (arith, a, d, g); distance = omega (arith, b, e, h); stopped = omega (arith, c, f, i) }
 
 -- a run that went on for some steps, by its sums of tallies
-module _ (old new : Progress) (count : ℕ) (before : StepTally) (on : IsStepsOn count old new) (counts : old.seed.warm ≡ 0)
+module _ (old new : Progress) (count : ℕ) (before : StepTally) (on : IsStepsLater count old new) (counts : old.seed.warm ≡ 0)
     (tally : IsTallyAt old.seed old.sheet old.step before) (under : IsUnderway new) where
   pub run_since : (roads : ℕ → Cells) (tallies : ℕ → StepTally) → IsCourse old.seed old.sheet roads tallies → IsSumSince (tallies_from tallies old.step count) before new.sum
   run_since roads tallies course =

@@ -5,13 +5,13 @@ use Rattle.trlab_campaign.specs.declared.end.End.{End}
 use Rattle.trlab_campaign.specs.declared.end.End.TheVariants.{Done, Refused, Memory, DeviceFault}
 use Rattle.trlab_bounds.specs.declared.texts.TheConstants.{TEXT_LIMIT}
 use Rattle.trlab_texts.specs.Reading.{Fault, TextSays}
-use Rattle.trlab_campaign.specs.Device.{IsReadOf}
+use Rattle.trlab_campaign.specs.Device.{IsInputOrTooLong}
 use Rattle.trlab_campaign.specs.Refusal.{OutputOfText, Outputs, fault_line}
 use Rattle.std.proofs.lemmas.Bool.{false≢true, lt-ltb}
 use Rattle.std.proofs.lemmas.Option.{IfSome_then}
 use Rattle.trlab_campaign.specs.declared.device.Sink as Sink
 use Rattle.trlab_campaign.specs.declared.device.Source as Source
-use Rattle.trlab_campaign.specs.Ending.{EngineEnds, EndsSo, LeavesWriter, OutputEnds, WroteAll, WrotePrefix}
+use Rattle.trlab_campaign.specs.Ending.{EngineEnds, WroteAtEnd, LeavesWriter, WroteOutputAtEnd, WroteAll, WrotePrefix}
 use Rattle.trlab_campaign.specs.Writers.{SinkBytes, AddsNone, bytes_of}
 use Rattle.trlab_campaign.proofs.WrittenBytes.{kept, prefix_kept}
 
@@ -21,7 +21,7 @@ all_kept IsWhole refused old a b wrote keeps = inr (refused, (wrote.0, (wrote.1.
 
 -- a whole output of a text, whose writing ended so
 pub output_ends : (IsWhole : Outputs) (refused : Bool) (out : List ℕ) (e : End) (old new : SinkBytes) → IsWhole refused out
-    → OutputEnds refused out e old new → EndsSo IsWhole e old new
+    → WroteOutputAtEnd refused out e old new → WroteAtEnd IsWhole e old new
 output_ends IsWhole refused out Done old new whole ends = (out, (subst (λ (r : Bool). IsWhole r out) ends.0 whole, ends.1))
 output_ends IsWhole refused out Refused old new whole ends = (out, (subst (λ (r : Bool). IsWhole r out) ends.0 whole, ends.1))
 output_ends IsWhole refused out Memory old new whole ends = inl ends
@@ -29,7 +29,7 @@ output_ends IsWhole refused out DeviceFault old new whole ends = inr (refused, (
 
 -- an end by some outputs is one by all outputs that include them
 ends_among : (IsOwn IsWhole : Outputs) (e : End) (old new : SinkBytes) → ((refused : Bool) (out : List ℕ) → IsOwn refused out → IsWhole refused out)
-    → EndsSo IsOwn e old new → EndsSo IsWhole e old new
+    → WroteAtEnd IsOwn e old new → WroteAtEnd IsWhole e old new
 ends_among IsOwn IsWhole Done old new among ends = (ends.0, (among false ends.0 ends.1.0, ends.1.1))
 ends_among IsOwn IsWhole Refused old new among ends = (ends.0, (among true ends.0 ends.1.0, ends.1.1))
 ends_among IsOwn IsWhole Memory old new among (inl kept) = inl kept
@@ -53,18 +53,18 @@ engine_ends_among source sink own whole e before after old new among ends = reco
 
 -- what is written for what a text says, where it has no fault
 pub said_ends : {A : Type 0} (Says : List ℕ → Result A Fault → Type 0) (Output : A → Outputs) (e : End) (text : List ℕ) (x : A) (old new : SinkBytes)
-    → Says text (Ok x) → EndsSo (Output x) e old new → EndsSo (OutputOfText Says Output text) e old new
+    → Says text (Ok x) → WroteAtEnd (Output x) e old new → WroteAtEnd (OutputOfText Says Output text) e old new
 said_ends Says Output e text x old new says ends = ends_among (Output x) (OutputOfText Says Output text) e old new (λ refused out is. (Ok x, (says, is))) ends
 
 -- the refusal of a text with a fault
 pub refusal_ends : {A : Type 0} (Says : List ℕ → Result A Fault → Type 0) (Output : A → Outputs) (e : End) (text : List ℕ) (fault : Fault) (old new : SinkBytes)
-    → Says text (Err fault) → OutputEnds true (fault_line fault) e old new → EndsSo (OutputOfText Says Output text) e old new
+    → Says text (Err fault) → WroteOutputAtEnd true (fault_line fault) e old new → WroteAtEnd (OutputOfText Says Output text) e old new
 refusal_ends Says Output e text fault old new says ends =
     output_ends (OutputOfText Says Output text) true (fault_line fault) e old new (Err fault, (says, (refl, refl))) ends
 
 -- an input says what was read of it says
 pub read_says : {A : Type 0} (Says : List ℕ → Result A Fault → Type 0) (text input : List ℕ) (says : Result A Fault)
-    → IsReadOf text input → TextSays Says text says → TextSays Says input says
+    → IsInputOrTooLong text input → TextSays Says text says → TextSays Says input says
 read_says Says text input says (inl same) is = subst (λ (t : List ℕ). TextSays Says t says) same is
 read_says Says text input says (inr long) is =
     rw (lt-ltb TEXT_LIMIT (length input) long.1) (rw (lt-ltb TEXT_LIMIT (length text) long.0) at is)
@@ -75,7 +75,7 @@ if_told P None holds = tt
 if_told P (Some text) holds = holds text
 
 -- if an allocation fails, the writing of one whole output wrote nothing
-pub kept_at_memory : (refused : Bool) (out : List ℕ) (e : End) (old new : SinkBytes) → OutputEnds refused out e old new → e ≡ Memory → AddsNone old new
+pub kept_at_memory : (refused : Bool) (out : List ℕ) (e : End) (old new : SinkBytes) → WroteOutputAtEnd refused out e old new → e ≡ Memory → AddsNone old new
 kept_at_memory refused out Memory old new ends is = ends
 kept_at_memory refused out Done old new ends is = absurd (cc is)
 kept_at_memory refused out Refused old new ends is = absurd (cc is)
@@ -85,7 +85,7 @@ memory≢device : Memory ≡ DeviceFault → ⊥
 memory≢device e = cc e
 
 -- an allocation failed before anything was written
-pub memory_ends : {K : Type 0} (sink : Sink.Ghosts K) (IsWhole : Outputs) (writer : K) → sink.failed writer ≡ false → LeavesWriter sink (EndsSo IsWhole) Memory writer writer
+pub memory_ends : {K : Type 0} (sink : Sink.Ghosts K) (IsWhole : Outputs) (writer : K) → sink.failed writer ≡ false → LeavesWriter sink (WroteAtEnd IsWhole) Memory writer writer
 memory_ends sink IsWhole writer works = record {
   answer = inl (kept (bytes_of sink writer));
   handed = refl;

@@ -3,7 +3,7 @@ use Rattle.std.proofs.Common.{◌≡◌, ℕ, ◌<◌, List, [], ◌++◌, lengt
 use Rattle.std.specs.Prelude.{Option, None, Some, IfSome}
 use Rattle.std.specs.Io.KnownBytes.{Consumes, IsAtEnd, Keeps}
 use Rattle.trlab_bounds.specs.declared.texts.TheConstants.{TEXT_LIMIT}
-use Rattle.trlab_campaign.specs.Device.{IsReadOf}
+use Rattle.trlab_campaign.specs.Device.{IsInputOrTooLong}
 
 pub consumes_none : (a : Option (List ℕ)) → Consumes a a []
 consumes_none None = tt
@@ -27,13 +27,13 @@ pub consumes_last : (a b c : Option (List ℕ)) (xs part : List ℕ) (count : �
 consumes_last a b c xs part count is p q = subst (λ (t : List ℕ). Consumes a c t) (append-nil xs) (consumes_more a b c xs [] p (rw is at q))
 
 -- all bytes that there were
-pub read_whole : (a b : Option (List ℕ)) (xs : List ℕ) → Consumes a b xs → IsAtEnd b → IfSome a (IsReadOf xs)
+pub read_whole : (a b : Option (List ℕ)) (xs : List ℕ) → Consumes a b xs → IsAtEnd b → IfSome a (IsInputOrTooLong xs)
 read_whole None b xs p end = tt
 read_whole (Some x) None xs p end = absurd p
 read_whole (Some x) (Some y) xs p end = inl (sym (p ∙ (ap (λ t. xs ++ t) end ∙ append-nil xs)))
 
 -- more bytes than a text may have
-pub read_over : (a b : Option (List ℕ)) (xs : List ℕ) → TEXT_LIMIT < length xs → Consumes a b xs → IfSome a (IsReadOf xs)
+pub read_over : (a b : Option (List ℕ)) (xs : List ℕ) → TEXT_LIMIT < length xs → Consumes a b xs → IfSome a (IsInputOrTooLong xs)
 read_over None b xs over p = tt
 read_over (Some x) None xs over p = absurd p
 read_over (Some x) (Some y) xs over p = inr (over, omega (arith, ap length p, length-append xs y))

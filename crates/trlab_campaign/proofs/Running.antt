@@ -9,8 +9,8 @@ use Rattle.trlab_step.specs.Progress.{Progress, IsOneStepOn, at_start}
 use Rattle.trlab_jobs.specs.Job.{Job, seed_of, sheet_of}
 use Rattle.trlab_jobs.specs.Stored.{IsStoredJob}
 use Rattle.trlab_campaign.specs.Output.{JobOutput, shown_text, steps_text}
-use Rattle.trlab_campaign.specs.Ending.{WroteAll, WroteBy, WrotePrefix}
-use Rattle.trlab_campaign.specs.Writers.{HasWritten, AddsBy, AddsPrefix, SinkBytes}
+use Rattle.trlab_campaign.specs.Ending.{WroteAll, WroteByResult, WrotePrefix}
+use Rattle.trlab_campaign.specs.Writers.{HasWritten, AddsByResult, AddsPrefix, SinkBytes}
 use Rattle.trlab_campaign.proofs.Sheets.{plain_sheet}
 use Rattle.trlab_campaign.proofs.Owed.{Owes, owes_all, owes_less, owes_prefix, owes_none}
 
@@ -168,8 +168,8 @@ no_step_left step last inside all = omega arith
 
 -- the text of the last step that is shown was written, or a prefix of it
 pub last_wrote : {A E : Type 0} (r : Result A E) (shown : ℕ → Bool) (steps last left : ℕ) (start run : Progress) (road : Cells) (old a b : SinkBytes)
-    → Writes shown steps start last left run old a → IsRoadAt run.seed run.sheet run.step road → AddsBy r a b (shown_text shown last road)
-    → ((s : ℕ) → last < s → s ≤ steps → shown s ≡ false) → (job : Job) → Begins job steps start → WroteBy (JobOutput shown job) r old b
+    → Writes shown steps start last left run old a → IsRoadAt run.seed run.sheet run.step road → AddsByResult r a b (shown_text shown last road)
+    → ((s : ℕ) → last < s → s ≤ steps → shown s ≡ false) → (job : Job) → Begins job steps start → WroteByResult (JobOutput shown job) r old b
 last_wrote (Ok x) shown steps last left start run road old a b writes at text none job begins =
     let here = writes job begins in
     all_written shown job last left road old a b here.0 (driven_road job last run road here.1 at) text (λ s after within. none s after (omega (arith, within, begins.ends)))

@@ -9,9 +9,9 @@ use Rattle.trlab_step.specs.declared.tally.StepTally.{StepTally}
 use Rattle.trlab_step.specs.Progress.{Progress, at_start}
 use Rattle.trlab_jobs.specs.Job.{Job, seed_of, sheet_of}
 use Rattle.trlab_jobs.specs.Stored.{IsStoredJob}
-use Rattle.trlab_campaign.specs.Ending.{WroteBy, WrotePrefix}
+use Rattle.trlab_campaign.specs.Ending.{WroteByResult, WrotePrefix}
 use Rattle.trlab_campaign.specs.SeriesOutput.{IsCourse, IsSeries, SeriesOutput, first_windows, nth_window, window_of}
-use Rattle.trlab_campaign.specs.Writers.{HasWritten, AddsBy, AddsPrefix, SinkBytes}
+use Rattle.trlab_campaign.specs.Writers.{HasWritten, AddsByResult, AddsPrefix, SinkBytes}
 use Rattle.trlab_campaign.proofs.Courses.{course_of}
 use Rattle.trlab_campaign.proofs.WrittenBytes.{adds_more}
 use Rattle.trlab_campaign.proofs.Sheets.{plain_sheet}
@@ -50,8 +50,8 @@ pub prefix_of_first : (first rest : List ℕ) (old new : SinkBytes) → AddsPref
 prefix_of_first first rest old new prefix = owes_prefix (first ++ rest) first rest old old new (owes_all (first ++ rest) old) prefix
 
 -- a text was written, and then another one, or a prefix of that
-pub then_wrote : {A E : Type 0} (r : Result A E) (first rest : List ℕ) (old mid new : SinkBytes) → HasWritten old mid first → AddsBy r mid new rest
-    → AddsBy r old new (first ++ rest)
+pub then_wrote : {A E : Type 0} (r : Result A E) (first rest : List ℕ) (old mid new : SinkBytes) → HasWritten old mid first → AddsByResult r mid new rest
+    → AddsByResult r old new (first ++ rest)
 then_wrote (Ok x) first rest old mid new a b = adds_more old mid new first rest a b
 then_wrote (Err e) first rest old mid new a b =
     owes_prefix (first ++ rest) rest [] old mid new (record { done = first; parts = ap (λ t. first ++ t) (sym (append-nil rest)); wrote = a }) b
@@ -80,7 +80,7 @@ module _ (job : Job) (every from count steps : ℕ) (run : Progress) (stored : I
   series_stops old new told = inr (false, (series_text the_windows, (is_output, told job_course.0 job_course.1 run_course)))
 
   pub series_wrote : {A E : Type 0} (r : Result A E) (old new : SinkBytes)
-      → ((roads : ℕ → Cells) (tallies : ℕ → StepTally) → IsCourse run.seed run.sheet roads tallies → AddsBy r old new (series_text (first_windows roads tallies every from count)))
-      → WroteBy (SeriesOutput every from job) r old new
+      → ((roads : ℕ → Cells) (tallies : ℕ → StepTally) → IsCourse run.seed run.sheet roads tallies → AddsByResult r old new (series_text (first_windows roads tallies every from count)))
+      → WroteByResult (SeriesOutput every from job) r old new
   series_wrote (Ok x) old new told = (series_text the_windows, (is_output, told job_course.0 job_course.1 run_course))
   series_wrote (Err e) old new told = series_stops old new told

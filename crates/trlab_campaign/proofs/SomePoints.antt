@@ -5,7 +5,7 @@ use Rattle.trlab_diagram.specs.declared.point.Point.{Point}
 use Rattle.trlab_diagram.specs.Table.{points_text}
 use Rattle.trlab_road.specs.Cells.{Cells}
 use Rattle.trlab_road.specs.Legal.{IsLegal}
-use Rattle.trlab_road.specs.Laws.{SaysEven}
+use Rattle.trlab_road.specs.Laws.{EvenCarsMean}
 use Rattle.trlab_road.specs.Spreading.{CanSpread, IsEven}
 use Rattle.trlab_road.specs.declared.fault.RoadFault.{RoadFault}
 use Rattle.trlab_road.proofs.EvenRoads.{no_fault}
@@ -26,7 +26,7 @@ use Rattle.trlab_campaign.proofs.Points.{suits}
 pub even_some : (lanes cells limit n : ℕ) → CanSpread lanes cells limit n → (road : Cells) × (IsEven lanes cells limit n road × IsLegal road)
 even_some lanes cells limit n fits = let said = something lanes cells limit n in of_said said.0 said.1
   where
-    of_said : (said : Result Cells RoadFault) → SaysEven lanes cells limit n said → (road : Cells) × (IsEven lanes cells limit n road × IsLegal road)
+    of_said : (said : Result Cells RoadFault) → EvenCarsMean lanes cells limit n said → (road : Cells) × (IsEven lanes cells limit n road × IsLegal road)
     of_said (Ok road) says = (road, (says.1, says.2))
     of_said (Err fault) says = absurd (says.1 (no_fault lanes cells limit n fault fits says.0))
 

@@ -1,7 +1,7 @@
 -- A sweep text whose sixth line states the rule of 1992 has that rule.
 use Rattle.std.proofs.Common.{◌≡◌, ℕ, suc, ◌+◌, Bool, true, false, List, [], ◌∷◌, length, get_or, sym, ◌∙◌, ap, subst, arith}
 use Rattle.std.specs.Prelude.{Result, Ok, Err, nat_lt}
-use Rattle.trlab_rules.specs.Laws.{MovesBy}
+use Rattle.trlab_rules.specs.Laws.{ComputesSpeed}
 use Rattle.trlab_rules.specs.Published.{nasch_speed}
 use Rattle.trlab_rules.specs.Rules.{Programs}
 use Rattle.trlab_rules.specs.Standard.{nasch_program}
@@ -21,7 +21,7 @@ use Rattle.trlab_jobs.specs.Shapes.{cell_count, all_steps, lanes_line, length_li
 use Rattle.trlab_jobs.specs.Sweep.{Setup, Sweep, SweepLinesSay, SweepText, sweep_heading, setup, sweep_line, with_counts}
 use Rattle.trlab_jobs.proofs.SweepLines.{after_cells, after_key, after_limit, after_rule, after_shape}
 use Rattle.trlab_asm.specs.Results.{map_ok}
-use Rattle.trlab_campaign.specs.Capacity.{rule_stated}
+use Rattle.trlab_campaign.specs.Capacity.{stated_rule}
 
 -- the parts of what is read
 ok_parts : {A B : Type 0} (x y : A) (a b : B) → ◌≡◌ {A = Result (A × B) Fault} (Ok (x, a)) (Ok (y, b)) → (x ≡ y) × (a ≡ b)
@@ -98,7 +98,7 @@ is_nasch p first says = record {
   motion = record {
     same = says.0.0;
     accepted = says.0.1.0;
-    moves = subst (MovesBy (nasch_speed p)) (sym says.0.0) (nasch_moves p);
+    moves = subst (ComputesSpeed (nasch_speed p)) (sym says.0.0) (nasch_moves p);
   };
   change = says.1;
 }
@@ -130,7 +130,7 @@ setup_is p rest after common stated told =
     let same : first.x ≡ common.rule = sym (ap (λ (s : Setup). s.rule) (ok_parts common whole after steps.after steps.two).0) in
     subst (IsNasch p) same there
 
-lines_are : (p : ℕ) (text : List ℕ) (sweep : Sweep) → rule_stated text ≡ Ok (Nasch p) → SweepLinesSay text (Ok sweep) → IsNasch p sweep.setup.rule
+lines_are : (p : ℕ) (text : List ℕ) (sweep : Sweep) → stated_rule text ≡ Ok (Nasch p) → SweepLinesSay text (Ok sweep) → IsNasch p sweep.setup.rule
 lines_are p text sweep stated says = of_found says.0 says.1.0 says.1.1
   where
     of_counts : (common : Setup) (cars : Result (List ℕ) Fault) → IsNasch p common.rule → Ok sweep ≡ map_ok (λ cars. record { setup = common; cars = cars }) cars → IsNasch p sweep.setup.rule
@@ -142,7 +142,7 @@ lines_are p text sweep stated says = of_found says.0 says.1.0 says.1.1
         of_counts found.0 (counts (cell_count found.0.shape) (all_steps found.0.span) found.1.number found.1.left) (setup_is p (all_lines text) found.1 found.0 stated told) out
     of_found (Err fault) told out = absurd (cc out)
 
-pub stated_nasch : (p : ℕ) (text : List ℕ) (sweep : Sweep) → rule_stated text ≡ Ok (Nasch p) → SweepText text (Ok sweep) → IsNasch p sweep.setup.rule
+pub stated_nasch : (p : ℕ) (text : List ℕ) (sweep : Sweep) → stated_rule text ≡ Ok (Nasch p) → SweepText text (Ok sweep) → IsNasch p sweep.setup.rule
 stated_nasch p text sweep stated says = of_size (nat_lt TEXT_LIMIT (length text)) says
   where
     of_size : (big : Bool) → SizedTextSays SweepLinesSay big text (Ok sweep) → IsNasch p sweep.setup.rule

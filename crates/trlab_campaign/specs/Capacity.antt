@@ -42,30 +42,30 @@ SweepsKeepToCapacity =
 
 -- a point that is not above the peak of the triangle: its mean distance per cell and step, and so its flow,
 -- is at most limit / (limit + 1)
-pub record IsBelowPeak (limit : ℕ) (point : Point) : Type 0 where
+pub record IsNotAbovePeak (limit : ℕ) (point : Point) : Type 0 where
   pub distance : (limit + 1) * point.distance ≤ point.steps * (limit * point.cells)
   pub flow : flow_of point ≤ limit * 1000000 / (limit + 1)
 
 -- no point of a sweep text's table is above the peak of the triangle, under any rule that the text may state
-abbrev pub SweepsKeepBelowPeak : Type 0
-SweepsKeepBelowPeak =
+abbrev pub SweepsDoNotExceedPeak : Type 0
+SweepsDoNotExceedPeak =
     (text : List ℕ) (sweep : Sweep) (points : List Point)
     → SweepText text (Ok sweep) → ArePoints sweep points
-    → All (IsBelowPeak sweep.setup.shape.limit) points
+    → All (IsNotAbovePeak sweep.setup.shape.limit) points
 
 -- the moving cars of a point, each counted once per step, went on average at least one cell, and at most the
 -- limit
-pub record PointGoesByMovingCars (limit : ℕ) (point : Point) : Type 0 where
+pub record HasBoundedMovingSpeed (limit : ℕ) (point : Point) : Type 0 where
   pub cell_each : point.steps * point.cars ≤ point.distance + point.stopped
   pub limit_each : point.distance + limit * point.stopped ≤ point.steps * (limit * point.cars)
 
 -- at each point of a sweep text's table, moving cars, each counted once per step, went on average at least
 -- one cell, and at most the limit, under any rule that the text may state
-abbrev pub SweepsGoByMovingCars : Type 0
-SweepsGoByMovingCars =
+abbrev pub SweepsBoundMovingSpeed : Type 0
+SweepsBoundMovingSpeed =
     (text : List ℕ) (sweep : Sweep) (points : List Point)
     → SweepText text (Ok sweep) → ArePoints sweep points
-    → All (PointGoesByMovingCars sweep.setup.shape.limit) points
+    → All (HasBoundedMovingSpeed sweep.setup.shape.limit) points
 
 -- a point on the triangle: its distance is the capacity times its number of steps, and its flow is the flow
 -- of the capacity
@@ -74,13 +74,13 @@ pub record IsOnTriangle (limit : ℕ) (point : Point) : Type 0 where
   pub flow : flow_of point ≡ steady_flow point (capacity_at limit point)
 
 -- the rule that the sixth line of a text states, or its cause; a missing line counts as empty
-abbrev pub rule_stated : List ℕ → Result (RuleLine ℕ) Cause
-rule_stated text = rule_line (slice_index_or (lines_of text) 5 [])
+abbrev pub stated_rule : List ℕ → Result (RuleLine ℕ) Cause
+stated_rule text = rule_line (slice_index_or (lines_of text) 5 [])
 
 -- a sweep text with this common part asks for the triangle: it states the rule of 1992 without randomization,
 -- by its sixth line, `rule nasch 0`, it has one lane, and it counts no step before cars could reach the limit
 pub record AsksForTriangle (text : List ℕ) (common : Setup) : Type 0 where
-  pub rule : rule_stated text ≡ Ok (Nasch 0)
+  pub rule : stated_rule text ≡ Ok (Nasch 0)
   pub lanes : common.shape.lanes ≡ 1
   pub warm : common.shape.limit ≤ common.span.warm + 1
 

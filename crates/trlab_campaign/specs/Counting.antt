@@ -6,14 +6,14 @@ use Rattle.trlab_step.specs.Progress.{Progress}
 use Rattle.trlab_diagram.specs.declared.point.LaneCount.{LaneCount}
 
 -- `new` is the run `old`, `count` steps later
-pub record IsStepsOn (count : ℕ) (old new : Progress) : Type 0 where
+pub record IsStepsLater (count : ℕ) (old new : Progress) : Type 0 where
   pub same_seed : new.seed ≡ old.seed
   pub same_sheet : new.sheet ≡ old.sheet
   pub later : new.step ≡ old.step + count
 
 -- the counts of a lane, summed over the roads after `steps` steps, are at most those of full lanes:
 -- MAX_LENGTH cars per step, a distance of MAX_LIMIT for each, and MAX_LENGTH stopped cars per step
-pub record IsFewCars (steps : ℕ) (count : LaneCount) : Type 0 where
+pub record IsBoundedCount (steps : ℕ) (count : LaneCount) : Type 0 where
   pub cars : count.cars ≤ MAX_LENGTH * steps
   pub distance : count.distance ≤ MAX_LIMIT * MAX_LENGTH * steps
   pub stopped : count.stopped ≤ MAX_LENGTH * steps

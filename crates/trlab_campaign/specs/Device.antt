@@ -4,13 +4,13 @@ use Rattle.std.specs.Io.KnownBytes.{Consumes}
 use Rattle.trlab_bounds.specs.declared.texts.TheConstants.{TEXT_LIMIT}
 
 -- the bytes that a call transferred: the first `count` if it returns `count`, and none if it failed
-abbrev pub handed_over : {E : Type 0} → Result ℕ E → List ℕ → List ℕ
-handed_over (Ok count) bytes = take count bytes
-handed_over (Err fault) bytes = []
+abbrev pub transferred_bytes : {E : Type 0} → Result ℕ E → List ℕ → List ℕ
+transferred_bytes (Ok count) bytes = take count bytes
+transferred_bytes (Err fault) bytes = []
 
 -- the bytes that the calls of a reader gave between `before` and `after` have the property `Holds`
-abbrev pub Gave : (List ℕ → Type 0) → List ℕ → List ℕ → Type 0
-Gave Holds before after = (bytes : List ℕ) × ((after ≡ before ++ bytes) × Holds bytes)
+abbrev pub GaveBytes : (List ℕ → Type 0) → List ℕ → List ℕ → Type 0
+GaveBytes Holds before after = (bytes : List ℕ) × ((after ≡ before ++ bytes) × Holds bytes)
 
 -- between `old` and `new`, at most `most` of the bytes that were left to read were read, if the reader makes
 -- them known
@@ -18,5 +18,5 @@ abbrev pub ConsumesUpTo : ℕ → Option (List ℕ) → Option (List ℕ) → Ty
 ConsumesUpTo most old new = (read : List ℕ) × (length read ≤ most) × Consumes old new read
 
 -- `text` is the whole input, or both are longer than TEXT_LIMIT bytes and so too long
-abbrev pub IsReadOf : List ℕ → List ℕ → Type 0
-IsReadOf text input = (text ≡ input) ⊎ ((TEXT_LIMIT < length text) × (TEXT_LIMIT < length input))
+abbrev pub IsInputOrTooLong : List ℕ → List ℕ → Type 0
+IsInputOrTooLong text input = (text ≡ input) ⊎ ((TEXT_LIMIT < length text) × (TEXT_LIMIT < length input))

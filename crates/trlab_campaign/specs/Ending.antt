@@ -9,8 +9,8 @@ use Rattle.trlab_campaign.specs.declared.end.End.{End}
 use Rattle.trlab_campaign.specs.declared.end.End.TheVariants.{Done, Refused, Memory, DeviceFault}
 use Rattle.trlab_campaign.specs.declared.end.Failure.{Failure}
 use Rattle.trlab_campaign.specs.declared.end.Failure.TheVariants.{Device}
-use Rattle.trlab_campaign.specs.Device.{ConsumesUpTo, Gave}
-use Rattle.trlab_campaign.specs.Flushes.{AtMostOnce, HandedOnce}
+use Rattle.trlab_campaign.specs.Device.{ConsumesUpTo, GaveBytes}
+use Rattle.trlab_campaign.specs.Flushes.{FlushedAtMostOnce, FlushedOnce}
 use Rattle.trlab_campaign.specs.Refusal.{Outputs}
 use Rattle.trlab_campaign.specs.Writers.{HasWritten, AddsNone, AddsPrefix, SinkBytes, bytes_of}
 
@@ -26,38 +26,38 @@ WrotePrefix IsWhole old new =
 
 -- between `old` and `new`, a successful call wrote a whole output that is not a refusal; a failed call wrote
 -- nothing, or a prefix of a whole output
-abbrev pub WroteBy : {A E : Type 0} → Outputs → Result A E
+abbrev pub WroteByResult : {A E : Type 0} → Outputs → Result A E
     → SinkBytes → SinkBytes → Type 0
-WroteBy IsWhole (Ok done) old new = WroteAll IsWhole false old new
-WroteBy IsWhole (Err fault) old new = WrotePrefix IsWhole old new
+WroteByResult IsWhole (Ok done) old new = WroteAll IsWhole false old new
+WroteByResult IsWhole (Err fault) old new = WrotePrefix IsWhole old new
 
 -- the bytes that an engine has written, by its end: a whole output at `Done`, a whole refusal at `Refused`,
 -- and otherwise nothing or a prefix of a whole output
-abbrev pub EndsSo : Outputs → End → SinkBytes → SinkBytes → Type 0
-EndsSo IsWhole Done old new = WroteAll IsWhole false old new
-EndsSo IsWhole Refused old new = WroteAll IsWhole true old new
-EndsSo IsWhole Memory old new = WrotePrefix IsWhole old new
-EndsSo IsWhole DeviceFault old new = WrotePrefix IsWhole old new
+abbrev pub WroteAtEnd : Outputs → End → SinkBytes → SinkBytes → Type 0
+WroteAtEnd IsWhole Done old new = WroteAll IsWhole false old new
+WroteAtEnd IsWhole Refused old new = WroteAll IsWhole true old new
+WroteAtEnd IsWhole Memory old new = WrotePrefix IsWhole old new
+WroteAtEnd IsWhole DeviceFault old new = WrotePrefix IsWhole old new
 
 -- how an engine has flushed its writer, by its end: everything by one flush if it wrote a whole output, not
 -- at all if an allocation failed, and at most once if a device failed
-abbrev pub HandsOn : End → Bool → Flushes → Flushes → Type 0
-HandsOn Done handed_on old new = HandedOnce handed_on old new
-HandsOn Refused handed_on old new = HandedOnce handed_on old new
-HandsOn Memory handed_on old new = new ≡ old
-HandsOn DeviceFault handed_on old new = AtMostOnce old new
+abbrev pub FlushedAtEnd : End → Bool → Flushes → Flushes → Type 0
+FlushedAtEnd Done handed_on old new = FlushedOnce handed_on old new
+FlushedAtEnd Refused handed_on old new = FlushedOnce handed_on old new
+FlushedAtEnd Memory handed_on old new = new ≡ old
+FlushedAtEnd DeviceFault handed_on old new = FlushedAtMostOnce old new
 
 -- the bytes that were written of the whole output `out`, by the end: all of it at `Done` or `Refused`, which
 -- must agree with `refused`, none if an allocation failed, and a prefix if a device failed
-abbrev pub OutputEnds : Bool → List ℕ → End → SinkBytes → SinkBytes → Type 0
-OutputEnds refused out Done old new = (refused ≡ false) × HasWritten old new out
-OutputEnds refused out Refused old new = (refused ≡ true) × HasWritten old new out
-OutputEnds refused out Memory old new = AddsNone old new
-OutputEnds refused out DeviceFault old new = AddsPrefix old new out
+abbrev pub WroteOutputAtEnd : Bool → List ℕ → End → SinkBytes → SinkBytes → Type 0
+WroteOutputAtEnd refused out Done old new = (refused ≡ false) × HasWritten old new out
+WroteOutputAtEnd refused out Refused old new = (refused ≡ true) × HasWritten old new out
+WroteOutputAtEnd refused out Memory old new = AddsNone old new
+WroteOutputAtEnd refused out DeviceFault old new = AddsPrefix old new out
 
 -- the writer after a call that does not flush it: it still works if the call succeeded, and after a failed
 -- call it has failed exactly if the failure is `Device`
-pub record WritesOn {A K : Type 0} (sink : Sink.Ghosts K) (result : Result A Failure)
+pub record LeavesUnflushed {A K : Type 0} (sink : Sink.Ghosts K) (result : Result A Failure)
     (old new : K) : Type 0 where
   pub works : OnOk result (sink.failed new ≡ false)
   pub fails : IfErr result (λ fault. (fault ≡ Device) ↔ (sink.failed new ≡ true))
@@ -69,7 +69,7 @@ pub record LeavesWriter {K : Type 0} (sink : Sink.Ghosts K)
     (Wrote : End → SinkBytes → SinkBytes → Type 0)
     (end : End) (old new : K) : Type 0 where
   pub answer : Wrote end (bytes_of sink old) (bytes_of sink new)
-  pub handed : HandsOn end (sink.handed_on new) (sink.flushes old) (sink.flushes new)
+  pub handed : FlushedAtEnd end (sink.handed_on new) (sink.flushes old) (sink.flushes new)
   pub device : (end ≡ DeviceFault) ↔ (sink.failed new ≡ true)
 
 -- the end of an engine that reads an input and writes one of the possible outputs for it: `before` and
@@ -78,18 +78,18 @@ pub record EngineEnds {S K : Type 0} (source : Source.Ghosts S) (sink : Sink.Gho
     (outputs : List ℕ → Outputs) (end : End) (before after : S) (old new : K) : Type 0 where
   -- the writer's calls took the output for exactly the bytes that the reader's calls gave, or a prefix of the
   -- output if the end allows it
-  pub exact : Gave (λ text. EndsSo (outputs text) end (bytes_of sink old) (bytes_of sink new))
+  pub exact : GaveBytes (λ text. WroteAtEnd (outputs text) end (bytes_of sink old) (bytes_of sink new))
       (source.given before) (source.given after)
   -- the written output is also that of all bytes that were left to read, if the reader makes them known
   pub answer : IfSome (source.left before)
-      (λ text. EndsSo (outputs text) end (bytes_of sink old) (bytes_of sink new))
+      (λ text. WroteAtEnd (outputs text) end (bytes_of sink old) (bytes_of sink new))
   -- nothing was written if the input was not read
   pub silent : source.failed after ≡ true → AddsNone (bytes_of sink old) (bytes_of sink new)
   -- a whole output was flushed once; nothing was flushed if an allocation failed
-  pub handed : HandsOn end (sink.handed_on new) (sink.flushes old) (sink.flushes new)
+  pub handed : FlushedAtEnd end (sink.handed_on new) (sink.flushes old) (sink.flushes new)
   -- the end is `DeviceFault` exactly if the reader or the writer has failed
   pub device : (end ≡ DeviceFault) ↔ ((source.failed after || sink.failed new) ≡ true)
   -- at most one byte more than the size limit of an input was read, of the bytes that were left
   pub read : ConsumesUpTo (TEXT_LIMIT + 1) (source.left before) (source.left after)
   -- the reader's calls gave at most one byte more than the size limit of an input
-  pub stops : Gave (λ bytes. length bytes ≤ TEXT_LIMIT + 1) (source.given before) (source.given after)
+  pub stops : GaveBytes (λ bytes. length bytes ≤ TEXT_LIMIT + 1) (source.given before) (source.given after)

@@ -10,9 +10,9 @@ once_more Once = Often
 once_more Often = Often
 
 -- between `old` and `new` the writer was flushed once more, and everything has been flushed
-abbrev pub HandedOnce : Bool → Flushes → Flushes → Type 0
-HandedOnce handed_on old new = (handed_on ≡ true) × (new ≡ once_more old)
+abbrev pub FlushedOnce : Bool → Flushes → Flushes → Type 0
+FlushedOnce handed_on old new = (handed_on ≡ true) × (new ≡ once_more old)
 
 -- between `old` and `new` the writer was flushed at most once
-abbrev pub AtMostOnce : Flushes → Flushes → Type 0
-AtMostOnce old new = (new ≡ old) ⊎ (new ≡ once_more old)
+abbrev pub FlushedAtMostOnce : Flushes → Flushes → Type 0
+FlushedAtMostOnce old new = (new ≡ old) ⊎ (new ≡ once_more old)

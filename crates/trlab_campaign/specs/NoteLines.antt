@@ -25,13 +25,13 @@ said_text register (Implies true) = register_entry register (codes "side")
 said_text register (Implies false) = register_entry register (codes "flag")
 
 -- the text for a register of a note; if the side cell is known to be empty, each flag is `side`
-abbrev pub said_of_register : Note → Register → List ℕ
-said_of_register note register =
+abbrev pub register_value_text : Note → Register → List ℕ
+register_value_text note register =
     said_text register (with_side note.side (note.said (variable.Register register)))
 
 -- the text for the registers of a note, in their order
 abbrev pub registers_text : Note → List ℕ
-registers_text note = flat_map (said_of_register note) REGISTERS
+registers_text note = flat_map (register_value_text note) REGISTERS
 
 -- the word ` side` if the side cell is known to be empty, and otherwise nothing
 abbrev pub side_text : Bool → List ℕ

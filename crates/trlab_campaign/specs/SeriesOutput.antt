@@ -69,8 +69,8 @@ roads_after roads first count = map roads (range_with_len (first + 1) count)
 
 -- the counts of a road in `steps` steps, whose tallies are given: its cars and cells, and the sums of the
 -- tallies
-abbrev pub sum_point : Cells → ℕ → List StepTally → Point
-sum_point road steps tallies = record {
+abbrev pub point_of_tallies : Cells → ℕ → List StepTally → Point
+point_of_tallies road steps tallies = record {
   cars = cars road;
   cells = length road.lanes * length (lane_of road 0);
   steps = steps;
@@ -84,7 +84,7 @@ sum_point road steps tallies = record {
 abbrev pub window_of : (ℕ → Cells) → (ℕ → StepTally) → ℕ → ℕ → Window
 window_of roads tallies first count = record {
   step = first + count;
-  point = sum_point (roads (first + count)) count (tallies_from tallies first count);
+  point = point_of_tallies (roads (first + count)) count (tallies_from tallies first count);
   lane0 = lane_count 0 (roads_after roads first count);
   lane1 = lane_count 1 (roads_after roads first count);
 }
@@ -100,8 +100,8 @@ first_windows roads tallies every from count =
 
 -- a run of `steps` steps completes `count` windows of `every` steps each, from the step `from` on: exactly
 -- the windows k with k below `count` end at or before the run's last step
-abbrev pub HasWindows : ℕ → ℕ → ℕ → ℕ → Type 0
-HasWindows every from steps count = (k : ℕ) → (k < count) ↔ (from + (k + 1) * every ≤ steps)
+abbrev pub CompletesWindows : ℕ → ℕ → ℕ → ℕ → Type 0
+CompletesWindows every from steps count = (k : ℕ) → (k < count) ↔ (from + (k + 1) * every ≤ steps)
 
 -- the series of a job: the windows of `every` steps each, from the step `from` on, that its run completes
 pub record IsSeries (job : Job) (every from : ℕ) (windows : List Window) : Type 0 where
@@ -109,7 +109,7 @@ pub record IsSeries (job : Job) (every from : ℕ) (windows : List Window) : Typ
   pub tallies : ℕ → StepTally
   pub course : IsCourse (seed_of job) (sheet_of job) roads tallies
   pub count : ℕ
-  pub whole : HasWindows every from job.steps count
+  pub whole : CompletesWindows every from job.steps count
   pub told : windows ≡ first_windows roads tallies every from count
 
 -- a whole output for a job: the table of its series, with windows of `every` steps from the step `from` on,

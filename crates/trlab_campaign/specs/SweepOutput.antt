@@ -68,8 +68,8 @@ IsSweepOutput text refused out = OutputOfText SweepText SweepOutput text refused
 
 -- a call with the contract `pre` and `post` can be made for any sweep, and returns the sweep's table unless
 -- it fails
-abbrev pub TellsTable : {A B E : Type 0} → (A → Bor Sweep → Type 0)
+abbrev pub ReturnsTable : {A B E : Type 0} → (A → Bor Sweep → Type 0)
     → (A → Bor Sweep → Result (Vec ℕ B) E → Type 0) → Type 0
-TellsTable pre post = (alloc : _) (sweep : Bor Sweep) → pre alloc sweep
+ReturnsTable pre post = (alloc : _) (sweep : Bor Sweep) → pre alloc sweep
     × ((told : _) → post alloc sweep told
     → IfOk told (λ table. SweepOutput sweep.now false table.items))

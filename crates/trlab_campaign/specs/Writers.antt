@@ -28,6 +28,6 @@ pub record AddsPrefix (old new : SinkBytes) (text : List ℕ) : Type 0 where
   pub prefix : HasWritten old new (take count text)
 
 -- between `old` and `new`, a successful call wrote the text; a failed call wrote a prefix of it
-abbrev pub AddsBy : {A E : Type 0} → Result A E → SinkBytes → SinkBytes → List ℕ → Type 0
-AddsBy (Ok done) old new text = HasWritten old new text
-AddsBy (Err fault) old new text = AddsPrefix old new text
+abbrev pub AddsByResult : {A E : Type 0} → Result A E → SinkBytes → SinkBytes → List ℕ → Type 0
+AddsByResult (Ok done) old new text = HasWritten old new text
+AddsByResult (Err fault) old new text = AddsPrefix old new text

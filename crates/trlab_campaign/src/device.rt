@@ -7,7 +7,7 @@ mod whole;
 ghost use Rattle.std.specs.Prelude.{◌≡◌, ℕ, ◌≤◌, ◌<◌, ◌||◌, ◌++◌, List, length, Option, Bool};
 ghost use Rattle.std.specs.Prelude.{true, false, IfOk, OnOk, is_err};
 ghost use Rattle.std.specs.Io.KnownBytes.{ReadConsumes, WriteAppends, Keeps};
-ghost use Rattle.trlab_campaign.specs.Device.{handed_over};
+ghost use Rattle.trlab_campaign.specs.Device.{transferred_bytes};
 ghost use Rattle.trlab_campaign.specs.Flushes.{once_more};
 ghost use Rattle.trlab_campaign.specs.declared.device.Flushes.{Flushes};
 
@@ -58,7 +58,7 @@ pub trait Source {
     fn take(&mut self, buffer: &mut [u8]) -> Result<usize, DeviceError>
         ensures count { IfOk result (λ n. n ≤ length buffer.new) }
         ensures bytes { ReadConsumes (left self.old) (left self.new) result buffer.new }
-        ensures gives { given self.new ≡ given self.old ++ handed_over result buffer.new }
+        ensures gives { given self.new ≡ given self.old ++ transferred_bytes result buffer.new }
         ensures fails { failed self.new ≡ (failed self.old || is_err result) };
 }
 
@@ -84,7 +84,7 @@ pub trait Sink {
         ensures count { IfOk result (λ n. n ≤ length bytes.now) }
         ensures some { IfOk result (λ n. 0 < length bytes.now → 0 < n) }
         ensures bytes { WriteAppends (written self.old) (written self.new) result bytes.now }
-        ensures accepts { accepted self.new ≡ accepted self.old ++ handed_over result bytes.now }
+        ensures accepts { accepted self.new ≡ accepted self.old ++ transferred_bytes result bytes.now }
         ensures held { handed_on self.new ≡ false }
         ensures flushed { flushes self.new ≡ flushes self.old }
         ensures fails { failed self.new ≡ (failed self.old || is_err result) };

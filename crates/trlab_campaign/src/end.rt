@@ -1,7 +1,7 @@
 //! How an engine ends, and the functions that write a whole output, or the line of a refused input, at the end.
 
 ghost use Rattle.std.specs.Prelude.{◌≡◌, true, false};
-ghost use Rattle.trlab_campaign.specs.Ending.{LeavesWriter, OutputEnds};
+ghost use Rattle.trlab_campaign.specs.Ending.{LeavesWriter, WroteOutputAtEnd};
 ghost use Rattle.trlab_campaign.specs.Refusal.{fault_line};
 
 use crate::device::{Sink, write_last};
@@ -34,7 +34,7 @@ pub enum Failure {
 /// Writes a whole output and flushes the writer. `refused` is whether the output is a refusal.
 pub fn write_output<K: Sink>(refused: bool, text: &[u8], writer: &mut K) -> End
     requires { K.failed writer.old ≡ false }
-    ensures { LeavesWriter K.Sink (OutputEnds refused text.now) result writer.old writer.new }
+    ensures { LeavesWriter K.Sink (WroteOutputAtEnd refused text.now) result writer.old writer.new }
 {
     match write_last(writer, text) {
         Ok(()) => { if refused { End::Refused } else { End::Done } }
@@ -45,7 +45,7 @@ pub fn write_output<K: Sink>(refused: bool, text: &[u8], writer: &mut K) -> End
 /// Writes the line of a refused input and flushes the writer.
 pub fn refuse<K: Sink>(alloc: Global, line: u32, cause: Cause, writer: &mut K) -> End
     requires { K.failed writer.old ≡ false }
-    ensures { LeavesWriter K.Sink (OutputEnds true (fault_line (record { line = line; cause = cause })))
+    ensures { LeavesWriter K.Sink (WroteOutputAtEnd true (fault_line (record { line = line; cause = cause })))
         result writer.old writer.new }
 {
     match fault_page(alloc, line, cause) {

@@ -2,8 +2,8 @@
 
 ghost use Rattle.std.specs.Prelude.{◌≡◌, ℕ, List, Bool, true, false};
 ghost use Rattle.trlab_campaign.specs.declared.end.End.TheVariants.{Memory};
-ghost use Rattle.trlab_campaign.specs.Device.{IsReadOf};
-ghost use Rattle.trlab_campaign.specs.Ending.{EndsSo, EngineEnds, LeavesWriter};
+ghost use Rattle.trlab_campaign.specs.Device.{IsInputOrTooLong};
+ghost use Rattle.trlab_campaign.specs.Ending.{WroteAtEnd, EngineEnds, LeavesWriter};
 ghost use Rattle.trlab_campaign.specs.Refusal.{Outputs};
 ghost use Rattle.trlab_campaign.specs.Writers.{AddsNone, bytes_of};
 
@@ -28,8 +28,8 @@ pub trait Engine: Drop {
     fn write<K: Sink>(self, alloc: Global, text: &[u8], writer: &mut K) -> End
         requires ready { is_ready self }
         requires works { K.failed writer.old ≡ false }
-        ensures ends { (input : List ℕ) → IsReadOf text.now input
-            → LeavesWriter K.Sink (EndsSo (outputs self input)) result writer.old writer.new }
+        ensures ends { (input : List ℕ) → IsInputOrTooLong text.now input
+            → LeavesWriter K.Sink (WroteAtEnd (outputs self input)) result writer.old writer.new }
         ensures kept { at_once ≡ true → result ≡ Memory
             → AddsNone (bytes_of K.Sink writer.old) (bytes_of K.Sink writer.new) };
 }

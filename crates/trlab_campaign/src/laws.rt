@@ -3,7 +3,7 @@
 //!
 //! Each law is the contract of a function with an empty body.
 
-ghost use Rattle.trlab_campaign.specs.Capacity.{DiagramIsTriangle, SweepsGoByMovingCars, SweepsKeepBelowPeak};
+ghost use Rattle.trlab_campaign.specs.Capacity.{DiagramIsTriangle, SweepsBoundMovingSpeed, SweepsDoNotExceedPeak};
 ghost use Rattle.trlab_campaign.specs.Capacity.{SweepsKeepToCapacity};
 ghost use Rattle.trlab_campaign.specs.CheckOutput.{IsCheckOutput};
 ghost use Rattle.trlab_campaign.specs.Headline.{JobTextsAreDriven, SweepTextsAreDriven};
@@ -57,8 +57,8 @@ pub fn sweep_has_one_output()
 /// the limit.
 pub fn sweeps_keep_to_capacity()
     ensures within { SweepsKeepToCapacity }
-    ensures peak { SweepsKeepBelowPeak }
-    ensures moving { SweepsGoByMovingCars }
+    ensures peak { SweepsDoNotExceedPeak }
+    ensures moving { SweepsBoundMovingSpeed }
     ensures triangle { DiagramIsTriangle }
 {}
 

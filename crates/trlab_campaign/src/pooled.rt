@@ -6,7 +6,7 @@ ghost use Rattle.std.specs.Prelude.{◌≡◌, ◌<◌, ◌≤◌, false, IfSome
 ghost use Rattle.trlab_bounds.specs.declared.runs.TheConstants.{MAX_WORKERS};
 ghost use Rattle.trlab_jobs.specs.Job.{Job as Told, seed_of, sheet_of};
 ghost use Rattle.trlab_step.specs.Progress.{at_start};
-ghost use Rattle.trlab_campaign.specs.Ending.{EndsSo, EngineEnds, LeavesWriter, WritesOn, WroteBy};
+ghost use Rattle.trlab_campaign.specs.Ending.{WroteAtEnd, EngineEnds, LeavesWriter, LeavesUnflushed, WroteByResult};
 ghost use Rattle.trlab_campaign.specs.Output.{IsOutputOf};
 ghost use Rattle.trlab_campaign.specs.Refusal.{Outputs};
 ghost use Rattle.trlab_campaign.specs.Writers.{bytes_of};
@@ -44,9 +44,9 @@ pub trait Account {
     ) -> Result<(), Failure>
         requires ready { A.is_ready executor.now }
         requires works { K.failed writer.old ≡ false }
-        ensures wrote { WroteBy (outputs self.now job) result
+        ensures wrote { WroteByResult (outputs self.now job) result
             (bytes_of K.Sink writer.old) (bytes_of K.Sink writer.new) }
-        ensures writer { WritesOn K.Sink result writer.old writer.new };
+        ensures writer { LeavesUnflushed K.Sink result writer.old writer.new };
 }
 
 /// Writes the account of a job and flushes the writer.
@@ -59,7 +59,7 @@ fn write_account<C: Account, A: Executor, K: Sink>(
 ) -> End
     requires ready { A.is_ready executor.now }
     requires works { K.failed writer.old ≡ false }
-    ensures { LeavesWriter K.Sink (EndsSo (C.outputs account.now job)) result writer.old writer.new }
+    ensures { LeavesWriter K.Sink (WroteAtEnd (C.outputs account.now job)) result writer.old writer.new }
 {
     match account.write_job(executor, alloc, job, writer) {
         Ok(()) => match writer.flush() {
@@ -82,7 +82,7 @@ fn write_by_pool<'x, R: Threads + Wait + Sync, G: Gate + Sync, C: Account, A: Ex
 ) -> End
     requires ready { A.is_ready executor.now }
     requires works { K.failed writer.old ≡ false }
-    ensures { LeavesWriter K.Sink (EndsSo (C.outputs account.now job)) result writer.old writer.new }
+    ensures { LeavesWriter K.Sink (WroteAtEnd (C.outputs account.now job)) result writer.old writer.new }
 {
     let mut job = Some(job);
     pool.run(
@@ -92,7 +92,7 @@ fn write_by_pool<'x, R: Threads + Wait + Sync, G: Gate + Sync, C: Account, A: Ex
             requires ready { A.is_ready executor.now }
             requires works { K.failed writer.now ≡ false }
             ensures { IfSome job.entry (λ told. LeavesWriter K.Sink
-                (EndsSo (C.outputs account.entry.now told)) result writer.entry.now writer.exit.now) }
+                (WroteAtEnd (C.outputs account.entry.now told)) result writer.entry.now writer.exit.now) }
         {
             match job.take() {
                 Some(job) => write_account(account, executor, alloc, job, writer),
@@ -140,7 +140,7 @@ impl<'a, R: Threads + Wait + Sync, C: Account, O: ProgressObserver> JobEngine<'a
     /// that make the job's road faster.
     fn drive<K: Sink>(&self, alloc: Global, job: Job, writer: &mut K) -> End
         requires works { K.failed writer.old ≡ false }
-        ensures { LeavesWriter K.Sink (EndsSo (C.outputs self.now.account.now job)) result writer.old writer.new }
+        ensures { LeavesWriter K.Sink (WroteAtEnd (C.outputs self.now.account.now job)) result writer.old writer.new }
     {
         let gate = OpenGate;
         let draws = some_rule_draws(&job);

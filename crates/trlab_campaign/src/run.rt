@@ -6,9 +6,9 @@ ghost use Rattle.trlab_jobs.specs.Job.{Job as Told, seed_of, sheet_of};
 ghost use Rattle.trlab_jobs.specs.Stored.{IsStoredJob};
 ghost use Rattle.trlab_step.specs.Progress.{IsOneStepOn, at_start};
 ghost use Rattle.trlab_step.specs.Run.{IsRoadAt};
-ghost use Rattle.trlab_campaign.specs.Ending.{EngineEnds, WritesOn, WroteBy};
+ghost use Rattle.trlab_campaign.specs.Ending.{EngineEnds, LeavesUnflushed, WroteByResult};
 ghost use Rattle.trlab_campaign.specs.Output.{IsOutput, IsShownOutput, JobOutput, every_from, shown_text, step_text};
-ghost use Rattle.trlab_campaign.specs.Writers.{AddsBy, bytes_of};
+ghost use Rattle.trlab_campaign.specs.Writers.{AddsByResult, bytes_of};
 
 use crate::device::{Sink, Source, write_text};
 use crate::end::{End, Failure};
@@ -103,8 +103,8 @@ impl StepObserver for StepText {
 fn write_made<K: Sink>(text: &StepText, writer: &mut K) -> Result<(), Failure>
     requires { K.failed writer.old ≡ false }
     ensures wrote { (bytes : List ℕ) → OnOk text.now.made (text.now.bytes.items ≡ bytes)
-        → AddsBy result (bytes_of K.Sink writer.old) (bytes_of K.Sink writer.new) bytes }
-    ensures writer { WritesOn K.Sink result writer.old writer.new }
+        → AddsByResult result (bytes_of K.Sink writer.old) (bytes_of K.Sink writer.new) bytes }
+    ensures writer { LeavesUnflushed K.Sink result writer.old writer.new }
 {
     match text.made {
         Ok(()) => match write_text(writer, &text.bytes) {
@@ -128,10 +128,10 @@ fn show_step<A: Executor, K: Sink>(
     requires works { K.failed writer.old ≡ false }
     requires steps { run.old.step + 1 < 2 ^ 32 }
     ensures road { IsRoadAt run.old.seed run.old.sheet run.old.step run.old.road }
-    ensures wrote { AddsBy result (bytes_of K.Sink writer.old) (bytes_of K.Sink writer.new)
+    ensures wrote { AddsByResult result (bytes_of K.Sink writer.old) (bytes_of K.Sink writer.new)
         (shown_text (every_from shown.now.every shown.now.from) run.old.step run.old.road) }
     ensures on { OnOk result (IsOneStepOn run.old run.new) }
-    ensures writer { WritesOn K.Sink result writer.old writer.new }
+    ensures writer { LeavesUnflushed K.Sink result writer.old writer.new }
 {
     text.step = run.step();
     text.is_shown = shown.has(text.step);
@@ -152,9 +152,9 @@ fn show_last<K: Sink>(
 ) -> Result<(), Failure>
     requires { K.failed writer.old ≡ false }
     ensures road { IsRoadAt run.now.seed run.now.sheet run.now.step run.now.road }
-    ensures wrote { AddsBy result (bytes_of K.Sink writer.old) (bytes_of K.Sink writer.new)
+    ensures wrote { AddsByResult result (bytes_of K.Sink writer.old) (bytes_of K.Sink writer.new)
         (shown_text (every_from shown.now.every shown.now.from) run.now.step run.now.road) }
-    ensures writer { WritesOn K.Sink result writer.old writer.new }
+    ensures writer { LeavesUnflushed K.Sink result writer.old writer.new }
 {
     text.step = run.step();
     text.is_shown = shown.has(text.step);
@@ -176,9 +176,9 @@ fn write_run<A: Executor, K: Sink>(
     requires start { run.old.step ≡ 0 }
     ensures wrote { (job : Told) → IsStoredJob job
         → run.old ≡ at_start (seed_of job) (sheet_of job) → steps ≡ job.steps
-        → WroteBy (JobOutput (every_from shown.now.every shown.now.from) job) result
+        → WroteByResult (JobOutput (every_from shown.now.every shown.now.from) job) result
         (bytes_of K.Sink writer.old) (bytes_of K.Sink writer.new) }
-    ensures writer { WritesOn K.Sink result writer.old writer.new }
+    ensures writer { LeavesUnflushed K.Sink result writer.old writer.new }
 {
     let last = shown.last(steps);
     let mut text = StepText::new(alloc);

@@ -7,11 +7,11 @@ ghost use Rattle.trlab_bounds.specs.declared.runs.TheConstants.{MAX_STEPS};
 ghost use Rattle.trlab_diagram.specs.Series.{window_text};
 ghost use Rattle.trlab_road.specs.Cells.{Cells};
 ghost use Rattle.trlab_step.specs.declared.tally.StepTally.{StepTally};
-ghost use Rattle.trlab_campaign.specs.Counting.{IsStepsOn};
-ghost use Rattle.trlab_campaign.specs.Ending.{EngineEnds, WritesOn, WroteBy};
-ghost use Rattle.trlab_campaign.specs.SeriesOutput.{HasWindows, IsCourse, IsSeriesOutput, SeriesOutput};
+ghost use Rattle.trlab_campaign.specs.Counting.{IsStepsLater};
+ghost use Rattle.trlab_campaign.specs.Ending.{EngineEnds, LeavesUnflushed, WroteByResult};
+ghost use Rattle.trlab_campaign.specs.SeriesOutput.{CompletesWindows, IsCourse, IsSeriesOutput, SeriesOutput};
 ghost use Rattle.trlab_campaign.specs.SeriesOutput.{first_windows, window_of};
-ghost use Rattle.trlab_campaign.specs.Writers.{AddsBy, bytes_of};
+ghost use Rattle.trlab_campaign.specs.Writers.{AddsByResult, bytes_of};
 
 use crate::counting::{skip_steps, take_window};
 use crate::device::{Sink, Source, write_text};
@@ -50,7 +50,7 @@ impl Windows {
 
     /// The number of windows that a run of `steps` steps completes.
     pub fn count(&self, steps: u32) -> u32
-        ensures { HasWindows self.now.every self.now.from steps result }
+        ensures { CompletesWindows self.now.every self.now.from steps result }
     {
         steps.saturating_sub(self.from) / self.every
     }
@@ -59,7 +59,7 @@ impl Windows {
     /// completes none.
     pub fn steps(&self, steps: u32) -> u32
         ensures within { result ≤ steps }
-        ensures all { (count : ℕ) × HasWindows self.now.every self.now.from steps count
+        ensures all { (count : ℕ) × CompletesWindows self.now.every self.now.from steps count
             × (result ≡ if nat_eq count 0 then 0 else self.now.from + count * self.now.every) }
     {
         match self.count(steps) {
@@ -82,7 +82,7 @@ fn next_line<A: Executor>(
     requires few { every ≤ MAX_STEPS }
     requires room { run.old.step + every < 2 ^ 32 }
     requires counts { run.old.seed.warm ≡ 0 }
-    ensures on { OnOk result (IsStepsOn every run.old run.new) }
+    ensures on { OnOk result (IsStepsLater every run.old run.new) }
     ensures line { (roads : ℕ → Cells) (tallies : ℕ → StepTally)
         → IsCourse run.old.seed run.old.sheet roads tallies
         → IfOk result (λ line. line.items ≡ window_text (window_of roads tallies run.old.step every)) }
@@ -95,8 +95,8 @@ fn next_line<A: Executor>(
 fn write_line<K: Sink>(line: Result<Vec<u8>, DiagramFault>, writer: &mut K) -> Result<(), Failure>
     requires { K.failed writer.old ≡ false }
     ensures wrote { (bytes : List ℕ) → IfOk line (λ line. line.items ≡ bytes)
-        → AddsBy result (bytes_of K.Sink writer.old) (bytes_of K.Sink writer.new) bytes }
-    ensures writer { WritesOn K.Sink result writer.old writer.new }
+        → AddsByResult result (bytes_of K.Sink writer.old) (bytes_of K.Sink writer.new) bytes }
+    ensures writer { LeavesUnflushed K.Sink result writer.old writer.new }
     ensures made { OnOk result (IsOk line) }
 {
     match line {
@@ -125,10 +125,10 @@ fn write_window<A: Executor, K: Sink>(
     requires counts { run.old.seed.warm ≡ 0 }
     ensures wrote { (roads : ℕ → Cells) (tallies : ℕ → StepTally)
         → IsCourse run.old.seed run.old.sheet roads tallies
-        → AddsBy result (bytes_of K.Sink writer.old) (bytes_of K.Sink writer.new)
+        → AddsByResult result (bytes_of K.Sink writer.old) (bytes_of K.Sink writer.new)
         (window_text (window_of roads tallies run.old.step every)) }
-    ensures on { OnOk result (IsStepsOn every run.old run.new) }
-    ensures writer { WritesOn K.Sink result writer.old writer.new }
+    ensures on { OnOk result (IsStepsLater every run.old run.new) }
+    ensures writer { LeavesUnflushed K.Sink result writer.old writer.new }
 {
     let line = next_line(executor, alloc, run, every, lines);
     write_line(line, writer)
@@ -150,9 +150,9 @@ fn write_windows<A: Executor, K: Sink>(
     requires room { (k : ℕ) → k < count → windows.now.from + (k + 1) * windows.now.every < 2 ^ 32 }
     ensures wrote { (roads : ℕ → Cells) (tallies : ℕ → StepTally)
         → IsCourse run.old.seed run.old.sheet roads tallies
-        → AddsBy result (bytes_of K.Sink writer.old) (bytes_of K.Sink writer.new)
+        → AddsByResult result (bytes_of K.Sink writer.old) (bytes_of K.Sink writer.new)
         (flat_map window_text (first_windows roads tallies windows.now.every windows.now.from count)) }
-    ensures writer { WritesOn K.Sink result writer.old writer.new }
+    ensures writer { LeavesUnflushed K.Sink result writer.old writer.new }
 {
     if count == 0 {
         return Ok(());
@@ -177,9 +177,9 @@ fn write_series<A: Executor, K: Sink>(
 ) -> Result<(), Failure>
     requires ready { A.is_ready executor.now }
     requires works { K.failed writer.old ≡ false }
-    ensures wrote { WroteBy (SeriesOutput windows.now.every windows.now.from job) result
+    ensures wrote { WroteByResult (SeriesOutput windows.now.every windows.now.from job) result
         (bytes_of K.Sink writer.old) (bytes_of K.Sink writer.new) }
-    ensures writer { WritesOn K.Sink result writer.old writer.new }
+    ensures writer { LeavesUnflushed K.Sink result writer.old writer.new }
 {
     let count = windows.count(job.steps);
     write_line(series_heading(alloc), writer)?;

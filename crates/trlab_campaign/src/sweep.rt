@@ -8,8 +8,8 @@ mod work;
 ghost use Rattle.std.specs.Prelude.{◌≡◌, ◌<◌, ◌≤◌, true, false, IfOk};
 ghost use Rattle.trlab_campaign.specs.declared.end.End.TheVariants.{Memory};
 ghost use Rattle.trlab_bounds.specs.declared.runs.TheConstants.{MAX_RUNNERS, MAX_WORKERS};
-ghost use Rattle.trlab_campaign.specs.Ending.{EndsSo, EngineEnds, LeavesWriter};
-ghost use Rattle.trlab_campaign.specs.SweepOutput.{IsSweepOutput, SweepOutput, TellsTable};
+ghost use Rattle.trlab_campaign.specs.Ending.{WroteAtEnd, EngineEnds, LeavesWriter};
+ghost use Rattle.trlab_campaign.specs.SweepOutput.{IsSweepOutput, SweepOutput, ReturnsTable};
 ghost use Rattle.trlab_campaign.specs.Writers.{AddsNone, bytes_of};
 
 use crate::device::{Sink, Source};
@@ -63,7 +63,7 @@ fn table<R: Threads + Wait + Sync, O: ProgressObserver + Sync>(
 fn write_table<K: Sink>(sweep: &Sweep, table: Result<Vec<u8>, AllocError>, writer: &mut K) -> End
     requires made { IfOk table (λ table. SweepOutput sweep.now false table.items) }
     requires works { K.failed writer.old ≡ false }
-    ensures ends { LeavesWriter K.Sink (EndsSo (SweepOutput sweep.now)) result writer.old writer.new }
+    ensures ends { LeavesWriter K.Sink (WroteAtEnd (SweepOutput sweep.now)) result writer.old writer.new }
     ensures kept { result ≡ Memory → AddsNone (bytes_of K.Sink writer.old) (bytes_of K.Sink writer.new) }
 {
     match table {
@@ -81,7 +81,7 @@ struct SweepEngine<T> {
 }
 
 impl<T: Fn(Global, &Sweep) -> Result<Vec<u8>, AllocError> + Drop> Engine for SweepEngine<T> {
-    ghost is_ready = { λ engine. TellsTable (T.pre engine.table) (T.post engine.table) };
+    ghost is_ready = { λ engine. ReturnsTable (T.pre engine.table) (T.post engine.table) };
 
     ghost outputs = { λ _ text. IsSweepOutput text };
 

@@ -13,7 +13,7 @@ use Rattle.trlab_code.specs.declared.instruction.Instr.TheVariants.{Num, Get, Si
 use Rattle.trlab_code.specs.Program.{Program, IsInRange, version_of}
 use Rattle.trlab_code.specs.Machine.{register_number, input_number}
 use Rattle.trlab_code.specs.Encoding.{kind_byte, row, row_bytes, instr_bytes, header, encoding}
-use Rattle.trlab_code.specs.Laws.{AreBytes, HasWord, IsRepresentable}
+use Rattle.trlab_code.specs.Laws.{AreBytes, FitsIn32Bits, IsRepresentable}
 
 -- the same, so that the list is told by the type
 record Small (bytes : List ℕ) : Type 0 where
@@ -49,7 +49,7 @@ row_small opcode a b c n f g h i small =
     more opcode f (more a g (more b h (more c i
     (more (n % 256) (omega arith) (more (n / 256 % 256) (omega arith) (more (n / 256 ^ 2 % 256) (omega arith) (more (n / 256 ^ 3) (omega arith) none)))))))
 
-instr_bytes_small : (i : Instr) → IsInRange i → HasWord i → Small (instr_bytes i)
+instr_bytes_small : (i : Instr) → IsInRange i → FitsIn32Bits i → Small (instr_bytes i)
 instr_bytes_small (Num d n) fits word = row_small _ _ _ _ _ (omega arith) (register_small d) (omega arith) (omega arith) word
 instr_bytes_small (Get d k) fits word = row_small _ _ _ _ _ (omega arith) (register_small d) (input_small k) (omega arith) word
 instr_bytes_small (Side d) fits word = row_small _ _ _ _ _ (omega arith) (register_small d) (omega arith) (omega arith) word
@@ -73,12 +73,12 @@ instr_bytes_small (Go a) fits word = row_small _ _ _ _ _ (omega arith) (register
 instr_bytes_small Cross fits word = row_small _ _ _ _ _ (omega arith) (omega arith) (omega arith) (omega arith) word
 instr_bytes_small Stay fits word = row_small _ _ _ _ _ (omega arith) (omega arith) (omega arith) (omega arith) word
 
-rows_small : (instrs : List Instr) → All IsInRange instrs → All HasWord instrs → AreBytes (flat_map instr_bytes instrs)
+rows_small : (instrs : List Instr) → All IsInRange instrs → All FitsIn32Bits instrs → AreBytes (flat_map instr_bytes instrs)
 rows_small [] fit words = none.all
 rows_small (i ∷ instrs) fit words =
     All-append (λ b. b < 2 ^ 8) (instr_bytes i) (flat_map instr_bytes instrs)
-    (instr_bytes_small i (All-head IsInRange i instrs fit) (All-head HasWord i instrs words)).all
-    (rows_small instrs (All-tail IsInRange i instrs fit) (All-tail HasWord i instrs words))
+    (instr_bytes_small i (All-head IsInRange i instrs fit) (All-head FitsIn32Bits i instrs words)).all
+    (rows_small instrs (All-tail IsInRange i instrs fit) (All-tail FitsIn32Bits i instrs words))
 
 kind_byte_small : (kind : Kind) → kind_byte kind < 2 ^ 8
 kind_byte_small Motion = omega arith

@@ -18,10 +18,10 @@ use Rattle.trlab_bounds.specs.declared.programs.TheConstants.{MAGIC}
 use Rattle.trlab_bounds.specs.declared.programs.TheConstants.{CERTAIN}
 use Rattle.trlab_code.specs.declared.fault.CodeFault.{CodeFault}
 use Rattle.trlab_code.specs.declared.fault.CodeFault.TheVariants as fault
-use Rattle.trlab_code.specs.Program.{Program, IsInRange, IsProgram, IsOfVersion, reads_headspeed, version_of}
+use Rattle.trlab_code.specs.Program.{Program, IsInRange, IsProgram, VersionAllows, reads_headspeed, version_of}
 use Rattle.trlab_code.specs.Machine.{register_number, input_number}
 use Rattle.trlab_code.specs.Encoding.{kind_byte, header, instr_bytes, encoding}
-use Rattle.trlab_code.specs.Faults.{HasRoom, HasVersion, SpellsInstr, HasGoodHeader, IsGoodBefore, NeedsVersion, IsFirstFault, stated_count, stated_version, bytes_at}
+use Rattle.trlab_code.specs.Faults.{HasRoom, HasVersion, EncodesSomeInstr, HasValidHeader, IsValidBefore, NeedsVersion, IsFirstFault, stated_count, stated_version, bytes_at}
 use Rattle.trlab_code.specs.Laws.{Says}
 use Rattle.trlab_code.proofs.Opcodes.{opcode_or_not}
 use Rattle.trlab_code.proofs.Rows.{rows_more, good_more}
@@ -126,14 +126,14 @@ in_range_or_not (Go a) = inl tt
 in_range_or_not Cross = inl tt
 in_range_or_not Stay = inl tt
 
-of_version_or_not : (version : ℕ) (i : Instr) → IsOfVersion version i ⊎ (¬ (IsOfVersion version i))
+of_version_or_not : (version : ℕ) (i : Instr) → VersionAllows version i ⊎ (¬ (VersionAllows version i))
 of_version_or_not version i =
     elim (eqb_tells version 2) [
       | inl is ↦ inl (λ reads. is.1)
       | inr other ↦ elim (cases_Bool (reads_headspeed i)) [ inl reads ↦ inr (λ h. other.1 (h reads)) | inr plain ↦ inl (λ reads. absurd cc) ]
     ]
 
-spells_or_not : (version : ℕ) (row : List ℕ) → SpellsInstr version row ⊎ (¬ (SpellsInstr version row))
+spells_or_not : (version : ℕ) (row : List ℕ) → EncodesSomeInstr version row ⊎ (¬ (EncodesSomeInstr version row))
 spells_or_not version row =
     let i = candidate row in
     let same : (j : Instr) → row ≡ instr_bytes j → i ≡ j = λ j e. ap candidate e ∙ only_candidate j in
@@ -153,7 +153,7 @@ abbrev Faulty : List ℕ → Type 0
 Faulty bytes = (f : CodeFault) × (IsFirstFault bytes f × (f ≢ fault.Memory))
 
 -- the rows before pc spell instructions, or one of them is the first fault
-rows_or_fault : (bytes : List ℕ) → HasGoodHeader bytes → HasRoom bytes → (pc : ℕ) → pc ≤ stated_count bytes → IsGoodBefore bytes pc ⊎ Faulty bytes
+rows_or_fault : (bytes : List ℕ) → HasValidHeader bytes → HasRoom bytes → (pc : ℕ) → pc ≤ stated_count bytes → IsValidBefore bytes pc ⊎ Faulty bytes
 rows_or_fault bytes head room zero h = inl (record { header = head; room = room; rows = λ k below. absurd (omega arith) })
 rows_or_fault bytes head room (suc pc) h =
     elim (rows_or_fault bytes head room pc (omega arith)) [
@@ -174,7 +174,7 @@ record Rows (bytes : List ℕ) (pc : ℕ) : Type 0 where
   fit : All IsInRange instrs
   spelt : flat_map instr_bytes instrs ≡ take (8 * pc) (drop 8 bytes)
 
-rows_of : (bytes : List ℕ) (pc : ℕ) → IsGoodBefore bytes pc → Rows bytes pc
+rows_of : (bytes : List ℕ) (pc : ℕ) → IsValidBefore bytes pc → Rows bytes pc
 rows_of bytes zero good = record { instrs = []; many = refl; fit = λ k d h. absurd (omega arith); spelt = refl }
 rows_of bytes (suc pc) good =
     let before = rows_of bytes pc (record { header = good.header; room = good.room; rows = λ k h. good.rows k (omega arith) }) in
@@ -188,7 +188,7 @@ rows_of bytes (suc pc) good =
     }
 
 -- the first eight bytes are a header
-header_of : (bytes : List ℕ) (kind : Kind) → All (λ byte. byte < 2 ^ 8) bytes → HasGoodHeader bytes → slice_index bytes 5 ≡ kind_byte kind → take 8 bytes ≡ header (stated_version bytes) kind (stated_count bytes)
+header_of : (bytes : List ℕ) (kind : Kind) → All (λ byte. byte < 2 ^ 8) bytes → HasValidHeader bytes → slice_index bytes 5 ≡ kind_byte kind → take 8 bytes ≡ header (stated_version bytes) kind (stated_count bytes)
 header_of (t ∷ r ∷ l ∷ b ∷ v ∷ k ∷ low ∷ high ∷ rest) kind small good is =
     let byte : low < 256 = small 6 0 (omega arith) in
     let lower : low ≡ (low + 256 * high) % 256 = omega arith in
@@ -218,7 +218,7 @@ version_or_not bytes =
       ]
     ]
 
-header_or_fault : (bytes : List ℕ) → HasGoodHeader bytes ⊎ Faulty bytes
+header_or_fault : (bytes : List ℕ) → HasValidHeader bytes ⊎ Faulty bytes
 header_or_fault bytes =
     elim (cases_lt (length bytes) 8) [
       | inl short ↦ inr (fault.Short, (inl (λ h. absurd (omega arith)), λ e. cc))
@@ -241,7 +241,7 @@ header_or_fault bytes =
     ]
 
 -- whether the instructions need the version that is stated
-needs_or_not : (bytes : List ℕ) → IsGoodBefore bytes (stated_count bytes) → NeedsVersion bytes ⊎ (¬ (NeedsVersion bytes))
+needs_or_not : (bytes : List ℕ) → IsValidBefore bytes (stated_count bytes) → NeedsVersion bytes ⊎ (¬ (NeedsVersion bytes))
 needs_or_not bytes good =
     let rows = rows_of bytes (stated_count bytes) good in
     let program : Program = record { kind = good.header.kind.0; instrs = rows.instrs } in
@@ -251,7 +251,7 @@ needs_or_not bytes good =
     ]
 
 -- the program that bytes with a good header and good rows of a version that they need spell
-spelt : (bytes : List ℕ) → All (λ byte. byte < 2 ^ 8) bytes → IsGoodBefore bytes (stated_count bytes) → NeedsVersion bytes → length bytes ≤ 8 + 8 * stated_count bytes → (program : Program) × ((bytes ≡ encoding program) × IsProgram program)
+spelt : (bytes : List ℕ) → All (λ byte. byte < 2 ^ 8) bytes → IsValidBefore bytes (stated_count bytes) → NeedsVersion bytes → length bytes ≤ 8 + 8 * stated_count bytes → (program : Program) × ((bytes ≡ encoding program) × IsProgram program)
 spelt bytes small good needs short =
     let kind = good.header.kind in
     let rows = rows_of bytes (stated_count bytes) good in

@@ -8,7 +8,7 @@ use Rattle.trlab_code.specs.declared.instruction.Instr.{Instr}
 use Rattle.trlab_code.specs.declared.instruction.Instr.TheVariants.{Stay}
 use Rattle.trlab_code.specs.Program.{Program, reads_headspeed, version_of}
 use Rattle.trlab_code.specs.Encoding.{instr_bytes}
-use Rattle.trlab_code.specs.Faults.{IsGoodBefore, HasHeadspeed, NeedsVersion, stated_count, stated_version, bytes_at}
+use Rattle.trlab_code.specs.Faults.{IsValidBefore, HasHeadspeed, NeedsVersion, stated_count, stated_version, bytes_at}
 use Rattle.trlab_code.proofs.Injective.{same_instr}
 use Rattle.trlab_code.proofs.EncodedCode.{row_is}
 
@@ -38,13 +38,13 @@ module _ (bytes : List ℕ) (program : Program) (many : length program.instrs �
       (some.0, some.1, omega (arith, many, some.2), row_at bytes program.instrs (stated_count bytes) many rows some.0 some.1 some.2 ∙ ap instr_bytes some.3, some.4)
 
   -- good rows have an instruction that came with the second version only where the second is stated
-  second : IsGoodBefore bytes (stated_count bytes) → HasHeadspeed bytes → stated_version bytes ≡ 2
+  second : IsValidBefore bytes (stated_count bytes) → HasHeadspeed bytes → stated_version bytes ≡ 2
   second good h =
       let row = good.rows h.0 h.2 in
       let same : row.0 ≡ h.1 = same_instr (sym row.1.0 ∙ h.3) in
       row.1.2 (ap reads_headspeed same ∙ h.4)
 
-  version_by : IsGoodBefore bytes (stated_count bytes) → NeedsVersion bytes → (b : Bool) → list_any reads_headspeed program.instrs ≡ b → cond b 2 1 ≡ stated_version bytes
+  version_by : IsValidBefore bytes (stated_count bytes) → NeedsVersion bytes → (b : Bool) → list_any reads_headspeed program.instrs ≡ b → cond b 2 1 ≡ stated_version bytes
   version_by good needs true e = sym (second good (reads_row e))
   version_by good needs false e = elim good.header.version [
     | inl first ↦ sym first
@@ -52,10 +52,10 @@ module _ (bytes : List ℕ) (program : Program) (many : length program.instrs �
   ]
 
   -- the version that is needed is the one that is stated
-  pub version_needed : IsGoodBefore bytes (stated_count bytes) → NeedsVersion bytes → version_of program ≡ stated_version bytes
+  pub version_needed : IsValidBefore bytes (stated_count bytes) → NeedsVersion bytes → version_of program ≡ stated_version bytes
   version_needed good needs = version_by good needs (list_any reads_headspeed program.instrs) refl
 
-  pub needless : IsGoodBefore bytes (stated_count bytes) → version_of program ≢ stated_version bytes → ¬ (NeedsVersion bytes)
+  pub needless : IsValidBefore bytes (stated_count bytes) → version_of program ≢ stated_version bytes → ¬ (NeedsVersion bytes)
   needless good other needs = other (version_needed good needs)
 
   pub needs_version : version_of program ≡ stated_version bytes → NeedsVersion bytes

@@ -7,7 +7,7 @@ use Rattle.trlab_code.specs.declared.instruction.Instr.{Instr}
 use Rattle.trlab_code.specs.declared.instruction.Instr.TheVariants.{Num, Get, Side, Draw, Copy, Add, Sub, Mul, Div, Min, Max, Not, And, Or, Jump, JumpLess, JumpAtMost, JumpTrue, JumpFalse, Go, Cross, Stay}
 use Rattle.trlab_code.specs.declared.row.InstructionRow.{InstructionRow}
 use Rattle.trlab_bounds.specs.declared.programs.TheConstants.{MAGIC}
-use Rattle.trlab_code.specs.Program.{Program, IsInRange, IsOfVersion, version_of}
+use Rattle.trlab_code.specs.Program.{Program, IsInRange, VersionAllows, version_of}
 use Rattle.trlab_code.specs.Machine.{register_number, input_number}
 
 -- the byte of a program kind: 0 for a motion, 1 for a change
@@ -71,8 +71,8 @@ encoding program =
     header (version_of program) program.kind (length program.instrs) ++ flat_map instr_bytes program.instrs
 
 -- the bytes encode the instruction i, whose fields are in range and which this version may have
-abbrev pub Spells : ℕ → Instr → List ℕ → Type 0
-Spells version i bytes = (bytes ≡ instr_bytes i) × IsInRange i × IsOfVersion version i
+abbrev pub EncodesInstr : ℕ → Instr → List ℕ → Type 0
+EncodesInstr version i bytes = (bytes ≡ instr_bytes i) × IsInRange i × VersionAllows version i
 
 -- a byte is the opcode of some instruction
 abbrev pub IsOpcode : ℕ → Type 0

@@ -8,7 +8,7 @@ use Rattle.trlab_bounds.specs.declared.programs.TheConstants.{MAGIC, PLAIN_VERSI
 use Rattle.trlab_bounds.specs.declared.programs.TheConstants.{INSTR_BYTES}
 use Rattle.trlab_bounds.specs.declared.programs.TheConstants.{MAX_INSTRUCTIONS}
 use Rattle.trlab_code.specs.Program.{reads_headspeed}
-use Rattle.trlab_code.specs.Encoding.{kind_byte, instr_bytes, Spells, IsOpcode}
+use Rattle.trlab_code.specs.Encoding.{kind_byte, instr_bytes, EncodesInstr, IsOpcode}
 
 -- the version that a header states: byte 4
 abbrev pub stated_version : List ℕ → ℕ
@@ -51,11 +51,11 @@ abbrev pub HasOpcode : List ℕ → Type 0
 HasOpcode row = IsOpcode (slice_index row 0)
 
 -- the bytes of a row encode an instruction with fields in range that this version may have
-abbrev pub SpellsInstr : ℕ → List ℕ → Type 0
-SpellsInstr version row = (i : Instr) × Spells version i row
+abbrev pub EncodesSomeInstr : ℕ → List ℕ → Type 0
+EncodesSomeInstr version row = (i : Instr) × EncodesInstr version i row
 
 -- the bytes begin with a valid header: MAGIC, a version, a kind and a number of instructions
-pub record HasGoodHeader (bytes : List ℕ) : Type 0 where
+pub record HasValidHeader (bytes : List ℕ) : Type 0 where
   pub whole : HasHeader bytes
   pub magic : HasMagic bytes
   pub version : HasVersion bytes
@@ -63,14 +63,14 @@ pub record HasGoodHeader (bytes : List ℕ) : Type 0 where
   pub count : HasCount bytes
 
 -- the header is valid, the stated instructions have room, and those before pc are valid
-pub record IsGoodBefore (bytes : List ℕ) (pc : ℕ) : Type 0 where
-  pub header : HasGoodHeader bytes
+pub record IsValidBefore (bytes : List ℕ) (pc : ℕ) : Type 0 where
+  pub header : HasValidHeader bytes
   pub room : HasRoom bytes
-  pub rows : (k : ℕ) → k < pc → SpellsInstr (stated_version bytes) (bytes_at bytes k)
+  pub rows : (k : ℕ) → k < pc → EncodesSomeInstr (stated_version bytes) (bytes_at bytes k)
 
 -- the bytes are too short for a header, or have a valid header but are too short for the stated instructions
 abbrev pub EndsEarly : List ℕ → Type 0
-EndsEarly bytes = (¬ (HasHeader bytes)) ⊎ (HasGoodHeader bytes × ¬ (HasRoom bytes))
+EndsEarly bytes = (¬ (HasHeader bytes)) ⊎ (HasValidHeader bytes × ¬ (HasRoom bytes))
 
 -- the bytes are long enough for a header and begin with MAGIC, and `rest` holds
 abbrev pub PassesMagic : List ℕ → Type 0 → Type 0
@@ -82,8 +82,8 @@ PassesKind bytes rest = PassesMagic bytes (HasVersion bytes × HasKind bytes × 
 
 -- pc is below the stated number of instructions, the bytes before the instruction at pc are valid, and its
 -- own bytes satisfy `IsSo`
-abbrev pub ComesToInstr : List ℕ → ℕ → (List ℕ → Type 0) → Type 0
-ComesToInstr bytes pc IsSo = (pc < stated_count bytes) × IsGoodBefore bytes pc × IsSo (bytes_at bytes pc)
+abbrev pub ReachesInstr : List ℕ → ℕ → (List ℕ → Type 0) → Type 0
+ReachesInstr bytes pc IsSo = (pc < stated_count bytes) × IsValidBefore bytes pc × IsSo (bytes_at bytes pc)
 
 -- one of the stated instructions reads the headspeed
 abbrev pub HasHeadspeed : List ℕ → Type 0
@@ -95,21 +95,21 @@ abbrev pub NeedsVersion : List ℕ → Type 0
 NeedsVersion bytes = stated_version bytes ≡ HEADSPEED_VERSION → HasHeadspeed bytes
 
 -- there are bytes after the last stated instruction
-abbrev pub HasMore : List ℕ → Type 0
-HasMore bytes = HEADER_BYTES + INSTR_BYTES * stated_count bytes < length bytes
+abbrev pub HasExtraBytes : List ℕ → Type 0
+HasExtraBytes bytes = HEADER_BYTES + INSTR_BYTES * stated_count bytes < length bytes
 
 -- the header and all stated instructions are valid, and `rest` holds
 abbrev pub PassesInstrs : List ℕ → Type 0 → Type 0
-PassesInstrs bytes rest = IsGoodBefore bytes (stated_count bytes) × rest
+PassesInstrs bytes rest = IsValidBefore bytes (stated_count bytes) × rest
 
 -- the first fault after a valid header: an opcode or a field of the first invalid instruction, a needless
 -- version 2, or bytes after the last instruction; `Memory` is always possible, header faults never
 abbrev pub IsFaultAfterHeader : List ℕ → CodeFault → Type 0
-IsFaultAfterHeader bytes (fault.Opcode pc) = ComesToInstr bytes pc (λ row. ¬ (HasOpcode row))
+IsFaultAfterHeader bytes (fault.Opcode pc) = ReachesInstr bytes pc (λ row. ¬ (HasOpcode row))
 IsFaultAfterHeader bytes (fault.Field pc) =
-    ComesToInstr bytes pc (λ row. HasOpcode row × ¬ (SpellsInstr (stated_version bytes) row))
+    ReachesInstr bytes pc (λ row. HasOpcode row × ¬ (EncodesSomeInstr (stated_version bytes) row))
 IsFaultAfterHeader bytes fault.NeedlessVersion = PassesInstrs bytes (¬ (NeedsVersion bytes))
-IsFaultAfterHeader bytes fault.Trailing = PassesInstrs bytes (NeedsVersion bytes × HasMore bytes)
+IsFaultAfterHeader bytes fault.Trailing = PassesInstrs bytes (NeedsVersion bytes × HasExtraBytes bytes)
 IsFaultAfterHeader bytes fault.Memory = Unit {0}
 IsFaultAfterHeader bytes _ = ⊥
 

@@ -1,8 +1,8 @@
 //! Programs as bytes: the header, and a row of eight bytes for each instruction.
 
 ghost use Rattle.std.specs.Prelude.{◌≡◌, IfOk, ◌≤◌, length, take, IfErr, ◌≢◌, ◌*◌, ◌<◌, ◌⊎◌, ℕ, drop, All, MatchResult};
-ghost use Rattle.trlab_code.specs.Encoding.{encoding, kind_byte, header, instr_bytes, Spells};
-ghost use Rattle.trlab_code.specs.Faults.{HasGoodHeader, HasRoom, IsFirstFault, stated_count, stated_version, IsGoodBefore, bytes_at};
+ghost use Rattle.trlab_code.specs.Encoding.{encoding, kind_byte, header, instr_bytes, EncodesInstr};
+ghost use Rattle.trlab_code.specs.Faults.{HasValidHeader, HasRoom, IsFirstFault, stated_count, stated_version, IsValidBefore, bytes_at};
 ghost use Rattle.std.specs.List.{flat_map};
 ghost use Rattle.trlab_code.specs.Program.{Program, IsInRange, IsProgram};
 ghost use Rattle.trlab_code.specs.declared.fault.CodeFault.{CodeFault};
@@ -37,7 +37,7 @@ fn kind_byte(kind: Kind) -> u8
 impl Header {
     /// Reads the header, and checks that the bytes have room for all instructions that it states.
     fn read(bytes: &[u8]) -> Result<Header, CodeFault>
-        ensures good { IfOk result (λ h. HasGoodHeader bytes.now) }
+        ensures good { IfOk result (λ h. HasValidHeader bytes.now) }
         ensures room { IfOk result (λ h. HasRoom bytes.now) }
         ensures version { IfOk result (λ h. stated_version bytes.now ≡ h.version) }
         ensures count { IfOk result (λ h. stated_count bytes.now ≡ h.count) }
@@ -110,9 +110,9 @@ pub fn encode(alloc: Global, code: &Code) -> Result<Vec<u8>, AllocError>
 fn instr_at(bytes: &[u8], version: u8, pc: u32) -> Result<Instr, CodeFault>
     requires version { version ≡ stated_version bytes.now }
     requires inside { pc < stated_count bytes.now }
-    requires before { IsGoodBefore bytes.now pc }
+    requires before { IsValidBefore bytes.now pc }
     ensures { MatchResult result
-        (λ i. Spells (stated_version bytes.now) i (bytes_at bytes.now pc)) (IsFirstFault bytes.now) }
+        (λ i. EncodesInstr (stated_version bytes.now) i (bytes_at bytes.now pc)) (IsFirstFault bytes.now) }
 {
     let row = InstructionRow::read(bytes, HEADER_BYTES + INSTR_BYTES * pc as usize);
     match row::instruction_of(row, version) {
@@ -124,7 +124,7 @@ fn instr_at(bytes: &[u8], version: u8, pc: u32) -> Result<Instr, CodeFault>
 
 /// The instructions that follow a good header.
 fn instrs(alloc: Global, bytes: &[u8], header: Header) -> Result<Vec<Instr>, CodeFault>
-    requires header { HasGoodHeader bytes.now }
+    requires header { HasValidHeader bytes.now }
     requires room { HasRoom bytes.now }
     requires version { header.version ≡ stated_version bytes.now }
     requires count { header.count ≡ stated_count bytes.now }
@@ -133,7 +133,7 @@ fn instrs(alloc: Global, bytes: &[u8], header: Header) -> Result<Vec<Instr>, Cod
     ensures spelt { IfOk result (λ instrs.
         flat_map instr_bytes instrs.items
         ≡ take (INSTR_BYTES * stated_count bytes.now) (drop HEADER_BYTES bytes.now)) }
-    ensures rows { IfOk result (λ _. IsGoodBefore bytes.now (stated_count bytes.now)) }
+    ensures rows { IfOk result (λ _. IsValidBefore bytes.now (stated_count bytes.now)) }
     ensures fault { IfErr result (IsFirstFault bytes.now) }
 {
     let mut instrs = Vec::with_capacity(alloc, header.count as usize)?;

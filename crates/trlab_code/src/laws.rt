@@ -6,7 +6,7 @@ ghost use Rattle.std.specs.Prelude.{◌≡◌, ◌≢◌, ℕ, List};
 ghost use Rattle.trlab_code.specs.Program.{Program, IsProgram};
 ghost use Rattle.trlab_code.specs.Encoding.{encoding};
 ghost use Rattle.trlab_code.specs.Faults.{IsFirstFault};
-ghost use Rattle.trlab_code.specs.Laws.{BytesSayOneThing, BytesSaySomething, SpellingIsBytes, SpellingSaysTheProgram};
+ghost use Rattle.trlab_code.specs.Laws.{BytesHaveOneMeaning, BytesHaveMeaning, EncodingIsBytes, EncodingMeansProgram};
 ghost use Rattle.trlab_code.specs.declared.fault.CodeFault.{CodeFault};
 
 /// Two programs with the same encoding are equal.
@@ -31,18 +31,18 @@ pub fn one_fault()
 
 /// Any bytes have exactly one meaning: the program that they encode, or their first fault.
 pub fn bytes_say_one_thing()
-    ensures something { BytesSaySomething }
-    ensures one_thing { BytesSayOneThing }
+    ensures something { BytesHaveMeaning }
+    ensures one_thing { BytesHaveOneMeaning }
 {}
 
 /// The encoding of a valid program means this program and nothing else.
 #[tactic(auto, using(crate::proofs::Said::same_again))]
 pub fn spelling_says_the_program()
-    ensures { SpellingSaysTheProgram }
+    ensures { EncodingMeansProgram }
 {}
 
 /// The encoding of a program whose numbers and targets are below 2^32 consists of bytes.
 #[tactic(auto, using(crate::proofs::Bytes::spelling_bytes))]
 pub fn spelling_is_bytes()
-    ensures { SpellingIsBytes }
+    ensures { EncodingIsBytes }
 {}

@@ -2,7 +2,7 @@
 
 ghost use Rattle.std.specs.Prelude.{◌≡◌, ◌↔◌, IsTrue, MatchOption, IfSome};
 ghost use Rattle.std.specs.List.{list_any};
-ghost use Rattle.trlab_code.specs.Program.{Program, IsInRange, IsProgram, IsOfVersion, reads_headspeed, version_of};
+ghost use Rattle.trlab_code.specs.Program.{Program, IsInRange, IsProgram, VersionAllows, reads_headspeed, version_of};
 
 use crate::instruction::{Input, Instr};
 use std::marker::Model;
@@ -70,7 +70,7 @@ fn some_reads_headspeed(instrs: &[Instr]) -> bool
 
 /// May an encoding of this version contain the instruction?
 pub(crate) fn is_of_version(instr: Instr, version: u8) -> bool
-    ensures { IsTrue result ↔ IsOfVersion version instr }
+    ensures { IsTrue result ↔ VersionAllows version instr }
 {
     version == HEADSPEED_VERSION || !reads_headspeed(instr)
 }

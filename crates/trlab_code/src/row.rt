@@ -2,7 +2,7 @@
 
 ghost use Rattle.std.specs.Prelude.{◌≡◌, ◌+◌, ◌≤◌, ◌↔◌, length, take, drop, IsTrue, IsNone, IfSome, ℕ};
 ghost use Rattle.trlab_code.specs.Machine.{register_number, input_number};
-ghost use Rattle.trlab_code.specs.Program.{IsInRange, IsOfVersion};
+ghost use Rattle.trlab_code.specs.Program.{IsInRange, VersionAllows};
 ghost use Rattle.trlab_code.specs.Encoding.{row, row_of, row_bytes, IsOpcode};
 
 use crate::instruction::{Input, Instr, Register};
@@ -238,9 +238,9 @@ fn spells(row: InstructionRow, instr: Instr) -> bool
 /// does not have the instruction.
 pub(crate) fn instruction_of(row: InstructionRow, version: u8) -> Option<Instr>
     ensures none { IsNone result → (instr : Instr) → row ≡ row_of instr → IsInRange instr
-        → ¬ (IsOfVersion version instr) }
+        → ¬ (VersionAllows version instr) }
     ensures some { IfSome result (λ instr.
-        (row ≡ row_of instr) × IsInRange instr × IsOfVersion version instr) }
+        (row ≡ row_of instr) × IsInRange instr × VersionAllows version instr) }
 {
     let instr = candidate(row);
     if spells(row, instr) && is_in_range(instr) && is_of_version(instr, version) {

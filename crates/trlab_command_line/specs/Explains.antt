@@ -35,19 +35,19 @@ form_by true = Json
 
 -- the request of `explain` with a first argument, or its kind of error, by the command and the topic that the
 -- first argument names, by the number that is the second, and by whether `--json` is given
-abbrev pub asked_by : Option Subject → Option Topic → Option ℕ → Bool → Result Explaining ErrorKind
-asked_by (Some subject) topic None json = Ok (Text (Some subject) (form_by json))
-asked_by (Some subject) topic (Some number) json = Err UnknownArgument
-asked_by None (Some topic) number true = Err ArgumentConflict
-asked_by None (Some topic) (Some number) false = Ok (Number topic number)
-asked_by None (Some topic) None false = Err MissingRequiredArgument
-asked_by None None number json = Err InvalidValue
+abbrev pub request_by_name : Option Subject → Option Topic → Option ℕ → Bool → Result Explaining ErrorKind
+request_by_name (Some subject) topic None json = Ok (Text (Some subject) (form_by json))
+request_by_name (Some subject) topic (Some number) json = Err UnknownArgument
+request_by_name None (Some topic) number true = Err ArgumentConflict
+request_by_name None (Some topic) (Some number) false = Ok (Number topic number)
+request_by_name None (Some topic) None false = Err MissingRequiredArgument
+request_by_name None None number json = Err InvalidValue
 
 -- the request of `explain`, or its kind of error, by its two optional arguments and by whether `--json` is
 -- given
 abbrev pub explained : Option Word → Option ℕ → Bool → Result Explaining ErrorKind
 explained None number json = Ok (Text None (form_by json))
-explained (Some name) number json = asked_by (subject_of_command name) (topic_named name) number json
+explained (Some name) number json = request_by_name (subject_of_command name) (topic_named name) number json
 
 -- the request of `explain`, or its kind of error, by its matches
 abbrev pub explained_in : List Row → Result Explaining ErrorKind

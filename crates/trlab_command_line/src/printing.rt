@@ -3,8 +3,8 @@
 
 ghost use Rattle.std.specs.Prelude.{◌≡◌, ◌↔◌, ◌⊎◌, true, false};
 ghost use Rattle.clap.specs.Words.{kind_of};
-ghost use Rattle.trlab_campaign.specs.Ending.{EndsSo, LeavesWriter};
-ghost use Rattle.trlab_campaign.specs.Flushes.{HandedOnce};
+ghost use Rattle.trlab_campaign.specs.Ending.{WroteAtEnd, LeavesWriter};
+ghost use Rattle.trlab_campaign.specs.Flushes.{FlushedOnce};
 ghost use Rattle.trlab_campaign.specs.Writers.{AddsNone, bytes_of};
 ghost use Rattle.trlab_campaign.specs.declared.end.End.TheVariants.{Memory};
 ghost use Rattle.trlab_command_line.specs.Outputs.{IsHelp};
@@ -40,7 +40,7 @@ pub fn status_of_error(error: &Error) -> u8
 /// Writes the requested help or version, and flushes the writer.
 fn write_help<K: Sink>(alloc: Global, error: &Error, writer: &mut K) -> End
     requires { K.failed writer.old ≡ false }
-    ensures ends { LeavesWriter K.Sink (EndsSo IsHelp) result writer.old writer.new }
+    ensures ends { LeavesWriter K.Sink (WroteAtEnd IsHelp) result writer.old writer.new }
     ensures kept { result ≡ Memory → AddsNone (bytes_of K.Sink writer.old) (bytes_of K.Sink writer.new) }
 {
     match error.to_string(alloc) {
@@ -93,7 +93,7 @@ pub fn print_help_or_error<R: AllocGlobal + Eprint, K: Sink>(
     ensures device { (result ≡ 4) ↔ (K.failed writer.new ≡ true) }
     ensures kept { result ≡ 3 → AddsNone (bytes_of K.Sink writer.old) (bytes_of K.Sink writer.new) }
     ensures handed { asks_for_help (kind_of error.now) ≡ true → result ≡ 0
-        → HandedOnce (K.handed_on writer.new) (K.flushes writer.old) (K.flushes writer.new) }
+        → FlushedOnce (K.handed_on writer.new) (K.flushes writer.old) (K.flushes writer.new) }
     ensures silent { asks_for_help (kind_of error.now) ≡ false → writer.new ≡ writer.old }
 {
     match error.kind() {

@@ -9,7 +9,7 @@ use Rattle.std.proofs.lemmas.Str.Parse.{digit_from_value}
 use Rattle.trlab_diagram.specs.declared.point.Point.{Point}
 use Rattle.trlab_diagram.specs.Flow.{flow_of}
 use Rattle.trlab_diagram.specs.Table.{heading, line_text, point_line}
-use Rattle.trlab_diagram.specs.Laws.{HasCounts, TableTellsPoints}
+use Rattle.trlab_diagram.specs.Laws.{CountsFit64Bits, TableTellsPoints}
 
 -- digits end where a comma stands
 cut : (xs us ys vs : List ℕ) → AllDigits 10 xs → AllDigits 10 us → xs ++ (44 ∷ ys) ≡ us ++ (44 ∷ vs) → (xs ≡ us) × (ys ≡ vs)
@@ -50,7 +50,7 @@ same_point p q a b c d e f =
     same
 
 -- a line in front of others tells its point
-line : (p q : Point) (ps qs : List ℕ) → HasCounts p → HasCounts q → line_onto p ps ≡ line_onto q qs → (p ≡ q) × (ps ≡ qs)
+line : (p q : Point) (ps qs : List ℕ) → CountsFit64Bits p → CountsFit64Bits q → line_onto p ps ≡ line_onto q qs → (p ≡ q) × (ps ≡ qs)
 line p q ps qs hp hq e =
     let cars = number p.cars q.cars _ _ hp.cars hq.cars e in
     let cells = number p.cells q.cells _ _ hp.cells hq.cells cars.1 in
@@ -71,14 +71,14 @@ not_nothing : (xs ys : List ℕ) → xs ++ (44 ∷ ys) ≡ [] → ⊥
 not_nothing [] ys e = cc e
 not_nothing (x ∷ xs) ys e = cc e
 
-same_rows : (points others : List Point) → All HasCounts points → All HasCounts others → rows points ≡ rows others → points ≡ others
+same_rows : (points others : List Point) → All CountsFit64Bits points → All CountsFit64Bits others → rows points ≡ rows others → points ≡ others
 same_rows [] [] ps qs e = refl
 same_rows [] (q ∷ others) ps qs e = absurd (not_nothing (decimal q.cars) _ (sym (pieces q (rows others)) ∙ sym e))
 same_rows (p ∷ points) [] ps qs e = absurd (not_nothing (decimal p.cars) _ (sym (pieces p (rows points)) ∙ e))
 same_rows (p ∷ points) (q ∷ others) ps qs e =
-    let first = line p q (rows points) (rows others) (All-head HasCounts p points ps) (All-head HasCounts q others qs)
+    let first = line p q (rows points) (rows others) (All-head CountsFit64Bits p points ps) (All-head CountsFit64Bits q others qs)
     (sym (pieces p (rows points)) ∙ (e ∙ pieces q (rows others))) in
-    let rest = same_rows points others (All-tail HasCounts p points ps) (All-tail HasCounts q others qs) first.1 in
+    let rest = same_rows points others (All-tail CountsFit64Bits p points ps) (All-tail CountsFit64Bits q others qs) first.1 in
     cc (first.0, rest)
 
 pub table_tells_points : TableTellsPoints

@@ -4,8 +4,8 @@ use Rattle.csv.specs.declared.writer.Writer.{Writer}
 use Rattle.csv.specs.Writing.{default_writer, writer_setup, writer_pending, fields_written, has_written}
 
 -- the writer has the default setup, is at the start of a line, and does not hold any bytes back
-abbrev pub IsAtLine : {W : Type 0} → Writer W → Type 0
-IsAtLine writer =
+abbrev pub IsAtLineStart : {W : Type 0} → Writer W → Type 0
+IsAtLineStart writer =
     (writer_setup writer ≡ default_writer)
     × (fields_written writer ≡ 0)
     × (has_written writer ≡ false)

@@ -6,7 +6,7 @@ ghost use Rattle.csv.specs.Writing.{default_writer, row_text};
 ghost use Rattle.trlab_diagram.specs.Flow.{IsMeasured};
 ghost use Rattle.trlab_diagram.specs.Series.{series_heading, window_line, window_text};
 ghost use Rattle.trlab_diagram.specs.Table.{line_text};
-ghost use Rattle.trlab_diagram.specs.Writers.{IsAtLine};
+ghost use Rattle.trlab_diagram.specs.Writers.{IsAtLineStart};
 
 use crate::point::{Window, flow};
 use crate::table::DiagramFault;
@@ -99,9 +99,9 @@ fn written_line(
     writer: &mut Writer<Vec<u8>>,
     row: &ByteRecord,
 ) -> Result<Vec<u8>, DiagramFault>
-    requires { IsAtLine writer.old }
+    requires { IsAtLineStart writer.old }
     ensures text { IfOk result (λ text. text.items ≡ row_text default_writer (fields_of row.now)) }
-    ensures ready { OnOk result (IsAtLine writer.new) }
+    ensures ready { OnOk result (IsAtLineStart writer.new) }
 {
     let before = writer.get_ref().len();
     writer.write_byte_record(row)?;
@@ -144,7 +144,7 @@ impl Model for SeriesLines {
 
     ghost view = { λ _. tt };
 
-    ghost invariant = { λ lines. IsAtLine lines.writer };
+    ghost invariant = { λ lines. IsAtLineStart lines.writer };
 }
 
 impl SeriesLines {

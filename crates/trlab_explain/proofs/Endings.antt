@@ -12,13 +12,13 @@ use Rattle.trlab_jobs.specs.Sweep.{Sweep as SweepSaid}
 use Rattle.trlab_texts.specs.declared.fault.Cause.TheVariants.{TooBig}
 use Rattle.trlab_campaign.specs.declared.end.End.{End}
 use Rattle.trlab_campaign.specs.declared.end.End.TheVariants.{Memory}
-use Rattle.trlab_campaign.specs.Ending.{EndsSo, OutputEnds}
-use Rattle.trlab_campaign.specs.Device.{IsReadOf}
+use Rattle.trlab_campaign.specs.Ending.{WroteAtEnd, WroteOutputAtEnd}
+use Rattle.trlab_campaign.specs.Device.{IsInputOrTooLong}
 use Rattle.trlab_campaign.specs.Refusal.{Outputs, fault_line}
 use Rattle.trlab_campaign.specs.Writers.{SinkBytes, AddsNone}
 use Rattle.trlab_campaign.proofs.Endings.{output_ends, kept_at_memory}
 use Rattle.trlab_jobs.specs.Subjects.{subject_named}
-use Rattle.trlab_explain.specs.Meant.{IsMeant, MayBe}
+use Rattle.trlab_explain.specs.Meant.{IsMeant, MayBeMeantAs}
 use Rattle.trlab_jobs.specs.declared.subject.Subject.{Subject}
 use Rattle.trlab_jobs.specs.declared.subject.Subject.TheVariants.{Job, Sweep, Check}
 use Rattle.trlab_explain.specs.Explanations.{Explains, IsReadAs, IsHeadAs, IsCheckHead, IsTextHead}
@@ -27,13 +27,13 @@ use Rattle.trlab_explain.specs.declared.explain.Form.{Form}
 -- the end of a written output
 pub output_ends_so : {A E : Type 0} (told : Result (Bool × A) E) (bytes : A → List ℕ) (IsWhole : Outputs) (e : End) (old new : SinkBytes)
     → IfOk told (λ t. IsWhole t.0 (bytes t.1))
-    → MatchResult told (λ t. OutputEnds t.0 (bytes t.1) e old new) (λ _. (e ≡ Memory) × AddsNone old new)
-    → EndsSo IsWhole e old new
+    → MatchResult told (λ t. WroteOutputAtEnd t.0 (bytes t.1) e old new) (λ _. (e ≡ Memory) × AddsNone old new)
+    → WroteAtEnd IsWhole e old new
 output_ends_so (Ok t) bytes IsWhole e old new whole ends = output_ends IsWhole t.0 (bytes t.1) e old new whole ends
 output_ends_so (Err x) bytes IsWhole e old new whole ends = rw ends.0 (inl ends.1)
 
 -- each text is meant to be something
-meant_by : (word : List ℕ) (named : Option Subject) → (subject : Subject) × MatchOption named (MayBe word subject) (λ s. subject ≡ s)
+meant_by : (word : List ℕ) (named : Option Subject) → (subject : Subject) × MatchOption named (MayBeMeantAs word subject) (λ s. subject ≡ s)
 meant_by word None = (Check, tt)
 meant_by word (Some named) = (named, refl)
 
@@ -72,7 +72,7 @@ big_head Check text refused answer quote big told =
     subst (λ (says : Result CheckSaid Fault). IsCheckHead text says refused answer quote) (rw (lt-ltb TEXT_LIMIT (length text) big) at told.1) told.2
 
 -- an explanation of what was read of an input is one of the input
-read_explains : (form : Form) (wanted : Option Subject) (text input : List ℕ) (refused : Bool) (out : List ℕ) → IsReadOf text input
+read_explains : (form : Form) (wanted : Option Subject) (text input : List ℕ) (refused : Bool) (out : List ℕ) → IsInputOrTooLong text input
     → Explains form wanted text refused out → Explains form wanted input refused out
 read_explains form wanted text input refused out (inl same) explains = subst (λ (t : List ℕ). Explains form wanted t refused out) same explains
 read_explains form wanted text input refused out (inr long) explains =
@@ -80,13 +80,13 @@ read_explains form wanted text input refused out (inr long) explains =
     let read = some_read wanted input in
     (explains.0, explains.1, (read.0, read.1, rw (big.0, big.1, big.2) (big_as read.0 input long.1)), explains.3, explains.4)
 
-pub reads : {A E : Type 0} (told : Result (Bool × A) E) (bytes : A → List ℕ) (form : Form) (wanted : Option Subject) (text input : List ℕ) → IsReadOf text input
+pub reads : {A E : Type 0} (told : Result (Bool × A) E) (bytes : A → List ℕ) (form : Form) (wanted : Option Subject) (text input : List ℕ) → IsInputOrTooLong text input
     → IfOk told (λ t. Explains form wanted text t.0 (bytes t.1)) → IfOk told (λ t. Explains form wanted input t.0 (bytes t.1))
 reads (Ok t) bytes form wanted text input read explains = read_explains form wanted text input t.0 (bytes t.1) read explains
 reads (Err x) bytes form wanted text input read explains = tt
 
 -- if an allocation fails, nothing was written
 pub nothing_written : {A E : Type 0} (told : Result (Bool × A) E) (bytes : A → List ℕ) (e : End) (old new : SinkBytes)
-    → MatchResult told (λ t. OutputEnds t.0 (bytes t.1) e old new) (λ _. (e ≡ Memory) × AddsNone old new) → e ≡ Memory → AddsNone old new
+    → MatchResult told (λ t. WroteOutputAtEnd t.0 (bytes t.1) e old new) (λ _. (e ≡ Memory) × AddsNone old new) → e ≡ Memory → AddsNone old new
 nothing_written (Ok t) bytes e old new ends is = kept_at_memory t.0 (bytes t.1) e old new ends is
 nothing_written (Err x) bytes e old new ends is = ends.1

@@ -20,19 +20,19 @@ fault_of (Err fault) = Some (fault.line, fault.cause)
 
 -- `fault` is the line and the cause of the first fault of a text that is read as this kind, or none if it has
 -- no fault
-abbrev pub HasFirst : Subject → List ℕ → Option (ℕ × Cause) → Type 0
-HasFirst Job text fault = (says : Result JobSaid Fault) × JobText text says × (fault ≡ fault_of says)
-HasFirst Sweep text fault = (says : Result SweepSaid Fault) × SweepText text says × (fault ≡ fault_of says)
-HasFirst Check text fault = (says : Result CheckSaid Fault) × CheckText text says × (fault ≡ fault_of says)
+abbrev pub HasFirstFault : Subject → List ℕ → Option (ℕ × Cause) → Type 0
+HasFirstFault Job text fault = (says : Result JobSaid Fault) × JobText text says × (fault ≡ fault_of says)
+HasFirstFault Sweep text fault = (says : Result SweepSaid Fault) × SweepText text says × (fault ≡ fault_of says)
+HasFirstFault Check text fault = (says : Result CheckSaid Fault) × CheckText text says × (fault ≡ fault_of says)
 
 -- the changed text has no fault, or its first fault is after the line `number` and fewer lines follow it than
 -- follow that line in the other text
-abbrev pub IsAfter : List (List ℕ) → ℕ → List (List ℕ) → Option (ℕ × Cause) → Type 0
-IsAfter lines number changed None = Unit {0}
-IsAfter lines number changed (Some fault) =
+abbrev pub IsLaterOrNone : List (List ℕ) → ℕ → List (List ℕ) → Option (ℕ × Cause) → Type 0
+IsLaterOrNone lines number changed None = Unit {0}
+IsLaterOrNone lines number changed (Some fault) =
     (number < fault.0) × (length changed + number < length lines + fault.0)
 
 -- the changed text, read as this kind, gets further than `text`, whose first fault is at the line `number`
 abbrev pub GetsFurther : List ℕ → ℕ → Subject → List ℕ → Type 0
 GetsFurther text number subject changed = (fault : Option (ℕ × Cause))
-    × HasFirst subject changed fault × IsAfter (lines_of text) number (lines_of changed) fault
+    × HasFirstFault subject changed fault × IsLaterOrNone (lines_of text) number (lines_of changed) fault

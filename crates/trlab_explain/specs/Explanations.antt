@@ -69,10 +69,10 @@ IsHeadAs Check text refused answer quote =
     (says : Result CheckSaid Fault) × CheckText text says × IsCheckHead text says refused answer quote
 
 -- `fault` is the first fault of a text that is read as this kind of input, or a failed allocation
-abbrev pub IsRefusedText : Subject → List ℕ → TextFault → Type 0
-IsRefusedText Job text fault = Reports (JobText text) (Err fault)
-IsRefusedText Sweep text fault = Reports (SweepText text) (Err fault)
-IsRefusedText Check text fault = Reports (CheckText text) (Err fault)
+abbrev pub IsRefusedWith : Subject → List ℕ → TextFault → Type 0
+IsRefusedWith Job text fault = Reports (JobText text) (Err fault)
+IsRefusedWith Sweep text fault = Reports (SweepText text) (Err fault)
+IsRefusedWith Check text fault = Reports (CheckText text) (Err fault)
 
 -- `subject` is the kind of input that a text is read as: the wanted kind, or if none is wanted, one that it
 -- may be meant to be

@@ -1,14 +1,14 @@
 //! The engine of explanations.
 
 ghost use Rattle.std.specs.Prelude.{◌≡◌, ◌↔◌, ◌++◌, [], true, false, All, IfOk, MatchResult, OnOk, option_map};
-ghost use Rattle.trlab_campaign.specs.Ending.{EngineEnds, HandsOn, OutputEnds};
+ghost use Rattle.trlab_campaign.specs.Ending.{EngineEnds, FlushedAtEnd, WroteOutputAtEnd};
 ghost use Rattle.trlab_campaign.specs.Writers.{AddsNone, bytes_of};
 ghost use Rattle.trlab_campaign.specs.declared.end.End.TheVariants.{DeviceFault, Memory};
 ghost use Rattle.trlab_lines.specs.Plain.{IsPlain};
 ghost use Rattle.trlab_verify.specs.Faults.{IsFaultOf};
 ghost use Rattle.trlab_jobs.specs.Check.{Check as CheckSaid};
 ghost use Rattle.trlab_explain.specs.Quotes.{quote_line};
-ghost use Rattle.trlab_explain.specs.Explanations.{Explains, HasHead, IsBlankHead, IsReadAs, IsRefusedText, IsHeadAs, IsFaultHead, IsProgramHead};
+ghost use Rattle.trlab_explain.specs.Explanations.{Explains, HasHead, IsBlankHead, IsReadAs, IsRefusedWith, IsHeadAs, IsFaultHead, IsProgramHead};
 
 use crate::explanation::{Explanation, json_form, text_form};
 use crate::meant::subject_of;
@@ -88,7 +88,7 @@ fn explain_refusal(
     refusal: Refusal<'_>,
 ) -> Result<()>
     requires new { IsBlankHead explanation.old.refused explanation.old.answer explanation.old.quote }
-    requires refused { IsRefusedText subject text.now refusal }
+    requires refused { IsRefusedWith subject text.now refusal }
     ensures { OnOk result (IsHeadAs subject text.now
         explanation.new.refused explanation.new.answer explanation.new.quote) }
 {
@@ -278,9 +278,9 @@ fn explained(
 pub fn write_explanation<K: Sink>(output: Result<(bool, Vec<u8>)>, writer: &mut K) -> End
     requires { K.failed writer.old ≡ false }
     ensures answer { MatchResult output
-        (λ output. OutputEnds output.0 output.1.items result (bytes_of K.Sink writer.old) (bytes_of K.Sink writer.new))
+        (λ output. WroteOutputAtEnd output.0 output.1.items result (bytes_of K.Sink writer.old) (bytes_of K.Sink writer.new))
         (λ _. (result ≡ Memory) × AddsNone (bytes_of K.Sink writer.old) (bytes_of K.Sink writer.new)) }
-    ensures handed { HandsOn result
+    ensures handed { FlushedAtEnd result
         (K.handed_on writer.new) (K.flushes writer.old) (K.flushes writer.new) }
     ensures device { (result ≡ DeviceFault) ↔ (K.failed writer.new ≡ true) }
 {

@@ -2,7 +2,7 @@
 
 ghost use Rattle.std.specs.Prelude.{◌≡◌, ◌≢◌, [], IfOk, true};
 ghost use Rattle.trlab_lines.specs.Lines.{lines_of};
-ghost use Rattle.trlab_explain.specs.Meant.{IsMeant, IsNearly, MayBe};
+ghost use Rattle.trlab_explain.specs.Meant.{IsMeant, IsWithinOneEdit, MayBeMeantAs};
 
 use std::alloc::Global;
 use strsim::generic_damerau_levenshtein;
@@ -18,7 +18,7 @@ const LONGEST_WORD: usize = 16;
 /// exchanged.
 fn is_nearly(alloc: Global, word: &[u8], name: &[u8]) -> Result<bool>
     requires { name.now ≢ [] }
-    ensures { IfOk result (λ is_so. is_so ≡ true → IsNearly word.now name.now) }
+    ensures { IfOk result (λ is_so. is_so ≡ true → IsWithinOneEdit word.now name.now) }
 {
     if word.is_empty() || word.len() > LONGEST_WORD {
         return Ok(false);
@@ -29,7 +29,7 @@ fn is_nearly(alloc: Global, word: &[u8], name: &[u8]) -> Result<bool>
 
 /// The kind of an input whose first word is unknown.
 fn misspelled_subject(alloc: Global, word: &[u8]) -> Result<Subject>
-    ensures { IfOk result (MayBe word.now) }
+    ensures { IfOk result (MayBeMeantAs word.now) }
 {
     if is_nearly(alloc, word, b"road")? {
         Ok(Subject::Job)

@@ -1,7 +1,7 @@
 //! Repairs are tried before they are shown: each one lets an input get further than its first error.
 
 ghost use Rattle.std.specs.Prelude.{◌≡◌, ◌+◌, ◌≤◌, IfOk, length, IfSome, true};
-ghost use Rattle.trlab_explain.specs.Edits.{edited, GetsFurther, HasFirst, IsAfter};
+ghost use Rattle.trlab_explain.specs.Edits.{edited, GetsFurther, HasFirstFault, IsLaterOrNone};
 ghost use Rattle.trlab_explain.specs.Repairs.{Helps};
 ghost use Rattle.trlab_lines.specs.Lines.{lines_of};
 
@@ -27,7 +27,7 @@ fn edited(alloc: Global, text: &[u8], at: usize, removed: usize, inserted: &[u8]
 
 /// The first fault of a text that is read as `subject`, if it has one: its line and its cause.
 fn first_fault(alloc: Global, subject: Subject, text: &[u8]) -> Result<Option<(u32, Cause)>>
-    ensures { IfOk result (λ fault. HasFirst subject text.now fault) }
+    ensures { IfOk result (λ fault. HasFirstFault subject text.now fault) }
 {
     match subject {
         Subject::Job => match read_job(alloc, text) {
@@ -51,7 +51,7 @@ fn first_fault(alloc: Global, subject: Subject, text: &[u8]) -> Result<Option<(u
 /// Whether `changed` has no fault, or its first fault is after line `number` and has fewer lines after it than `text`
 /// has after that line.
 fn is_after(text: &[u8], number: u32, changed: &[u8], fault: Option<(u32, Cause)>) -> bool
-    ensures { result ≡ true → IsAfter (lines_of text.now) number (lines_of changed.now) fault }
+    ensures { result ≡ true → IsLaterOrNone (lines_of text.now) number (lines_of changed.now) fault }
 {
     match fault {
         None => true,

@@ -1,7 +1,7 @@
 //! The numbers of causes and reasons, explained.
 
 ghost use Rattle.std.specs.Prelude.{◌≡◌, ◌++◌, IfOk, OnOk, false, not};
-ghost use Rattle.trlab_campaign.specs.Ending.{EndsSo, LeavesWriter};
+ghost use Rattle.trlab_campaign.specs.Ending.{WroteAtEnd, LeavesWriter};
 ghost use Rattle.trlab_explain.specs.Explanations.{BeginsWith, IsNumberPage, topic_front};
 ghost use Rattle.trlab_explain.specs.Numbers.{is_known};
 
@@ -84,7 +84,7 @@ pub fn explain_number<R: AllocGlobal, K: Sink>(
     writer: &mut K,
 ) -> End
     requires writer_works { K.failed writer.old ≡ false }
-    ensures { LeavesWriter K.Sink (EndsSo (IsNumberPage topic number)) result writer.old writer.new }
+    ensures { LeavesWriter K.Sink (WroteAtEnd (IsNumberPage topic number)) result writer.old writer.new }
 {
     write_explanation(number_page(rt.alloc(), topic, number), writer)
 }

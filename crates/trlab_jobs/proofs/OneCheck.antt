@@ -14,7 +14,7 @@ use Rattle.trlab_texts.proofs.OneAnswer.{OneText, agree, said, fails, exact, mad
 use Rattle.trlab_texts.proofs.OneProgram.{code_one, program_after_fine}
 use Rattle.trlab_jobs.specs.declared.check.Question.{Question}
 use Rattle.trlab_jobs.specs.Check.{check_of, no_more_after, lone_program, heading_kind, question_of, Check, CheckLinesSay, CheckText, HeadedLinesSay}
-use Rattle.trlab_jobs.specs.Laws.{SaysSomething, SaysOneThing, NeverRefusesStandardRules}
+use Rattle.trlab_jobs.specs.Laws.{HasSomeResult, HasOneResult, NeverRefusesStandardRules}
 
 no_more_fine : (left : List (List ℕ)) (program : Program) → IsProgram program → FineText IsProgram (no_more_after left program)
 no_more_fine [] program is = is
@@ -49,10 +49,10 @@ check_text text = text_one (λ t. CheckLinesSay (lines_of t)) text (lines_one (l
 pub says_program : (text : List ℕ) → (says : Result Check Fault) × (CheckText text says × IfOk says HasProgram)
 says_program text = said (check_text text)
 
-pub something : SaysSomething CheckText
+pub something : HasSomeResult CheckText
 something text = let one = check_text text in (one.answer, one.says)
 
-pub one_thing : SaysOneThing CheckText
+pub one_thing : HasOneResult CheckText
 one_thing text says other p q = agree says other (check_text text) p q
 
 pub checks_never : NeverRefusesStandardRules CheckText

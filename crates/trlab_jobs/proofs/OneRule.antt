@@ -20,7 +20,7 @@ use Rattle.trlab_step.specs.Run.{Sheet}
 use Rattle.trlab_bounds.specs.declared.runs.TheConstants.{MAX_LATER}
 use Rattle.trlab_texts.specs.declared.fault.Cause.{Cause}
 use Rattle.trlab_texts.specs.declared.fault.Cause.TheVariants.{OneLane}
-use Rattle.trlab_texts.specs.Causes.{IsOtherCause}
+use Rattle.trlab_texts.specs.Causes.{IsNotStandardRefused}
 use Rattle.trlab_texts.specs.Words.{word_after}
 use Rattle.trlab_texts.specs.Reading.{Reading, line, exactly, say, ◌>>=◌}
 use Rattle.trlab_texts.specs.Programs.{Part, part, part_of, heading_line}
@@ -30,7 +30,7 @@ use Rattle.trlab_texts.proofs.OneProgram.{checked_one, part_one}
 use Rattle.trlab_jobs.specs.declared.rule_line.RuleLine.{RuleLine}
 use Rattle.trlab_jobs.specs.declared.rule_line.RuleLine.TheVariants.{Nasch, Vdr, Rickert, Own}
 use Rattle.trlab_jobs.specs.RuleLines.{rule_line, later_line}
-use Rattle.trlab_jobs.specs.RuleParts.{Accepts, MotionSays, BothSay, ExchangeSays, digits_misplacement, code_misplacement, block_misplacement, part_misplacement, misplacement, change_by, next_is_change, change_part, own_rule, rule_from, rule}
+use Rattle.trlab_jobs.specs.RuleParts.{Accepts, MotionSays, TwoProgramsSay, TwoLaneRuleSays, digits_misplacement, code_misplacement, block_misplacement, part_misplacement, misplacement, change_by, next_is_change, change_part, own_rule, rule_from, rule}
 use Rattle.trlab_jobs.specs.Later.{later_rule, to_the_end, later_from, later_rules}
 use Rattle.trlab_jobs.specs.Stored.{AreLaterRules}
 use Rattle.trlab_jobs.proofs.FineLines.{Chances, rule_line_fine, later_line_fine}
@@ -87,13 +87,13 @@ change_is change None checked p is = absurd p
 change_is change (Some other) checked p is = ap Some (accepts_one Change change other checked p is)
 
 both_only : (motion change : Program) (checked other : CheckedProgram) → Accepts Motion motion checked → Accepts Change change other
-    → (says : Result Programs Cause) → BothSay motion change says → says ≡ Ok (record { motion = checked; change = Some other })
+    → (says : Result Programs Cause) → TwoProgramsSay motion change says → says ≡ Ok (record { motion = checked; change = Some other })
 both_only motion change checked other is changes (Ok rule) p =
     ap Ok (programs_are rule (record { motion = checked; change = Some other }) (accepts_one Motion motion rule.motion checked p.0 is) (change_is change rule.change other p.1 changes))
 both_only motion change checked other is changes (Err cause) p = absurd p
 
 exchange_one : (one_lane : Bool) (lanes : ℕ) (motion change : Program) → IsGood Motion motion → IsGood Change change → (one_lane ≡ false → lanes ≡ 2)
-    → OneLine (IsRuleFor lanes) (ExchangeSays one_lane motion change)
+    → OneLine (IsRuleFor lanes) (TwoLaneRuleSays one_lane motion change)
 exchange_one true lanes motion change good also two = exact (Err OneLane) one_lane_other
 exchange_one false lanes motion change good also two =
     let found = budgeted Motion motion good in
@@ -106,11 +106,11 @@ exchange_one false lanes motion change good also two =
     }
 
 -- change parts on a road of one lane
-digits_misplaced : (found : Result (List ℕ) FromHexError) → IsOtherCause (digits_misplacement found)
+digits_misplaced : (found : Result (List ℕ) FromHexError) → IsNotStandardRefused (digits_misplacement found)
 digits_misplaced (Ok bytes) = one_lane_other
 digits_misplaced (Err fault) = hex_other
 
-code_misplaced : (word : Result (List ℕ) Cause) → Fine Anything word → IsOtherCause (code_misplacement word)
+code_misplaced : (word : Result (List ℕ) Cause) → Fine Anything word → IsNotStandardRefused (code_misplacement word)
 code_misplaced (Ok digits) fine = digits_misplaced (decode_of digits)
 code_misplaced (Err cause) fine = fine
 

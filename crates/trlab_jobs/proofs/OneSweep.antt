@@ -18,7 +18,7 @@ use Rattle.trlab_jobs.specs.Shapes.{length_line, lanes_line, warm_line, measure_
 use Rattle.trlab_jobs.specs.Counts.{counts}
 use Rattle.trlab_jobs.specs.Sweep.{Setup, Sweep, sweep_line, sweep_heading, setup, with_counts, SweepLinesSay, SweepText}
 use Rattle.trlab_jobs.specs.Stored.{Spreads, IsStoredSweep}
-use Rattle.trlab_jobs.specs.Laws.{SaysSomething, SaysOneThing, NeverRefusesStandardRules}
+use Rattle.trlab_jobs.specs.Laws.{HasSomeResult, HasOneResult, NeverRefusesStandardRules}
 use Rattle.trlab_jobs.proofs.FineLines.{fixed_fine}
 use Rattle.trlab_jobs.proofs.FineCounts.{AllHaveRoom, counts_fine}
 use Rattle.trlab_jobs.proofs.SweepLines.{after_limit, after_cells, after_warm, after_key, after_shape, after_rule}
@@ -114,10 +114,10 @@ sweep_text text = text_one SweepLinesSay text (made with_counts (setup_one (all_
 pub says_stored : (text : List ℕ) → (says : Result Sweep Fault) × (SweepText text says × IfOk says IsStoredSweep)
 says_stored text = said (sweep_text text)
 
-pub something : SaysSomething SweepText
+pub something : HasSomeResult SweepText
 something text = let one = sweep_text text in (one.answer, one.says)
 
-pub one_thing : SaysOneThing SweepText
+pub one_thing : HasOneResult SweepText
 one_thing text says other p q = agree says other (sweep_text text) p q
 
 pub sweeps_never : NeverRefusesStandardRules SweepText

@@ -72,17 +72,17 @@ job = do
   job_after key road
 
 -- the result of `reading` from `place` on, without the rest that a value leaves
-abbrev pub UpToTheEnd : {A : Type 0} → Reading A → Rest → Result A Fault → Type 0
-UpToTheEnd reading place (Ok say) = (rest : Rest) × reading place (Ok (say, rest))
-UpToTheEnd reading place (Err fault) = reading place (Err fault)
+abbrev pub ResultWithoutRest : {A : Type 0} → Reading A → Rest → Result A Fault → Type 0
+ResultWithoutRest reading place (Ok say) = (rest : Rest) × reading place (Ok (say, rest))
+ResultWithoutRest reading place (Err fault) = reading place (Err fault)
 
 -- the result for the lines of a job text: a job, or the first fault
-abbrev pub LinesSay : List ℕ → Result Job Fault → Type 0
-LinesSay text = UpToTheEnd job (all_lines text)
+abbrev pub JobLinesSay : List ℕ → Result Job Fault → Type 0
+JobLinesSay text = ResultWithoutRest job (all_lines text)
 
 -- the result for a job text: a job, or its first fault; a text that is too long has no other fault
 abbrev pub JobText : List ℕ → Result Job Fault → Type 0
-JobText text says = TextSays LinesSay text says
+JobText text says = TextSays JobLinesSay text says
 
 -- the start of a job's run: its road and key, as road 0, with tallies counted from step 0 on
 abbrev pub seed_of : Job → Seed

@@ -8,7 +8,7 @@ use Rattle.trlab_road.specs.declared.fault.RoadFault.TheVariants.{Lanes, Length,
 use Rattle.trlab_texts.specs.declared.fault.Cause.{Cause}
 use Rattle.trlab_texts.specs.declared.fault.Cause.TheVariants.{Road}
 use Rattle.trlab_texts.specs.Words.{word_after, next_word_is}
-use Rattle.trlab_texts.specs.Reading.{Fault, Reading, ◌>>=◌, line, exactly, perhaps, before}
+use Rattle.trlab_texts.specs.Reading.{Fault, Reading, ◌>>=◌, line, exactly, read_if, before}
 
 -- the picture on the line `lane P`
 abbrev pub lane_word : List ℕ → Result (List ℕ) Cause
@@ -16,7 +16,7 @@ lane_word text = word_after (codes "lane ") text
 
 -- reads the picture of a second lane if the first word of the next line is `lane`, and otherwise gives none
 abbrev pub second_lane : Reading (Option (List ℕ))
-second_lane rest out = perhaps (next_word_is (codes "lane") rest.left) (line (exactly lane_word)) rest out
+second_lane rest out = read_if (next_word_is (codes "lane") rest.left) (line (exactly lane_word)) rest out
 
 -- the line of the last lane: `first` if there is no second lane, and otherwise the next line
 abbrev pub last_line : ℕ → Option (List ℕ) → ℕ

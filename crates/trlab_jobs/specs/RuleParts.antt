@@ -15,7 +15,7 @@ use Rattle.trlab_texts.specs.declared.fault.Cause.TheVariants.{Line, Hex, OneLan
 use Rattle.trlab_jobs.specs.declared.rule_line.RuleLine.{RuleLine}
 use Rattle.trlab_jobs.specs.declared.rule_line.RuleLine.TheVariants.{Nasch, Vdr, Rickert, Own}
 use Rattle.trlab_texts.specs.Words.{word_after, next_word_is}
-use Rattle.trlab_texts.specs.Reading.{Fault, Reading, say, ◌>>=◌, line, exactly, perhaps, of_line}
+use Rattle.trlab_texts.specs.Reading.{Fault, Reading, say, ◌>>=◌, line, exactly, read_if, of_line}
 use Rattle.trlab_texts.specs.Programs.{Part, part, part_of, heading_line}
 use Rattle.trlab_jobs.specs.RuleLines.{rule_line}
 
@@ -32,16 +32,16 @@ MotionSays motion (Err cause) = ⊥
 
 -- the result for a rule with these standard programs: never a fault, but always a rule whose two programs the
 -- verifier accepts
-abbrev pub BothSay : Program → Program → Result Programs Cause → Type 0
-BothSay motion change (Ok rule) =
+abbrev pub TwoProgramsSay : Program → Program → Result Programs Cause → Type 0
+TwoProgramsSay motion change (Ok rule) =
     Accepts Motion motion rule.motion × MatchOption rule.change ⊥ (Accepts Change change)
-BothSay motion change (Err cause) = ⊥
+TwoProgramsSay motion change (Err cause) = ⊥
 
 -- the result for a rule with these standard programs, by whether the road has one lane: the cause `OneLane`
 -- if `true`, and otherwise the rule
-abbrev pub ExchangeSays : Bool → Program → Program → Result Programs Cause → Type 0
-ExchangeSays true motion change says = says ≡ Err OneLane
-ExchangeSays false motion change says = BothSay motion change says
+abbrev pub TwoLaneRuleSays : Bool → Program → Program → Result Programs Cause → Type 0
+TwoLaneRuleSays true motion change says = says ≡ Err OneLane
+TwoLaneRuleSays false motion change says = TwoProgramsSay motion change says
 
 -- the cause for the decoded digits of a change program on a road with one lane: `Hex` if they are invalid,
 -- and otherwise `OneLane`
@@ -85,7 +85,7 @@ next_is_change left = next_word_is (codes "change") left || next_word_is (codes 
 
 -- reads a change part if the next line begins one, and otherwise gives none, on a road with `lanes` lanes
 abbrev pub change_part : ℕ → Reading (Option CheckedProgram)
-change_part lanes rest out = perhaps (next_is_change rest.left) (change_by (nat_eq lanes 1)) rest out
+change_part lanes rest out = read_if (next_is_change rest.left) (change_by (nat_eq lanes 1)) rest out
 
 -- reads the programs of `rule own` on a road with `lanes` lanes: a motion part, and a change part if one
 -- follows
@@ -101,7 +101,7 @@ abbrev pub rule_from : ℕ → ℕ → RuleLine ℕ → Reading Programs
 rule_from lanes number (Nasch p) = of_line number (MotionSays (nasch_program p))
 rule_from lanes number (Vdr p p0) = of_line number (MotionSays (vdr_program p p0))
 rule_from lanes number (Rickert p c) =
-    of_line number (ExchangeSays (nat_eq lanes 1) (nasch_program p) (rickert_program c))
+    of_line number (TwoLaneRuleSays (nat_eq lanes 1) (nasch_program p) (rickert_program c))
 rule_from lanes number Own = own_rule lanes
 
 -- reads a rule for a road with `lanes` lanes: a rule line, and the programs of `rule own` after it

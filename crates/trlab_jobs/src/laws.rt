@@ -4,25 +4,25 @@
 
 ghost use Rattle.trlab_jobs.specs.Check.{CheckText};
 ghost use Rattle.trlab_jobs.specs.Job.{JobText};
-ghost use Rattle.trlab_jobs.specs.Laws.{LongTextsSayTheSame, NeverRefusesStandardRules, SaysOneThing, SaysSomething};
+ghost use Rattle.trlab_jobs.specs.Laws.{LongTextsSayTheSame, NeverRefusesStandardRules, HasOneResult, HasSomeResult};
 ghost use Rattle.trlab_jobs.specs.Sweep.{SweepText};
 
 /// Any job text has exactly one result: a job, or its first fault.
 pub fn text_says_one_thing()
-    ensures something { SaysSomething JobText }
-    ensures one_thing { SaysOneThing JobText }
+    ensures something { HasSomeResult JobText }
+    ensures one_thing { HasOneResult JobText }
 {}
 
 /// Any check text has exactly one result: a program and a question, or its first fault.
 pub fn check_says_one_thing()
-    ensures something { SaysSomething CheckText }
-    ensures one_thing { SaysOneThing CheckText }
+    ensures something { HasSomeResult CheckText }
+    ensures one_thing { HasOneResult CheckText }
 {}
 
 /// Any sweep text has exactly one result: a sweep, or its first fault.
 pub fn sweep_says_one_thing()
-    ensures something { SaysSomething SweepText }
-    ensures one_thing { SaysOneThing SweepText }
+    ensures something { HasSomeResult SweepText }
+    ensures one_thing { HasOneResult SweepText }
 {}
 
 /// No text is rejected because the verifier rejects a program of a standard rule: it accepts all of them.

@@ -8,7 +8,7 @@ ghost use Rattle.trlab_verify.specs.CheckedProgram.{IsChecked};
 ghost use Rattle.trlab_texts.specs.Reading.{Reports, ReportsLine, ReportsCause, ReportsFault, line, exactly, text_fault};
 ghost use Rattle.trlab_texts.specs.Words.{word_after};
 ghost use Rattle.trlab_jobs.specs.RuleLines.{rule_line, later_line};
-ghost use Rattle.trlab_jobs.specs.RuleParts.{MotionSays, ExchangeSays, code_misplacement, misplacement, next_is_change, change_by, change_part, own_rule, rule_from, rule};
+ghost use Rattle.trlab_jobs.specs.RuleParts.{MotionSays, TwoLaneRuleSays, code_misplacement, misplacement, next_is_change, change_by, change_part, own_rule, rule_from, rule};
 ghost use Rattle.std.specs.Result.{result_map_both};
 ghost use Rattle.trlab_jobs.specs.Later.{later_rule, later_rules};
 ghost use Rattle.trlab_jobs.specs.Stored.{AreLaterRules};
@@ -75,7 +75,7 @@ fn rickert_rule<'a>(
     requires some { 1 ≤ lanes.count }
     requires few { lanes.count ≤ 2 }
     ensures told { ReportsLine
-        (ExchangeSays (nat_eq lanes.count 1) (nasch_program brake) (rickert_program crossing)) result }
+        (TwoLaneRuleSays (nat_eq lanes.count 1) (nasch_program brake) (rickert_program crossing)) result }
     ensures suits { IfOk result (λ rule. IsRuleFor lanes.count rule) }
 {
     if lanes.count == 1 {

@@ -16,7 +16,7 @@ use Rattle.trlab_notes.specs.declared.note.AbstractValue.{AbstractValue}
 use Rattle.trlab_notes.specs.declared.note.AbstractValue.TheVariants.{Nothing, Between, Implies}
 use Rattle.trlab_notes.specs.Notes.{Note, same_variable, low, high, said_with_side, level_between, known_level, closure, maybe_closure}
 use Rattle.trlab_notes.specs.Transfer.{assign_any, sharpen, slacken, least_difference, assign, assign_result, result_said, result_to, to_result, chain, refine_order, refine_flag, next_note, jump_note}
-use Rattle.trlab_notes.specs.Order.{join, join_said, IsNoStronger, SaysNoMore}
+use Rattle.trlab_notes.specs.Order.{join, join_said, IsNoStronger, IsNoMorePrecise}
 use Rattle.trlab_notes.specs.Reasons.{form_checks, first_reason, reason_against, may_be_too_large, may_be_below_zero, may_be_above, may_be_occupied}
 use Rattle.trlab_notes.proofs.Order.{same_note}
 use Rattle.trlab_notes.proofs.Tables.{note_same, level_same, known_twice, both_known, known_unfolds}
@@ -47,14 +47,14 @@ settled_twice m = settled_same (closure m) m (said_same m) (known_settled m) (si
 -- it is no stronger, nor is the note
 pub settled_less : (m : Note) → IsNoStronger (closure m) m
 settled_less m = let f = same_note m in record {
-  said = λ x. subst (λ s. SaysNoMore s (said_with_side m x)) (sym (told_settled m x)) (f.said x);
+  said = λ x. subst (λ s. IsNoMorePrecise s (said_with_side m x)) (sym (told_settled m x)) (f.said x);
   order = λ x y. let e = known_settled m x y in omega (arith, e);
   beside = λ h. sym (side_same m) ∙ h;
 }
 
 pub settled_more : (m : Note) → IsNoStronger m (closure m)
 settled_more m = let f = same_note m in record {
-  said = λ x. subst (λ s. SaysNoMore (said_with_side m x) s) (sym (told_settled m x)) (f.said x);
+  said = λ x. subst (λ s. IsNoMorePrecise (said_with_side m x) s) (sym (told_settled m x)) (f.said x);
   order = λ x y. let e = known_settled m x y in omega (arith, e);
   beside = λ h. side_same m ∙ h;
 }

@@ -6,7 +6,7 @@ use Rattle.trlab_notes.specs.declared.note.AbstractValue.{AbstractValue}
 use Rattle.trlab_notes.specs.declared.note.AbstractValue.TheVariants.{Nothing, Between, Implies}
 use Rattle.trlab_notes.specs.Notes.{with_side, low, high, implies, level_between}
 use Rattle.trlab_notes.specs.Transfer.{sharpen, slacken, least_difference, chain}
-use Rattle.trlab_notes.specs.Order.{SaysNoMore}
+use Rattle.trlab_notes.specs.Order.{IsNoMorePrecise}
 use Rattle.trlab_notes.specs.Reasons.{is_nothing, is_range, is_flag}
 use Rattle.trlab_notes.proofs.Order.{Wider}
 
@@ -47,8 +47,8 @@ high_down (Between a b) (Implies i) p q w = absurd w
 high_down Nothing t p q w = absurd (cc p)
 high_down (Implies i) t p q w = absurd (cc q)
 
-pub told_twice : (p q : Bool) (s t : AbstractValue) → SaysNoMore (with_side p s) (with_side q t) →
-    SaysNoMore (with_side p (with_side p s)) (with_side q (with_side q t))
+pub told_twice : (p q : Bool) (s t : AbstractValue) → IsNoMorePrecise (with_side p s) (with_side q t) →
+    IsNoMorePrecise (with_side p (with_side p s)) (with_side q (with_side q t))
 told_twice p q Nothing t h = tt
 told_twice p q (Between a b) (Between c d) h = h
 told_twice p q (Between a b) Nothing h = h
@@ -88,14 +88,14 @@ learnt_level Nothing sy tx ty same j k v w p q l r = omega arith
 learnt_level (Implies i) sy tx ty same j k v w p q l r = omega arith
 
 -- what a flag implies
-pub implies_up : (p q : Bool) (s t : AbstractValue) → SaysNoMore (with_side p s) (with_side q t) → IsTrue (implies (with_side p s)) → IsTrue (implies (with_side q t))
+pub implies_up : (p q : Bool) (s t : AbstractValue) → IsNoMorePrecise (with_side p s) (with_side q t) → IsTrue (implies (with_side p s)) → IsTrue (implies (with_side q t))
 implies_up p q (Implies i) (Implies j) h e = h e
 implies_up p q (Implies i) Nothing h e = absurd h
 implies_up p q (Implies i) (Between a b) h e = absurd h
 implies_up p q Nothing t h e = absurd (cc e)
 implies_up p q (Between a b) t h e = absurd (cc e)
 
-pub trust_side : (p q : Bool) (s t : AbstractValue) → (IsTrue p → IsTrue q) → SaysNoMore (with_side p s) (with_side q t) →
+pub trust_side : (p q : Bool) (s t : AbstractValue) → (IsTrue p → IsTrue q) → IsNoMorePrecise (with_side p s) (with_side q t) →
     IsTrue (p || implies s) → IsTrue (q || implies t)
 trust_side p true s t f h e = refl
 trust_side true false s t f h e = absurd (cc (f refl))
@@ -114,8 +114,8 @@ trust_side false false Nothing t f h e = absurd (cc e)
 trust_side false false (Between a b) t f h e = absurd (cc e)
 
 -- a greater side on both
-pub more_side : (p q p' q' : Bool) (s t : AbstractValue) → (IsTrue p' → IsTrue q') → (IsTrue q → IsTrue q') → SaysNoMore (with_side p s) (with_side q t) →
-    SaysNoMore (with_side p' s) (with_side q' t)
+pub more_side : (p q p' q' : Bool) (s t : AbstractValue) → (IsTrue p' → IsTrue q') → (IsTrue q → IsTrue q') → IsNoMorePrecise (with_side p s) (with_side q t) →
+    IsNoMorePrecise (with_side p' s) (with_side q' t)
 more_side p q p' q' Nothing t f g h = tt
 more_side p q p' q' (Between a b) (Between c d) f g h = h
 more_side p q p' q' (Between a b) Nothing f g h = h
@@ -142,21 +142,21 @@ and_up true q false s f g h = absurd (cc (f refl))
 and_up false q r s f g h = absurd (cc h)
 
 -- what is said is of one kind
-pub still_set : (p q : Bool) (s t : AbstractValue) → SaysNoMore (with_side p s) (with_side q t) → is_nothing s ≡ false → is_nothing t ≡ false
+pub still_set : (p q : Bool) (s t : AbstractValue) → IsNoMorePrecise (with_side p s) (with_side q t) → is_nothing s ≡ false → is_nothing t ≡ false
 still_set p q Nothing t h e = absurd (cc e)
 still_set p q s (Between a b) h e = refl
 still_set p q s (Implies i) h e = refl
 still_set p q (Between a b) Nothing h e = absurd h
 still_set p q (Implies i) Nothing h e = absurd h
 
-pub still_range : (p q : Bool) (s t : AbstractValue) → SaysNoMore (with_side p s) (with_side q t) → is_nothing s ≡ false → is_flag s ≡ false → is_flag t ≡ false
+pub still_range : (p q : Bool) (s t : AbstractValue) → IsNoMorePrecise (with_side p s) (with_side q t) → is_nothing s ≡ false → is_flag s ≡ false → is_flag t ≡ false
 still_range p q Nothing t h e g = absurd (cc e)
 still_range p q (Implies i) t h e g = absurd (cc g)
 still_range p q (Between a b) (Between c d) h e g = refl
 still_range p q (Between a b) Nothing h e g = absurd h
 still_range p q (Between a b) (Implies i) h e g = absurd h
 
-pub still_flag : (p q : Bool) (s t : AbstractValue) → SaysNoMore (with_side p s) (with_side q t) → is_nothing s ≡ false → is_range s ≡ false → is_range t ≡ false
+pub still_flag : (p q : Bool) (s t : AbstractValue) → IsNoMorePrecise (with_side p s) (with_side q t) → is_nothing s ≡ false → is_range s ≡ false → is_range t ≡ false
 still_flag p q Nothing t h e g = absurd (cc e)
 still_flag p q (Between a b) t h e g = absurd (cc g)
 still_flag p q (Implies i) (Implies j) h e g = refl

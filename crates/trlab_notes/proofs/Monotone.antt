@@ -15,7 +15,7 @@ use Rattle.trlab_code.specs.Flow.{destination}
 use Rattle.trlab_notes.specs.declared.note.AbstractValue.{AbstractValue}
 use Rattle.trlab_notes.specs.Notes.{Note, same_variable, with_side, said_with_side, low, high, implies, level_between, known_level}
 use Rattle.trlab_notes.specs.Transfer.{assign_any, assign, assign_result, result_said, result_to, to_result, refine_order, refine_flag, next_note, jump_note}
-use Rattle.trlab_notes.specs.Order.{SaysNoMore, IsNoStronger, AreNoStronger}
+use Rattle.trlab_notes.specs.Order.{IsNoMorePrecise, IsNoStronger, AreNoStronger}
 use Rattle.trlab_notes.specs.Reasons.{among, is_nothing, is_range, is_flag, numbers_of, operands_of, some_unset, some_of_other_kind, may_be_too_large, may_be_below_zero, may_be_above, may_be_occupied, flags_of, values_of, reason_against}
 use Rattle.trlab_notes.specs.declared.reasons.Reason.{Reason}
 use Rattle.trlab_notes.proofs.Steps.{IsClear}
@@ -25,7 +25,7 @@ use Rattle.trlab_notes.proofs.Growth.{sharper_up, just_below_up, least_gap_up, c
 module _ (V : Variable → Type 0) (closed : Closed V) where
   -- a write: what is said and the levels say no more, and so does the note
   written_up : (m n : Note) (d : Register) (s t : AbstractValue) (to to' from from' : Variable → ℕ) → On V m n →
-      SaysNoMore (with_side m.side s) (with_side n.side t) → ((y : Variable) → V y → to y ≤ to' y) → ((x : Variable) → V x → from x ≤ from' x) →
+      IsNoMorePrecise (with_side m.side s) (with_side n.side t) → ((y : Variable) → V y → to y ≤ to' y) → ((x : Variable) → V x → from x ≤ from' x) →
       On V (assign m d s to from) (assign n d t to' from')
   unfolding assign update said_with_side known_level
   written_up m n d s t to to' from from' f h below above = record {
@@ -34,7 +34,7 @@ module _ (V : Variable → Type 0) (closed : Closed V) where
     beside = f.beside;
   }
     where
-      said_at : (x : Variable) → V x → (b : Bool) → SaysNoMore (with_side m.side (cond b s (m.said x))) (with_side n.side (cond b t (n.said x)))
+      said_at : (x : Variable) → V x → (b : Bool) → IsNoMorePrecise (with_side m.side (cond b s (m.said x))) (with_side n.side (cond b t (n.said x)))
       said_at x lx true = h
       said_at x lx false = f.said x lx
 
@@ -126,7 +126,7 @@ module _ (V : Variable → Type 0) (closed : Closed V) where
 
     -- what is said of a result
     said_up : (i : Instr) → Reaches i → some_unset m i ≡ false → some_of_other_kind m i ≡ false →
-        SaysNoMore (with_side m.side (result_said m i)) (with_side n.side (result_said n i))
+        IsNoMorePrecise (with_side m.side (result_said m i)) (with_side n.side (result_said n i))
     unfolding said_with_side
     said_up (Num d v) w h k = (omega arith, omega arith)
     said_up (Get d j) w h k = told_twice m.side n.side _ _ (f.said (variable.Input j) w)

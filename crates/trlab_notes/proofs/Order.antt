@@ -8,7 +8,7 @@ use Rattle.trlab_code.specs.declared.instruction.Variable.TheVariants as variabl
 use Rattle.trlab_notes.specs.declared.note.AbstractValue.{AbstractValue}
 use Rattle.trlab_notes.specs.declared.note.AbstractValue.TheVariants.{Nothing, Between, Implies}
 use Rattle.trlab_notes.specs.Notes.{Note, same_variable, with_side, said_with_side, level_between, known_level}
-use Rattle.trlab_notes.specs.Order.{join_said, join, SaysNoMore, IsNoStronger}
+use Rattle.trlab_notes.specs.Order.{join_said, join, IsNoMorePrecise, IsNoStronger}
 use Rattle.trlab_notes.proofs.Fits.{and_left, and_right}
 
 -- where one says a range, so does the other, and within it
@@ -17,7 +17,7 @@ Wider (Between lo hi) (Between least most) = (lo ≤ least) × (most ≤ hi)
 Wider (Between lo hi) _ = ⊥
 Wider _ _ = Unit {0}
 
-pub wider : (p q : Bool) (s t : AbstractValue) → SaysNoMore (with_side p s) (with_side q t) → Wider s t
+pub wider : (p q : Bool) (s t : AbstractValue) → IsNoMorePrecise (with_side p s) (with_side q t) → Wider s t
 wider p q Nothing t h = tt
 wider p q (Implies i) t h = tt
 wider p q (Between a b) (Between c d) h = h
@@ -52,12 +52,12 @@ known_from (Between a b) (Implies i) tx ty same j k p q l = omega arith
 known_from Nothing sy tx ty same j k p q l = omega arith
 known_from (Implies i) sy tx ty same j k p q l = omega arith
 
-no_more_same : (s : AbstractValue) → SaysNoMore s s
+no_more_same : (s : AbstractValue) → IsNoMorePrecise s s
 no_more_same Nothing = tt
 no_more_same (Between a b) = (omega arith, omega arith)
 no_more_same (Implies i) = λ h. h
 
-no_more_twice : (r s t : AbstractValue) → SaysNoMore r s → SaysNoMore s t → SaysNoMore r t
+no_more_twice : (r s t : AbstractValue) → IsNoMorePrecise r s → IsNoMorePrecise s t → IsNoMorePrecise r t
 no_more_twice Nothing s t p q = tt
 no_more_twice (Between a b) (Between c d) (Between e f) p q = (omega arith, omega arith)
 no_more_twice (Between a b) (Between c d) Nothing p q = q
@@ -81,7 +81,7 @@ through l m n f g = record {
 }
 
 -- a join says no more than each of the two
-both_first : (p q : Bool) (s t : AbstractValue) → SaysNoMore (with_side (p && q) (join_said (with_side p s) (with_side q t))) (with_side p s)
+both_first : (p q : Bool) (s t : AbstractValue) → IsNoMorePrecise (with_side (p && q) (join_said (with_side p s) (with_side q t))) (with_side p s)
 both_first p q Nothing t = tt
 both_first p q (Between a b) (Between c d) = (omega arith, omega arith)
 both_first p q (Between a b) Nothing = tt
@@ -92,7 +92,7 @@ both_first p q (Implies true) (Implies j) = λ h. refl
 both_first true q (Implies false) (Implies j) = λ h. refl
 both_first false q (Implies false) (Implies j) = λ h. h
 
-both_second : (p q : Bool) (s t : AbstractValue) → SaysNoMore (with_side (p && q) (join_said (with_side p s) (with_side q t))) (with_side q t)
+both_second : (p q : Bool) (s t : AbstractValue) → IsNoMorePrecise (with_side (p && q) (join_said (with_side p s) (with_side q t))) (with_side q t)
 both_second p q Nothing t = tt
 both_second p q (Between a b) (Between c d) = (omega arith, omega arith)
 both_second p q (Between a b) Nothing = tt
@@ -104,8 +104,8 @@ both_second true true (Implies i) (Implies false) = λ h. refl
 both_second p q (Implies i) (Implies false) = λ h. search (rules, h)
 
 -- and as much as each note that says no more than the two
-both_most : (r p q : Bool) (u s t : AbstractValue) → (IsTrue r → IsTrue p) → (IsTrue r → IsTrue q) → SaysNoMore (with_side r u) (with_side p s) →
-    SaysNoMore (with_side r u) (with_side q t) → SaysNoMore (with_side r u) (with_side (p && q) (join_said (with_side p s) (with_side q t)))
+both_most : (r p q : Bool) (u s t : AbstractValue) → (IsTrue r → IsTrue p) → (IsTrue r → IsTrue q) → IsNoMorePrecise (with_side r u) (with_side p s) →
+    IsNoMorePrecise (with_side r u) (with_side q t) → IsNoMorePrecise (with_side r u) (with_side (p && q) (join_said (with_side p s) (with_side q t)))
 both_most r p q Nothing s t f g h k = tt
 both_most r p q (Between a b) (Between c d) (Between e f) _ _ h k = (omega arith, omega arith)
 both_most r p q (Between a b) Nothing t f g h k = absurd h
@@ -182,7 +182,7 @@ pub record Closed (V : Variable → Type 0) : Type 0 where
 
 -- no stronger, as far as these variables go
 pub record On (V : Variable → Type 0) (m n : Note) : Type 0 where
-  pub said : (x : Variable) → V x → SaysNoMore (said_with_side m x) (said_with_side n x)
+  pub said : (x : Variable) → V x → IsNoMorePrecise (said_with_side m x) (said_with_side n x)
   pub order : (x y : Variable) → V x → V y → known_level m x y ≤ known_level n x y
   pub beside : IsTrue m.side → IsTrue n.side
 

@@ -11,8 +11,8 @@ use Rattle.trlab_notes.specs.declared.rows.Stored.{Stored}
 use Rattle.trlab_notes.specs.declared.rows.LevelRow.{LevelRow}
 use Rattle.trlab_notes.specs.Notes.{Note, same_variable, with_side, said_with_side, level_between, known_level, range_level, implies, closure, entry, entry_said, entry_level}
 use Rattle.trlab_notes.specs.Transfer.{assign, chain, refine_order, refine_flag}
-use Rattle.trlab_notes.specs.Order.{SaysNoMore, IsNoStronger, join, join_said}
-use Rattle.trlab_notes.specs.Rows.{level_of, level_at, known_with, AreLevels, IncludesRanges, IsTransposed}
+use Rattle.trlab_notes.specs.Order.{IsNoMorePrecise, IsNoStronger, join, join_said}
+use Rattle.trlab_notes.specs.Rows.{level_of, level_at, known_with, AreValidLevels, IncludesRanges, IsTransposed}
 use Rattle.trlab_notes.specs.Stored.{note_of}
 use Rattle.trlab_bounds.specs.declared.programs.TheConstants.{VARIABLES}
 use Rattle.trlab_code.specs.declared.instruction.Register.{Register}
@@ -353,7 +353,7 @@ entry_one (variable.Input Speed) (variable.Input Limit) = omega arith
 entry_one (variable.Input Headspeed) (variable.Input Limit) = omega arith
 entry_one x y = omega arith
 
-pub entry_fits : (said : List AbstractValue) (levels : List (List ℕ)) → AreEntryLevels levels → AreLevels said levels
+pub entry_fits : (said : List AbstractValue) (levels : List (List ℕ)) → AreEntryLevels levels → AreValidLevels said levels
 entry_fits said levels h x y lx ly =
     at_numbers (λ j. known_with said j y (level_at levels j y) ≤ 2)
     (λ u. at_numbers (λ k. known_with said (variable_number u) k (level_at levels (variable_number u) k) ≤ 2)
@@ -362,7 +362,7 @@ entry_fits said levels h x y lx ly =
 
 -- one note is no stronger than another where the tables say no more
 pub no_stronger : (m n : Stored) →
-    ((x : ℕ) → x < VARIABLES → SaysNoMore (with_side m.side (get_or m.said x Nothing)) (with_side n.side (get_or n.said x Nothing))) →
+    ((x : ℕ) → x < VARIABLES → IsNoMorePrecise (with_side m.side (get_or m.said x Nothing)) (with_side n.side (get_or n.said x Nothing))) →
     ((x y : ℕ) → x < VARIABLES → y < VARIABLES → level_of m.rows x y ≤ level_of n.rows x y) → (IsTrue m.side → IsTrue n.side) →
     IsNoStronger (note_of m) (note_of n)
 unfolding said_with_side
@@ -373,9 +373,9 @@ no_stronger m n f g h = record {
 }
 
 pub no_stronger_said : (m n : Stored) → IsNoStronger (note_of m) (note_of n) → (x : ℕ) → x < VARIABLES →
-    SaysNoMore (with_side m.side (get_or m.said x Nothing)) (with_side n.side (get_or n.said x Nothing))
+    IsNoMorePrecise (with_side m.side (get_or m.said x Nothing)) (with_side n.side (get_or n.said x Nothing))
 unfolding said_with_side
-no_stronger_said m n h = at_numbers (λ x. SaysNoMore (with_side m.side (get_or m.said x Nothing)) (with_side n.side (get_or n.said x Nothing))) h.said
+no_stronger_said m n h = at_numbers (λ x. IsNoMorePrecise (with_side m.side (get_or m.said x Nothing)) (with_side n.side (get_or n.said x Nothing))) h.said
 
 pub no_stronger_levels : (m n : Stored) → IsNoStronger (note_of m) (note_of n) → (x y : ℕ) → x < VARIABLES → y < VARIABLES → level_of m.rows x y ≤ level_of n.rows x y
 no_stronger_levels m n h x y lx ly =

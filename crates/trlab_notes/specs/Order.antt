@@ -7,15 +7,15 @@ use Rattle.trlab_notes.specs.Notes.{Note, said_with_side, known_level}
 
 -- an abstract value says no more than another: it is `Nothing`, or a range that contains the other range, or
 -- a flag that implies an empty side cell only if the other flag does
-abbrev pub SaysNoMore : AbstractValue → AbstractValue → Type 0
-SaysNoMore Nothing t = Unit {0}
-SaysNoMore (Between lo hi) (Between least most) = (lo ≤ least) × (most ≤ hi)
-SaysNoMore (Implies imp) (Implies other) = IsTrue imp → IsTrue other
-SaysNoMore _ _ = ⊥
+abbrev pub IsNoMorePrecise : AbstractValue → AbstractValue → Type 0
+IsNoMorePrecise Nothing t = Unit {0}
+IsNoMorePrecise (Between lo hi) (Between least most) = (lo ≤ least) × (most ≤ hi)
+IsNoMorePrecise (Implies imp) (Implies other) = IsTrue imp → IsTrue other
+IsNoMorePrecise _ _ = ⊥
 
 -- note m is no stronger than note n: m knows no more of the values, the order and the side cell
 pub record IsNoStronger (m n : Note) : Type 0 where
-  pub said : (x : Variable) → SaysNoMore (said_with_side m x) (said_with_side n x)
+  pub said : (x : Variable) → IsNoMorePrecise (said_with_side m x) (said_with_side n x)
   pub order : (x y : Variable) → known_level m x y ≤ known_level n x y
   pub beside : IsTrue m.side → IsTrue n.side
 

@@ -35,8 +35,8 @@ known_with said x y level =
     level_between (slice_index_or said x Nothing) (slice_index_or said y Nothing) (nat_eq x y) level
 
 -- no known level between two variables, by these abstract values and levels, is above 2
-abbrev pub AreLevels : List AbstractValue → List (List ℕ) → Type 0
-AreLevels said levels = (x y : ℕ) → x < VARIABLES → y < VARIABLES →
+abbrev pub AreValidLevels : List AbstractValue → List (List ℕ) → Type 0
+AreValidLevels said levels = (x y : ℕ) → x < VARIABLES → y < VARIABLES →
     known_with said x y (level_at levels x y) ≤ 2
 
 -- the rows contain what the ranges of the abstract values say about the order, and nothing about a variable

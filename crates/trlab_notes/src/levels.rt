@@ -5,7 +5,7 @@ ghost use Rattle.trlab_code.specs.declared.instruction.Variable.{Variable as AVa
 ghost use Rattle.trlab_code.specs.Machine.{variable_number};
 ghost use Rattle.trlab_notes.specs.declared.note.AbstractValue.TheVariants.{Nothing};
 ghost use Rattle.trlab_notes.specs.Notes.{closure, entry, known_level, said_with_side, with_side};
-ghost use Rattle.trlab_notes.specs.Rows.{AreLevels, known_with, level_at, level_in, level_of, levels_in, said_in};
+ghost use Rattle.trlab_notes.specs.Rows.{AreValidLevels, known_with, level_at, level_in, level_of, levels_in, said_in};
 ghost use Rattle.trlab_notes.specs.Stored.{note_of};
 
 use crate::note::{AbstractValue, entry_levels, entry_said, level_between};
@@ -30,7 +30,7 @@ fn known_rows(
     said: &[AbstractValue; VARIABLES],
     levels: &[[u8; VARIABLES]; VARIABLES],
 ) -> [LevelRow; VARIABLES]
-    requires { AreLevels said.now levels.now }
+    requires { AreValidLevels said.now levels.now }
     ensures { (x y : ℕ) → x < VARIABLES → y < VARIABLES →
         level_of result x y ≡ known_with said.now x y (level_at levels.now x y) }
 {
@@ -58,7 +58,7 @@ impl Stored {
         levels: &[[u8; VARIABLES]; VARIABLES],
         side: bool,
     ) -> Stored
-        requires { AreLevels said levels.now }
+        requires { AreValidLevels said levels.now }
         ensures { note_of result ≡ closure (record {
           said = said_in said;
           level = levels_in levels.now;

@@ -3,7 +3,7 @@
 ghost use Rattle.std.specs.Prelude.{◌≡◌, ◌↔◌, ℕ, ◌<◌, ◌≤◌, IsTrue, slice_index_or};
 ghost use Rattle.trlab_notes.specs.declared.note.AbstractValue.TheVariants.{Nothing};
 ghost use Rattle.trlab_notes.specs.Notes.{with_side};
-ghost use Rattle.trlab_notes.specs.Order.{SaysNoMore, IsNoStronger, join, join_said};
+ghost use Rattle.trlab_notes.specs.Order.{IsNoMorePrecise, IsNoStronger, join, join_said};
 ghost use Rattle.trlab_notes.specs.Rows.{level_of};
 ghost use Rattle.trlab_notes.specs.Stored.{note_of};
 
@@ -13,7 +13,7 @@ use trlab_code::VARIABLES;
 
 /// Whether `s` says no more than `t`.
 fn says_no_more(s: AbstractValue, t: AbstractValue) -> bool
-    ensures { IsTrue result ↔ SaysNoMore s t }
+    ensures { IsTrue result ↔ IsNoMorePrecise s t }
 {
     match (s, t) {
         (AbstractValue::Nothing, _) => true,
@@ -26,7 +26,7 @@ fn says_no_more(s: AbstractValue, t: AbstractValue) -> bool
 
 /// Whether `m` says no more than `n` about any variable.
 fn has_weaker_variables(m: &Stored, n: &Stored) -> bool
-    ensures { IsTrue result ↔ ((x : ℕ) → x < VARIABLES → SaysNoMore
+    ensures { IsTrue result ↔ ((x : ℕ) → x < VARIABLES → IsNoMorePrecise
         (with_side m.now.side (slice_index_or m.now.said x Nothing))
         (with_side n.now.side (slice_index_or n.now.said x Nothing))) }
 {

@@ -8,7 +8,7 @@ use Rattle.trlab_road.specs.declared.fault.RoadFault.{RoadFault}
 use Rattle.trlab_road.specs.declared.fault.RoadFault.TheVariants.{Lanes, Length, Limit, Memory, TooManyCars}
 use Rattle.trlab_road.specs.Cells.{Cells, Lane}
 use Rattle.trlab_road.specs.Spreading.{CanSpread, IsEven, IsEvenFault, IsEvenLane, even_lane, even_place}
-use Rattle.trlab_road.specs.Laws.{SaysEven}
+use Rattle.trlab_road.specs.Laws.{EvenCarsMean}
 use Rattle.trlab_road.proofs.EvenLanes.{EvenUpTo, even_all, even_more, even_none, even_skip}
 use Rattle.trlab_road.proofs.EvenRoads.{even_legal, no_fault, one_even, one_fault}
 use Rattle.trlab_road.proofs.PictureFaults.{cases_memory, lanes_or_not, length_or_not, limit_or_not}
@@ -44,12 +44,12 @@ even_exists lanes cells limit n fits =
       },
     )
 
-fitting_says : (lanes cells limit n : ℕ) → CanSpread lanes cells limit n → (said : Answer) × SaysEven lanes cells limit n said
+fitting_says : (lanes cells limit n : ℕ) → CanSpread lanes cells limit n → (said : Answer) × EvenCarsMean lanes cells limit n said
 fitting_says lanes cells limit n fits =
     let made = even_exists lanes cells limit n fits in
     (Ok made.0, (fits, made.1, even_legal lanes cells limit n made.0 fits made.1))
 
-pub something : (lanes cells limit n : ℕ) → (said : Answer) × SaysEven lanes cells limit n said
+pub something : (lanes cells limit n : ℕ) → (said : Answer) × EvenCarsMean lanes cells limit n said
 something lanes cells limit n =
     elim (lanes_or_not lanes) [
       | inr not_lanes ↦ (Err Lanes, (not_lanes, λ e. cc))
@@ -65,7 +65,7 @@ something lanes cells limit n =
       ]
     ]
 
-pub one_thing : (lanes cells limit n : ℕ) (said other : Answer) → SaysEven lanes cells limit n said → SaysEven lanes cells limit n other → said ≡ other
+pub one_thing : (lanes cells limit n : ℕ) (said other : Answer) → EvenCarsMean lanes cells limit n said → EvenCarsMean lanes cells limit n other → said ≡ other
 one_thing lanes cells limit n (Ok road) (Ok other) s t = ap Ok (one_even lanes cells limit n road other s.1 t.1)
 one_thing lanes cells limit n (Ok road) (Err f) s t = absurd (t.1 (no_fault lanes cells limit n f s.0 t.0))
 one_thing lanes cells limit n (Err f) (Ok road) s t = absurd (s.1 (no_fault lanes cells limit n f t.0 s.0))

@@ -1,7 +1,7 @@
 -- From answers in standing order to the lane change.
 use Rattle.std.proofs.Common.{◌≡◌, ℕ, Bool, false, List, get_or, sym, ◌∙◌, ap}
 use Rattle.trlab_road.specs.Cells.{Cells, cell, lane_of}
-use Rattle.trlab_road.specs.LaneChange.{other_lane, crosses_at, MayCross, Crosses, CrossesFree, CleanLaneChange}
+use Rattle.trlab_road.specs.LaneChange.{other_lane, crosses_at, MayCross, Crosses, CrossesToEmpty, CleanLaneChange}
 use Rattle.trlab_road.specs.Gaps.{side}
 use Rattle.trlab_road.specs.Legal.{IsLegal}
 use Rattle.trlab_road.specs.Motion.{in_order}
@@ -12,7 +12,7 @@ use Rattle.trlab_road.proofs.StandingOrder.{in_order_at, rank_below_cars}
 
 -- answers that are allowed in standing order let cars cross to empty cells alone
 pub allowed_free : (road : Cells) (answers : List Bool) → MayCross road answers
-    → CrossesFree (crosses_at road answers) road
+    → CrossesToEmpty (crosses_at road answers) road
 allowed_free road answers allowed = record {
   two_lanes = allowed.two_lanes;
   side_empty = λ car here goes.

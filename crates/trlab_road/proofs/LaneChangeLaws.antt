@@ -7,7 +7,7 @@ use Rattle.std.proofs.lemmas.List.{ext_get_or, take_all}
 use Rattle.std.proofs.lemmas.List.FromFn.{length-map-range_with_len, get_or-map-range_with_len}
 use Rattle.std.proofs.lemmas.List.Sums.{sum_by-cons}
 use Rattle.trlab_road.specs.Cells.{Cell, Lane, Cells, at, cell, lane_of, cars, lane_cars, AgreeAtCars}
-use Rattle.trlab_road.specs.LaneChange.{other_lane, cell_after_change, Crosses, lane_after_change, road_after_change, CrossesFree, StaysOrCrosses, CleanLaneChange}
+use Rattle.trlab_road.specs.LaneChange.{other_lane, cell_after_change, Crosses, lane_after_change, road_after_change, CrossesToEmpty, StaysOrCrosses, CleanLaneChange}
 use Rattle.trlab_road.specs.Legal.{IsLegal, LanesFit, LengthFits, LimitFits}
 use Rattle.trlab_road.specs.LaneChange.StaysOrCrosses.{on_own_lane, on_other_lane}
 use Rattle.trlab_road.proofs.Ring.{inside, car_in}
@@ -140,7 +140,7 @@ module _ (crosses : ℕ → ℕ → Bool) (old new : Cells) (legal : IsLegal old
             (other_lane l, (beside, sym (cond-true (crosses (other_lane l) x) (other_lane (other_lane l)) (other_lane l) goes ∙ back)))
       ]
 
-  module _ (free : CrossesFree crosses old) where
+  module _ (free : CrossesToEmpty crosses old) where
     -- a lane of two
     one_of : (l : ℕ) → l < 2 → l < length old.lanes
     one_of l h = rw free.two_lanes h

@@ -4,7 +4,7 @@ use Rattle.std.proofs.lemmas.Bool.{cases_eq}
 use Rattle.trlab_road.specs.LaneCars.{LaneCar}
 use Rattle.trlab_road.specs.Cells.{Cell, at}
 use Rattle.trlab_road.specs.LaneChange.{cell_after_change, LaneCrosses}
-use Rattle.trlab_road.specs.Stored.{cell_at, cells_of, IsSortedFrom, no_car, place_of, IsFirstFrom, LaneLeaves, lane_crosses_at}
+use Rattle.trlab_road.specs.Stored.{cell_at, cells_of, IsSortedFrom, no_car, place_of, IsFirstFrom, HasLeavingCars, lane_crosses_at}
 use Rattle.trlab_road.proofs.Lists.{length_cells, cells_at, cell_kth, empty_at, kth_of_cell, list_car, rises_high, rises_order, rises_weakly}
 use Rattle.trlab_road.proofs.ListLaneChange.{crosses_here}
 use Rattle.trlab_road.proofs.ListPush.{below_push, cell_push, cell_pushed, rises_push}
@@ -72,7 +72,7 @@ module _ (n : ℕ) (cars : List LaneCar) (answers : List Bool) (from : ℕ) (r :
         here ∙ ap (λ b. cond b (cell_at cars x) None) answer ∙ ap (λ c. cond (lane_crosses_at (cells_of n cars) answers from x) c None) e
 
     -- all of them
-    pub all_leave : LaneLeaves (lane_crosses_at (cells_of n cars) answers from) (cells_of n cars) (cells_of n leaving)
+    pub all_leave : HasLeavingCars (lane_crosses_at (cells_of n cars) answers from) (cells_of n cars) (cells_of n leaving)
     all_leave = record {
       same_length = length_cells n leaving ∙ sym (length_cells n cars);
       each_cell = λ x h.
@@ -82,7 +82,7 @@ module _ (n : ℕ) (cars : List LaneCar) (answers : List Bool) (from : ℕ) (r :
 
 -- what comes of the cars that leave the lane beside is what comes of that lane
 pub crosses_from : (n : ℕ) (oc bc : ℕ → Bool) (own beside coming new : List LaneCar) → LaneCrosses oc (λ _. true) (cells_of n own) (cells_of n coming) (cells_of n new)
-    → LaneLeaves bc (cells_of n beside) (cells_of n coming) → LaneCrosses oc bc (cells_of n own) (cells_of n beside) (cells_of n new)
+    → HasLeavingCars bc (cells_of n beside) (cells_of n coming) → LaneCrosses oc bc (cells_of n own) (cells_of n beside) (cells_of n new)
 crosses_from n oc bc own beside coming new crosses leaves = record {
   same_length = crosses.same_length;
   each_cell = λ x h.

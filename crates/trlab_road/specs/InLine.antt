@@ -4,7 +4,7 @@ use Rattle.std.specs.Prelude.{List, length, map, sum_by, take}
 use Rattle.trlab_road.specs.LaneCars.{LaneCar}
 use Rattle.trlab_road.specs.Cells.{Cells, IsAt, lane_cars, lane_of}
 use Rattle.trlab_road.specs.Gaps.{gap, headspeed}
-use Rattle.trlab_road.specs.Motion.{IsOnLane, gaps}
+use Rattle.trlab_road.specs.Motion.{IsOnOwnLane, gaps}
 use Rattle.trlab_road.specs.Standing.{IsStanding, standing_from}
 use Rattle.trlab_road.specs.Stored.{car_on, no_car}
 
@@ -28,6 +28,6 @@ pub record IsFollowed (road : Cells) (k : ℕ) (car next : LaneCar) : Type 0 whe
   pub standing : IsStanding road k (car_on lane car)
   pub here : IsAt road (car_on lane car)
   pub past : car.place < next.place
-  pub ahead : IsOnLane gap road k (next.place - car.place - 1)
+  pub ahead : IsOnOwnLane gap road k (next.place - car.place - 1)
   pub in_gaps : next.place - car.place - 1 ≡ slice_index (gaps road) k
-  pub head : IsOnLane headspeed road k next.speed
+  pub head : IsOnOwnLane headspeed road k next.speed

@@ -50,7 +50,7 @@ road_after_change crosses road =
     record { limit = road.limit; lanes = map (lane_after_change crosses road) lanes }
 
 -- the road has two lanes, and a car crosses only if its side cell is empty
-pub record CrossesFree (crosses : ℕ → ℕ → Bool) (road : Cells) : Type 0 where
+pub record CrossesToEmpty (crosses : ℕ → ℕ → Bool) (road : Cells) : Type 0 where
   pub two_lanes : length road.lanes ≡ 2
   pub side_empty : (car : Car) → IsAt road car → crosses car.lane car.place ≡ true
       → cell road (other_lane car.lane) car.place ≡ None
@@ -80,14 +80,14 @@ pub record CleanLaneChange (old new : Cells) : Type 0 where
       → (l : ℕ) × (cell old l car.place ≡ Some (car.number, car.speed))
 
 -- `value` is the value of `look` on the other lane at the place of the k-th car in standing order
-abbrev pub IsBeside : {X : Type 0} → (Lane → ℕ → X) → Cells → ℕ → X → Type 0
-IsBeside look road k value = (car : Car) → IsStanding road k car
+abbrev pub IsOnOtherLane : {X : Type 0} → (Lane → ℕ → X) → Cells → ℕ → X → Type 0
+IsOnOtherLane look road k value = (car : Car) → IsStanding road k car
     → value ≡ look (lane_of road (other_lane car.lane)) car.place
 
 -- `gap` is the value of `look` on the other lane at the place of the k-th car in standing order, and it is
 -- below the lane length
 pub record IsGapBeside (look : Lane → ℕ → ℕ) (road : Cells) (k gap : ℕ) : Type 0 where
-  pub of_car : IsBeside look road k gap
+  pub of_car : IsOnOtherLane look road k gap
   pub below : gap < length (lane_of road 0)
 
 -- for each car of a road, in standing order: is its side cell empty?

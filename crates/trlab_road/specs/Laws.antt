@@ -7,7 +7,7 @@ use Rattle.trlab_road.specs.Cells.{Lane, Cells, AgreeAtCars, HasNumber, at, cars
 use Rattle.trlab_road.specs.Gaps.{ahead, headspeed}
 use Rattle.trlab_road.specs.Legal.{IsLegal}
 use Rattle.trlab_road.specs.Pictures.{IsFirstFault, AreGoodPictures, AreNumberedInOrder, Shows, picture}
-use Rattle.trlab_road.specs.LaneChange.{Crosses, CrossesFree, CleanLaneChange, road_after_change}
+use Rattle.trlab_road.specs.LaneChange.{Crosses, CrossesToEmpty, CleanLaneChange, road_after_change}
 use Rattle.trlab_road.specs.Spreading.{CanSpread, IsEven, IsEvenFault}
 use Rattle.trlab_road.specs.Motion.{CleanMotion, Fits, IsClearAhead, Moves}
 
@@ -28,8 +28,8 @@ OneFirstFault = (limit : ℕ) (pictures : List (List ℕ)) (fault other : RoadFa
     → fault ≢ Memory → other ≢ Memory → fault ≡ other
 
 -- a limit and good pictures have no fault other than `Memory`
-abbrev pub NoFaultInGood : Type 0
-NoFaultInGood = (limit : ℕ) (pictures : List (List ℕ)) (fault : RoadFault)
+abbrev pub GoodPicturesHaveNoFault : Type 0
+GoodPicturesHaveNoFault = (limit : ℕ) (pictures : List (List ℕ)) (fault : RoadFault)
     → AreGoodPictures limit pictures → IsFirstFault limit pictures fault → fault ≡ Memory
 
 -- the meaning of a limit and pictures: the legal road that they show, or their first fault, which is not
@@ -39,13 +39,13 @@ Says limit pictures (Ok road) = Shows limit pictures road × IsLegal road
 Says limit pictures (Err fault) = IsFirstFault limit pictures fault × (fault ≢ Memory)
 
 -- any limit and pictures have a meaning: a legal road or a first fault
-abbrev pub PicturesSaySomething : Type 0
-PicturesSaySomething = (limit : ℕ) (pictures : List (List ℕ))
+abbrev pub PicturesHaveMeaning : Type 0
+PicturesHaveMeaning = (limit : ℕ) (pictures : List (List ℕ))
     → (said : Result Cells RoadFault) × Says limit pictures said
 
 -- a limit and pictures have at most one meaning
-abbrev pub PicturesSayOneThing : Type 0
-PicturesSayOneThing = (limit : ℕ) (pictures : List (List ℕ)) (said other : Result Cells RoadFault)
+abbrev pub PicturesHaveOneMeaning : Type 0
+PicturesHaveOneMeaning = (limit : ℕ) (pictures : List (List ℕ)) (said other : Result Cells RoadFault)
     → Says limit pictures said → Says limit pictures other → said ≡ other
 
 -- the pictures of a legal road are good under its limit
@@ -54,8 +54,8 @@ PicturesOfLegalRoads = (road : Cells) → IsLegal road → AreGoodPictures road.
 
 -- the limit and the pictures of a legal road whose cars are numbered in standing order mean this road and
 -- nothing else
-abbrev pub PicturesSayTheRoad : Type 0
-PicturesSayTheRoad = (road : Cells) (said : Result Cells RoadFault) → IsLegal road → AreNumberedInOrder road
+abbrev pub PicturesMeanTheRoad : Type 0
+PicturesMeanTheRoad = (road : Cells) (said : Result Cells RoadFault) → IsLegal road → AreNumberedInOrder road
     → Says road.limit (map picture road.lanes) said ↔ (said ≡ Ok road)
 
 -- if the g cells ahead of place x are empty and the cell after them holds a car, the headspeed at x is the
@@ -118,29 +118,29 @@ LaneChangeByCars = (crosses others : ℕ → ℕ → Bool) (old new : Cells)
 -- the lane change of a legal road with two lanes is clean if cars cross only to empty side cells
 abbrev pub LaneChangeIsClean : Type 0
 LaneChangeIsClean = (crosses : ℕ → ℕ → Bool) (old new : Cells)
-    → IsLegal old → CrossesFree crosses old → Crosses crosses old new → CleanLaneChange old new
+    → IsLegal old → CrossesToEmpty crosses old → Crosses crosses old new → CleanLaneChange old new
 
 -- a legal road with two lanes is legal after the lane change if cars cross only to empty side cells
 abbrev pub LaneChangeKeepsLegal : Type 0
 LaneChangeKeepsLegal = (crosses : ℕ → ℕ → Bool) (old new : Cells)
-    → IsLegal old → CrossesFree crosses old → Crosses crosses old new → IsLegal new
+    → IsLegal old → CrossesToEmpty crosses old → Crosses crosses old new → IsLegal new
 
 -- the meaning of n evenly spaced cars on `lanes` lanes of `cells` cells with a limit: the legal road with
 -- these cars, or the first fault, which is not `Memory`
-abbrev pub SaysEven : ℕ → ℕ → ℕ → ℕ → Result Cells RoadFault → Type 0
-SaysEven lanes cells limit n (Ok road) =
+abbrev pub EvenCarsMean : ℕ → ℕ → ℕ → ℕ → Result Cells RoadFault → Type 0
+EvenCarsMean lanes cells limit n (Ok road) =
     CanSpread lanes cells limit n × IsEven lanes cells limit n road × IsLegal road
-SaysEven lanes cells limit n (Err fault) = IsEvenFault lanes cells limit n fault × (fault ≢ Memory)
+EvenCarsMean lanes cells limit n (Err fault) = IsEvenFault lanes cells limit n fault × (fault ≢ Memory)
 
 -- any lanes, cells, limit and number n of evenly spaced cars have a meaning: a legal road or a first fault
-abbrev pub EvenSaysSomething : Type 0
-EvenSaysSomething = (lanes cells limit n : ℕ)
-    → (said : Result Cells RoadFault) × SaysEven lanes cells limit n said
+abbrev pub EvenCarsHaveMeaning : Type 0
+EvenCarsHaveMeaning = (lanes cells limit n : ℕ)
+    → (said : Result Cells RoadFault) × EvenCarsMean lanes cells limit n said
 
 -- any lanes, cells, limit and number n of evenly spaced cars have at most one meaning
-abbrev pub EvenSaysOneThing : Type 0
-EvenSaysOneThing = (lanes cells limit n : ℕ) (said other : Result Cells RoadFault)
-    → SaysEven lanes cells limit n said → SaysEven lanes cells limit n other → said ≡ other
+abbrev pub EvenCarsHaveOneMeaning : Type 0
+EvenCarsHaveOneMeaning = (lanes cells limit n : ℕ) (said other : Result Cells RoadFault)
+    → EvenCarsMean lanes cells limit n said → EvenCarsMean lanes cells limit n other → said ≡ other
 
 -- at most one road has `lanes` lanes of `cells` cells, this limit, and n evenly spaced cars
 abbrev pub OneEvenRoad : Type 0
@@ -166,6 +166,6 @@ OneEvenFault = (lanes cells limit n : ℕ) (fault other : RoadFault)
     → fault ≢ Memory → other ≢ Memory → fault ≡ other
 
 -- lanes, cells and a limit in range, with a cell for each of n cars, have no fault other than `Memory`
-abbrev pub NoFaultInFitting : Type 0
-NoFaultInFitting = (lanes cells limit n : ℕ) (fault : RoadFault)
+abbrev pub FittingCarsHaveNoFault : Type 0
+FittingCarsHaveNoFault = (lanes cells limit n : ℕ) (fault : RoadFault)
     → CanSpread lanes cells limit n → IsEvenFault lanes cells limit n fault → fault ≡ Memory

@@ -72,8 +72,8 @@ abbrev pub in_order : {X : Type 0} → (ℕ → ℕ → X) → Cells → List X
 in_order f road = map (λ (car : Car). f car.lane car.place) (standing road)
 
 -- `value` is the value of `look` on its own lane at the place of the k-th car in standing order
-abbrev pub IsOnLane : {X : Type 0} → (Lane → ℕ → X) → Cells → ℕ → X → Type 0
-IsOnLane look road k value = (car : Car) → IsStanding road k car
+abbrev pub IsOnOwnLane : {X : Type 0} → (Lane → ℕ → X) → Cells → ℕ → X → Type 0
+IsOnOwnLane look road k value = (car : Car) → IsStanding road k car
     → value ≡ look (lane_of road car.lane) car.place
 
 -- the gap ahead of each car of a road, in standing order

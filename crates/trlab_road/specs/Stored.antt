@@ -82,7 +82,7 @@ pub record IsFirstFrom (cars : List LaneCar) (x index : ℕ) : Type 0 where
 
 -- `beside` describes place x of a lane of n cells with these cars as the other lane sees it: whether the cell
 -- is empty, and the gaps ahead of it and behind it
-pub record IsBesidePlace (n : ℕ) (cars : List LaneCar) (x : ℕ) (beside : Beside) : Type 0 where
+pub record DescribesSideCell (n : ℕ) (cars : List LaneCar) (x : ℕ) (beside : Beside) : Type 0 where
   pub empty : beside.is_empty ≡ side (cells_of n cars) x
   pub ahead : beside.ahead ≡ sidegap (cells_of n cars) x
   pub behind : beside.behind ≡ sideback (cells_of n cars) x
@@ -90,7 +90,7 @@ pub record IsBesidePlace (n : ℕ) (cars : List LaneCar) (x : ℕ) (beside : Bes
   pub behind_within : beside.behind < n
 
 -- lane `leaving` has the cars of lane `old` that cross, at their places, and no others
-pub record LaneLeaves (crosses : ℕ → Bool) (old leaving : Lane) : Type 0 where
+pub record HasLeavingCars (crosses : ℕ → Bool) (old leaving : Lane) : Type 0 where
   pub same_length : length leaving ≡ length old
   pub each_cell : (x : ℕ) → x < length old → at leaving x ≡ cond (crosses x) (at old x) None
 

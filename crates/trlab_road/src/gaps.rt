@@ -6,7 +6,7 @@
 ghost use Rattle.std.specs.Prelude.{◌≡◌, ◌<◌, ◌≤◌, ℕ, length, IfSome, if◌then◌else◌, nat_lt};
 ghost use Rattle.trlab_bounds.specs.declared.roads.TheConstants.{MAX_LENGTH};
 ghost use Rattle.trlab_road.specs.Gaps.{behind, clear_cells, gap, headspeed};
-ghost use Rattle.trlab_road.specs.Stored.{IsParted, IsSortedFrom, cells_of, place_of, IsRising, IsFirstFrom, IsBesidePlace};
+ghost use Rattle.trlab_road.specs.Stored.{IsParted, IsSortedFrom, cells_of, place_of, IsRising, IsFirstFrom, DescribesSideCell};
 ghost use Rattle.trlab_road.specs.Cells.{cars_before};
 
 use crate::car::{LaneCar, place_at, speed_at};
@@ -184,7 +184,7 @@ fn look_between(cars: &[LaneCar], cells: usize, place: u32, next: usize) -> Besi
     requires found { IsFirstFrom cars.now place next }
     requires past { 0 < next }
     requires not_last { next < length cars.now }
-    ensures beside { IsBesidePlace cells cars.now place result }
+    ensures beside { DescribesSideCell cells cars.now place result }
     ensures next { result.next ≡ next }
 {
     let to_next = place_at(cars, next) - place;
@@ -204,7 +204,7 @@ fn look_anywhere(cars: &[LaneCar], cells: usize, place: u32, next: usize) -> Bes
     requires inside { place < cells }
     requires sorted { IsSortedFrom 0 cells cars.now }
     requires found { IsFirstFrom cars.now place next }
-    ensures beside { IsBesidePlace cells cars.now place result }
+    ensures beside { DescribesSideCell cells cars.now place result }
     ensures next { result.next ≡ next }
 {
     if next < cars.len() && place_at(cars, next) == place {
@@ -230,7 +230,7 @@ pub fn look_beside(cars: &[LaneCar], cells: usize, place: u32, near: usize) -> B
     requires small { cells ≤ MAX_LENGTH }
     requires inside { place < cells }
     requires sorted { IsSortedFrom 0 cells cars.now }
-    ensures beside { IsBesidePlace cells cars.now place result }
+    ensures beside { DescribesSideCell cells cars.now place result }
     ensures next { result.next ≡ cars_before (cells_of cells cars.now) place }
 {
     if let Some(next) = first_of_five(cars, place, near) {

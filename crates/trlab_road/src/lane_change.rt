@@ -6,7 +6,7 @@ ghost use Rattle.std.specs.Int.{from_bool};
 ghost use Rattle.trlab_bounds.specs.declared.roads.TheConstants.{MAX_LENGTH};
 ghost use Rattle.trlab_road.specs.Cells.{Cells, lane_cars};
 ghost use Rattle.trlab_road.specs.LaneChange.{Crosses, LaneCrosses, crosses_at};
-ghost use Rattle.trlab_road.specs.Stored.{IsSortedFrom, IsRising, AreSorted, IsFirstFrom, cell_at, cells_of, lanes_from, place_of, LaneLeaves, lane_crosses_at};
+ghost use Rattle.trlab_road.specs.Stored.{IsSortedFrom, IsRising, AreSorted, IsFirstFrom, cell_at, cells_of, lanes_from, place_of, HasLeavingCars, lane_crosses_at};
 
 use crate::car::{LaneCar, car_at, place_at};
 use crate::lanes::{empty_lanes, list_of};
@@ -44,7 +44,7 @@ fn leaving_cars(
     ensures rises { OnOk result (IsSortedFrom 0 cells leaving.new.items) }
     ensures leaves { OnOk result (
         let old = cells_of cells lane.entry.cars.now in
-        LaneLeaves (lane_crosses_at old crosses.now lane.entry.from)
+        HasLeavingCars (lane_crosses_at old crosses.now lane.entry.from)
         old (cells_of cells leaving.new.items)) }
 {
     leaving.clear();

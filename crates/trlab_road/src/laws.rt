@@ -3,15 +3,15 @@
 //!
 //! Each law is the contract of a function with an empty body.
 
-ghost use Rattle.trlab_road.specs.Laws.{GoodPicturesShowLegalRoads, NoFaultInGood, OneFirstFault, PicturesShowOneRoad};
-ghost use Rattle.trlab_road.specs.Laws.{PicturesOfLegalRoads, PicturesSayOneThing, PicturesSaySomething, PicturesSayTheRoad};
+ghost use Rattle.trlab_road.specs.Laws.{GoodPicturesShowLegalRoads, GoodPicturesHaveNoFault, OneFirstFault, PicturesShowOneRoad};
+ghost use Rattle.trlab_road.specs.Laws.{PicturesOfLegalRoads, PicturesHaveOneMeaning, PicturesHaveMeaning, PicturesMeanTheRoad};
 ghost use Rattle.trlab_road.specs.Laws.{HeadspeedIsOfNextCar, HeadspeedOfLoneCar};
 ghost use Rattle.trlab_road.specs.Laws.{HasAllNumbers, MotionByCars, MotionIsClean, MotionKeepsCars};
 ghost use Rattle.trlab_road.specs.Laws.{MotionKeepsLegal, OneRoadAfterMotion, SomeRoadAfterMotion};
 ghost use Rattle.trlab_road.specs.Laws.{LaneChangeByCars, LaneChangeIsClean, LaneChangeKeepsLegal};
 ghost use Rattle.trlab_road.specs.Laws.{OneRoadAfterLaneChange};
-ghost use Rattle.trlab_road.specs.Laws.{EvenRoadHasAllCars, EvenRoadIsLegal, NoFaultInFitting, OneEvenFault, OneEvenRoad};
-ghost use Rattle.trlab_road.specs.Laws.{EvenSaysOneThing, EvenSaysSomething};
+ghost use Rattle.trlab_road.specs.Laws.{EvenRoadHasAllCars, EvenRoadIsLegal, FittingCarsHaveNoFault, OneEvenFault, OneEvenRoad};
+ghost use Rattle.trlab_road.specs.Laws.{EvenCarsHaveOneMeaning, EvenCarsHaveMeaning};
 
 /// A limit and pictures show at most one road, which is legal if they are good. Apart from `Memory`, they have at most
 /// one first fault, and none if they are good.
@@ -19,20 +19,20 @@ pub fn pictures_show_one_road()
     ensures one_road { PicturesShowOneRoad }
     ensures legal { GoodPicturesShowLegalRoads }
     ensures one_fault { OneFirstFault }
-    ensures no_fault { NoFaultInGood }
+    ensures no_fault { GoodPicturesHaveNoFault }
 {}
 
 /// Any limit and pictures have exactly one meaning: the legal road that they show, or their first fault.
 pub fn pictures_say_one_thing()
-    ensures something { PicturesSaySomething }
-    ensures one_thing { PicturesSayOneThing }
+    ensures something { PicturesHaveMeaning }
+    ensures one_thing { PicturesHaveOneMeaning }
 {}
 
 /// Each legal road has good pictures. If its cars are numbered in standing order, reading its pictures gives
 /// the same road.
 pub fn pictures_say_the_road()
     ensures good { PicturesOfLegalRoads }
-    ensures same { PicturesSayTheRoad }
+    ensures same { PicturesMeanTheRoad }
 {}
 
 /// The headspeed is the speed of the first car ahead on the ring: the car's own speed if it is the only one.
@@ -78,11 +78,11 @@ pub fn even_cars_make_one_road()
     ensures legal { EvenRoadIsLegal }
     ensures all_cars { EvenRoadHasAllCars }
     ensures one_fault { OneEvenFault }
-    ensures no_fault { NoFaultInFitting }
+    ensures no_fault { FittingCarsHaveNoFault }
 {}
 
 /// Evenly spaced cars have exactly one meaning: the legal road that they are on, or the first fault.
 pub fn even_cars_say_one_thing()
-    ensures something { EvenSaysSomething }
-    ensures one_thing { EvenSaysOneThing }
+    ensures something { EvenCarsHaveMeaning }
+    ensures one_thing { EvenCarsHaveOneMeaning }
 {}

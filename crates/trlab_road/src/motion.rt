@@ -5,7 +5,7 @@ ghost use Rattle.std.specs.Prelude.{◌≡◌, ◌+◌, ◌<◌, ◌≤◌, ℕ,
 ghost use Rattle.trlab_bounds.specs.declared.roads.TheConstants.{MAX_LENGTH, MAX_LIMIT};
 ghost use Rattle.trlab_road.specs.Cells.{lane_cars};
 ghost use Rattle.trlab_road.specs.Motion.{LaneFits, LaneMoves};
-ghost use Rattle.trlab_road.specs.GoneOn.{HaveGoneOn, gone_on};
+ghost use Rattle.trlab_road.specs.GoneOn.{HaveMovedAhead, moved_ahead};
 ghost use Rattle.trlab_road.specs.Stored.{no_car, place_of, ListsFit, ListsMove, IsSortedFrom, AreSorted, cells_of, lanes_from, lane_answer};
 
 use crate::car::LaneCar;
@@ -27,7 +27,7 @@ fn gone_together(
     requires short { (k : ℕ) → k < MOVED_TOGETHER
         → place_of cars.now (at + k) + slice_index speeds.now (from + k) ≤ MAX_LENGTH }
     ensures { (k : ℕ) → k < MOVED_TOGETHER → slice_index_or result k no_car
-        ≡ gone_on (slice_index_or cars.now (at + k) no_car) (slice_index speeds.now (from + k)) }
+        ≡ moved_ahead (slice_index_or cars.now (at + k) no_car) (slice_index speeds.now (from + k)) }
 {
     let mut gone = [LaneCar::new(0, 0, 0); MOVED_TOGETHER];
     for k in 0..MOVED_TOGETHER {
@@ -41,7 +41,7 @@ fn gone_together(
 fn go_on(car: LaneCar, speed: u32) -> LaneCar
     requires slow { speed ≤ MAX_LIMIT }
     requires short { car.place + speed ≤ MAX_LENGTH }
-    ensures { result ≡ gone_on car speed }
+    ensures { result ≡ moved_ahead car speed }
 {
     LaneCar::new(car.number(), car.place() + speed, speed)
 }
@@ -53,7 +53,7 @@ fn move_straight(cars: &mut [LaneCar], speeds: &[u8], from: usize)
     requires slow { (k : ℕ) → k < length speeds.now → slice_index speeds.now k ≤ MAX_LIMIT }
     requires short { (k : ℕ) → k < length cars.old
         → place_of cars.old k + slice_index speeds.now (from + k) ≤ MAX_LENGTH }
-    ensures { HaveGoneOn speeds.now from cars.old cars.new (length cars.old) }
+    ensures { HaveMovedAhead speeds.now from cars.old cars.new (length cars.old) }
 {
     let blocks = cars.len() / MOVED_TOGETHER;
     for block in 0..blocks {

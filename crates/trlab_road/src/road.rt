@@ -12,8 +12,8 @@ ghost use Rattle.trlab_road.specs.Gaps.{gap, headspeed, side, sideback, sidegap}
 ghost use Rattle.trlab_road.specs.InLine.{IsFollowed, IsLineFrom, IsLineOf};
 ghost use Rattle.trlab_road.specs.Standing.{IsStanding};
 ghost use Rattle.trlab_road.specs.Stored.{no_car};
-ghost use Rattle.trlab_road.specs.LaneChange.{IsBeside, IsGapBeside, sides, CleanLaneChange, Crosses, MayCross};
-ghost use Rattle.trlab_road.specs.Motion.{IsOnLane, gaps, MayMove, CleanMotion, Moves, in_order};
+ghost use Rattle.trlab_road.specs.LaneChange.{IsOnOtherLane, IsGapBeside, sides, CleanLaneChange, Crosses, MayCross};
+ghost use Rattle.trlab_road.specs.Motion.{IsOnOwnLane, gaps, MayMove, CleanMotion, Moves, in_order};
 
 use crate::car::{Car, LaneCar, place_at};
 use crate::fault::RoadFault;
@@ -257,7 +257,7 @@ impl Road {
     pub fn gap(&self, k: u32) -> u32
         requires { k < cars self.now }
         ensures value { result ≡ slice_index (gaps self.now) k }
-        ensures of_car { IsOnLane gap self.now k result }
+        ensures of_car { IsOnOwnLane gap self.now k result }
         ensures below { result < length (lane_of self.now 0) }
     {
         self.ahead(k).gap
@@ -267,7 +267,7 @@ impl Road {
     /// cells per step; its own speed if there is no other car.
     pub fn headspeed(&self, k: u32) -> u32
         requires { k < cars self.now }
-        ensures of_car { IsOnLane headspeed self.now k result }
+        ensures of_car { IsOnOwnLane headspeed self.now k result }
         ensures within { result ≤ self.now.limit }
     {
         self.ahead(k).headspeed
@@ -277,8 +277,8 @@ impl Road {
     pub fn ahead(&self, k: u32) -> Ahead
         requires { k < cars self.now }
         ensures value { result.gap ≡ slice_index (gaps self.now) k }
-        ensures gap { IsOnLane gap self.now k result.gap }
-        ensures headspeed { IsOnLane headspeed self.now k result.headspeed }
+        ensures gap { IsOnOwnLane gap self.now k result.gap }
+        ensures headspeed { IsOnOwnLane headspeed self.now k result.headspeed }
         ensures below { result.gap < length (lane_of self.now 0) }
         ensures within { result.headspeed ≤ self.now.limit }
     {
@@ -315,7 +315,7 @@ impl Road {
         requires below { k < cars self.now }
         requires two { length self.now.lanes ≡ 2 }
         ensures value { result ≡ slice_index_or (sides self.now) k false }
-        ensures of_car { IsBeside side self.now k result }
+        ensures of_car { IsOnOtherLane side self.now k result }
     {
         self.beside(k, 0).is_empty
     }
@@ -328,10 +328,10 @@ impl Road {
         requires below { k < cars self.now }
         requires two { length self.now.lanes ≡ 2 }
         ensures value { result.is_empty ≡ slice_index_or (sides self.now) k false }
-        ensures empty { IsBeside side self.now k result.is_empty }
+        ensures empty { IsOnOtherLane side self.now k result.is_empty }
         ensures ahead { IsGapBeside sidegap self.now k result.ahead }
         ensures behind { IsGapBeside sideback self.now k result.behind }
-        ensures next { IsBeside cars_before self.now k result.next }
+        ensures next { IsOnOtherLane cars_before self.now k result.next }
     {
         let index = k as usize;
         let first = list_of(&self.lanes, 0);

@@ -16,7 +16,7 @@ use Rattle.trlab_notes.specs.declared.note.AbstractValue.{AbstractValue}
 use Rattle.trlab_notes.specs.declared.note.AbstractValue.TheVariants.{Nothing, Between, Implies}
 use Rattle.trlab_notes.specs.declared.reasons.Reason.{Reason}
 use Rattle.trlab_notes.specs.Notes.{Note, same_variable, said_with_side, known_level, entry_said, entry}
-use Rattle.trlab_notes.specs.Order.{SaysNoMore, IsNoStronger}
+use Rattle.trlab_notes.specs.Order.{IsNoMorePrecise, IsNoStronger}
 use Rattle.trlab_notes.specs.Reasons.{reason_against}
 use Rattle.trlab_notes.specs.Transfer.{next_note, jump_note}
 use Rattle.trlab_notes.proofs.Variables.{variables, back, below, same_is}
@@ -66,7 +66,7 @@ implied : (p q : Bool) → (not p || q) ≡ true → IsTrue p → IsTrue q
 implied true q h e = h
 implied false q h e = absurd (cc e)
 
-no_more : (s t : AbstractValue) → says_no_more s t ≡ true → SaysNoMore s t
+no_more : (s t : AbstractValue) → says_no_more s t ≡ true → IsNoMorePrecise s t
 no_more Nothing t h = tt
 no_more (Between a b) (Between c d) h = let both = and_parts (nat_le a c) (nat_le d b) h in (leb-true a c both.0, leb-true d b both.1)
 no_more (Between a b) Nothing h = absurd (cc h)
@@ -114,7 +114,7 @@ unfolding said_with_side known_level
 no_stronger kind known n h =
     let first = and_parts (list_all (λ x. says_no_more (said_with_side (note_of kind known) x) (said_with_side n x)) variables) (are_known n known.facts && (not known.side || n.side)) h in
     let second = and_parts (are_known n known.facts) (not known.side || n.side) first.1 in
-    let says : (x : Variable) → SaysNoMore (said_with_side (note_of kind known) x) (said_with_side n x) =
+    let says : (x : Variable) → IsNoMorePrecise (said_with_side (note_of kind known) x) (said_with_side n x) =
     λ x. no_more (said_with_side (note_of kind known) x) (said_with_side n x) (of_each (λ z. says_no_more (said_with_side (note_of kind known) z) (said_with_side n z)) first.0 x) in
     record {
       said = says;

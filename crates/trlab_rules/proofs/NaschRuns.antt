@@ -8,7 +8,7 @@ use Rattle.trlab_code.specs.Views.{IsView}
 use Rattle.trlab_code.specs.Machine.{At, Goes, start, update}
 use Rattle.trlab_rules.specs.Published.{safe_speed, brake, happens_at, nasch_speed}
 use Rattle.trlab_rules.specs.Standard.{nasch_program}
-use Rattle.trlab_rules.specs.Laws.{MovesBy}
+use Rattle.trlab_rules.specs.Laws.{ComputesSpeed}
 use Rattle.trlab_rules.proofs.Rows.{Run, num, get, draw, add, sub, smaller, if_false-jumps, if_false-falls, go}
 
 -- a speed that is seen can be raised by one
@@ -52,7 +52,7 @@ module _ (p : ℕ) (view : View) (words : List ℕ) (seen : IsView view) where
       (go R0 safe refl refl (omega arith) (omega arith))))))))))
 
 -- it answers the speed of Nagel and Schreckenberg
-pub nasch_moves : (p : ℕ) → MovesBy (nasch_speed p) (nasch_program p)
+pub nasch_moves : (p : ℕ) → ComputesSpeed (nasch_speed p) (nasch_program p)
 nasch_moves p view words seen =
     let run = runs p view words seen (happens_at p words 0) refl in
     (run.steps, run.ends)

@@ -10,7 +10,7 @@ use Rattle.trlab_code.specs.Views.{IsView}
 use Rattle.trlab_code.specs.Machine.{Store, Number, Flag, Answer, Crosses, Stays, At, start, update}
 use Rattle.trlab_rules.specs.Published.{happens_at, rickert_crosses}
 use Rattle.trlab_rules.specs.Standard.{rickert_program}
-use Rattle.trlab_rules.specs.Laws.{ChangesBy}
+use Rattle.trlab_rules.specs.Laws.{ComputesCrossing}
 use Rattle.trlab_rules.proofs.Rows.{Run, num, get, side, draw, add, at_most-jumps, at_most-falls, if_false-jumps, if_false-falls, cross, stay}
 use Rattle.trlab_rules.proofs.NaschRuns.{one_more}
 
@@ -94,7 +94,7 @@ module _ (c : ℕ) (view : View) (words : List ℕ) (seen : IsView view) where
   by_side false near ahead back h taken d e f g = side R0 refl refl (if_false-jumps R0 15 refl (rw taken) (stays _))
 
 -- it answers who crosses by the exchange of lanes
-pub rickert_changes : (c : ℕ) → ChangesBy (rickert_crosses c) (rickert_program c)
+pub rickert_changes : (c : ℕ) → ComputesCrossing (rickert_crosses c) (rickert_program c)
 rickert_changes c view words seen =
     let run = by_side c view words seen view.side (nat_lt view.gap (view.speed + 1)) (nat_lt (view.speed + 1) view.sidegap) (nat_lt view.limit view.sideback) (happens_at c words 1) refl refl refl refl refl in
     (run.steps, run.ends)

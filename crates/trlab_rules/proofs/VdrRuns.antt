@@ -10,7 +10,7 @@ use Rattle.trlab_code.specs.Views.{IsView}
 use Rattle.trlab_code.specs.Machine.{Store, Number, Flag, At, Goes, start, update}
 use Rattle.trlab_rules.specs.Published.{safe_speed, brake, happens_at, vdr_chance, vdr_speed}
 use Rattle.trlab_rules.specs.Standard.{vdr_program}
-use Rattle.trlab_rules.specs.Laws.{MovesBy}
+use Rattle.trlab_rules.specs.Laws.{ComputesSpeed}
 use Rattle.trlab_rules.proofs.Rows.{Run, num, get, draw, add, sub, smaller, jump, at_most-jumps, at_most-falls, if_false-jumps, if_false-falls, go}
 use Rattle.trlab_rules.proofs.NaschRuns.{one_more, one_off}
 
@@ -64,7 +64,7 @@ module _ (p p0 : ℕ) (view : View) (words : List ℕ) (seen : IsView view) wher
       (behind h))))
 
 -- it answers the speed of Barlovic, Santen, Schadschneider and Schreckenberg
-pub vdr_moves : (p p0 : ℕ) → MovesBy (vdr_speed p p0) (vdr_program p p0)
+pub vdr_moves : (p p0 : ℕ) → ComputesSpeed (vdr_speed p p0) (vdr_program p p0)
 vdr_moves p p0 view words seen =
     let run = runs p p0 view words seen (nat_eq view.speed 0) (happens_at (vdr_chance p p0 view.speed) words 0) refl refl in
     (run.steps, run.ends)

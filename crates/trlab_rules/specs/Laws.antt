@@ -11,19 +11,19 @@ use Rattle.trlab_code.specs.Machine.{Flag, Goes, Crosses, Stays, Store, Writes, 
 
 -- for every view in range and any random words, a motion program ends with the speed that the function
 -- `speed` gives
-abbrev pub MovesBy : (View → List ℕ → ℕ) → Program → Type 0
-MovesBy speed program = (view : View) (words : List ℕ) → IsView view
+abbrev pub ComputesSpeed : (View → List ℕ → ℕ) → Program → Type 0
+ComputesSpeed speed program = (view : View) (words : List ℕ) → IsView view
     → (n : ℕ) × EndsWith Motion program.instrs view words (Goes (speed view words)) n
 
 -- for every view in range and any random words, a change program ends with a crossing exactly if the function
 -- `crosses` says so
-abbrev pub ChangesBy : (View → List ℕ → Bool) → Program → Type 0
-ChangesBy crosses program = (view : View) (words : List ℕ) → IsView view
+abbrev pub ComputesCrossing : (View → List ℕ → Bool) → Program → Type 0
+ComputesCrossing crosses program = (view : View) (words : List ℕ) → IsView view
     → (n : ℕ) × EndsWith Change program.instrs view words (if crosses view words then Crosses else Stays) n
 
 -- `draw` writes a true flag exactly if an event of its probability, chance / 2 ^ 31, happens on its random
 -- word k, and otherwise a false one
-abbrev pub DrawsHappenAsChances : Type 0
-DrawsHappenAsChances = (view : View) (words : List ℕ) (values : Store) (d : Register) (k chance : ℕ)
+abbrev pub DrawsMatchChances : Type 0
+DrawsMatchChances = (view : View) (words : List ℕ) (values : Store) (d : Register) (k chance : ℕ)
     → effect view words values (Draw d k chance)
     ≡ Writes d (Flag (happens_on chance (slice_index words k)))

@@ -8,14 +8,14 @@ use Rattle.trlab_verify.specs.Verdict.{IsAccepted}
 use Rattle.trlab_rules.specs.Rules.{Programs}
 use Rattle.trlab_rules.specs.Published.{nasch_speed, vdr_speed, rickert_crosses}
 use Rattle.trlab_rules.specs.Standard.{nasch_program, vdr_program, rickert_program}
-use Rattle.trlab_rules.specs.Laws.{MovesBy, ChangesBy}
+use Rattle.trlab_rules.specs.Laws.{ComputesSpeed, ComputesCrossing}
 
 -- `motion` is `program`, which the verifier accepts, and it ends with the speed that the function `speed`
 -- gives
 pub record IsMotion (speed : View → List ℕ → ℕ) (program : Program) (motion : CheckedProgram) : Type 0 where
   pub same : motion.program ≡ program
   pub accepted : IsAccepted Motion program
-  pub moves : MovesBy speed motion.program
+  pub moves : ComputesSpeed speed motion.program
 
 -- `change` is `program`, which the verifier accepts, and it lets a car cross exactly if the function
 -- `crosses` says so
@@ -23,7 +23,7 @@ pub record IsChange (crosses : View → List ℕ → Bool) (program : Program) (
     : Type 0 where
   pub same : change.program ≡ program
   pub accepted : IsAccepted Change program
-  pub changes : ChangesBy crosses change.program
+  pub changes : ComputesCrossing crosses change.program
 
 -- the rule of 1992 with probability p / 2 ^ 31 of braking, and without a lane change
 pub record IsNasch (p : ℕ) (rule : Programs) : Type 0 where

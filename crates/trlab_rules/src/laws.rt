@@ -5,7 +5,7 @@ ghost use Rattle.trlab_code.specs.declared.program.Kind.TheVariants.{Motion as O
 ghost use Rattle.trlab_verify.specs.Verdict.{IsAccepted};
 ghost use Rattle.trlab_rules.specs.Published.{safe_speed, wording_1992, nasch_speed, vdr_speed, rickert_crosses};
 ghost use Rattle.trlab_rules.specs.Standard.{nasch_program, vdr_program, rickert_program};
-ghost use Rattle.trlab_rules.specs.Laws.{MovesBy, ChangesBy, DrawsHappenAsChances};
+ghost use Rattle.trlab_rules.specs.Laws.{ComputesSpeed, ComputesCrossing, DrawsMatchChances};
 
 /// The verifier accepts the programs of the standard rules for every probability.
 pub fn standard_programs_are_accepted()
@@ -16,23 +16,23 @@ pub fn standard_programs_are_accepted()
 
 /// `draw` writes a true flag exactly if an event of its probability happens on its random word.
 pub fn chances_are_those_of_draws()
-    ensures { DrawsHappenAsChances }
+    ensures { DrawsMatchChances }
 {}
 
 /// The motion program of 1992 computes the speed of Nagel and Schreckenberg.
 pub fn nasch_is_published()
-    ensures { (p : ℕ) → MovesBy (nasch_speed p) (nasch_program p) }
+    ensures { (p : ℕ) → ComputesSpeed (nasch_speed p) (nasch_program p) }
 {}
 
 /// The motion program of 1998 computes the speed of Barlovic, Santen, Schadschneider and Schreckenberg.
 pub fn vdr_is_published()
-    ensures { (p p0 : ℕ) → MovesBy (vdr_speed p p0) (vdr_program p p0) }
+    ensures { (p p0 : ℕ) → ComputesSpeed (vdr_speed p p0) (vdr_program p p0) }
 {}
 
 /// The change program of 1996 computes the lane change of Rickert, Nagel, Schreckenberg and Latour, with this project's
 /// distances.
 pub fn rickert_is_published()
-    ensures { (c : ℕ) → ChangesBy (rickert_crosses c) (rickert_program c) }
+    ensures { (c : ℕ) → ComputesCrossing (rickert_crosses c) (rickert_program c) }
 {}
 
 /// For a speed of at most the limit, the wording of 1992 gives the minimum of the speed plus one, limit and gap.

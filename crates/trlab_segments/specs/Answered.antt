@@ -9,7 +9,7 @@ use Rattle.trlab_segments.specs.declared.tickets.Drawer.{Drawer}
 use Rattle.trlab_segments.specs.declared.tickets.Tickets.{Tickets}
 use Rattle.trlab_segments.specs.Drawers.{IsFrom, is_ended, passes_of, tickets_of}
 use Rattle.trlab_segments.specs.Segments.{first_car}
-use Rattle.trlab_step.specs.Answers.{IsCrossesPart, IsSpeedsPart}
+use Rattle.trlab_step.specs.Answers.{IsCrossingsPart, IsSpeedsPart}
 use Rattle.trlab_verify.specs.CheckedProgram.{CheckedProgram}
 use Rattle.std.specs.Borrow.{Bor}
 use Rattle.trlab_road.specs.declared.road.Road.{Road}
@@ -62,18 +62,18 @@ IsPlaceOf parts place number =
 
 -- a call with precondition `pre` and postcondition `post` can be made on any road and, unless an allocation
 -- fails, returns the speeds of all its cars in standing order
-abbrev pub TellsSpeeds : {A B E : Type 0} → (A → Bor Road → Bor CheckedProgram → Bor Dice → Type 0)
+abbrev pub ReturnsSpeeds : {A B E : Type 0} → (A → Bor Road → Bor CheckedProgram → Bor Dice → Type 0)
     → (A → Bor Road → Bor CheckedProgram → Bor Dice → Result (Vec ℕ B) E → Type 0) → Type 0
-TellsSpeeds pre post = (alloc : _) (road : Bor Road) (motion : Bor CheckedProgram) (dice : Bor Dice)
+ReturnsSpeeds pre post = (alloc : _) (road : Bor Road) (motion : Bor CheckedProgram) (dice : Bor Dice)
     → pre alloc road motion dice
     × ((told : _) → post alloc road motion dice told
     → IfOk told (λ speeds. IsSpeedsPart motion.now dice.now road.now 0 (cars road.now) speeds.items))
 
 -- a call with precondition `pre` and postcondition `post` can be made on any road of two lanes and, unless an
 -- allocation fails, returns which of its cars cross, in standing order
-abbrev pub TellsCrosses : {A B E : Type 0} → (A → Bor Road → Bor CheckedProgram → Bor Dice → Type 0)
+abbrev pub ReturnsCrossings : {A B E : Type 0} → (A → Bor Road → Bor CheckedProgram → Bor Dice → Type 0)
     → (A → Bor Road → Bor CheckedProgram → Bor Dice → Result (Vec Bool B) E → Type 0) → Type 0
-TellsCrosses pre post = (alloc : _) (road : Bor Road) (change : Bor CheckedProgram) (dice : Bor Dice)
+ReturnsCrossings pre post = (alloc : _) (road : Bor Road) (change : Bor CheckedProgram) (dice : Bor Dice)
     → HasTwoLanes road.now → pre alloc road change dice
     × ((told : _) → post alloc road change dice told
-    → IfOk told (λ crosses. IsCrossesPart change.now dice.now road.now 0 (cars road.now) crosses.items))
+    → IfOk told (λ crosses. IsCrossingsPart change.now dice.now road.now 0 (cars road.now) crosses.items))

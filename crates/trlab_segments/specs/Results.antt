@@ -11,12 +11,12 @@ use Rattle.trlab_segments.specs.declared.pool.brief.Brief.{Brief}
 use Rattle.trlab_segments.specs.declared.pool.results.Results.{Results}
 
 -- the brief asks this program with these dice, for the cars of this road
-abbrev pub AsksOf : {P : Type 0} → P → Dice → Cells → Brief P → Type 0
-AsksOf program dice road b = (b.program ≡ program) × (b.dice ≡ dice) × (b.road ≡ road)
+abbrev pub IsBriefOf : {P : Type 0} → P → Dice → Cells → Brief P → Type 0
+IsBriefOf program dice road b = (b.program ≡ program) × (b.dice ≡ dice) × (b.road ≡ road)
 
 -- the segments of a brief end with the last car of its road
-abbrev pub IsCutWhole : {P : Type 0} → Brief P → Type 0
-IsCutWhole b = first_car (cars b.road) (count_of b.tickets) (count_of b.tickets) ≡ cars b.road
+abbrev pub CoversAllCars : {P : Type 0} → Brief P → Type 0
+CoversAllCars b = first_car (cars b.road) (count_of b.tickets) (count_of b.tickets) ≡ cars b.road
 
 -- a part has the answers of the brief's program for the cars of its segment
 abbrev pub IsRight : {P A : Type 0} → (P → Dice → Cells → ℕ → ℕ → List A → Type 0)
@@ -31,9 +31,9 @@ HasDone answers b d parts = IsFrom b.tickets d × HasParts (IsRight answers b) d
 
 -- the drawer belongs to the brief's tickets; unless an allocation failed, it has ended, and there is the
 -- right part for each ticket that it drew
-abbrev pub TellsDone : {P A B E : Type 0} → (P → Dice → Cells → ℕ → ℕ → List A → Type 0)
+abbrev pub IsRightResult : {P A B E : Type 0} → (P → Dice → Cells → ℕ → ℕ → List A → Type 0)
     → Brief P → Drawer → Result (Vec (Part A) B) E → Type 0
-TellsDone answers b d told =
+IsRightResult answers b d told =
     IsFrom b.tickets d × IfOk told (λ parts. HasParts (IsRight answers b) d parts.items)
 
 -- the deposit is right: if no helper has made one (`None`), there are no parts; otherwise the drawer belongs
@@ -41,7 +41,7 @@ TellsDone answers b d told =
 abbrev pub IsDeposited : {P A B E : Type 0} → (P → Dice → Cells → ℕ → ℕ → List A → Type 0)
     → Brief P → Option Drawer → Result (Vec (Part A) B) E → Type 0
 IsDeposited answers b deposited told =
-    MatchOption deposited (IfOk told (λ parts. parts.items ≡ [])) (λ d. TellsDone answers b d told)
+    MatchOption deposited (IfOk told (λ parts. parts.items ≡ [])) (λ d. IsRightResult answers b d told)
 
 -- the list `found` has the answers of the brief's program for all cars of its road
 abbrev pub AnswersAll : {P A : Type 0} → (P → Dice → Cells → ℕ → ℕ → List A → Type 0)

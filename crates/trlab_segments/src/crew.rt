@@ -5,10 +5,10 @@ ghost use Rattle.std.specs.Prelude.{◌≡◌, ◌<◌, ◌≤◌, [], IfOk};
 ghost use Rattle.std.specs.Thread.{IsSend, IsSync};
 ghost use Rattle.trlab_bounds.specs.declared.runs.TheConstants.{MAX_WORKERS};
 ghost use Rattle.trlab_road.specs.Cells.{cars};
-ghost use Rattle.trlab_segments.specs.Answered.{HasTwoLanes, HasWorked, IsPart, TellsCrosses, TellsSpeeds};
+ghost use Rattle.trlab_segments.specs.Answered.{HasTwoLanes, HasWorked, IsPart, ReturnsCrossings, ReturnsSpeeds};
 ghost use Rattle.trlab_segments.specs.Drawers.{IsFrom, count_of, tickets_of};
-ghost use Rattle.trlab_step.specs.Answers.{IsCrossesPart, IsSpeedsPart, dice_of};
-ghost use Rattle.trlab_step.specs.Next.{TellsNext};
+ghost use Rattle.trlab_step.specs.Answers.{IsCrossingsPart, IsSpeedsPart, dice_of};
+ghost use Rattle.trlab_step.specs.Next.{IsStepResult};
 
 use crate::parts::{Part, joined, line_up, work};
 use crate::phase::{Asked, Phase};
@@ -112,7 +112,7 @@ impl<'a, R: Threads + Sync, G: Gate + Sync> Crew<'a, R, G> {
     ) -> Result<Vec<bool>, AllocError>
         requires { HasTwoLanes road.now }
         ensures { IfOk result (λ crosses.
-            IsCrossesPart change.now dice.now road.now 0 (cars road.now) crosses.items) }
+            IsCrossingsPart change.now dice.now road.now 0 (cars road.now) crosses.items) }
     {
         self.ask(
             alloc,
@@ -147,8 +147,8 @@ impl<
     S: Fn(Global, &Road, &Motion, &Dice) -> Result<Vec<u8>, AllocError>,
     C: Fn(Global, &Road, &Change, &Dice) -> Result<Vec<bool>, AllocError>,
 > Executor for Calls<S, C> {
-    ghost is_ready = { λ calls. TellsSpeeds (S.pre calls.speeds) (S.post calls.speeds)
-        × TellsCrosses (C.pre calls.crossings) (C.post calls.crossings) };
+    ghost is_ready = { λ calls. ReturnsSpeeds (S.pre calls.speeds) (S.post calls.speeds)
+        × ReturnsCrossings (C.pre calls.crossings) (C.post calls.crossings) };
 
     fn speeds<O: StepObserver>(
         &self,
@@ -250,7 +250,7 @@ pub fn step_shared<R: Threads + Sync, G: Gate + Sync>(
 ) -> Result<(Road, StepTally), StepFault>
     requires some_worker { 0 < workers }
     requires few_workers { workers ≤ MAX_WORKERS }
-    ensures { TellsNext rule.now (dice_of key.now.0 number step) road.now result }
+    ensures { IsStepResult rule.now (dice_of key.now.0 number step) road.now result }
 {
     let crew = Crew::new(rt, workers, gate);
     let dice = Dice::new(key, number, step);

@@ -6,7 +6,7 @@ ghost use Rattle.trlab_machine.specs.declared.dice.Dice.{Dice as TheDice};
 ghost use Rattle.trlab_road.specs.Cells.{Cells, cars};
 ghost use Rattle.trlab_segments.specs.Answered.{HasTwoLanes, HasLanes};
 ghost use Rattle.trlab_step.proofs.Joined.{crosses_begin, crosses_join, speeds_begin, speeds_join};
-ghost use Rattle.trlab_step.specs.Answers.{IsCrossesPart, IsSpeedsPart};
+ghost use Rattle.trlab_step.specs.Answers.{IsCrossingsPart, IsSpeedsPart};
 
 use crate::segment::Segment;
 use std::alloc::{AllocError, Global};
@@ -90,7 +90,7 @@ impl Asked<bool> for Change {
 
     ghost can_ask = { HasTwoLanes };
 
-    ghost answers = { IsCrossesPart };
+    ghost answers = { IsCrossingsPart };
 
     fn ask(list: &mut Vec<bool>, phase: &Phase<Change>, part: Segment) -> Result<(), AllocError> {
         let Segment { from, to } = part;

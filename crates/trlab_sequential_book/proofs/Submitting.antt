@@ -18,7 +18,7 @@ use Rattle.trlab_sequential_book.specs.declared.fault.BookFault.TheVariants as f
 use Rattle.trlab_sequential_book.specs.Comparison.{IsSnapshotOf}
 use Rattle.trlab_sequential_book.specs.Leases.{suits}
 use Rattle.trlab_sequential_book.specs.Machine.{JobState, Outcome, Served, BookState, after, cancelling, giving_back, is_free, is_full, is_own, leasing, new_job, next_after, on_free, on_job, ordering, reading, replacing, reply_of, revoking, served, empty_book}
-use Rattle.trlab_sequential_book.specs.Replay.{Replays, call_of, event, replies_from, state_from, told_by}
+use Rattle.trlab_sequential_book.specs.Replay.{Replays, call_of, event, replies_from, state_from, reply_of_event}
 use Rattle.trlab_sequential_book.specs.Sheets.{entered}
 use Rattle.trlab_sequential_book.specs.Submits.{IsSubmitted, JobsAreSubmitted, SnapshotsAreOfSubmits, SubmitsHaveTheirNumbers}
 use Rattle.trlab_sequential_book.proofs.Booking.{on_found}
@@ -227,7 +227,7 @@ from_calls (asked ∷ calls) book number job at = elim (from_calls calls (after 
 ]
 
 -- the event of a history at an index, from its call and its reply
-event_at : (history : List Event) (k : ℕ) (asked : Call) (told : Reply) → slice_get (map call_of history) k ≡ Some asked → slice_get (map told_by history) k ≡ Some told → slice_get history k ≡ Some (event asked told)
+event_at : (history : List Event) (k : ℕ) (asked : Call) (told : Reply) → slice_get (map call_of history) k ≡ Some asked → slice_get (map reply_of_event history) k ≡ Some told → slice_get history k ≡ Some (event asked told)
 event_at [] k asked told a b = absurd (none-some asked a)
 event_at (first ∷ history) zero asked told a b = ap (λ (c : Call). Some (event c first.reply)) (same_Some first.call asked a) ∙ ap (λ (r : Reply). Some (event asked r)) (same_Some first.reply told b)
 event_at (first ∷ history) (suc k) asked told a b = event_at history k asked told a b
@@ -279,7 +279,7 @@ apart (asked ∷ calls) book (suc j) zero number seed other rule another steps m
 apart (asked ∷ calls) book (suc j) (suc k) number seed other rule another steps more a b c d = ap suc (apart calls (after book asked) j k number seed other rule another steps more a b c d)
 
 -- the call and the reply of an event in a history
-call_at : (history : List Event) (k : ℕ) (asked : Call) (told : Reply) → slice_get history k ≡ Some (event asked told) → (slice_get (map call_of history) k ≡ Some asked) × (slice_get (map told_by history) k ≡ Some told)
+call_at : (history : List Event) (k : ℕ) (asked : Call) (told : Reply) → slice_get history k ≡ Some (event asked told) → (slice_get (map call_of history) k ≡ Some asked) × (slice_get (map reply_of_event history) k ≡ Some told)
 call_at [] k asked told at = absurd (none-some (event asked told) at)
 call_at (first ∷ history) zero asked told at =
     let same = same_Some first (event asked told) at in

@@ -55,9 +55,9 @@ is_event (Refused HistoryFull) = false
 is_event _ = true
 
 -- does a reply say that the history is full?
-abbrev pub tells_full : Reply → Bool
-tells_full (Refused HistoryFull) = true
-tells_full _ = false
+abbrev pub is_history_full : Reply → Bool
+is_history_full (Refused HistoryFull) = true
+is_history_full _ = false
 
 -- `told` is the machine's reply to the call; if an allocation failed (`ran_out`), it may be any reply
 abbrev pub RepliesAs : Bool → Reply → BookState → Call → Type 0

@@ -20,8 +20,8 @@ abbrev pub call_of : Event → Call
 call_of event = event.call
 
 -- the reply of an event
-abbrev pub told_by : Event → Reply
-told_by event = event.reply
+abbrev pub reply_of_event : Event → Reply
+reply_of_event event = event.reply
 
 -- an event with this call and this reply
 abbrev pub event : Call → Reply → Event
@@ -30,6 +30,6 @@ event call reply = record { call = call; reply = reply }
 -- the calls of the history, made on an empty book, have the replies of the history and lead to this book,
 -- whose count is the length of the history
 pub record Replays (history : List Event) (book : BookState) : Type 0 where
-  pub replies : map told_by history ≡ replies_from empty_book (map call_of history)
+  pub replies : map reply_of_event history ≡ replies_from empty_book (map call_of history)
   pub state_is : book ≡ state_from empty_book (map call_of history)
   pub count_is : book.count ≡ length history

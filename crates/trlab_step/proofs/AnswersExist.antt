@@ -7,7 +7,7 @@ use Rattle.trlab_code.specs.declared.program.Kind.TheVariants.{Motion, Change}
 use Rattle.trlab_code.specs.Views.{IsView}
 use Rattle.trlab_verify.specs.CheckedProgram.{CheckedProgram, IsChecked}
 use Rattle.trlab_road.specs.Cells.{Cell, Cells, Lane, cell, lane_of, IsAt}
-use Rattle.trlab_road.specs.LaneChange.{other_lane, CrossesFree}
+use Rattle.trlab_road.specs.LaneChange.{other_lane, CrossesToEmpty}
 use Rattle.trlab_road.specs.Gaps.{gap, side, ahead, behind, clear_cells, greatest, is_clear}
 use Rattle.trlab_road.specs.Legal.{IsLegal}
 use Rattle.trlab_road.specs.Motion.{Fits}
@@ -147,7 +147,7 @@ crossing_of change dice road checked legal two l x (Some here) is =
     )
 
 -- an accepted change program answers to each car of a legal road of two lanes, and lets it cross to an empty cell alone
-pub crossings_exist : (change : CheckedProgram) (dice : Dice) (road : Cells) → IsChecked Change change → IsLegal road → length road.lanes ≡ 2 → (crosses : ℕ → ℕ → Bool) × AnswersCrossings change dice road crosses × CrossesFree crosses road
+pub crossings_exist : (change : CheckedProgram) (dice : Dice) (road : Cells) → IsChecked Change change → IsLegal road → length road.lanes ≡ 2 → (crosses : ℕ → ℕ → Bool) × AnswersCrossings change dice road crosses × CrossesToEmpty crosses road
 crossings_exist change dice road checked legal two =
     let choice = λ (l x : ℕ). crossing_of change dice road checked legal two l x (cell road l x) refl in (
       λ l x. (choice l x).0,

@@ -7,7 +7,7 @@ use Rattle.trlab_machine.specs.declared.dice.Dice.{Dice}
 use Rattle.trlab_machine.specs.declared.views.Views.{Views}
 use Rattle.trlab_machine.specs.Blocks.{CrossesWith, MovesWith, car_words, view_of}
 use Rattle.trlab_road.specs.Cells.{Cells}
-use Rattle.trlab_step.specs.Answers.{AnswersCrossing, AnswersCrossingsPart, AnswersSpeed, AnswersSpeedsPart, CrossesFreePart, FitsPart}
+use Rattle.trlab_step.specs.Answers.{AnswersCrossing, AnswersCrossingsPart, AnswersSpeed, AnswersSpeedsPart, CrossingsFitPart, SpeedsFitPart}
 use Rattle.trlab_step.specs.Block.{IsAsked}
 use Rattle.trlab_step.proofs.AskedCars.{CrossesBy, GoesBy, crosses_by, goes_by}
 use Rattle.trlab_step.proofs.PartLaws.{more_answers}
@@ -59,7 +59,7 @@ module _ (program : CheckedProgram) (dice : Dice) (road : Cells) (from middle to
         subst (λ m. AnswersSpeedsPart program dice road from m (speeds ++ block)) end
         (more_answers 0 (AnswersSpeed program dice road) road from middle speeds block part (λ k car below here. (goes k below).answer car here))
 
-    pub more_fit : AnswersSpeedsPart program dice road from middle speeds → FitsPart road from speeds → FitsPart road from (speeds ++ block)
+    pub more_fit : AnswersSpeedsPart program dice road from middle speeds → SpeedsFitPart road from speeds → SpeedsFitPart road from (speeds ++ block)
     more_fit part fits = more_fits road from middle speeds block part.one_each fits (λ k below. (goes k below).gap) (λ k below. (goes k below).limit)
 
   -- who crosses in a part, and in a block behind it
@@ -69,5 +69,5 @@ module _ (program : CheckedProgram) (dice : Dice) (road : Cells) (from middle to
         subst (λ m. AnswersCrossingsPart program dice road from m (crosses ++ block)) end
         (more_answers false (AnswersCrossing program dice road) road from middle crosses block part (λ k car below here. (goes k below).answer car here))
 
-    pub more_are_free : AnswersCrossingsPart program dice road from middle crosses → CrossesFreePart road from crosses → CrossesFreePart road from (crosses ++ block)
+    pub more_are_free : AnswersCrossingsPart program dice road from middle crosses → CrossingsFitPart road from crosses → CrossingsFitPart road from (crosses ++ block)
     more_are_free part free = more_free road from middle crosses block part.one_each free (λ k below. (goes k below).side)

@@ -2,16 +2,16 @@
 use Rattle.std.proofs.Common.{◌≡◌, ℕ, ◌+◌, ◌-◌, ◌*◌, ◌/◌, ◌%◌, ◌<◌, ◌≤◌, List, [], min, Bool, arith}
 use Rattle.trlab_road.specs.declared.car.Car.{Car}
 use Rattle.trlab_road.specs.Cells.{Cells}
-use Rattle.trlab_step.specs.Answers.{AreAnswersPart, CrossesFreePart, FitsPart}
+use Rattle.trlab_step.specs.Answers.{AreAnswersPart, CrossingsFitPart, SpeedsFitPart}
 
 -- before the first block there is no answer
 pub part_none : {X : Type 0} (IsAnswer : Car → X → Type 0) (road : Cells) (from to : ℕ) (answers : List X) → answers ≡ [] → to ≡ from → AreAnswersPart IsAnswer road from to answers
 part_none IsAnswer road from to answers e there = rw e (record { one_each = omega (arith, there); each = λ k car answer h here. absurd cc })
 
-pub fits_none : (road : Cells) (from : ℕ) (speeds : List ℕ) → speeds ≡ [] → FitsPart road from speeds
+pub fits_none : (road : Cells) (from : ℕ) (speeds : List ℕ) → speeds ≡ [] → SpeedsFitPart road from speeds
 fits_none road from speeds e = rw e (record { within_gaps = λ k h. absurd (omega (arith, h)); within_limit = λ k h. absurd (omega (arith, h)) })
 
-pub free_none : (road : Cells) (from : ℕ) (crosses : List Bool) → crosses ≡ [] → CrossesFreePart road from crosses
+pub free_none : (road : Cells) (from : ℕ) (crosses : List Bool) → crosses ≡ [] → CrossingsFitPart road from crosses
 free_none road from crosses e = rw e (record { side_empty = λ k h goes. absurd (omega (arith, h)) })
 
 -- where the first and the last block begin and end

@@ -7,7 +7,7 @@ use Rattle.trlab_machine.specs.declared.dice.Dice.{Dice}
 use Rattle.trlab_road.specs.Cells.{Cells}
 use Rattle.trlab_road.specs.LaneChange.{sides}
 use Rattle.trlab_road.specs.Motion.{gaps}
-use Rattle.trlab_step.specs.Answers.{CrossesFreePart, FitsPart, IsCrossesPart, IsSpeedsPart}
+use Rattle.trlab_step.specs.Answers.{CrossingsFitPart, SpeedsFitPart, IsCrossingsPart, IsSpeedsPart}
 use Rattle.trlab_step.proofs.PartLaws.{speeds_join as join_speeds, crossings_join as join_crossings}
 use Rattle.trlab_verify.specs.CheckedProgram.{CheckedProgram}
 
@@ -41,7 +41,7 @@ speeds_begin motion dice road = (
 
 -- if the speeds of two parts are within the gaps and the limit, so are both together
 fits_join : (road : Cells) (from middle : ℕ) (first second : List ℕ) → middle ≡ from + length first
-    → FitsPart road from first → FitsPart road middle second → FitsPart road from (first ++ second)
+    → SpeedsFitPart road from first → SpeedsFitPart road middle second → SpeedsFitPart road from (first ++ second)
 fits_join road from middle first second behind a b =
     let IsWithin : ℕ → ℕ → Type 0 = λ i s. s ≤ get_or (gaps road) i 0 in
     let place : (k : ℕ) → middle + k ≡ from + (length first + k) = λ k. omega (arith, behind) in record {
@@ -62,7 +62,7 @@ speeds_join motion dice road from middle to first second a b = (
 
 -- for no cars, the empty list has the lane changes
 pub crosses_begin : (change : CheckedProgram) (dice : Dice) (road : Cells)
-    → IsCrossesPart change dice road 0 0 []
+    → IsCrossingsPart change dice road 0 0 []
 crosses_begin change dice road = (
   record { one_each = refl; each = λ k car answer is here. absurd cc },
   record { side_empty = λ k below. absurd (omega (arith, below)) },
@@ -70,8 +70,8 @@ crosses_begin change dice road = (
 
 -- if the cars of two parts cross only to empty cells, so do both together
 free_join : (road : Cells) (from middle : ℕ) (first second : List Bool) → middle ≡ from + length first
-    → CrossesFreePart road from first → CrossesFreePart road middle second
-    → CrossesFreePart road from (first ++ second)
+    → CrossingsFitPart road from first → CrossingsFitPart road middle second
+    → CrossingsFitPart road from (first ++ second)
 free_join road from middle first second behind a b =
     let IsFree : ℕ → Bool → Type 0 = λ i c. c ≡ true → get_or (sides road) i false ≡ true in
     let place : (k : ℕ) → middle + k ≡ from + (length first + k) = λ k. omega (arith, behind) in record {
@@ -82,8 +82,8 @@ free_join road from middle first second behind a b =
 -- the lane changes of two parts, one after the other, are those of both
 pub crosses_join : (change : CheckedProgram) (dice : Dice) (road : Cells) (from middle to : ℕ)
     → (first second : List Bool)
-    → IsCrossesPart change dice road from middle first → IsCrossesPart change dice road middle to second
-    → IsCrossesPart change dice road from to (first ++ second)
+    → IsCrossingsPart change dice road from middle first → IsCrossingsPart change dice road middle to second
+    → IsCrossingsPart change dice road from to (first ++ second)
 crosses_join change dice road from middle to first second a b = (
   join_crossings change dice road from middle to first second a.0 b.0,
   free_join road from middle first second (sym a.0.one_each) a.1 b.1,

@@ -20,7 +20,7 @@ use Rattle.trlab_step.specs.declared.tally.StepTally.{StepTally}
 use Rattle.trlab_machine.specs.declared.dice.Dice.{Dice}
 use Rattle.trlab_step.specs.Answers.{AnswersSpeeds, AnswersCrossings}
 use Rattle.trlab_step.specs.Next.{total_speed, stopped_cars, crossing_cars, IsLaneChangePhase, IsMotionPhase}
-use Rattle.trlab_step.specs.Laws.{IsLegalLike, NextRoadExists, NextRoadIsOne}
+use Rattle.trlab_step.specs.Laws.{IsLegalLike, NextRoadExists, NextRoadIsUnique}
 use Rattle.trlab_step.proofs.AnswersExist.{speeds_exist, crossings_exist}
 use Rattle.trlab_step.proofs.PartLaws.{one_answer_each, one_crossing_each}
 use Rattle.trlab_step.proofs.SafeCalls.{step_calls_safe}
@@ -169,7 +169,7 @@ unfolding counted
 tally_path a b distance stopped changes =
     ap (λ n. counted n a.stopped a.changes) distance ∙ ap (λ n. counted b.distance n a.changes) stopped ∙ ap (counted b.distance b.stopped) changes
 
-pub next_road_is_one : NextRoadIsOne
+pub next_road_is_one : NextRoadIsUnique
 next_road_is_one rule dice road next other tally count a b =
     let side = lane_change_is_one rule.change dice road a.0 b.0 tally.changes count.changes a.1.lane_change b.1.lane_change in
     let phase = subst (λ (middle : Cells). IsMotionPhase rule.motion dice middle next) side.0 a.1.motion in

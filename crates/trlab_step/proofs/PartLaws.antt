@@ -16,7 +16,7 @@ use Rattle.trlab_road.proofs.StandingOrder.{car_of, length-standing_lanes, rank_
 use Rattle.trlab_machine.specs.declared.dice.Dice.{Dice}
 use Rattle.trlab_machine.specs.Blocks.{words_of}
 use Rattle.trlab_step.specs.Answers.{motion_view_of, change_view_of, AnswersSpeed, AnswersCrossing, AreAnswers, AreAnswersPart}
-use Rattle.trlab_step.specs.Laws.{SpeedsAreOne, SpeedsJoin, CrossingsAreOne, CrossingsJoin}
+use Rattle.trlab_step.specs.Laws.{SpeedsAreUnique, SpeedsJoin, CrossingsAreUnique, CrossingsJoin}
 
 one_speed : {a b : ℕ} → Goes a ≡ Goes b → a ≡ b
 one_speed h = cc
@@ -114,7 +114,7 @@ module _ {X : Type 0} (none : X) (IsAnswer : Car → X → Type 0) (road : Cells
   }
 
 -- the cars of a part have one list of speeds
-pub speeds_are_one : SpeedsAreOne
+pub speeds_are_one : SpeedsAreUnique
 speeds_are_one motion dice road from to speeds others within a b =
     part_is_one 0 (AnswersSpeed motion dice road) road from to speeds others (one_answer_each motion dice road) within a b
 
@@ -123,7 +123,7 @@ pub speeds_join : SpeedsJoin
 speeds_join motion dice road from middle to first second a b = parts_join 0 (AnswersSpeed motion dice road) road from middle to first second a b
 
 -- the cars of a part have one list of answers whether they cross
-pub crossings_are_one : CrossingsAreOne
+pub crossings_are_one : CrossingsAreUnique
 crossings_are_one change dice road from to crosses others within a b =
     part_is_one false (AnswersCrossing change dice road) road from to crosses others (one_crossing_each change dice road) within a b
 

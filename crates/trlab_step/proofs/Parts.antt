@@ -12,7 +12,7 @@ use Rattle.trlab_road.specs.Gaps.{side, sidegap, sideback}
 use Rattle.trlab_road.specs.Motion.{MayMove, gaps}
 use Rattle.trlab_machine.specs.declared.dice.Dice.{Dice}
 use Rattle.trlab_machine.specs.Blocks.{with_beside}
-use Rattle.trlab_step.specs.Answers.{change_view_of, motion_view_of, CrossesFreePart, FitsPart, IsCrossesPart, IsSpeedsPart}
+use Rattle.trlab_step.specs.Answers.{change_view_of, motion_view_of, CrossingsFitPart, SpeedsFitPart, IsCrossingsPart, IsSpeedsPart}
 
 pub same_view : (a b c d x y z w : ℕ) → a ≡ x → b ≡ y → c ≡ z → d ≡ w → motion_view a b c d ≡ motion_view x y z w
 same_view a b c d x y z w e f g h = ap (λ k. motion_view k b c d) e ∙ ap (λ k. motion_view x k c d) f ∙ ap (λ k. motion_view x y k d) g ∙ ap (motion_view x y z) h
@@ -38,8 +38,8 @@ appended none P xs ys before behind k below =
     ]
 
 -- the bounds of the speeds of a part, and of a block behind it
-pub more_fits : (road : Cells) (from middle : ℕ) (speeds block : List ℕ) → from + length speeds ≡ middle → FitsPart road from speeds
-    → ((k : ℕ) → k < length block → get_or block k 0 ≤ get_or (gaps road) (middle + k) 0) → ((k : ℕ) → k < length block → get_or block k 0 ≤ road.limit) → FitsPart road from (speeds ++ block)
+pub more_fits : (road : Cells) (from middle : ℕ) (speeds block : List ℕ) → from + length speeds ≡ middle → SpeedsFitPart road from speeds
+    → ((k : ℕ) → k < length block → get_or block k 0 ≤ get_or (gaps road) (middle + k) 0) → ((k : ℕ) → k < length block → get_or block k 0 ≤ road.limit) → SpeedsFitPart road from (speeds ++ block)
 more_fits road from middle speeds block whole part gap limit =
     let place : (k : ℕ) → middle + k ≡ from + (length speeds + k) = λ k. omega (arith, whole) in
     record {
@@ -48,8 +48,8 @@ more_fits road from middle speeds block whole part gap limit =
     }
 
 -- the side cells of those who cross in a part, and in a block behind it
-pub more_free : (road : Cells) (from middle : ℕ) (crosses block : List Bool) → from + length crosses ≡ middle → CrossesFreePart road from crosses
-    → ((k : ℕ) → k < length block → get_or block k false ≡ true → get_or (sides road) (middle + k) false ≡ true) → CrossesFreePart road from (crosses ++ block)
+pub more_free : (road : Cells) (from middle : ℕ) (crosses block : List Bool) → from + length crosses ≡ middle → CrossingsFitPart road from crosses
+    → ((k : ℕ) → k < length block → get_or block k false ≡ true → get_or (sides road) (middle + k) false ≡ true) → CrossingsFitPart road from (crosses ++ block)
 more_free road from middle crosses block whole part empty =
     let place : (k : ℕ) → middle + k ≡ from + (length crosses + k) = λ k. omega (arith, whole) in
     record {
@@ -68,7 +68,7 @@ whole_allowed motion dice road speeds told =
       within_limit = λ k below. told.1.within_limit k (omega arith);
     }
 
-pub whole_free : (change : CheckedProgram) (dice : Dice) (road : Cells) (crosses : List Bool) → length road.lanes ≡ 2 → IsCrossesPart change dice road 0 (cars road) crosses → MayCross road crosses
+pub whole_free : (change : CheckedProgram) (dice : Dice) (road : Cells) (crosses : List Bool) → length road.lanes ≡ 2 → IsCrossingsPart change dice road 0 (cars road) crosses → MayCross road crosses
 whole_free change dice road crosses two told =
     let size = told.0.one_each in
     let first : (k : ℕ) → 0 + k ≡ k = λ k. omega arith in

@@ -10,7 +10,7 @@ use Rattle.trlab_code.specs.Machine.{Answer, Crosses as EndsAcross, Stays, EndsW
 use Rattle.trlab_machine.specs.Crossings.{crossing_answer}
 use Rattle.trlab_verify.specs.CheckedProgram.{CheckedProgram}
 use Rattle.trlab_road.specs.Cells.{Cell, Cells, cell, lane_of, IsAt}
-use Rattle.trlab_road.specs.LaneChange.{Crosses, CrossesFree, other_lane, car_beside}
+use Rattle.trlab_road.specs.LaneChange.{Crosses, CrossesToEmpty, other_lane, car_beside}
 use Rattle.trlab_road.specs.LaneChange.StaysOrCrosses.{on_own_lane, on_other_lane}
 use Rattle.trlab_road.specs.Gaps.{gap, side, sidegap, sideback}
 use Rattle.trlab_road.specs.Legal.{IsLegal}
@@ -18,7 +18,7 @@ use Rattle.trlab_road.proofs.LaneChangeLaws.{came_from, lane_change_legal, lane_
 use Rattle.trlab_road.proofs.MotionLaws.{on_lane}
 use Rattle.trlab_rules.specs.Published.{brake, safe_speed, nasch_speed, rickert_crosses, vdr_chance, vdr_speed}
 use Rattle.trlab_rules.specs.StandardRules.{IsChange}
-use Rattle.trlab_rules.specs.Laws.{ChangesBy, MovesBy}
+use Rattle.trlab_rules.specs.Laws.{ComputesCrossing, ComputesSpeed}
 use Rattle.trlab_rules.specs.Rules.{Programs}
 use Rattle.trlab_rules.specs.Standard.{rickert_program}
 use Rattle.trlab_machine.specs.declared.dice.Dice.{Dice}
@@ -37,7 +37,7 @@ word_is dice number k below = slice_index-random_words dice.key dice.road number
 
 -- the motion by a program that answers the speed of a rule
 goes_by : (speed : View → List ℕ → ℕ) (motion : CheckedProgram) (dice : Dice) (old new : Cells)
-    → MovesBy speed motion.program
+    → ComputesSpeed speed motion.program
     → IsLegal old → IsMotionPhase motion dice old new → AllGo (λ car. speed (motion_view_of old car) (words_of dice car.number)) old new
 goes_by speed motion dice old new moves legal phase car here =
     let view = motion_view_of old car in
@@ -51,13 +51,13 @@ goes_by speed motion dice old new moves legal phase car here =
 all_go : (goes others : Car → ℕ) (old new : Cells) → ((car : Car) → goes car ≡ others car) → AllGo goes old new → AllGo others old new
 all_go goes others old new same go car here = subst (λ (w : ℕ). IsAt new (car_ahead old car w)) (same car) (go car here)
 
-nasch_goes_by : (p : ℕ) (motion : CheckedProgram) (dice : Dice) (old new : Cells) → MovesBy (nasch_speed p) motion.program → IsLegal old → IsMotionPhase motion dice old new → AllGo (nasch_goes p dice old) old new
+nasch_goes_by : (p : ℕ) (motion : CheckedProgram) (dice : Dice) (old new : Cells) → ComputesSpeed (nasch_speed p) motion.program → IsLegal old → IsMotionPhase motion dice old new → AllGo (nasch_goes p dice old) old new
 nasch_goes_by p motion dice old new moves legal phase =
     all_go (λ car. nasch_speed p (motion_view_of old car) (words_of dice car.number)) (nasch_goes p dice old) old new
     (λ car. ap (λ (word : ℕ). brake (happens_on p word) (safe_speed car.speed old.limit (gap (lane_of old car.lane) car.place))) (word_is dice car.number 0 (omega arith)))
     (goes_by (nasch_speed p) motion dice old new moves legal phase)
 
-vdr_goes_by : (p p0 : ℕ) (motion : CheckedProgram) (dice : Dice) (old new : Cells) → MovesBy (vdr_speed p p0) motion.program → IsLegal old → IsMotionPhase motion dice old new → AllGo (vdr_goes p p0 dice old) old new
+vdr_goes_by : (p p0 : ℕ) (motion : CheckedProgram) (dice : Dice) (old new : Cells) → ComputesSpeed (vdr_speed p p0) motion.program → IsLegal old → IsMotionPhase motion dice old new → AllGo (vdr_goes p p0 dice old) old new
 vdr_goes_by p p0 motion dice old new moves legal phase =
     all_go (λ car. vdr_speed p p0 (motion_view_of old car) (words_of dice car.number)) (vdr_goes p p0 dice old) old new
     (λ car. ap (λ (word : ℕ). brake (happens_on (vdr_chance p p0 car.speed) word) (safe_speed car.speed old.limit (gap (lane_of old car.lane) car.place))) (word_is dice car.number 0 (omega arith)))
@@ -81,7 +81,7 @@ vdr_on_cells p p0 rule dice old new tally is legal next =
     (motion_alone rule dice old next.0 new tally.changes is.change next.1.lane_change next.1.motion)
 
 -- where the cars stand after a lane change
-change_by : (crosses : ℕ → ℕ → Bool) (old new : Cells) → IsLegal old → Crosses crosses old new → CrossesFree crosses old → AllCross (λ car. crosses car.lane car.place) old new
+change_by : (crosses : ℕ → ℕ → Bool) (old new : Cells) → IsLegal old → Crosses crosses old new → CrossesToEmpty crosses old → AllCross (λ car. crosses car.lane car.place) old new
 change_by crosses old new legal phase free car here =
     let l = car.lane in
     let x = car.place in
@@ -107,7 +107,7 @@ across true = refl
 across false = refl
 
 -- who crosses by a program that answers so by a rule
-changes_agree : (crosses : View → List ℕ → Bool) (change : CheckedProgram) (dice : Dice) (old : Cells) (answers : ℕ → ℕ → Bool) → ChangesBy crosses change.program → IsLegal old → length old.lanes ≡ 2 → AnswersCrossings change dice old answers
+changes_agree : (crosses : View → List ℕ → Bool) (change : CheckedProgram) (dice : Dice) (old : Cells) (answers : ℕ → ℕ → Bool) → ComputesCrossing crosses change.program → IsLegal old → length old.lanes ≡ 2 → AnswersCrossings change dice old answers
     → (car : Car) → IsAt old car → answers car.lane car.place ≡ crosses (change_view_of old car) (words_of dice car.number)
 changes_agree crosses change dice old answers changes legal two crossings car here =
     let view = change_view_of old car in
@@ -130,13 +130,13 @@ record Changed (c : ℕ) (dice : Dice) (old middle : Cells) : Type 0 where
   legal : IsLegal middle
   changed : AllCross (rickert_car_crosses c dice old) old middle
 
-rickert_phase : (c : ℕ) (change : CheckedProgram) (dice : Dice) (old middle : Cells) (changes : ℕ) → ChangesBy (rickert_crosses c) change.program → IsLegal old → IsLaneChangePhase (Some change) dice old middle changes
+rickert_phase : (c : ℕ) (change : CheckedProgram) (dice : Dice) (old middle : Cells) (changes : ℕ) → ComputesCrossing (rickert_crosses c) change.program → IsLegal old → IsLaneChangePhase (Some change) dice old middle changes
     → Changed c dice old middle
 rickert_phase c change dice old middle changes by legal phase =
     let two = phase.0 in
     let answers = phase.1 in
     let agree = changes_agree (rickert_crosses c) change dice old answers by legal two phase.2 in
-    let free : CrossesFree answers old = record {
+    let free : CrossesToEmpty answers old = record {
       two_lanes = two;
       side_empty = λ car here goes.
           let l = car.lane in

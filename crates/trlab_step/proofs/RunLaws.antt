@@ -7,7 +7,7 @@ use Rattle.trlab_rules.specs.Rules.{Programs}
 use Rattle.trlab_step.specs.declared.tally.StepTally.{StepTally}
 use Rattle.trlab_step.specs.Next.{IsNext}
 use Rattle.trlab_step.specs.Run.{Seed, Sheet, IsSheet, in_force, no_tally, tally_sum, dice_at, IsRoadAt}
-use Rattle.trlab_step.specs.Laws.{IsRuleFor, IsLegalLike, RoadExists, RoadIsOne, RunGoesOn}
+use Rattle.trlab_step.specs.Laws.{IsRuleFor, IsLegalLike, RoadExists, RoadIsUnique, RunGoesOn}
 use Rattle.trlab_step.proofs.NextLaws.{like_itself, like_next, next_road_exists, next_road_is_one}
 
 -- the rule in force is that of the first entry, or the one in force by the others
@@ -55,7 +55,7 @@ run_comes_to_road seed sheet (suc step) legal is =
 one_rule : {a b : Programs} → Some a ≡ Some b → a ≡ b
 one_rule h = cc
 
-pub road_is_one : RoadIsOne
+pub road_is_one : RoadIsUnique
 road_is_one seed sheet zero road other sum count a b = (a.1 ∙ sym b.1, a.2 ∙ sym b.2)
 road_is_one seed sheet (suc step) road other sum count a b =
     let before = road_is_one seed sheet step a.0 b.0 a.1 b.1 a.4 b.4 in

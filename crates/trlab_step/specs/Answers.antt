@@ -79,14 +79,14 @@ abbrev pub AnswersCrossingsPart : CheckedProgram → Dice → Cells → ℕ → 
 AnswersCrossingsPart change dice road = AreAnswersPart (AnswersCrossing change dice road) road
 
 -- `speeds`, for the cars from index `from` of the standing order on, are at most the limit and the cars' gaps
-pub record FitsPart (road : Cells) (from : ℕ) (speeds : List ℕ) : Type 0 where
+pub record SpeedsFitPart (road : Cells) (from : ℕ) (speeds : List ℕ) : Type 0 where
   pub within_gaps : (k : ℕ) → k < length speeds
       → slice_index speeds k ≤ slice_index (gaps road) (from + k)
   pub within_limit : (k : ℕ) → k < length speeds → slice_index speeds k ≤ road.limit
 
 -- `crosses`, for the cars from index `from` of the standing order on, is true only if the car's side cell is
 -- empty
-pub record CrossesFreePart (road : Cells) (from : ℕ) (crosses : List Bool) : Type 0 where
+pub record CrossingsFitPart (road : Cells) (from : ℕ) (crosses : List Bool) : Type 0 where
   pub side_empty : (k : ℕ) → k < length crosses → slice_index_or crosses k false ≡ true
       → slice_index_or (sides road) (from + k) false ≡ true
 
@@ -94,10 +94,10 @@ pub record CrossesFreePart (road : Cells) (from : ℕ) (crosses : List Bool) : T
 -- the limit and the car's gap
 abbrev pub IsSpeedsPart : CheckedProgram → Dice → Cells → ℕ → ℕ → List ℕ → Type 0
 IsSpeedsPart motion dice road from to speeds =
-    AnswersSpeedsPart motion dice road from to speeds × FitsPart road from speeds
+    AnswersSpeedsPart motion dice road from to speeds × SpeedsFitPart road from speeds
 
 -- the change program answers `crosses` for the cars `from..to` in standing order, and only cars with an empty
 -- side cell cross
-abbrev pub IsCrossesPart : CheckedProgram → Dice → Cells → ℕ → ℕ → List Bool → Type 0
-IsCrossesPart change dice road from to crosses =
-    AnswersCrossingsPart change dice road from to crosses × CrossesFreePart road from crosses
+abbrev pub IsCrossingsPart : CheckedProgram → Dice → Cells → ℕ → ℕ → List Bool → Type 0
+IsCrossingsPart change dice road from to crosses =
+    AnswersCrossingsPart change dice road from to crosses × CrossingsFitPart road from crosses

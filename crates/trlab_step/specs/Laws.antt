@@ -38,8 +38,8 @@ pub record IsLegalLike (old new : Cells) : Type 0 where
   pub same_count : cars new ≡ cars old
 
 -- for the cars `from..to` of a road, with given dice, a motion program answers only one list of speeds
-abbrev pub SpeedsAreOne : Type 0
-SpeedsAreOne =
+abbrev pub SpeedsAreUnique : Type 0
+SpeedsAreUnique =
     (motion : CheckedProgram) (dice : Dice) (road : Cells) (from to : ℕ) (speeds others : List ℕ)
     → to ≤ cars road → AnswersSpeedsPart motion dice road from to speeds
     → AnswersSpeedsPart motion dice road from to others → speeds ≡ others
@@ -55,8 +55,8 @@ SpeedsJoin =
 
 -- for the cars `from..to` of a road, with given dice, a change program answers only one list that says which
 -- of them cross
-abbrev pub CrossingsAreOne : Type 0
-CrossingsAreOne =
+abbrev pub CrossingsAreUnique : Type 0
+CrossingsAreUnique =
     (change : CheckedProgram) (dice : Dice) (road : Cells) (from to : ℕ) (crosses others : List Bool)
     → to ≤ cars road → AnswersCrossingsPart change dice road from to crosses
     → AnswersCrossingsPart change dice road from to others → crosses ≡ others
@@ -142,8 +142,8 @@ NextRoadExists =
     → (next : Cells) × (tally : StepTally) × IsCleanNext rule dice road next tally × IsLegalLike road next
 
 -- under one rule and with given dice a road has at most one next road, and at most one tally
-abbrev pub NextRoadIsOne : Type 0
-NextRoadIsOne =
+abbrev pub NextRoadIsUnique : Type 0
+NextRoadIsUnique =
     (rule : Programs) (dice : Dice) (road next other : Cells) (tally count : StepTally)
     → IsNext rule dice road next tally → IsNext rule dice road other count
     → (next ≡ other) × (tally ≡ count)
@@ -157,8 +157,8 @@ RoadExists =
     × IsLegalLike seed.road road
 
 -- a run has at most one road at each step, and at most one sum of tallies
-abbrev pub RoadIsOne : Type 0
-RoadIsOne =
+abbrev pub RoadIsUnique : Type 0
+RoadIsUnique =
     (seed : Seed) (sheet : Sheet) (step : ℕ) (road other : Cells) (sum count : StepTally)
     → ComesTo seed sheet step road sum → ComesTo seed sheet step other count
     → (road ≡ other) × (sum ≡ count)

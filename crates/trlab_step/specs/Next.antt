@@ -82,7 +82,7 @@ IsCleanNext rule dice road next tally = (middle : Cells) × IsCleanStep rule dic
 
 -- `told` is the result of a step: the next road, which is legal, and its tally, by a clean step; or a fault,
 -- which is `LanesMismatch` exactly if the rule has a change program and the road has one lane
-pub record TellsNext (rule : Programs) (dice : Dice) (road : Cells)
+pub record IsStepResult (rule : Programs) (dice : Dice) (road : Cells)
     (told : Result (Cells × StepTally) StepFault) : Type 0 where
   pub mismatch : (told ≡ Err LanesMismatch) ↔ (IsSome rule.change × (length road.lanes ≡ 1))
   pub next : IfOk told (λ after. IsNext rule dice road after.0 after.1)

@@ -3,7 +3,7 @@
 
 ghost use Rattle.std.specs.Prelude.{◌≡◌, OnOk, length};
 ghost use Rattle.trlab_road.specs.Cells.{cars, Cells};
-ghost use Rattle.trlab_step.specs.Answers.{IsCrossesPart, IsSpeedsPart};
+ghost use Rattle.trlab_step.specs.Answers.{IsCrossingsPart, IsSpeedsPart};
 
 use crate::lane_change::compute_crossings;
 use crate::motion::compute_speeds;
@@ -78,7 +78,7 @@ pub trait Executor {
         requires ready { is_ready self.now }
         requires two_lanes { length road.old.lanes ≡ 2 }
         ensures crossings { OnOk result (
-            IsCrossesPart change.now dice.now road.old 0 (cars road.old) answers.new.items) }
+            IsCrossingsPart change.now dice.now road.old 0 (cars road.old) answers.new.items) }
         ensures seen { O.observes observer.old road.old observer.new }
         ensures same { road.new ≡ road.old };
 }

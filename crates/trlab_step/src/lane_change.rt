@@ -2,7 +2,7 @@
 
 ghost use Rattle.std.specs.Prelude.{◌≡◌, ◌≤◌, IfOk, OnOk, length, ℕ, Bool};
 ghost use Rattle.trlab_road.specs.Cells.{cars};
-ghost use Rattle.trlab_step.specs.Answers.{IsCrossesPart, dice_of};
+ghost use Rattle.trlab_step.specs.Answers.{IsCrossingsPart, dice_of};
 ghost use Rattle.trlab_road.specs.LaneChange.{CleanLaneChange, MayCross, Crosses};
 ghost use Rattle.trlab_road.specs.Legal.{IsLegal};
 ghost use Rattle.trlab_road.specs.Motion.{in_order};
@@ -37,7 +37,7 @@ pub fn choose_part(
     requires within { to ≤ cars road.now }
     requires two_lanes { length road.now.lanes ≡ 2 }
     ensures { IfOk result (λ crosses.
-        IsCrossesPart change.now (dice_of key.now.0 number step) road.now from to crosses.items) }
+        IsCrossingsPart change.now (dice_of key.now.0 number step) road.now from to crosses.items) }
 {
     let mut crosses = Vec::new(alloc);
     compute_crossings(
@@ -67,7 +67,7 @@ pub fn compute_crossings(
     requires rising { from ≤ to }
     requires within { to ≤ cars road.now }
     requires two_lanes { length road.now.lanes ≡ 2 }
-    ensures { OnOk result (IsCrossesPart change.now dice.now road.now from to crosses.new.items) }
+    ensures { OnOk result (IsCrossingsPart change.now dice.now road.now from to crosses.new.items) }
 {
     let mut near = 0;
     crosses.clear();

@@ -3,8 +3,8 @@
 //! Each law is the contract of a function with an empty body.
 
 ghost use Rattle.trlab_step.specs.Published.{NaschOnCells, RickertOnCells, VdrOnCells};
-ghost use Rattle.trlab_step.specs.Laws.{AnswersLeadOn, CrossingsAreOne, CrossingsJoin, SpeedsAreOne, SpeedsJoin};
-ghost use Rattle.trlab_step.specs.Laws.{NextRoadExists, NextRoadIsOne, RoadExists, RoadIsOne, RunGoesOn};
+ghost use Rattle.trlab_step.specs.Laws.{AnswersLeadOn, CrossingsAreUnique, CrossingsJoin, SpeedsAreUnique, SpeedsJoin};
+ghost use Rattle.trlab_step.specs.Laws.{NextRoadExists, NextRoadIsUnique, RoadExists, RoadIsUnique, RunGoesOn};
 ghost use Rattle.trlab_step.specs.Laws.{CrossingsComeInTime, RunsCallSafely, SpeedsComeInTime};
 ghost use Rattle.trlab_step.specs.Laws.{StepsCallSafely, ViewsAreInRange};
 ghost use Rattle.trlab_step.specs.Driven.{RunsAreDriven};
@@ -12,14 +12,14 @@ ghost use Rattle.trlab_step.specs.Driven.{RunsAreDriven};
 /// For each part of the standing order a motion program answers only one list of speeds, and the lists of adjacent
 /// parts join to the list of both. So it does not matter which thread computes a part, or in which order.
 pub fn parts_make_the_whole()
-    ensures one { SpeedsAreOne }
+    ensures one { SpeedsAreUnique }
     ensures join { SpeedsJoin }
 {}
 
 /// For each part of the standing order a change program answers only one list that says which cars cross, and the lists
 /// of adjacent parts join to the list of both.
 pub fn crossings_make_the_whole()
-    ensures one { CrossingsAreOne }
+    ensures one { CrossingsAreUnique }
     ensures join { CrossingsJoin }
 {}
 
@@ -57,7 +57,7 @@ pub fn next_road_exists()
 
 /// Under any rule a road has at most one next road, and at most one tally.
 pub fn next_road_is_one()
-    ensures { NextRoadIsOne }
+    ensures { NextRoadIsUnique }
 {}
 
 /// A run from a legal road, under a schedule of rules for its lanes, has a legal road at each step, with the same limit
@@ -68,7 +68,7 @@ pub fn road_exists()
 
 /// A run has at most one road at each step, and at most one sum of tallies.
 pub fn road_is_one()
-    ensures { RoadIsOne }
+    ensures { RoadIsUnique }
 {}
 
 /// A run continues from the road at a step to its next road under the rule in force. From the step on at which counting

@@ -10,7 +10,7 @@ ghost use Rattle.trlab_step.specs.Answers.{IsSpeedsPart, dice_of};
 use crate::block::{BLOCK, fill_motion_views};
 use std::alloc::{AllocError, Global};
 use trlab_machine::{
-    BLOCK_CARS, Column, Dice, SMALL_BLOCK_CARS, REGISTERS, Views, run_few_motions, run_motions,
+    BLOCK_CARS, Column, Dice, REGISTERS, SMALL_BLOCK_CARS, Views, run_few_motions, run_motions,
 };
 use trlab_road::Road;
 use trlab_verify::Motion;

@@ -4,7 +4,7 @@ ghost use Rattle.std.specs.Prelude.{◌≡◌, ◌↔◌, Some, IfOk, OnOk, OnEr
 ghost use Rattle.trlab_road.specs.LaneChange.{CleanLaneChange};
 ghost use Rattle.trlab_road.specs.Legal.{IsLegal};
 ghost use Rattle.trlab_step.specs.Answers.{dice_of};
-ghost use Rattle.trlab_step.specs.Next.{IsCleanNext, IsCountedMotion, IsLaneChangePhase, IsNext, TellsNext};
+ghost use Rattle.trlab_step.specs.Next.{IsCleanNext, IsCountedMotion, IsLaneChangePhase, IsNext, IsStepResult};
 ghost use Rattle.trlab_step.specs.declared.step.StepFault.TheVariants.{Memory};
 
 use crate::executor::{Caller, Executor, NoObserver, StepObserver};
@@ -102,7 +102,7 @@ pub fn step_road_by<A: Executor>(
     dice: &Dice,
 ) -> Result<(Road, StepTally), StepFault>
     requires { A.is_ready executor.now }
-    ensures { TellsNext rule.now dice.now road.now result }
+    ensures { IsStepResult rule.now dice.now road.now result }
 {
     if lanes_mismatch(road, rule) {
         return Err(StepFault::LanesMismatch);
@@ -133,7 +133,7 @@ pub fn step_road(
     number: u32,
     step: u32,
 ) -> Result<(Road, StepTally), StepFault>
-    ensures { TellsNext rule.now (dice_of key.now.0 number step) road.now result }
+    ensures { IsStepResult rule.now (dice_of key.now.0 number step) road.now result }
 {
     step_road_by(&Caller, alloc, road, rule, &Dice::new(key, number, step))
 }

@@ -13,14 +13,14 @@ use Rattle.atomic_table.proofs.Lists.{at_set, set_again, set_else}
 use Rattle.trlab_strands.proofs.Seats.{total_set, each_set, each_snoc, alone, times_push, times_append}
 use Rattle.trlab_strands.specs.declared.knowledge.Noted.{Noted}
 use Rattle.trlab_strands.specs.declared.knowledge.StrandKnowledge.{StrandKnowledge}
-use Rattle.trlab_strands.specs.Knowledge.{noted, event_number, times, once_below, StandsIn, StandIn, strand_knowledge, nothing, without_list, list_alone, less_a_part, one_part, both_seats, up_to_date, with_event}
+use Rattle.trlab_strands.specs.Knowledge.{noted, event_number, times, once_below, IsInList, AreInList, strand_knowledge, nothing, without_list, list_alone, less_a_part, one_part, both_seats, up_to_date, with_event}
 use Rattle.trlab_strands.specs.Rule.{IsSoundStrand, AreSoundStrands, KeepsStrands, NotesEvent, LearnsList, Looks, Sees}
 
 off : false ≡ true → ⊥
 off e = true≢false (sym e)
 
 -- an event that is in a list is in the longer list too
-stands_on : {E : Type 0} (events more : List E) (n : Noted E) → StandsIn events n → StandsIn (events ++ more) n
+stands_on : {E : Type 0} (events more : List E) (n : Noted E) → IsInList events n → IsInList (events ++ more) n
 stands_on events more n stands = (stands.0 ++ more, ap (λ l. l ++ more) stands.1 ∙ append_assoc n.before (n.event ∷ stands.0) more)
 
 once_next : (k n : ℕ) → once_below k (n + 1) ≡ once_below k n + cond (eqb n k) 1 0
@@ -55,7 +55,7 @@ module _ {E : Type 0} where
   later events e u another r = record {
     idle = r.idle;
     rises = let l = length-append events (e ∷ []) in let p = r.rises in omega arith;
-    stand = All-weaker (StandsIn events) (StandsIn (events ++ e ∷ [])) (stands_on events (e ∷ [])) u.own r.stand;
+    stand = All-weaker (IsInList events) (IsInList (events ++ e ∷ [])) (stands_on events (e ∷ [])) u.own r.stand;
     list = λ has. absurd (another has);
   }
 
@@ -83,8 +83,8 @@ module _ {E : Type 0} where
             (record {
               idle = λ z. absurd (omega arith);
               rises = omega arith;
-              stand = All-push (StandsIn (events ++ e ∷ [])) v.own (noted v.all e)
-                  (All-weaker (StandsIn events) (StandsIn (events ++ e ∷ [])) (stands_on events (e ∷ [])) v.own mine.stand)
+              stand = All-push (IsInList (events ++ e ∷ [])) v.own (noted v.all e)
+                  (All-weaker (IsInList events) (IsInList (events ++ e ∷ [])) (stands_on events (e ∷ [])) v.own mine.stand)
                   ([], ap (λ (l : List E). l ++ e ∷ []) (sym known));
               list = λ _. ap (λ (l : List E). l ++ e ∷ []) known;
             })
@@ -169,7 +169,7 @@ module _ {E : Type 0} where
           once = λ x. let t = total_set (λ u. times x u.own) s.views id v b at in let n = total_set (λ u. times x u.own) views other w nothing there in let p = k.once x in let q = times_append event_number x v.own w.own in omega arith;
           each = each_set (IsSoundStrand events) views other nothing (record { idle = λ _. refl; rises = zero-le; stand = All-nil _; list = λ e. absurd (off e) })
               (λ j u _ here. each_set (IsSoundStrand events) s.views id b
-              (record { idle = λ z. absurd (omega arith); rises = let p = mine.rises in let q = theirs.rises in omega arith; stand = All-append (StandsIn events) v.own w.own mine.stand theirs.stand; list = theirs.list })
+              (record { idle = λ z. absurd (omega arith); rises = let p = mine.rises in let q = theirs.rises in omega arith; stand = All-append (IsInList events) v.own w.own mine.stand theirs.stand; list = theirs.list })
               (λ i y _ was. k.each i y was) j u here);
         },
       )
@@ -181,7 +181,7 @@ module _ {E : Type 0} where
       let mine = k.each id v at in
       record {
         few = let t = total_set (λ u. u.parts) s.views id v nothing at in let p = k.parts in omega arith;
-        stand = λ has. subst (λ (l : List E). StandIn l v.own) (sym (mine.list has)) mine.stand;
+        stand = λ has. subst (λ (l : List E). AreInList l v.own) (sym (mine.list has)) mine.stand;
         most = λ has.
             let t = total_set (λ u. length u.own) s.views id v nothing at in
             let p = k.count in

@@ -23,19 +23,19 @@ abbrev pub times : {E : Type 0} → ℕ → List (Noted E) → ℕ
 times k own = count_by (λ n. eqb (event_number n) k) own
 
 -- the list `events` begins with the events before `n`, and continues with the event of `n`
-abbrev pub StandsIn : {E : Type 0} → List E → Noted E → Type 0
-StandsIn {E} events n = (later : List E) × (events ≡ n.before ++ n.event ∷ later)
+abbrev pub IsInList : {E : Type 0} → List E → Noted E → Type 0
+IsInList {E} events n = (later : List E) × (events ≡ n.before ++ n.event ∷ later)
 
 -- each event of `own` is in the list `events`, right after the events before it
-abbrev pub StandIn : {E : Type 0} → List E → List (Noted E) → Type 0
-StandIn events own = All (StandsIn events) own
+abbrev pub AreInList : {E : Type 0} → List E → List (Noted E) → Type 0
+AreInList events own = All (IsInList events) own
 
 -- the list `events` is a linearization of the events `own`, that is, all of them in the order of their
 -- numbers: both have as many, each event is in the list right after the events before it, and each index of
 -- the list is the number of exactly one of them
 pub record IsLinearization {E : Type 0} (events : List E) (own : List (Noted E)) : Type 0 where
   pub count : length own ≡ length events
-  pub stand : StandIn events own
+  pub stand : AreInList events own
   pub once : (k : ℕ) → times k own ≡ once_below k (length events)
 
 -- the knowledge of a seat: its parts, its own events, its clock, which is the smallest number that its next

@@ -6,14 +6,14 @@ use lib.ListN.{get_elem?}
 use Rattle.atomic_table.specs.Table.{State, Step, Me}
 use Rattle.trlab_strands.specs.declared.knowledge.TheConstants.{ALL_PARTS}
 use Rattle.trlab_strands.specs.declared.knowledge.StrandKnowledge.{StrandKnowledge}
-use Rattle.trlab_strands.specs.Knowledge.{times, once_below, StandIn, up_to_date, with_event}
+use Rattle.trlab_strands.specs.Knowledge.{times, once_below, AreInList, up_to_date, with_event}
 
 -- the knowledge of a seat is true of the list `events`: a seat without parts has no events, its clock is not
 -- ahead of the list, each own event is in the list, and if it keeps a list, it is this one
 pub record IsSoundStrand {E : Type 0} (events : List E) (k : StrandKnowledge E) : Type 0 where
   pub idle : k.parts ≡ 0 → k.own ≡ []
   pub rises : k.least ≤ length events
-  pub stand : StandIn events k.own
+  pub stand : AreInList events k.own
   pub list : k.keeps ≡ true → k.all ≡ events
 
 -- the knowledge of all seats is true of the list `events`: their parts are all parts, exactly one seat keeps
@@ -42,7 +42,7 @@ NotesEvent {E} s old found new =
 -- are as many, each index of the list is the number of exactly one of them
 pub record LearnsList {E : Type 0} (k : StrandKnowledge E) : Type 0 where
   pub few : k.parts ≤ ALL_PARTS
-  pub stand : k.keeps ≡ true → StandIn k.all k.own
+  pub stand : k.keeps ≡ true → AreInList k.all k.own
   pub most : k.keeps ≡ true → length k.own ≤ length k.all
   pub whole : k.keeps ≡ true → k.parts ≡ ALL_PARTS → length k.own ≡ length k.all
   pub once : k.keeps ≡ true → length k.own ≡ length k.all

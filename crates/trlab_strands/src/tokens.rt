@@ -2,7 +2,7 @@
 //! steps, and waits for no other thread.
 
 ghost use Rattle.std.specs.Prelude.{◌≡◌, ◌<◌, ◌≤◌, ◌+◌, max, true, false, [], ◌∷◌, ◌++◌, length, IfOk};
-ghost use Rattle.trlab_strands.specs.Knowledge.{IsLinearization, StandIn, first_seat};
+ghost use Rattle.trlab_strands.specs.Knowledge.{IsLinearization, AreInList, first_seat};
 ghost use Rattle.trlab_strands.specs.declared.knowledge.TheConstants.{ALL_PARTS};
 
 use crate::knowledge::{
@@ -124,7 +124,7 @@ impl<L: Ledger, E: Drop> Keeper<L, E> {
     pub fn audit(&mut self, strands: &Strands<L, E>, strand: &mut Strand<L, E>)
         ensures same { (list_of self.new ≡ list_of self.old) × IsSameStrand strand.old strand.new }
         ensures few { strand_parts strand.old ≤ ALL_PARTS }
-        ensures stand { StandIn (list_of self.old) (strand_events strand.old) }
+        ensures stand { AreInList (list_of self.old) (strand_events strand.old) }
         ensures most { length (strand_events strand.old) ≤ length (list_of self.old) }
         ensures whole { strand_parts strand.old ≡ ALL_PARTS
             → length (strand_events strand.old) ≡ length (list_of self.old) }

@@ -16,7 +16,7 @@ use Rattle.trlab_verify.specs.Verdict.{IsRefused}
 use Rattle.trlab_verify.proofs.ReasonNumbers.{numbered_from_one}
 use Rattle.trlab_texts.specs.declared.fault.Cause.{Cause}
 use Rattle.trlab_texts.specs.declared.fault.Cause.TheVariants.{Line, Number, Key, OneLane, Order, TooMany, Work, Hex, TooBig, Program as InProgram, Code, Road, Verdict}
-use Rattle.trlab_texts.specs.Causes.{IsOtherCause}
+use Rattle.trlab_texts.specs.Causes.{IsNotStandardRefused}
 use Rattle.trlab_texts.specs.Reading.{Fault, at_line}
 use Rattle.trlab_texts.specs.Words.{is_word, number_of, one_word, number_within, within, word_after}
 
@@ -24,47 +24,47 @@ use Rattle.trlab_texts.specs.Words.{is_word, number_of, one_word, number_within,
 apart : (n : ℕ) → n < 40 → n ≢ 40
 apart n low e = absurd (omega (arith, low, e))
 
-pub line_other : IsOtherCause Line
+pub line_other : IsNotStandardRefused Line
 line_other = apart 1 (omega arith)
 
-pub number_other : IsOtherCause Number
+pub number_other : IsNotStandardRefused Number
 number_other = apart 2 (omega arith)
 
-pub key_other : IsOtherCause Key
+pub key_other : IsNotStandardRefused Key
 key_other = apart 3 (omega arith)
 
-pub one_lane_other : IsOtherCause OneLane
+pub one_lane_other : IsNotStandardRefused OneLane
 one_lane_other = apart 4 (omega arith)
 
-pub order_other : IsOtherCause Order
+pub order_other : IsNotStandardRefused Order
 order_other = apart 5 (omega arith)
 
-pub too_many_other : IsOtherCause TooMany
+pub too_many_other : IsNotStandardRefused TooMany
 too_many_other = apart 6 (omega arith)
 
-pub work_other : IsOtherCause Work
+pub work_other : IsNotStandardRefused Work
 work_other = apart 7 (omega arith)
 
-pub hex_other : IsOtherCause Hex
+pub hex_other : IsNotStandardRefused Hex
 hex_other = apart 8 (omega arith)
 
-pub too_big_other : IsOtherCause TooBig
+pub too_big_other : IsNotStandardRefused TooBig
 too_big_other = apart 9 (omega arith)
 
-pub program_other : (why : Why) → IsOtherCause (InProgram why)
+pub program_other : (why : Why) → IsNotStandardRefused (InProgram why)
 program_other Word = apart _ (omega arith)
 program_other _ = apart _ (omega arith)
 
-pub code_other : (fault : CodeFault) → IsOtherCause (Code fault)
+pub code_other : (fault : CodeFault) → IsNotStandardRefused (Code fault)
 code_other Short = apart _ (omega arith)
 code_other _ = apart _ (omega arith)
 
-pub road_other : (fault : RoadFault) → IsOtherCause (Road fault)
+pub road_other : (fault : RoadFault) → IsNotStandardRefused (Road fault)
 road_other Lanes = apart _ (omega arith)
 road_other _ = apart _ (omega arith)
 
 -- why the verifier refuses a program of one's own
-pub verdict_other : (kind : Kind) (program : Program) (at reason : ℕ) → IsRefused kind program at reason → IsOtherCause (Verdict reason)
+pub verdict_other : (kind : Kind) (program : Program) (at reason : ℕ) → IsRefused kind program at reason → IsNotStandardRefused (Verdict reason)
 verdict_other kind program at reason refused e =
     let some = numbered_from_one kind program at reason refused in
     let same : 40 + reason ≡ 40 = e in
@@ -72,7 +72,7 @@ verdict_other kind program at reason refused e =
 
 -- a fault of a text with another cause
 abbrev pub IsOtherFault : Fault → Type 0
-IsOtherFault fault = IsOtherCause fault.cause
+IsOtherFault fault = IsNotStandardRefused fault.cause
 
 -- nothing is asked
 abbrev pub Anything : {A : Type 0} → A → Type 0
@@ -80,7 +80,7 @@ Anything x = Unit {0}
 
 -- what a line says keeps what is asked, or has another cause
 abbrev pub Fine : {A : Type 0} → (A → Type 0) → Result A Cause → Type 0
-Fine Keeps says = MatchResult says Keeps IsOtherCause
+Fine Keeps says = MatchResult says Keeps IsNotStandardRefused
 
 -- the same of what a text says
 abbrev pub FineText : {A : Type 0} → (A → Type 0) → Result A Fault → Type 0

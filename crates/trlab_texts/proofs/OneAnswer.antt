@@ -4,9 +4,9 @@ use Rattle.std.specs.Prelude.{Option, None, Some, IfSome, Result, Ok, Err, IfOk,
 use Rattle.trlab_texts.specs.declared.fault.Cause.{Cause}
 use Rattle.trlab_texts.specs.declared.fault.Cause.TheVariants.{Line, TooBig}
 use Rattle.trlab_bounds.specs.declared.texts.TheConstants.{TEXT_LIMIT}
-use Rattle.trlab_texts.specs.Causes.{IsOtherCause}
+use Rattle.trlab_texts.specs.Causes.{IsNotStandardRefused}
 use Rattle.trlab_texts.specs.Lines.{Rest}
-use Rattle.trlab_texts.specs.Reading.{Fault, Rule, Reading, say, Continues, ◌>>=◌, line_with_rest, LineSays, line, exactly, SizedTextSays, TextSays, perhaps, before, at_line, of_line}
+use Rattle.trlab_texts.specs.Reading.{Fault, Rule, Reading, say, Continues, ◌>>=◌, line_with_rest, LineSays, line, exactly, SizedTextSays, TextSays, read_if, before, at_line, of_line}
 use Rattle.trlab_texts.proofs.Fine.{IsOtherFault, Fine, FineText, line_other, too_big_other, at_line_fine}
 
 -- exactly one thing is said; a value keeps what is asked, and so does a fault
@@ -18,7 +18,7 @@ pub record One {A E : Type 0} (Keeps : A → Type 0) (Fails : E → Type 0) (Say
 
 -- one line says one thing
 abbrev pub OneLine : {A : Type 0} → (A → Type 0) → (Result A Cause → Type 0) → Type 0
-OneLine Keeps Says = One Keeps IsOtherCause Says
+OneLine Keeps Says = One Keeps IsNotStandardRefused Says
 
 -- and so does a text
 abbrev pub OneText : {A : Type 0} → (A → Type 0) → (Result A Fault → Type 0) → Type 0
@@ -125,7 +125,7 @@ then_one {A} {B} {P} {Q} first next one rest place =
 pub said_one : {A : Type 0} {P : A → Type 0} (x : A) → P x → OneReading P (say x)
 said_one x keeps place = record { one = exact (Ok (x, place)) keeps }
 
-pub perhaps_one : {A : Type 0} {P : A → Type 0} (there : Bool) (reading : Reading A) → OneReading P reading → OneReading (λ (o : Option A). IfSome o P) (perhaps there reading)
+pub perhaps_one : {A : Type 0} {P : A → Type 0} (there : Bool) (reading : Reading A) → OneReading P reading → OneReading (λ (o : Option A). IfSome o P) (read_if there reading)
 perhaps_one {A} {P} true reading one = then_one reading (λ (x : A). say (Some x)) one (λ x keeps. said_one (Some x) keeps)
 perhaps_one {A} {P} false reading one = said_one None tt
 

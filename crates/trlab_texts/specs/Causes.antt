@@ -73,5 +73,5 @@ cause_number (Verdict reason) = 40 + reason
 cause_number cause = own_cause_number cause
 
 -- the number of a cause is not 40, the number for a standard rule whose program the verifier rejects
-abbrev pub IsOtherCause : Cause → Type 0
-IsOtherCause cause = cause_number cause ≢ cause_number StandardRefused
+abbrev pub IsNotStandardRefused : Cause → Type 0
+IsNotStandardRefused cause = cause_number cause ≢ cause_number StandardRefused

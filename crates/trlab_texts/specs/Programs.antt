@@ -20,13 +20,13 @@ use Rattle.trlab_texts.specs.Words.{word_after}
 use Rattle.trlab_texts.specs.Reading.{Fault, Rule, Reading, ◌>>=◌, LineSays, before}
 
 -- `bytes` are the encoding of a valid program, `program`
-abbrev pub Spell : List ℕ → Program → Type 0
-Spell bytes program = IsProgram program × (bytes ≡ encoding program)
+abbrev pub IsEncodingOf : List ℕ → Program → Type 0
+IsEncodingOf bytes program = IsProgram program × (bytes ≡ encoding program)
 
 -- the result for a program's bytes: the program that they encode, or the first fault in them, which is never
 -- a failed allocation
 abbrev pub BytesSay : List ℕ → Result Program Cause → Type 0
-BytesSay bytes (Ok program) = Spell bytes program
+BytesSay bytes (Ok program) = IsEncodingOf bytes program
 BytesSay bytes (Err (Code fault)) = FirstCodeFault bytes fault × (fault ≢ CodeMemory)
 BytesSay bytes (Err cause) = ⊥
 

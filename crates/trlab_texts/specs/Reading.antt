@@ -91,9 +91,9 @@ ReportsLine Says (Err (Wrong cause)) = Says (Err cause)
 ReportsLine Says (Err NoMemory) = Unit {0}
 
 -- reads a value by `reading` if the condition is true, and otherwise gives no value and reads no line
-abbrev pub perhaps : {A : Type 0} → Bool → Reading A → Reading (Option A)
-perhaps true reading = reading >>= λ x. say (Some x)
-perhaps false reading = say None
+abbrev pub read_if : {A : Type 0} → Bool → Reading A → Reading (Option A)
+read_if true reading = reading >>= λ x. say (Some x)
+read_if false reading = say None
 
 -- a result for lines that were read already: a value gets the rest after them, and a fault stays
 abbrev pub before : {A : Type 0} → Rest → Result A Fault → Result (A × Rest) Fault

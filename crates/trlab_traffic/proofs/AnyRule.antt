@@ -12,7 +12,7 @@ use Rattle.trlab_machine.proofs.Crossings.{crossing_allowed}
 use Rattle.trlab_machine.proofs.Speeds.{speed_allowed}
 use Rattle.trlab_road.specs.declared.car.Car.{Car}
 use Rattle.trlab_road.specs.Cells.{Cells, IsAt, cell}
-use Rattle.trlab_road.specs.LaneChange.{CrossesFree, other_lane}
+use Rattle.trlab_road.specs.LaneChange.{CrossesToEmpty, other_lane}
 use Rattle.trlab_road.specs.Legal.{IsLegal}
 use Rattle.trlab_road.specs.Motion.{Fits}
 use Rattle.trlab_road.proofs.LaneChangeLaws.{lane_change_legal, lane_change_same_count}
@@ -38,7 +38,7 @@ answers_fit motion dice road speeds answers = record {
         speed_allowed motion.program.instrs (motion_view_of road car) (words_of dice car.number) (speeds car.lane car.place) answer.0 answer.1
 
 -- the cars that a change program lets cross do so to empty cells
-pub crossings_free : (change : CheckedProgram) (dice : Dice) (road : Cells) (crosses : ℕ → ℕ → Bool) → length road.lanes ≡ 2 → AnswersCrossings change dice road crosses → CrossesFree crosses road
+pub crossings_free : (change : CheckedProgram) (dice : Dice) (road : Cells) (crosses : ℕ → ℕ → Bool) → length road.lanes ≡ 2 → AnswersCrossings change dice road crosses → CrossesToEmpty crosses road
 crossings_free change dice road crosses two answers = record {
   two_lanes = two;
   side_empty = λ car here goes.

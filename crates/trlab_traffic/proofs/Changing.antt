@@ -7,7 +7,7 @@ use Rattle.trlab_verify.specs.CheckedProgram.{CheckedProgram}
 use Rattle.trlab_machine.specs.declared.dice.Dice.{Dice}
 use Rattle.trlab_road.specs.declared.car.Car.{Car}
 use Rattle.trlab_road.specs.Cells.{Cell, Cells, Lane, at, cars, cell, lane_of}
-use Rattle.trlab_road.specs.LaneChange.{CrossesFree, other_lane}
+use Rattle.trlab_road.specs.LaneChange.{CrossesToEmpty, other_lane}
 use Rattle.trlab_road.specs.Legal.{IsLegal}
 use Rattle.trlab_road.specs.Standing.{standing, standing_from, standing_lanes}
 use Rattle.trlab_road.proofs.Ring.{car_in}
@@ -50,7 +50,7 @@ holes (None ∷ cells) = let rest = holes cells in let e = empty-none cells in o
 holes (Some car ∷ cells) = let rest = holes cells in let e = empty-some car cells in omega (arith, rest, e)
 
 -- the cars of a lane that cross go to empty cells of the lane beside
-module _ (crosses : ℕ → ℕ → Bool) (road : Cells) (free : CrossesFree crosses road) where
+module _ (crosses : ℕ → ℕ → Bool) (road : Cells) (free : CrossesToEmpty crosses road) where
   to_hole : (l y : ℕ) (here : Cell) → cell road l y ≡ here → weight (λ (car : Car). cond (crosses car.lane car.place) 1 0) l y here ≤ cond (is_none (at (lane_of road (other_lane l)) y)) 1 0
   to_hole l y None is = omega arith
   to_hole l y (Some car) is =

@@ -14,7 +14,7 @@ use Rattle.trlab_machine.proofs.Answers.{one_answer}
 use Rattle.trlab_road.specs.declared.car.Car.{Car}
 use Rattle.trlab_road.specs.Cells.{Cells, IsAt}
 use Rattle.trlab_road.specs.Legal.{IsLegal}
-use Rattle.trlab_rules.specs.Laws.{MovesBy}
+use Rattle.trlab_rules.specs.Laws.{ComputesSpeed}
 use Rattle.trlab_rules.specs.Published.{brake, nasch_speed, safe_speed, vdr_chance, vdr_speed}
 use Rattle.trlab_rules.specs.Rules.{Programs}
 use Rattle.trlab_step.specs.Answers.{AnswersSpeed, motion_view_of}
@@ -24,7 +24,7 @@ use Rattle.trlab_rules.specs.StandardRules.{IsNasch}
 use Rattle.trlab_step.proofs.AnswersExist.{motion_view_is_view}
 use Rattle.trlab_step.proofs.PartLaws.{one_answer_each}
 use Rattle.trlab_step.proofs.RunLaws.{force_all}
-use Rattle.trlab_traffic.specs.Fastest.{IsNoFaster, GapProgramGoesAtOnce, NaschSpeedsUpByOne, NobodyBeatsGap, NobodyBeatsNasch, RandomizationSlowsRuns, SlowStartsSlowRuns, SpeedsUpByOne, VdrSpeedsUpByOne, gap_program}
+use Rattle.trlab_traffic.specs.Fastest.{IsNoFaster, GapProgramReachesSpeedAtOnce, NaschAcceleratesByAtMostOne, NobodyBeatsGap, NobodyBeatsNasch, RandomizationSlowsRuns, SlowStartsSlowRuns, AcceleratesByAtMostOne, VdrAcceleratesByAtMostOne, gap_program}
 use Rattle.trlab_traffic.specs.Runs.{EachRule, StaysInLane, always}
 use Rattle.trlab_traffic.proofs.Courses.{gap_of, started}
 use Rattle.trlab_traffic.proofs.Freely.{one_rule}
@@ -38,7 +38,7 @@ always_so P rule so zero d below = so
 always_so P rule so (suc k) d below = absurd (omega (arith, below))
 
 -- a car answers the speed of its rule
-answer_is : (speed : View → List ℕ → ℕ) (rule : Programs) (dice : Dice) (road : Cells) (car : Car) (v : ℕ) → MovesBy speed rule.motion.program → IsLegal road → IsAt road car → AnswersSpeed rule.motion dice road car v
+answer_is : (speed : View → List ℕ → ℕ) (rule : Programs) (dice : Dice) (road : Cells) (car : Car) (v : ℕ) → ComputesSpeed speed rule.motion.program → IsLegal road → IsAt road car → AnswersSpeed rule.motion dice road car v
     → v ≡ speed (motion_view_of road car) (words_of dice car.number)
 answer_is speed rule dice road car v moves legal here answers =
     let view = motion_view_of road car in
@@ -69,7 +69,7 @@ nobody_beats_gap rule sheet seed step is stay legal =
     (λ va ga a vb gb b. GapAnswers seed.road.limit ga a gb b)
     (λ t road other a b v w pair.
     let same = one_rule rule pair.other_rule t pair.other_under in
-    let moves = subst (λ (r : Programs). MovesBy (λ view words. min view.limit view.gap) r.motion.program) same is.motion in
+    let moves = subst (λ (r : Programs). ComputesSpeed (λ view words. min view.limit view.gap) r.motion.program) same is.motion in
     let answer = answer_is (λ view words. min view.limit view.gap) pair.other_rule (dice_at seed t) other b w moves pair.other_like.legal pair.there pair.other_answers in
     let limit : min other.limit (gap_of other b) ≡ min seed.road.limit (gap_of other b) = ap (λ k. min k (gap_of other b)) pair.other_like.same_limit in
     record { within_limit = pair.within_limit; within_gap = pair.within_gap; all = answer ∙ limit })
@@ -134,12 +134,12 @@ nobody_beats_nasch rule sheet seed step is up stay legal =
     (λ va ga a vb gb b. UpAnswers seed.road.limit va ga a vb gb b)
     (λ t road other a b v w pair.
     let same = one_rule rule pair.other_rule t pair.other_under in
-    let moves = subst (λ (r : Programs). MovesBy (nasch_speed 0) r.motion.program) same is.motion.moves in
+    let moves = subst (λ (r : Programs). ComputesSpeed (nasch_speed 0) r.motion.program) same is.motion.moves in
     let words = words_of (dice_at seed t) b.number in
     let answer = answer_is (nasch_speed 0) pair.other_rule (dice_at seed t) other b w moves pair.other_like.legal pair.there pair.other_answers in
     let full = no_brake (happens_on 0 (slice_index words 0)) (safe_speed b.speed other.limit (gap_of other b)) (never (slice_index words 0)) in
     let limit : safe_speed b.speed other.limit (gap_of other b) ≡ safe_speed b.speed seed.road.limit (gap_of other b) = ap (λ k. safe_speed b.speed k (gap_of other b)) pair.other_like.same_limit in
-    let one = force_all SpeedsUpByOne sheet t pair.rule up pair.under in
+    let one = force_all AcceleratesByAtMostOne sheet t pair.rule up pair.under in
     let seen = motion_view_is_view road a pair.like.legal pair.here in
     let asked = pair.answers in
     record {
@@ -162,7 +162,7 @@ brake_down false v = omega arith
 one_goes : (a b : ℕ) → Goes a ≡ Goes b → a ≡ b
 one_goes a b same = cc
 
-pub nasch_speeds_up_by_one : NaschSpeedsUpByOne
+pub nasch_speeds_up_by_one : NaschAcceleratesByAtMostOne
 nasch_speeds_up_by_one p rule is view words speed n seen ends =
     let code = rule.motion.program.instrs in
     let own = is.motion.moves view words seen in
@@ -171,7 +171,7 @@ nasch_speeds_up_by_one p rule is view words speed n seen ends =
     let up : safe_speed view.speed view.limit view.gap ≤ view.speed + 1 = (let k : min (min (view.speed + 1) view.limit) view.gap ≤ view.speed + 1 = omega arith in k) in
     omega (arith, same, most, up)
 
-pub vdr_speeds_up_by_one : VdrSpeedsUpByOne
+pub vdr_speeds_up_by_one : VdrAcceleratesByAtMostOne
 vdr_speeds_up_by_one p p0 rule is view words speed n seen ends =
     let code = rule.motion.program.instrs in
     let own = is.motion.moves view words seen in
@@ -194,7 +194,7 @@ brakes_more false false va ga vb gb so room = omega (arith, room)
 
 -- a rule whose cars brake by a chance that is never smaller, whatever their speeds are
 braking_slows : (p : ℕ) (chance : ℕ → ℕ) (light heavy : Programs) (seed : Seed) (step : ℕ) → ((speed : ℕ) → p ≤ chance speed) → IsNasch p light
-    → MovesBy (λ view words. nasch_speed (chance view.speed) view words) heavy.motion.program → StaysInLane heavy → IsLegal seed.road → seed.road.limit ≡ 1
+    → ComputesSpeed (λ view words. nasch_speed (chance view.speed) view words) heavy.motion.program → StaysInLane heavy → IsLegal seed.road → seed.road.limit ≡ 1
     → IsNoFaster seed (always heavy) (always light) step
 braking_slows p chance light heavy seed step more is_light heavy_moves heavy_stays legal one =
     no_faster seed legal (started seed.road legal) (always heavy) (always light) (always_so StaysInLane heavy heavy_stays) (always_so StaysInLane light is_light.change)
@@ -202,8 +202,8 @@ braking_slows p chance light heavy seed step more is_light heavy_moves heavy_sta
     (λ t road other a b v w pair.
     let slow = one_rule heavy pair.rule t pair.under in
     let fast = one_rule light pair.other_rule t pair.other_under in
-    let moves = subst (λ (r : Programs). MovesBy (λ view words. nasch_speed (chance view.speed) view words) r.motion.program) slow heavy_moves in
-    let other_moves = subst (λ (r : Programs). MovesBy (nasch_speed p) r.motion.program) fast is_light.motion.moves in
+    let moves = subst (λ (r : Programs). ComputesSpeed (λ view words. nasch_speed (chance view.speed) view words) r.motion.program) slow heavy_moves in
+    let other_moves = subst (λ (r : Programs). ComputesSpeed (nasch_speed p) r.motion.program) fast is_light.motion.moves in
     let dice = dice_at seed t in
     let words = words_of dice a.number in
     let c = happens_on (chance a.speed) (slice_index (words_of dice a.number) 0) in
@@ -255,7 +255,7 @@ gap_runs view words =
     (smaller R0 R0 R1 view.limit view.gap refl refl refl
     (go R0 (min view.limit view.gap) refl refl (omega arith) (omega arith))))
 
-pub gap_program_goes_at_once : GapProgramGoesAtOnce
+pub gap_program_goes_at_once : GapProgramReachesSpeedAtOnce
 gap_program_goes_at_once rule same stays =
-    let moves : MovesBy (λ view words. min view.limit view.gap) gap_program = λ view words seen. let run = gap_runs view words in (run.steps, run.ends) in
-    record { motion = subst (MovesBy (λ view words. min view.limit view.gap)) (sym same) moves; stays = stays }
+    let moves : ComputesSpeed (λ view words. min view.limit view.gap) gap_program = λ view words seen. let run = gap_runs view words in (run.steps, run.ends) in
+    record { motion = subst (ComputesSpeed (λ view words. min view.limit view.gap)) (sym same) moves; stays = stays }

@@ -23,7 +23,7 @@ use Rattle.trlab_step.specs.Next.{IsNext, total_speed}
 use Rattle.trlab_step.specs.Published.{AllGo, car_ahead}
 use Rattle.trlab_step.specs.Run.{ComesTo, Seed, dice_at, in_force}
 use Rattle.trlab_step.proofs.NextLaws.{like_itself, like_next}
-use Rattle.trlab_traffic.specs.FreeFlow.{FreeFlowGoesOn, FreeFlowStaysFree, FreeFlowTurns, IsFree}
+use Rattle.trlab_traffic.specs.FreeFlow.{FreeFlowGoesOn, FreeFlowStaysFree, FreeFlowMovesAsOne, IsFree}
 use Rattle.trlab_traffic.specs.Homogeneity.{turned, turned_lane}
 use Rattle.trlab_traffic.proofs.AnyRule.{next_legal_like}
 use Rattle.trlab_traffic.proofs.Capacities.{distance_counted, distance_uncounted}
@@ -261,5 +261,5 @@ free_flow_stays_free rule seed step road sum is legal free comes =
     let way = nasch_freely rule seed step road sum is legal free comes in
     (way.free, way.gone)
 
-pub free_flow_turns : FreeFlowTurns
+pub free_flow_turns : FreeFlowMovesAsOne
 free_flow_turns rule seed step road sum is legal free comes = (nasch_freely rule seed step road sum is legal free comes).as_one

@@ -13,7 +13,7 @@ use Rattle.trlab_step.specs.Next.{total_speed}
 use Rattle.trlab_step.specs.Run.{ComesTo, IsRoadAt, Seed, Sheet, dice_at}
 use Rattle.trlab_step.proofs.NextLaws.{like_itself, like_next}
 use Rattle.trlab_step.proofs.RunLaws.{road_at_is_one}
-use Rattle.trlab_traffic.specs.Gone.{CarsGoDistance, EachCarHasGone, GoneIsOne, HasGone}
+use Rattle.trlab_traffic.specs.Gone.{CarsGoDistance, EachCarHasGone, GoneIsUnique, HasGone}
 use Rattle.trlab_traffic.proofs.AnyRule.{next_legal_like}
 use Rattle.trlab_traffic.proofs.Capacities.{distance_counted}
 use Rattle.trlab_traffic.proofs.Numbering.{choose, sum_of_standing}
@@ -33,7 +33,7 @@ one_speed road car other legal here there same =
     let e : cell road car.lane car.place ≡ cell road other.lane other.place = ap (λ l. at (lane_of road l) car.place) place.0 ∙ ap (at (lane_of road other.lane)) place.1 in
     (some_pair_parts car.number other.number car.speed other.speed (sym here ∙ e ∙ there)).1
 
-pub gone_is_one : GoneIsOne
+pub gone_is_one : GoneIsUnique
 gone_is_one seed sheet zero number far other legal a b = a ∙ sym b
 gone_is_one seed sheet (suc step) number far other legal a b =
     let before = gone_is_one seed sheet step number a.2 b.2 legal a.6 b.6 in

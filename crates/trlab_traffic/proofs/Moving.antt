@@ -15,7 +15,7 @@ use Rattle.trlab_step.specs.declared.tally.StepTally.{StepTally}
 use Rattle.trlab_step.specs.Next.{IsNext}
 use Rattle.trlab_step.specs.Run.{ComesTo, Seed, Sheet, dice_at, tally_sum}
 use Rattle.trlab_traffic.specs.Capacity.{RunKeepsBelowPeak, all_cells, empty_cells}
-use Rattle.trlab_traffic.specs.Moving.{GoesByMovingCars, RunGoesByMovingCars, StepGoesByMovingCars}
+use Rattle.trlab_traffic.specs.Moving.{BoundsMovingSpeed, RunBoundsMovingSpeed, StepBoundsMovingSpeed}
 use Rattle.trlab_traffic.proofs.AnyRule.{next_legal_like}
 use Rattle.trlab_traffic.proofs.Capacities.{run_keeps_to_capacity}
 use Rattle.trlab_traffic.proofs.Going.{run_like}
@@ -71,7 +71,7 @@ one_step rule dice road next tally legal is =
     let most : length (standing next) * road.limit ≡ road.limit * cars road = ap (λ k. k * road.limit) (count ∙ like.same_count) ∙ mul_comm (cars road) road.limit in
     record { cell_each = omega (arith, a, distance, stopped, count, cars_count); limit_each = omega (arith, b, distance, product, most) }
 
-pub step_goes_by_moving_cars : StepGoesByMovingCars
+pub step_goes_by_moving_cars : StepBoundsMovingSpeed
 step_goes_by_moving_cars rule dice road next tally legal is =
     let one = one_step rule dice road next tally legal is in
     let a = one.cell_each in
@@ -100,10 +100,10 @@ more_limits most v k d s d1 s1 before now =
     let f = mul-add v s s1 in
     omega (arith, before, now, e, f)
 
-go_by_moving_cars : (seed : Seed) (sheet : Sheet) (step : ℕ) (road : Cells) (sum : StepTally) → IsLegal seed.road → ComesTo seed sheet step road sum → GoesByMovingCars seed.road (step - seed.warm) sum
+go_by_moving_cars : (seed : Seed) (sheet : Sheet) (step : ℕ) (road : Cells) (sum : StepTally) → IsLegal seed.road → ComesTo seed sheet step road sum → BoundsMovingSpeed seed.road (step - seed.warm) sum
 go_by_moving_cars seed sheet zero road sum legal comes =
     let none : 0 - seed.warm ≡ 0 = omega arith in
-    subst (λ k. GoesByMovingCars seed.road k sum) (sym none) (subst (GoesByMovingCars seed.road 0) (sym comes.2) (record { cell_each = omega arith; limit_each = omega arith }))
+    subst (λ k. BoundsMovingSpeed seed.road k sum) (sym none) (subst (BoundsMovingSpeed seed.road 0) (sym comes.2) (record { cell_each = omega arith; limit_each = omega arith }))
 go_by_moving_cars seed sheet (suc step) road sum legal comes =
     let old = comes.0 in
     let tally = comes.3 in
@@ -115,7 +115,7 @@ go_by_moving_cars seed sheet (suc step) road sum legal comes =
       | inl early ↦
           let e : step - seed.warm ≡ suc step - seed.warm = omega (arith, early) in
           let same = uncounted_so (nat_le seed.warm step) sum comes.1 tally on.counted (lt-leb seed.warm step early) in
-          subst (λ k. GoesByMovingCars seed.road k sum) e (subst (GoesByMovingCars seed.road (step - seed.warm)) (sym same) before)
+          subst (λ k. BoundsMovingSpeed seed.road k sum) e (subst (BoundsMovingSpeed seed.road (step - seed.warm)) (sym same) before)
       | inr late ↦
           let e : suc (step - seed.warm) ≡ suc step - seed.warm = omega (arith, late) in
           let same = counted_so (nat_le seed.warm step) sum comes.1 tally on.counted (le-leb seed.warm step late) in
@@ -124,13 +124,13 @@ go_by_moving_cars seed sheet (suc step) road sum legal comes =
           let limit = ap (λ v. tally.distance + v * tally.stopped) like.same_limit in
           let most : old.limit * cars old ≡ seed.road.limit * cars seed.road = ap (λ k. k * cars old) like.same_limit ∙ ap (λ k. seed.road.limit * k) like.same_count in
           let b = now.limit_each in
-          subst (λ k. GoesByMovingCars seed.road k sum) e (subst (GoesByMovingCars seed.road (suc (step - seed.warm))) (sym same) (record {
+          subst (λ k. BoundsMovingSpeed seed.road k sum) e (subst (BoundsMovingSpeed seed.road (suc (step - seed.warm))) (sym same) (record {
             cell_each = more_steps (cars seed.road) (step - seed.warm) comes.1.distance comes.1.stopped tally.distance tally.stopped before.cell_each (omega (arith, a, count));
             limit_each = more_limits (seed.road.limit * cars seed.road) seed.road.limit (step - seed.warm) comes.1.distance comes.1.stopped tally.distance tally.stopped before.limit_each (omega (arith, b, limit, most));
           }))
     ]
 
-pub run_goes_by_moving_cars : RunGoesByMovingCars
+pub run_goes_by_moving_cars : RunBoundsMovingSpeed
 run_goes_by_moving_cars seed sheet step road sum legal comes = go_by_moving_cars seed sheet step road sum legal comes
 
 -- the peak of the triangle

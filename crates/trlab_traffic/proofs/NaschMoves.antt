@@ -12,7 +12,7 @@ use Rattle.trlab_road.specs.Cells.{Cells, IsAt, lane_of}
 use Rattle.trlab_road.specs.Gaps.{gap}
 use Rattle.trlab_road.specs.Legal.{IsLegal}
 use Rattle.trlab_road.specs.Motion.{Fits, Moves}
-use Rattle.trlab_rules.specs.Laws.{MovesBy}
+use Rattle.trlab_rules.specs.Laws.{ComputesSpeed}
 use Rattle.trlab_rules.specs.Published.{brake, nasch_speed, safe_speed}
 use Rattle.trlab_rules.specs.Rules.{Programs}
 use Rattle.trlab_rules.specs.StandardRules.{IsNasch}
@@ -35,7 +35,7 @@ motion_alone rule dice old new tally none is =
     subst (λ (road : Cells). IsMotionPhase rule.motion dice road new) same.0 is.1.motion
 
 -- a car moves at the speed of its rule
-pub answered : (speed : View → List ℕ → ℕ) (motion : CheckedProgram) (dice : Dice) (road : Cells) (speeds : ℕ → ℕ → ℕ) → MovesBy speed motion.program → IsLegal road → AnswersSpeeds motion dice road speeds
+pub answered : (speed : View → List ℕ → ℕ) (motion : CheckedProgram) (dice : Dice) (road : Cells) (speeds : ℕ → ℕ → ℕ) → ComputesSpeed speed motion.program → IsLegal road → AnswersSpeeds motion dice road speeds
     → (car : Car) → IsAt road car → speeds car.lane car.place ≡ speed (motion_view_of road car) (words_of dice car.number)
 answered speed motion dice road speeds moves legal answers car here =
     let view = motion_view_of road car in
@@ -43,7 +43,7 @@ answered speed motion dice road speeds moves legal answers car here =
     one_answer_each motion dice road car (speeds car.lane car.place) (speed view words) (answers.each car here) (moves view words (motion_view_is_view road car legal here))
 
 -- without randomization a car moves at its safe speed
-pub safely : (motion : CheckedProgram) (dice : Dice) (road : Cells) (speeds : ℕ → ℕ → ℕ) → MovesBy (nasch_speed 0) motion.program → IsLegal road → AnswersSpeeds motion dice road speeds
+pub safely : (motion : CheckedProgram) (dice : Dice) (road : Cells) (speeds : ℕ → ℕ → ℕ) → ComputesSpeed (nasch_speed 0) motion.program → IsLegal road → AnswersSpeeds motion dice road speeds
     → (car : Car) → IsAt road car → speeds car.lane car.place ≡ safe_speed car.speed road.limit (gap (lane_of road car.lane) car.place)
 safely motion dice road speeds moves legal answers car here =
     let same = answered (nasch_speed 0) motion dice road speeds moves legal answers car here in

@@ -10,7 +10,7 @@ use Rattle.trlab_road.proofs.Ring.{car_in}
 use Rattle.trlab_step.specs.Run.{dice_at}
 use Rattle.trlab_step.proofs.RunLaws.{force_all}
 use Rattle.trlab_traffic.specs.Following.{IsNextAhead}
-use Rattle.trlab_traffic.specs.Overtaking.{EachCarHasNext, IsNextOf, NextCarIsOne, RunKeepsNextCar, StepKeepsNextCar}
+use Rattle.trlab_traffic.specs.Overtaking.{EachCarHasNext, IsNextOf, NextCarIsUnique, RunKeepsNextCar, StepKeepsNextCar}
 use Rattle.trlab_traffic.specs.Runs.{StaysInLane}
 use Rattle.trlab_traffic.proofs.AnyRule.{answers_fit}
 use Rattle.trlab_traffic.proofs.GapsAfter.{gap_after, next_taken}
@@ -89,7 +89,7 @@ each_car_has_next road car here =
       },
     )
 
-pub next_car_is_one : NextCarIsOne
+pub next_car_is_one : NextCarIsUnique
 next_car_is_one road number next other legal a b =
     let same = legal.once a.car b.car a.stands b.stands (a.numbered ∙ sym b.numbered) in
     let one = next_there road a.car a.next_car a.follows a.next_stands in

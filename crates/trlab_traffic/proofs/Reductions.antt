@@ -16,7 +16,7 @@ use Rattle.trlab_road.specs.Standing.{standing}
 use Rattle.trlab_road.proofs.LaneChangeLaws.{crosses_by, one_road_after_change}
 use Rattle.trlab_road.proofs.Numbers.{no_one}
 use Rattle.trlab_road.proofs.StandingOrder.{length-standing_lanes, standing_cell}
-use Rattle.trlab_rules.specs.Laws.{ChangesBy, MovesBy}
+use Rattle.trlab_rules.specs.Laws.{ComputesCrossing, ComputesSpeed}
 use Rattle.trlab_rules.specs.Published.{nasch_speed, rickert_crosses, vdr_speed}
 use Rattle.trlab_rules.specs.Rules.{Programs}
 use Rattle.trlab_rules.specs.Standard.{rickert_program}
@@ -29,13 +29,13 @@ use Rattle.trlab_step.specs.Run.{ComesTo, Seed, dice_at}
 use Rattle.trlab_step.proofs.AnswersExist.{change_view_is_view, motion_view_is_view}
 use Rattle.trlab_step.proofs.NextLaws.{like_itself, like_next}
 use Rattle.trlab_step.proofs.PartLaws.{one_answer_each, one_crossing_each}
-use Rattle.trlab_traffic.specs.Reduction.{GoAlike, RickertWithoutChange, RunsAlike, VdrWithOneProbability}
+use Rattle.trlab_traffic.specs.Reduction.{HaveSameSteps, RickertReducesToNasch, HaveSameRuns, VdrReducesToNasch}
 use Rattle.trlab_traffic.proofs.AnyRule.{middle_like, next_legal_like}
 use Rattle.trlab_traffic.proofs.Freely.{in_force_one, one_rule}
 use Rattle.trlab_traffic.proofs.NaschMoves.{never}
 
 -- motion programs that answer one speed move the cars alike
-module _ (f g : View → List ℕ → ℕ) (motion other : CheckedProgram) (by_f : MovesBy f motion.program) (by_g : MovesBy g other.program)
+module _ (f g : View → List ℕ → ℕ) (motion other : CheckedProgram) (by_f : ComputesSpeed f motion.program) (by_g : ComputesSpeed g other.program)
     (same : (view : View) (words : List ℕ) → f view words ≡ g view words) where
   speeds_alike : (dice : Dice) (road : Cells) (speeds : ℕ → ℕ → ℕ) → IsLegal road → AnswersSpeeds motion dice road speeds → AnswersSpeeds other dice road speeds
   speeds_alike dice road speeds legal answers = record {
@@ -79,7 +79,7 @@ no_change : (change other : Option CheckedProgram) (dice : Dice) (road middle : 
 no_change change other dice road middle changes none nor phase =
     subst (λ (c : Option CheckedProgram). IsLaneChangePhase c dice road middle changes) (none ∙ sym nor) phase
 
-pub vdr_of_one_chance : VdrWithOneProbability
+pub vdr_of_one_chance : VdrReducesToNasch
 vdr_of_one_chance p lanes rule other vdr nasch dice road next tally legal count = (
   step_alike rule other dice road next tally legal
       (λ middle phase. no_change rule.change other.change dice road middle tally.changes vdr.change nasch.change phase)
@@ -138,7 +138,7 @@ none_counted crosses road none =
     count_none (λ car. crosses car.lane car.place) (standing road) no_one
     (λ k below. none (get_or (standing road) k no_one) (standing_cell road k no_one (omega (arith, below, count))))
 
-module _ (change : CheckedProgram) (by : ChangesBy (rickert_crosses 0) change.program) (dice : Dice) (road : Cells) (legal : IsLegal road) (two : length road.lanes ≡ 2) where
+module _ (change : CheckedProgram) (by : ComputesCrossing (rickert_crosses 0) change.program) (dice : Dice) (road : Cells) (legal : IsLegal road) (two : length road.lanes ≡ 2) where
   stays : (car : Car) → IsAt road car → AnswersCrossing change dice road car false
   stays car here =
       let view = change_view_of road car in
@@ -176,7 +176,7 @@ rickert_as_none (Some change) dice road middle changes legal two is = record {
   from = from_none change is.changes dice road legal two middle changes;
 }
 
-pub rickert_without_change : RickertWithoutChange
+pub rickert_without_change : RickertReducesToNasch
 rickert_without_change p rule other rickert nasch dice road next tally legal two = (
   step_alike rule other dice road next tally legal
       (λ middle phase.
@@ -196,7 +196,7 @@ record RunAlike (other : Programs) (seed : Seed) (step : ℕ) (road : Cells) (su
   comes : ComesTo seed ((0, other) ∷ []) step road sum
 
 run_alike : (rule other : Programs) (seed : Seed) (step : ℕ) (road : Cells) (sum : StepTally) → IsLegal seed.road
-    → GoAlike (length seed.road.lanes) rule other → ComesTo seed ((0, rule) ∷ []) step road sum → RunAlike other seed step road sum
+    → HaveSameSteps (length seed.road.lanes) rule other → ComesTo seed ((0, rule) ∷ []) step road sum → RunAlike other seed step road sum
 run_alike rule other seed zero road sum legal alike comes = record {
   like = subst (IsLegalLike seed.road) (sym comes.1) (like_itself seed.road legal);
   comes = ((refl, tt), comes.1, comes.2);
@@ -214,5 +214,5 @@ run_alike rule other seed (suc step) road sum legal alike comes =
       comes = (before, comes.1, other, tally, way.comes, record { under = in_force_one other step; next = also; counted = on.counted });
     }
 
-pub runs_alike : RunsAlike
+pub runs_alike : HaveSameRuns
 runs_alike rule other seed step road sum legal alike comes = (run_alike rule other seed step road sum legal alike comes).comes

@@ -8,7 +8,7 @@ use Rattle.trlab_machine.specs.declared.dice.Dice.{Dice}
 use Rattle.trlab_road.proofs.Ring.{car_in}
 use Rattle.trlab_road.specs.Cells.{Cell, Cells, Lane, cars, cell, lane_of, lane_cars}
 use Rattle.trlab_road.specs.Gaps.{ahead}
-use Rattle.trlab_road.specs.LaneChange.{CrossesFree, cell_after_change, other_lane}
+use Rattle.trlab_road.specs.LaneChange.{CrossesToEmpty, cell_after_change, other_lane}
 use Rattle.trlab_road.specs.Legal.{IsLegal}
 use Rattle.trlab_step.proofs.RunLaws.{road_at_is_one}
 use Rattle.trlab_step.specs.Next.{IsLaneChangePhase}
@@ -53,7 +53,7 @@ cell_balance false false None (Some b) one other = refl
 cell_balance false false (Some a) None one other = refl
 cell_balance false false (Some a) (Some b) one other = refl
 
-side_free : (crosses : ℕ → ℕ → Bool) (road : Cells) → CrossesFree crosses road → (l y : ℕ) (here : Cell) → cell road l y ≡ here → crosses l y ≡ true → is_some here ≡ true → cell road (other_lane l) y ≡ None
+side_free : (crosses : ℕ → ℕ → Bool) (road : Cells) → CrossesToEmpty crosses road → (l y : ℕ) (here : Cell) → cell road l y ≡ here → crosses l y ≡ true → is_some here ≡ true → cell road (other_lane l) y ≡ None
 side_free crosses road free l y None is goes some = absurd (true≢false (sym some))
 side_free crosses road free l y (Some car) is goes some = free.side_empty (car_in l y car.0 car.1) is goes
 

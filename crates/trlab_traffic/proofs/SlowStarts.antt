@@ -24,7 +24,7 @@ use Rattle.trlab_step.specs.declared.tally.StepTally.{StepTally}
 use Rattle.trlab_step.specs.Next.{IsNext, total_speed}
 use Rattle.trlab_step.specs.Run.{ComesTo, Seed, dice_at}
 use Rattle.trlab_traffic.specs.FreeFlow.{IsFree}
-use Rattle.trlab_traffic.specs.Metastable.{IsStopped, SlowStartsKeepFreeFlow, SlowStartsKeepJams, SlowStartsTurnFreeFlow}
+use Rattle.trlab_traffic.specs.Metastable.{IsStopped, SlowStartsKeepFreeFlow, SlowStartsKeepJams, SlowStartsMoveFreeFlowAsOne}
 use Rattle.trlab_traffic.proofs.Capacities.{distance_counted, distance_uncounted}
 use Rattle.trlab_traffic.proofs.Freely.{FreeMotion, FreelyOn, free_speed, one_rule, run_freely, sum_by-same}
 use Rattle.trlab_traffic.proofs.NaschMoves.{answered, motion_alone, never}
@@ -58,7 +58,7 @@ slow_starts_keep_free_flow p0 rule seed step road sum is legal free comes =
     let way = vdr_freely p0 rule seed step road sum is legal free comes in
     (way.free, way.gone)
 
-pub slow_starts_turn_free_flow : SlowStartsTurnFreeFlow
+pub slow_starts_turn_free_flow : SlowStartsMoveFreeFlowAsOne
 slow_starts_turn_free_flow p0 rule seed step road sum is legal free comes = (vdr_freely p0 rule seed step road sum is legal free comes).as_one
 
 -- certainty happens on each word

@@ -10,7 +10,7 @@ use Rattle.trlab_road.specs.declared.car.Car.{Car}
 use Rattle.trlab_road.specs.declared.fault.RoadFault.{RoadFault}
 use Rattle.trlab_road.specs.Cells.{Cell, Cells, IsAt, Lane, at, cars, cell, lane_cars, lane_of}
 use Rattle.trlab_road.specs.Gaps.{ahead, gap}
-use Rattle.trlab_road.specs.Laws.{SaysEven}
+use Rattle.trlab_road.specs.Laws.{EvenCarsMean}
 use Rattle.trlab_road.specs.Legal.{HasShape, IsLegal}
 use Rattle.trlab_road.specs.Spreading.{CanSpread, IsEven}
 use Rattle.trlab_road.proofs.EvenExists.{something}
@@ -154,7 +154,7 @@ even_road cells limit n fits =
     let said = something 1 cells limit n in
     of_said said.0 said.1
   where
-    of_said : (said : Result Cells RoadFault) → SaysEven 1 cells limit n said → (road : Cells) × IsEven 1 cells limit n road
+    of_said : (said : Result Cells RoadFault) → EvenCarsMean 1 cells limit n said → (road : Cells) × IsEven 1 cells limit n road
     of_said (Ok road) says = (road, says.1)
     of_said (Err fault) says = absurd (says.1 (no_fault 1 cells limit n fault fits says.0))
 

@@ -10,7 +10,7 @@ use Rattle.trlab_code.specs.Views.{IsView}
 use Rattle.trlab_code.specs.Machine.{EndsWith, Goes}
 use Rattle.trlab_road.specs.Cells.{Cells}
 use Rattle.trlab_road.specs.Legal.{IsLegal}
-use Rattle.trlab_rules.specs.Laws.{MovesBy}
+use Rattle.trlab_rules.specs.Laws.{ComputesSpeed}
 use Rattle.trlab_rules.specs.Rules.{Programs}
 use Rattle.trlab_rules.specs.StandardRules.{IsNasch, IsVdr}
 use Rattle.trlab_step.specs.declared.tally.StepTally.{StepTally}
@@ -28,31 +28,31 @@ pub record IsNoFaster (seed : Seed) (slow fast : Sheet) (step : ℕ) : Type 0 wh
 
 -- a rule accelerates by at most one: for every view in range and all random words its motion program answers
 -- at most the car's speed plus one
-abbrev pub SpeedsUpByOne : Programs → Type 0
-SpeedsUpByOne rule =
+abbrev pub AcceleratesByAtMostOne : Programs → Type 0
+AcceleratesByAtMostOne rule =
     (view : View) (words : List ℕ) (speed n : ℕ) → IsView view
     → EndsWith Motion rule.motion.program.instrs view words (Goes speed) n → speed ≤ view.speed + 1
 
 -- the rule of 1992 accelerates by at most one, for every probability p
-abbrev pub NaschSpeedsUpByOne : Type 0
-NaschSpeedsUpByOne = (p : ℕ) (rule : Programs) → IsNasch p rule → SpeedsUpByOne rule
+abbrev pub NaschAcceleratesByAtMostOne : Type 0
+NaschAcceleratesByAtMostOne = (p : ℕ) (rule : Programs) → IsNasch p rule → AcceleratesByAtMostOne rule
 
 -- the rule of 1998 accelerates by at most one, for all probabilities p and p0
-abbrev pub VdrSpeedsUpByOne : Type 0
-VdrSpeedsUpByOne = (p p0 : ℕ) (rule : Programs) → IsVdr p p0 rule → SpeedsUpByOne rule
+abbrev pub VdrAcceleratesByAtMostOne : Type 0
+VdrAcceleratesByAtMostOne = (p p0 : ℕ) (rule : Programs) → IsVdr p p0 rule → AcceleratesByAtMostOne rule
 
 -- a run from a legal road, under any sheet of rules that accelerate by at most one and have no lane changes,
 -- is at no step faster than the run under the rule of 1992 without randomization
 abbrev pub NobodyBeatsNasch : Type 0
 NobodyBeatsNasch =
     (rule : Programs) (sheet : Sheet) (seed : Seed) (step : ℕ)
-    → IsNasch 0 rule → EachRule SpeedsUpByOne sheet → EachRule StaysInLane sheet → IsLegal seed.road
+    → IsNasch 0 rule → EachRule AcceleratesByAtMostOne sheet → EachRule StaysInLane sheet → IsLegal seed.road
     → IsNoFaster seed sheet (always rule) step
 
 -- a rule without lane changes under which cars reach their speed at once: each moves as far as its gap and
 -- the limit allow
-pub record GoesAtOnce (rule : Programs) : Type 0 where
-  pub motion : MovesBy (λ view words. min view.limit view.gap) rule.motion.program
+pub record ReachesSpeedAtOnce (rule : Programs) : Type 0 where
+  pub motion : ComputesSpeed (λ view words. min view.limit view.gap) rule.motion.program
   pub stays : StaysInLane rule
 
 -- a motion program that answers the limit or the car's gap, whichever is smaller
@@ -60,16 +60,16 @@ abbrev pub gap_program : Program
 gap_program = record { kind = Motion; instrs = Get R0 Limit ∷ Get R1 Gap ∷ Min R0 R0 R1 ∷ Go R0 ∷ [] }
 
 -- a rule without lane changes whose motion program is `gap_program` lets cars reach their speed at once
-abbrev pub GapProgramGoesAtOnce : Type 0
-GapProgramGoesAtOnce =
-    (rule : Programs) → rule.motion.program ≡ gap_program → StaysInLane rule → GoesAtOnce rule
+abbrev pub GapProgramReachesSpeedAtOnce : Type 0
+GapProgramReachesSpeedAtOnce =
+    (rule : Programs) → rule.motion.program ≡ gap_program → StaysInLane rule → ReachesSpeedAtOnce rule
 
 -- a run from a legal road, under any sheet of rules without lane changes, is at no step faster than the run
 -- under a rule that lets cars reach their speed at once
 abbrev pub NobodyBeatsGap : Type 0
 NobodyBeatsGap =
     (rule : Programs) (sheet : Sheet) (seed : Seed) (step : ℕ)
-    → GoesAtOnce rule → EachRule StaysInLane sheet → IsLegal seed.road
+    → ReachesSpeedAtOnce rule → EachRule StaysInLane sheet → IsLegal seed.road
     → IsNoFaster seed sheet (always rule) step
 
 -- with the limit 1 a run under the rule of 1992 with probability q of braking is at no step faster than the

@@ -48,8 +48,8 @@ MovesAsOne seed step road = turned (seed.road.limit * step) road ≡ seed.road
 
 -- under the rule of 1992 without randomization a run from a legal road in free flow moves as one: all cars
 -- keep their distances from one another
-abbrev pub FreeFlowTurns : Type 0
-FreeFlowTurns =
+abbrev pub FreeFlowMovesAsOne : Type 0
+FreeFlowMovesAsOne =
     (rule : Programs) (seed : Seed) (step : ℕ) (road : Cells) (sum : StepTally)
     → IsNasch 0 rule → IsLegal seed.road → IsFree seed.road → ComesTo seed (always rule) step road sum
     → MovesAsOne seed step road

@@ -23,8 +23,8 @@ EachCarHasGone =
     → (far : ℕ) × HasGone seed sheet step number far
 
 -- no car of a run from a legal road has gone two different distances in the same number of steps
-abbrev pub GoneIsOne : Type 0
-GoneIsOne =
+abbrev pub GoneIsUnique : Type 0
+GoneIsUnique =
     (seed : Seed) (sheet : Sheet) (step number far other : ℕ)
     → IsLegal seed.road → HasGone seed sheet step number far → HasGone seed sheet step number other
     → far ≡ other

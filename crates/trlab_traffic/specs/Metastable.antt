@@ -29,8 +29,8 @@ SlowStartsKeepFreeFlow =
 
 -- under the rule of 1998, if moving cars brake with probability 0, a run from a legal road in free flow moves
 -- as one, whatever the probability p0 for stopped cars is
-abbrev pub SlowStartsTurnFreeFlow : Type 0
-SlowStartsTurnFreeFlow =
+abbrev pub SlowStartsMoveFreeFlowAsOne : Type 0
+SlowStartsMoveFreeFlowAsOne =
     (p0 : ℕ) (rule : Programs) (seed : Seed) (step : ℕ) (road : Cells) (sum : StepTally)
     → IsVdr 0 p0 rule → IsLegal seed.road → IsFree seed.road → ComesTo seed (always rule) step road sum
     → MovesAsOne seed step road

@@ -12,21 +12,21 @@ use Rattle.trlab_traffic.specs.Runs.{counted_steps}
 
 -- in `steps` steps of a road, with the tally `sum`, the distance is at least one cell, and at most as many
 -- cells as the limit, for each car and step in which the car is not stopped
-pub record GoesByMovingCars (road : Cells) (steps : ℕ) (sum : StepTally) : Type 0 where
+pub record BoundsMovingSpeed (road : Cells) (steps : ℕ) (sum : StepTally) : Type 0 where
   pub cell_each : steps * cars road ≤ sum.distance + sum.stopped
   pub limit_each : sum.distance + road.limit * sum.stopped ≤ steps * distance_at_limit road
 
 -- under any rule the distance of a step of a legal road is at least one cell, and at most as many cells as
 -- the limit, for each car that is not stopped in it
-abbrev pub StepGoesByMovingCars : Type 0
-StepGoesByMovingCars =
+abbrev pub StepBoundsMovingSpeed : Type 0
+StepBoundsMovingSpeed =
     (rule : Programs) (dice : Dice) (road next : Cells) (tally : StepTally)
-    → IsLegal road → IsNext rule dice road next tally → GoesByMovingCars road 1 tally
+    → IsLegal road → IsNext rule dice road next tally → BoundsMovingSpeed road 1 tally
 
 -- under any sheet of rules the distance of the counted steps of a run from a legal road is at least one cell,
 -- and at most as many cells as the limit, for each car and counted step in which the car is not stopped
-abbrev pub RunGoesByMovingCars : Type 0
-RunGoesByMovingCars =
+abbrev pub RunBoundsMovingSpeed : Type 0
+RunBoundsMovingSpeed =
     (seed : Seed) (sheet : Sheet) (step : ℕ) (road : Cells) (sum : StepTally)
     → IsLegal seed.road → ComesTo seed sheet step road sum
-    → GoesByMovingCars seed.road (counted_steps seed step) sum
+    → BoundsMovingSpeed seed.road (counted_steps seed step) sum

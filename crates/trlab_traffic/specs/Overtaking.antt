@@ -27,8 +27,8 @@ abbrev pub EachCarHasNext : Type 0
 EachCarHasNext = (road : Cells) (car : Car) → IsAt road car → (next : ℕ) × IsNextOf road car.number next
 
 -- no car of a legal road has two different next cars ahead
-abbrev pub NextCarIsOne : Type 0
-NextCarIsOne = (road : Cells) (number next other : ℕ) → IsLegal road
+abbrev pub NextCarIsUnique : Type 0
+NextCarIsUnique = (road : Cells) (number next other : ℕ) → IsLegal road
     → IsNextOf road number next → IsNextOf road number other → next ≡ other
 
 -- under any rule without lane changes a car has the same next car ahead after a step as before it

@@ -12,27 +12,27 @@ use Rattle.trlab_traffic.specs.Runs.{always}
 
 -- two rules have the same steps: from each legal road with `lanes` lanes and with the same dice, both lead to
 -- the same next road, with the same tally
-abbrev pub GoAlike : ℕ → Programs → Programs → Type 0
-GoAlike lanes rule other =
+abbrev pub HaveSameSteps : ℕ → Programs → Programs → Type 0
+HaveSameSteps lanes rule other =
     (dice : Dice) (road next : Cells) (tally : StepTally) → IsLegal road → length road.lanes ≡ lanes
     → IsNext rule dice road next tally ↔ IsNext other dice road next tally
 
 -- the rule of 1998, if stopped and moving cars brake with the same probability p, has the same steps as the
 -- rule of 1992 with p, for any number of lanes
-abbrev pub VdrWithOneProbability : Type 0
-VdrWithOneProbability =
-    (p lanes : ℕ) (rule other : Programs) → IsVdr p p rule → IsNasch p other → GoAlike lanes rule other
+abbrev pub VdrReducesToNasch : Type 0
+VdrReducesToNasch =
+    (p lanes : ℕ) (rule other : Programs) → IsVdr p p rule → IsNasch p other → HaveSameSteps lanes rule other
 
 -- on two lanes the rule of 1996 with probability 0 of a lane change has the same steps as the rule of 1992
 -- with the same probability p of braking
-abbrev pub RickertWithoutChange : Type 0
-RickertWithoutChange =
-    (p : ℕ) (rule other : Programs) → IsRickert p 0 rule → IsNasch p other → GoAlike 2 rule other
+abbrev pub RickertReducesToNasch : Type 0
+RickertReducesToNasch =
+    (p : ℕ) (rule other : Programs) → IsRickert p 0 rule → IsNasch p other → HaveSameSteps 2 rule other
 
 -- if two rules have the same steps on as many lanes as the legal road of the start has, each run under one of
 -- the rules is a run under the other
-abbrev pub RunsAlike : Type 0
-RunsAlike =
+abbrev pub HaveSameRuns : Type 0
+HaveSameRuns =
     (rule other : Programs) (seed : Seed) (step : ℕ) (road : Cells) (sum : StepTally)
-    → IsLegal seed.road → GoAlike (length seed.road.lanes) rule other
+    → IsLegal seed.road → HaveSameSteps (length seed.road.lanes) rule other
     → ComesTo seed (always rule) step road sum → ComesTo seed (always other) step road sum

@@ -13,23 +13,23 @@ ghost use Rattle.trlab_traffic.specs.DetectorRuns.{DetectorCountsBelowPeak, Dete
 ghost use Rattle.trlab_traffic.specs.DetectorRuns.{DetectorsCountRun, RunIsContinuous};
 ghost use Rattle.trlab_traffic.specs.Diagram.{EvenCarsFlowAtCapacity, NaschComesToCapacity};
 ghost use Rattle.trlab_traffic.specs.Diagram.{NaschComesToCapacityByLane, Rule184ComesToCapacity};
-ghost use Rattle.trlab_traffic.specs.Fastest.{GapProgramGoesAtOnce, NaschSpeedsUpByOne, NobodyBeatsGap};
+ghost use Rattle.trlab_traffic.specs.Fastest.{GapProgramReachesSpeedAtOnce, NaschAcceleratesByAtMostOne, NobodyBeatsGap};
 ghost use Rattle.trlab_traffic.specs.Fastest.{NobodyBeatsNasch, RandomizationSlowsRuns, SlowStartsSlowRuns};
-ghost use Rattle.trlab_traffic.specs.Fastest.{VdrSpeedsUpByOne};
+ghost use Rattle.trlab_traffic.specs.Fastest.{VdrAcceleratesByAtMostOne};
 ghost use Rattle.trlab_traffic.specs.Following.{GapsFollow};
-ghost use Rattle.trlab_traffic.specs.FreeFlow.{FreeFlowGoesOn, FreeFlowStaysFree, FreeFlowTurns};
-ghost use Rattle.trlab_traffic.specs.Gone.{CarsGoDistance, EachCarHasGone, GoneIsOne};
+ghost use Rattle.trlab_traffic.specs.FreeFlow.{FreeFlowGoesOn, FreeFlowStaysFree, FreeFlowMovesAsOne};
+ghost use Rattle.trlab_traffic.specs.Gone.{CarsGoDistance, EachCarHasGone, GoneIsUnique};
 ghost use Rattle.trlab_traffic.specs.Homogeneity.{RunIsHomogeneous, StepIsHomogeneous};
 ghost use Rattle.trlab_traffic.specs.Jams.{CarWithoutGapStops};
 ghost use Rattle.trlab_traffic.specs.LaneGaps.{GapsFillLane, RunKeepsLaneCars};
 ghost use Rattle.trlab_traffic.specs.Metastable.{SlowStartsKeepFreeFlow, SlowStartsKeepJams};
-ghost use Rattle.trlab_traffic.specs.Metastable.{SlowStartsTurnFreeFlow, TwoFlowsAtOneDensity};
-ghost use Rattle.trlab_traffic.specs.Moving.{RunGoesByMovingCars, StepGoesByMovingCars};
-ghost use Rattle.trlab_traffic.specs.Overtaking.{EachCarHasNext, NextCarIsOne, RunKeepsNextCar, StepKeepsNextCar};
+ghost use Rattle.trlab_traffic.specs.Metastable.{SlowStartsMoveFreeFlowAsOne, TwoFlowsAtOneDensity};
+ghost use Rattle.trlab_traffic.specs.Moving.{RunBoundsMovingSpeed, StepBoundsMovingSpeed};
+ghost use Rattle.trlab_traffic.specs.Overtaking.{EachCarHasNext, NextCarIsUnique, RunKeepsNextCar, StepKeepsNextCar};
 ghost use Rattle.trlab_traffic.specs.Periods.{CertainRulesBecomePeriodic};
 ghost use Rattle.trlab_traffic.specs.Queues.{QueueStarts, QueueWaits};
 ghost use Rattle.trlab_traffic.specs.Randomization.{RandomizationSlows, SlowStartsSlow};
-ghost use Rattle.trlab_traffic.specs.Reduction.{RickertWithoutChange, RunsAlike, VdrWithOneProbability};
+ghost use Rattle.trlab_traffic.specs.Reduction.{RickertReducesToNasch, HaveSameRuns, VdrReducesToNasch};
 ghost use Rattle.trlab_traffic.specs.Rows.{RowMeasuresFlow, RowsAgree};
 ghost use Rattle.trlab_traffic.specs.Rows.{RunIsContinuousByRows, StepIsContinuousByRows};
 ghost use Rattle.trlab_traffic.specs.Rule184.{EmptyCellsGoBack, NaschIsRule184};
@@ -57,8 +57,8 @@ pub fn run_keeps_below_peak()
 /// A car that is not stopped moves at least one cell per step, and at most as many as the limit. So distances
 /// and stops bound each other, in steps and in runs.
 pub fn moving_cars_go()
-    ensures step { StepGoesByMovingCars }
-    ensures run { RunGoesByMovingCars }
+    ensures step { StepBoundsMovingSpeed }
+    ensures run { RunBoundsMovingSpeed }
 {}
 
 /// At most as many cars change lanes in a step as there are cars, and at most as many as there are empty cells,
@@ -73,7 +73,7 @@ pub fn few_cars_change_lanes()
 pub fn free_flow_stays_free()
     ensures step { FreeFlowGoesOn }
     ensures run { FreeFlowStaysFree }
-    ensures turned { FreeFlowTurns }
+    ensures turned { FreeFlowMovesAsOne }
 {}
 
 /// Slow starts make free flow metastable: if moving cars never brake at random, free flow goes on for ever; if stopped
@@ -81,7 +81,7 @@ pub fn free_flow_stays_free()
 /// Phys. J. B 5, 793).
 pub fn slow_starts_are_metastable()
     ensures free { SlowStartsKeepFreeFlow }
-    ensures turned { SlowStartsTurnFreeFlow }
+    ensures turned { SlowStartsMoveFreeFlowAsOne }
     ensures jam { SlowStartsKeepJams }
 {}
 
@@ -129,7 +129,7 @@ pub fn queue_dissolves_from_front()
 /// changes.
 pub fn nobody_overtakes()
     ensures next { EachCarHasNext }
-    ensures one { NextCarIsOne }
+    ensures one { NextCarIsUnique }
     ensures step { StepKeepsNextCar }
     ensures run { RunKeepsNextCar }
 {}
@@ -138,7 +138,7 @@ pub fn nobody_overtakes()
 /// distance of the run.
 pub fn cars_go_distance()
     ensures each { EachCarHasGone }
-    ensures one { GoneIsOne }
+    ensures one { GoneIsUnique }
     ensures all { CarsGoDistance }
 {}
 
@@ -147,15 +147,15 @@ pub fn cars_go_distance()
 /// 1992 and of 1998 are such rules.
 pub fn nobody_beats_nasch()
     ensures run { NobodyBeatsNasch }
-    ensures nasch { NaschSpeedsUpByOne }
-    ensures vdr { VdrSpeedsUpByOne }
+    ensures nasch { NaschAcceleratesByAtMostOne }
+    ensures vdr { VdrAcceleratesByAtMostOne }
 {}
 
 /// No rule without lane changes beats cars that reach their speed at once (Fukui and Ishibashi 1996, J. Phys. Soc.
 /// Japan 65, 1868).
 pub fn nobody_beats_gap()
     ensures run { NobodyBeatsGap }
-    ensures program { GapProgramGoesAtOnce }
+    ensures program { GapProgramReachesSpeedAtOnce }
 {}
 
 /// With the limit 1 a greater probability of braking slows whole runs, car by car: under the rules of 1992 and of 1998,
@@ -205,9 +205,9 @@ pub fn certain_rules_become_periodic()
 /// change is 0 (Rickert, Nagel, Schreckenberg and Latour 1996, Physica A 231, 534). Rules with the same steps
 /// have the same runs.
 pub fn rules_reduce_to_nasch()
-    ensures vdr { VdrWithOneProbability }
-    ensures rickert { RickertWithoutChange }
-    ensures runs { RunsAlike }
+    ensures vdr { VdrReducesToNasch }
+    ensures rickert { RickertReducesToNasch }
+    ensures runs { HaveSameRuns }
 {}
 
 /// With the limit 1 and without randomization the rule of 1992 takes each lane through a step of rule 184 (Wolfram

@@ -17,7 +17,7 @@ use Rattle.trlab_notes.specs.Notes.{Note, known_level, level_between, same_varia
 use Rattle.trlab_notes.specs.Order.{join}
 use Rattle.trlab_notes.specs.Transfer.{sharpen, slacken, chain, least, most, result_said, result_to, to_result, register_to, assign, assign_any, refine_order, refine_flag, next_note, jump_note}
 use Rattle.trlab_verify.specs.Incoming.{add_note, add_notes, if_here, next_note_to, jump_note_to, is_target, incoming}
-use Rattle.trlab_verify.specs.TableForm.{HasLevels}
+use Rattle.trlab_verify.specs.TableForm.{HasValidLevels}
 use Rattle.trlab_verify.proofs.Checking.{ChecksBy}
 use Rattle.trlab_verify.proofs.Best.{best}
 
@@ -51,8 +51,8 @@ chain_two zero k j p q r = omega arith
 chain_two (suc i) k zero p q r = omega arith
 chain_two (suc i) k (suc j) p q r = omega arith
 
-module _ (m : Note) (f : HasLevels m) where
-  assign_two : (d : Register) (s : AbstractValue) (to from : Variable → ℕ) → ((y : Variable) → to y ≤ 2) → ((y : Variable) → from y ≤ 2) → HasLevels (assign m d s to from)
+module _ (m : Note) (f : HasValidLevels m) where
+  assign_two : (d : Register) (s : AbstractValue) (to from : Variable → ℕ) → ((y : Variable) → to y ≤ 2) → ((y : Variable) → from y ≤ 2) → HasValidLevels (assign m d s to from)
   unfolding assign known_level update
   assign_two d s to from p q x y = at (same_variable x (variable.Register d)) (same_variable y (variable.Register d))
     where
@@ -61,11 +61,11 @@ module _ (m : Note) (f : HasLevels m) where
       at false true = known_two _ _ (same_variable x y) (from x) (q x)
       at false false = f x y
 
-  refine_two : (p q : Variable) (k : ℕ) → k ≤ 2 → HasLevels (refine_order m p q k)
+  refine_two : (p q : Variable) (k : ℕ) → k ≤ 2 → HasValidLevels (refine_order m p q k)
   unfolding refine_order known_level
   refine_two p q k l x y = known_max (m.said x) (m.said y) (same_variable x y) (m.level x y) _ (f x y) (chain_two _ k _ (f x p) l (f q y))
 
-  flag_two : (a : Register) → HasLevels (refine_flag m a)
+  flag_two : (a : Register) → HasValidLevels (refine_flag m a)
   unfolding refine_flag known_level
   flag_two a = f
 
@@ -87,28 +87,28 @@ module _ (m : Note) (f : HasLevels m) where
   from_two (Max d a b) y = omega (arith, f y (variable.Register a), f y (variable.Register b))
   from_two i y = omega arith
 
-  any_two : (i : Instr) (d : Option Register) → IfSome (assign_any m i d) HasLevels
+  any_two : (i : Instr) (d : Option Register) → IfSome (assign_any m i d) HasValidLevels
   any_two i None = tt
   any_two i (Some d) = assign_two d (result_said m i) (result_to m i) (to_result m i) (to_two i) (from_two i)
 
-  next_two : (i : Instr) → IfSome (next_note m i) HasLevels
+  next_two : (i : Instr) → IfSome (next_note m i) HasValidLevels
   next_two (JumpLess a b t) = refine_two (variable.Register b) (variable.Register a) 1 (omega arith)
   next_two (JumpAtMost a b t) = refine_two (variable.Register b) (variable.Register a) 2 (omega arith)
   next_two (JumpTrue a t) = f
   next_two (JumpFalse a t) = flag_two a
   next_two i = any_two i (destination i)
 
-  jump_two : (i : Instr) → HasLevels (jump_note m i)
+  jump_two : (i : Instr) → HasValidLevels (jump_note m i)
   jump_two (JumpLess a b t) = refine_two (variable.Register a) (variable.Register b) 2 (omega arith)
   jump_two (JumpAtMost a b t) = refine_two (variable.Register a) (variable.Register b) 1 (omega arith)
   jump_two (JumpTrue a t) = flag_two a
   jump_two i = f
 
-join_two : (m n : Note) → HasLevels m → HasLevels (join m n)
+join_two : (m n : Note) → HasValidLevels m → HasValidLevels (join m n)
 unfolding join known_level
 join_two m n f x y = known_two _ _ (same_variable x y) _ (omega (arith, f x y))
 
-entry_two : (kind : Kind) → HasLevels (entry kind)
+entry_two : (kind : Kind) → HasValidLevels (entry kind)
 unfolding entry known_level
 entry_two kind x y = known_two (entry_said kind x) (entry_said kind y) (same_variable x y) (entry_level x y) (levels x y)
   where
@@ -117,29 +117,29 @@ entry_two kind x y = known_two (entry_said kind x) (entry_said kind y) (same_var
     levels (variable.Input Headspeed) (variable.Input Limit) = omega arith
     levels x y = omega arith
 
-edge_two : (old new : Option Note) → IfSome old HasLevels → IfSome new HasLevels → IfSome (add_note old new) HasLevels
+edge_two : (old new : Option Note) → IfSome old HasValidLevels → IfSome new HasValidLevels → IfSome (add_note old new) HasValidLevels
 edge_two old None f g = f
 edge_two None (Some n) f g = join_two n n g
 edge_two (Some m) (Some n) f g = join_two m n f
 
-here_two : (b : Bool) (o : Option Note) → IfSome o HasLevels → IfSome (if_here b o) HasLevels
+here_two : (b : Bool) (o : Option Note) → IfSome o HasValidLevels → IfSome (if_here b o) HasValidLevels
 here_two true o f = f
 here_two false o f = tt
 
-edges_two : (pc q : ℕ) (note : Option Note) (i : Option Instr) (old : Option Note) → IfSome note HasLevels → IfSome old HasLevels →
-    IfSome (add_notes pc note i q old) HasLevels
+edges_two : (pc q : ℕ) (note : Option Note) (i : Option Instr) (old : Option Note) → IfSome note HasValidLevels → IfSome old HasValidLevels →
+    IfSome (add_notes pc note i q old) HasValidLevels
 edges_two pc q (Some m) (Some i) old f g =
     edge_two (add_note old (next_note_to pc m i q)) (jump_note_to m i q) (edge_two old (next_note_to pc m i q) g (here_two (nat_eq q (suc pc)) (next_note m i) (next_two m f i))) (here_two (is_target (target i) q) (Some (jump_note m i)) (jump_two m f i))
 edges_two pc q None i old f g = g
 edges_two pc q (Some m) None old f g = g
 
-incoming_two : (kind : Kind) (code : List Instr) (n q : ℕ) → IfSome (incoming kind code n q) HasLevels
+incoming_two : (kind : Kind) (code : List Instr) (n q : ℕ) → IfSome (incoming kind code n q) HasValidLevels
 incoming_two kind code zero q = here_two (nat_eq q 0) (Some (entry kind)) (entry_two kind)
 incoming_two kind code (suc n) q = edges_two n q (incoming kind code n n) (slice_get code n) (incoming kind code n q) (incoming_two kind code n n) (incoming_two kind code n q)
 
 -- a table that checks has levels of 2 at most
-pub checked_two : (kind : Kind) (program : Program) (note : ℕ → Note) → ChecksBy kind program note → (pc : ℕ) → pc < length program.instrs → HasLevels (note pc)
+pub checked_two : (kind : Kind) (program : Program) (note : ℕ → Note) → ChecksBy kind program note → (pc : ℕ) → pc < length program.instrs → HasValidLevels (note pc)
 checked_two kind program note checks pc lt x y =
     let (n, e, f) = best kind program note checks pc lt in
-    let b : HasLevels n = subst (λ z. IfSome z HasLevels) e (incoming_two kind program.instrs pc pc) in
+    let b : HasValidLevels n = subst (λ z. IfSome z HasValidLevels) e (incoming_two kind program.instrs pc pc) in
     omega (arith, f.order x y, b x y)

@@ -8,7 +8,7 @@ use Rattle.trlab_code.specs.Program.{Program}
 use Rattle.trlab_notes.specs.Notes.{Note, entry, closure, maybe_closure}
 use Rattle.trlab_verify.specs.declared.note.Note.{Note as Form}
 use Rattle.trlab_verify.specs.Incoming.{note_at}
-use Rattle.trlab_verify.specs.TableForm.{SaysRanges, meaning, meaning_at, table_of, empty_form}
+use Rattle.trlab_verify.specs.TableForm.{HasInputRanges, meaning, meaning_at, table_of, empty_form}
 use Rattle.trlab_verify.specs.Tables.{AreFirstNotes, blank, note_in, noted_count}
 use Rattle.trlab_verify.specs.Verdict.{IsRefused, fault_at}
 use Rattle.trlab_verify.proofs.Inputs.{incoming_shows, closure_shows}
@@ -51,11 +51,11 @@ module _ (kind : Kind) (program : Program) (at reason : ℕ) (refused : IsRefuse
 
   -- what is stored for it, and what that says of the inputs
   pub stored_note : (stored : ℕ → Option Note) → ((q : ℕ) → q ≤ at → stored q ≡ maybe_closure (note_at kind program.instrs q))
-      → (pc : ℕ) → pc < noted_count at reason → (n : Note) × (stored pc ≡ Some n) × SaysRanges kind n
+      → (pc : ℕ) → pc < noted_count at reason → (n : Note) × (stored pc ≡ Some n) × HasInputRanges kind n
   stored_note stored h pc lt =
       let (le, there) = has_note pc lt in
       let (n, en) = there in
-      (closure n, h pc le ∙ ap maybe_closure en, closure_shows kind n (subst (λ z. IfSome z (SaysRanges kind)) en (incoming_shows kind program.instrs pc pc)))
+      (closure n, h pc le ∙ ap maybe_closure en, closure_shows kind n (subst (λ z. IfSome z (HasInputRanges kind)) en (incoming_shows kind program.instrs pc pc)))
 
   -- the notes that are handed out are the first ones
   pub first_notes : (stored : ℕ → Option Note) (notes : List Form) → ((q : ℕ) → q ≤ at → stored q ≡ maybe_closure (note_at kind program.instrs q))

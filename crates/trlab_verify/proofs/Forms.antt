@@ -13,7 +13,7 @@ use Rattle.trlab_code.specs.declared.instruction.Input.{Input}
 use Rattle.trlab_code.specs.declared.instruction.Variable.{Variable}
 use Rattle.trlab_code.specs.declared.instruction.Variable.TheVariants as variable
 use Rattle.trlab_code.specs.Machine.{variable_number, register_number}
-use Rattle.trlab_notes.specs.Rows.{AreLevels, known_with, level_at, levels_in, said_in}
+use Rattle.trlab_notes.specs.Rows.{AreValidLevels, known_with, level_at, levels_in, said_in}
 use Rattle.trlab_notes.proofs.Variables.{below, register_below, at_numbers}
 use Rattle.trlab_verify.specs.Longest.{Follows}
 use Rattle.trlab_notes.specs.declared.note.AbstractValue.{AbstractValue}
@@ -23,7 +23,7 @@ use Rattle.trlab_notes.proofs.Closure.{settled_less, settled_more, said_same, si
 use Rattle.trlab_notes.proofs.Tables.{note_same, level_same, known_unfolds}
 use Rattle.trlab_verify.specs.declared.note.Note.{Note as Form}
 use Rattle.trlab_verify.specs.declared.note.Mark.TheVariants.{Unset}
-use Rattle.trlab_verify.specs.TableForm.{said_of, form_said, meaning, HasLevels}
+use Rattle.trlab_verify.specs.TableForm.{said_of, form_said, meaning, HasValidLevels}
 use Rattle.trlab_verify.proofs.Verdicts.{reason_same}
 use Rattle.trlab_verify.specs.Tables.{ChecksAt}
 
@@ -41,12 +41,12 @@ module _ (kind : Kind) (form : Form) (said : List AbstractValue) (h : (x : Varia
       known_unfolds (meaning kind form) x y
       ∙ (λ i. level_between (sym (h x) i) (sym (h y) i) (same_variable x y) (level_at form.levels (variable_number x) (variable_number y)))
 
-  pub levels_below : HasLevels (meaning kind form) → AreLevels said form.levels
+  pub levels_below : HasValidLevels (meaning kind form) → AreValidLevels said form.levels
   levels_below f x y lx ly =
       at_numbers (λ a. known_with said a y (level_at form.levels a y) ≤ 2)
       (λ p. at_numbers (λ b. known_with said (variable_number p) b (level_at form.levels (variable_number p) b) ≤ 2) (λ q. subst (λ k. k ≤ 2) (form_known p q) (f p q)) y ly) x lx
 
-  pub levels_above : AreLevels said form.levels → HasLevels (meaning kind form)
+  pub levels_above : AreValidLevels said form.levels → HasValidLevels (meaning kind form)
   levels_above f x y = subst (λ k. k ≤ 2) (sym (form_known x y)) (f (variable_number x) (variable_number y) (below x) (below y))
 
   -- the note that is stored is the closure of what the form means

@@ -21,7 +21,7 @@ use Rattle.trlab_notes.specs.Stored.{note_of, maybe_note}
 use Rattle.trlab_notes.specs.Transfer.{assign, assign_any, assign_result, refine_order, refine_flag, next_note, jump_note}
 use Rattle.trlab_notes.proofs.Variables.{register_below}
 use Rattle.trlab_verify.specs.Incoming.{add_note, add_notes, if_here, next_note_to, jump_note_to, is_target, incoming}
-use Rattle.trlab_verify.specs.TableForm.{SaysRanges}
+use Rattle.trlab_verify.specs.TableForm.{HasInputRanges}
 
 -- no input is a flag
 range_plain : (k : Input) → is_flag (input_range k) ≡ false
@@ -49,76 +49,76 @@ both_same p q r s t f es et = rw (es, et) (at r f)
     at (Implies i) f = absurd (cc f)
 
 module _ (kind : Kind) where
-  assign_shows : (m : Note) (d : Register) (i : Instr) → SaysRanges kind m → SaysRanges kind (assign_result m d i)
+  assign_shows : (m : Note) (d : Register) (i : Instr) → HasInputRanges kind m → HasInputRanges kind (assign_result m d i)
   unfolding assign update
   assign_shows m d i f k =
       let l : register_number d < 8 = register_below d in
       let e : nat_eq (8 + input_number k) (register_number d) ≡ false = grind (arith, l) in
       rw e (f k)
 
-  refine_shows : (m : Note) (p q : Variable) (k : ℕ) → SaysRanges kind m → SaysRanges kind (refine_order m p q k)
+  refine_shows : (m : Note) (p q : Variable) (k : ℕ) → HasInputRanges kind m → HasInputRanges kind (refine_order m p q k)
   unfolding refine_order
   refine_shows m p q k f = f
 
-  flag_shows : (m : Note) (a : Register) → SaysRanges kind m → SaysRanges kind (refine_flag m a)
+  flag_shows : (m : Note) (a : Register) → HasInputRanges kind m → HasInputRanges kind (refine_flag m a)
   unfolding refine_flag
   flag_shows m a f = f
 
-  any_shows : (m : Note) (i : Instr) (d : Option Register) → SaysRanges kind m → IfSome (assign_any m i d) (SaysRanges kind)
+  any_shows : (m : Note) (i : Instr) (d : Option Register) → HasInputRanges kind m → IfSome (assign_any m i d) (HasInputRanges kind)
   any_shows m i None f = tt
   any_shows m i (Some d) f = assign_shows m d i f
 
-  next_shows : (m : Note) (i : Instr) → SaysRanges kind m → IfSome (next_note m i) (SaysRanges kind)
+  next_shows : (m : Note) (i : Instr) → HasInputRanges kind m → IfSome (next_note m i) (HasInputRanges kind)
   next_shows m (JumpLess a b t) f = refine_shows m (variable.Register b) (variable.Register a) 1 f
   next_shows m (JumpAtMost a b t) f = refine_shows m (variable.Register b) (variable.Register a) 2 f
   next_shows m (JumpTrue a t) f = f
   next_shows m (JumpFalse a t) f = flag_shows m a f
   next_shows m i f = any_shows m i (destination i) f
 
-  jump_shows : (m : Note) (i : Instr) → SaysRanges kind m → SaysRanges kind (jump_note m i)
+  jump_shows : (m : Note) (i : Instr) → HasInputRanges kind m → HasInputRanges kind (jump_note m i)
   jump_shows m (JumpLess a b t) f = refine_shows m (variable.Register a) (variable.Register b) 2 f
   jump_shows m (JumpAtMost a b t) f = refine_shows m (variable.Register a) (variable.Register b) 1 f
   jump_shows m (JumpTrue a t) f = flag_shows m a f
   jump_shows m i f = f
 
-  join_shows : (m n : Note) → SaysRanges kind m → SaysRanges kind n → SaysRanges kind (join m n)
+  join_shows : (m n : Note) → HasInputRanges kind m → HasInputRanges kind n → HasInputRanges kind (join m n)
   unfolding join said_with_side
   join_shows m n f g k = both_same m.side n.side (entry_said kind (variable.Input k)) (m.said (variable.Input k)) (n.said (variable.Input k)) (plain kind k (allows_input kind k) refl) (f k) (g k)
 
-  edge_shows : (old new : Option Note) → IfSome old (SaysRanges kind) → IfSome new (SaysRanges kind) → IfSome (add_note old new) (SaysRanges kind)
+  edge_shows : (old new : Option Note) → IfSome old (HasInputRanges kind) → IfSome new (HasInputRanges kind) → IfSome (add_note old new) (HasInputRanges kind)
   edge_shows old None f g = f
   edge_shows None (Some n) f g = join_shows n n g g
   edge_shows (Some m) (Some n) f g = join_shows m n f g
 
-  here_shows : (b : Bool) (o : Option Note) → IfSome o (SaysRanges kind) → IfSome (if_here b o) (SaysRanges kind)
+  here_shows : (b : Bool) (o : Option Note) → IfSome o (HasInputRanges kind) → IfSome (if_here b o) (HasInputRanges kind)
   here_shows true o f = f
   here_shows false o f = tt
 
-  edges_show : (pc q : ℕ) (note : Option Note) (i : Option Instr) (old : Option Note) → IfSome note (SaysRanges kind) → IfSome old (SaysRanges kind) →
-      IfSome (add_notes pc note i q old) (SaysRanges kind)
+  edges_show : (pc q : ℕ) (note : Option Note) (i : Option Instr) (old : Option Note) → IfSome note (HasInputRanges kind) → IfSome old (HasInputRanges kind) →
+      IfSome (add_notes pc note i q old) (HasInputRanges kind)
   edges_show pc q (Some m) (Some i) old f g =
       edge_shows (add_note old (next_note_to pc m i q)) (jump_note_to m i q) (edge_shows old (next_note_to pc m i q) g (here_shows (nat_eq q (suc pc)) (next_note m i) (next_shows m i f))) (here_shows (is_target (target i) q) (Some (jump_note m i)) (jump_shows m i f))
   edges_show pc q None i old f g = g
   edges_show pc q (Some m) None old f g = g
 
-  pub entry_shows : SaysRanges kind (entry kind)
+  pub entry_shows : HasInputRanges kind (entry kind)
   unfolding entry
   entry_shows k = refl
 
-  pub incoming_shows : (code : List Instr) (n q : ℕ) → IfSome (incoming kind code n q) (SaysRanges kind)
+  pub incoming_shows : (code : List Instr) (n q : ℕ) → IfSome (incoming kind code n q) (HasInputRanges kind)
   incoming_shows code zero q = here_shows (nat_eq q 0) (Some (entry kind)) entry_shows
   incoming_shows code (suc n) q = edges_show n q (incoming kind code n n) (slice_get code n) (incoming kind code n q) (incoming_shows code n n) (incoming_shows code n q)
 
-pub closure_shows : (kind : Kind) (m : Note) → SaysRanges kind m → SaysRanges kind (closure m)
+pub closure_shows : (kind : Kind) (m : Note) → HasInputRanges kind m → HasInputRanges kind (closure m)
 unfolding closure
 closure_shows kind m h = h
 
-pub same_shown : (kind : Kind) (o : Option Stored) (n : Stored) (m : Note) → o ≡ Some n → maybe_note o ≡ Some m → SaysRanges kind m → SaysRanges kind (note_of n)
+pub same_shown : (kind : Kind) (o : Option Stored) (n : Stored) (m : Note) → o ≡ Some n → maybe_note o ≡ Some m → HasInputRanges kind m → HasInputRanges kind (note_of n)
 same_shown kind None n m e f h = absurd (cc e)
 same_shown kind (Some k) n m e f h =
     let a : k ≡ n = some_noted k n e in
     let b : note_of k ≡ m = some_note (note_of k) m f in
-    subst (λ z. SaysRanges kind (note_of z)) a (subst (λ z. SaysRanges kind z) (sym b) h)
+    subst (λ z. HasInputRanges kind (note_of z)) a (subst (λ z. HasInputRanges kind z) (sym b) h)
   where
     some_noted : (a b : Stored) → Some a ≡ Some b → a ≡ b
     some_noted a b e = cc e

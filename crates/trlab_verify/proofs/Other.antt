@@ -18,7 +18,7 @@ use Rattle.std.specs.Option.{option_map}
 use Rattle.trlab_code.specs.declared.instruction.Input.{Input}
 use Rattle.trlab_code.specs.declared.instruction.Variable.{Variable}
 use Rattle.trlab_code.specs.declared.instruction.Variable.TheVariants as variable
-use Rattle.trlab_notes.specs.Order.{SaysNoMore, IsNoStronger}
+use Rattle.trlab_notes.specs.Order.{IsNoMorePrecise, IsNoStronger}
 use Rattle.trlab_verify.specs.Incoming.{note_at}
 use Rattle.trlab_verify.specs.Verdict.{least_reason, fault_at, IsRefused}
 use Rattle.trlab_verify.proofs.Checking.{ChecksBy}
@@ -67,7 +67,7 @@ same_entry kind own (variable.Input k) h = rw (seen_by own k h, seen_by kind k h
 entry_on : (kind own : Kind) (m : Note) → IsNoStronger m (entry own) → On Both m (entry kind)
 unfolding entry said_with_side known_level
 entry_on kind own m f = record {
-  said = λ x l. subst (λ z. SaysNoMore (said_with_side m x) (with_side false z)) (same_entry kind own x l) (f.said x);
+  said = λ x l. subst (λ z. IsNoMorePrecise (said_with_side m x) (with_side false z)) (same_entry kind own x l) (f.said x);
   order = λ x y l k.
       let level : AbstractValue → AbstractValue → ℕ = λ s t. level_between s t (same_variable x y) (entry_level x y) in
       let own_first : known_level m x y ≤ level (entry_said kind x) (entry_said own y) = subst (λ z. known_level m x y ≤ level z (entry_said own y)) (same_entry kind own x l) (f.order x y) in

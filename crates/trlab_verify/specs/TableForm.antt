@@ -46,12 +46,12 @@ abbrev pub meaning_at : Kind → List Form → ℕ → Note
 meaning_at kind forms pc = meaning kind (slice_index_or forms pc empty_form)
 
 -- each known level of a note is at most 2
-abbrev pub HasLevels : Note → Type 0
-HasLevels note = (x y : Variable) → known_level note x y ≤ 2
+abbrev pub HasValidLevels : Note → Type 0
+HasValidLevels note = (x y : Variable) → known_level note x y ≤ 2
 
 -- a note gives each input the abstract value that it has at the start of programs of this kind
-abbrev pub SaysRanges : Kind → Note → Type 0
-SaysRanges kind note = (k : Input) → note.said (variable.Input k) ≡ entry_said kind (variable.Input k)
+abbrev pub HasInputRanges : Kind → Note → Type 0
+HasInputRanges kind note = (k : Input) → note.said (variable.Input k) ≡ entry_said kind (variable.Input k)
 
 -- a fault instead of the notes of a program: `Refused` if the verdict rejects it as one of its own kind;
 -- `Memory` is always possible

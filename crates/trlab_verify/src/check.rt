@@ -10,7 +10,7 @@ ghost use Rattle.trlab_notes.specs.Stored.{note_of};
 ghost use Rattle.trlab_notes.specs.Transfer.{next_note, jump_note};
 ghost use Rattle.trlab_notes.specs.Order.{IsNoStronger};
 ghost use Rattle.trlab_notes.specs.Reasons.{may_be_too_large};
-ghost use Rattle.trlab_verify.specs.TableForm.{HasLevels, meaning, meaning_at, table_of};
+ghost use Rattle.trlab_verify.specs.TableForm.{HasValidLevels, meaning, meaning_at, table_of};
 ghost use Rattle.trlab_verify.specs.Longest.{Follows, IsLongest};
 ghost use Rattle.trlab_verify.specs.Tables.{Checks, ChecksAt};
 
@@ -95,7 +95,7 @@ fn checks_at(kind: Kind, instrs: &[Instr], table: &[Note], pc: usize) -> bool
     requires few { length instrs.now ≤ MAX_INSTRUCTIONS }
     requires in_range { All IsInRange instrs.now }
     requires one_each { length table.now ≡ length instrs.now }
-    ensures { IsTrue result ↔ (HasLevels (meaning_at kind table.now pc)
+    ensures { IsTrue result ↔ (HasValidLevels (meaning_at kind table.now pc)
         × ((i : AnInstr) → slice_get instrs.now pc ≡ Some i →
         ChecksAt kind (record { kind = kind; instrs = instrs.now }) (meaning_at kind table.now) pc i)) }
 {

@@ -4,9 +4,9 @@
 ghost use Rattle.std.specs.Prelude.{◌≡◌, ◌↔◌, ℕ, ◌<◌, ◌≤◌, IfSome, IsTrue, None, slice_index};
 ghost use Rattle.trlab_code.specs.declared.instruction.Variable.{Variable as AVariable};
 ghost use Rattle.trlab_notes.specs.Notes.{closure, entry};
-ghost use Rattle.trlab_notes.specs.Rows.{AreLevels, known_with, said_in};
+ghost use Rattle.trlab_notes.specs.Rows.{AreValidLevels, known_with, said_in};
 ghost use Rattle.trlab_notes.specs.Stored.{note_of};
-ghost use Rattle.trlab_verify.specs.TableForm.{form_said, said_of, meaning, HasLevels, SaysRanges};
+ghost use Rattle.trlab_verify.specs.TableForm.{form_said, said_of, meaning, HasValidLevels, HasInputRanges};
 
 use trlab_code::{Kind, VARIABLES};
 use trlab_notes::{AbstractValue, Stored, entry_levels, entry_said, level_between};
@@ -85,7 +85,7 @@ fn has_levels_from(said: &[AbstractValue; VARIABLES], levels: &[u8; VARIABLES], 
 
 /// Whether no known level is above 2.
 fn has_levels(said: &[AbstractValue; VARIABLES], levels: &[[u8; VARIABLES]; VARIABLES]) -> bool
-    ensures { IsTrue result ↔ AreLevels said.now levels.now }
+    ensures { IsTrue result ↔ AreValidLevels said.now levels.now }
 {
     for x in 0..VARIABLES {
         if !has_levels_from(said, &levels[x], x) {
@@ -97,8 +97,8 @@ fn has_levels(said: &[AbstractValue; VARIABLES], levels: &[[u8; VARIABLES]; VARI
 
 /// The note that a form means, as it is stored; `None` if a known level is above 2.
 pub fn read(kind: Kind, form: &Note) -> Option<Stored>
-    ensures none { result ≡ None → ¬ (HasLevels (meaning kind form.now)) }
-    ensures some { IfSome result (λ stored. HasLevels (meaning kind form.now)) }
+    ensures none { result ≡ None → ¬ (HasValidLevels (meaning kind form.now)) }
+    ensures some { IfSome result (λ stored. HasValidLevels (meaning kind form.now)) }
     ensures stored { IfSome result (λ stored. note_of stored ≡ closure (meaning kind form.now)) }
 {
     let said = variables(kind, form);
@@ -110,7 +110,7 @@ pub fn read(kind: Kind, form: &Note) -> Option<Stored>
 
 /// The form of a note. The note must have the ranges of the inputs, because a form does not list them.
 pub fn write(kind: Kind, note: &Stored) -> Note
-    requires { SaysRanges kind (note_of note.now) }
+    requires { HasInputRanges kind (note_of note.now) }
     ensures { meaning kind result ≡ note_of note.now }
 {
     let mut regs = [Mark::Unset; 8];

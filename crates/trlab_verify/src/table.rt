@@ -6,7 +6,7 @@ ghost use Rattle.trlab_notes.specs.Notes.{Note as ANote, entry, maybe_closure};
 ghost use Rattle.trlab_notes.specs.Stored.{note_of, notes_of};
 ghost use Rattle.trlab_verify.specs.declared.table.NotesFault.TheVariants.{Memory};
 ghost use Rattle.trlab_verify.specs.Incoming.{incoming};
-ghost use Rattle.trlab_verify.specs.TableForm.{HasNoNotes, SaysRanges, meaning, meaning_at, table_of};
+ghost use Rattle.trlab_verify.specs.TableForm.{HasNoNotes, HasInputRanges, meaning, meaning_at, table_of};
 ghost use Rattle.trlab_verify.specs.Tables.{Checks, AreVerdictNotes, AreNotesOfRefused, noted_count};
 ghost use Rattle.trlab_verify.specs.Verdict.{IsAccepted};
 ghost use Rattle.trlab_notes.specs.Reasons.{reason_number};
@@ -39,7 +39,7 @@ impl From<AllocError> for NotesFault {
 
 /// The form of the stored note of the instruction at `pc`. The first form has only the levels at the start.
 fn write_at(kind: Kind, pc: usize, stored: &Stored) -> Note
-    requires { SaysRanges kind (note_of stored.now) }
+    requires { HasInputRanges kind (note_of stored.now) }
     ensures first { pc ≡ 0 → meaning kind result ≡ entry kind }
     ensures later { 0 < pc → meaning kind result ≡ note_of stored.now }
 {
@@ -57,7 +57,7 @@ pub fn write_all(
     stored: &[Option<Stored>],
 ) -> Result<Vec<Note>, AllocError>
     requires { (pc : ℕ) → pc < length stored.now →
-        (note : ANote) × (notes_of stored.now pc ≡ Some note) × SaysRanges kind note }
+        (note : ANote) × (notes_of stored.now pc ≡ Some note) × HasInputRanges kind note }
     ensures one_each { IfOk result (λ notes. length notes.items ≡ length stored.now) }
     ensures first { IfOk result (λ notes. 0 < length stored.now → meaning_at kind notes.items 0 ≡ entry kind) }
     ensures later { IfOk result (λ notes. (pc : ℕ) → 0 < pc → pc < length stored.now →

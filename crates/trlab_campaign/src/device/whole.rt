@@ -2,9 +2,9 @@
 
 ghost use Rattle.std.specs.Prelude.{◌≡◌, ◌+◌, ◌≤◌, ◌||◌, ◌↔◌, ◌++◌, length, false, true, IfOk};
 ghost use Rattle.std.specs.Prelude.{OnOk, IfErr, IfSome, is_err};
-ghost use Rattle.trlab_campaign.specs.Device.{ConsumesUpTo, Gave, IsReadOf};
-ghost use Rattle.trlab_campaign.specs.Flushes.{AtMostOnce, HandedOnce};
-ghost use Rattle.trlab_campaign.specs.Writers.{AddsBy, bytes_of};
+ghost use Rattle.trlab_campaign.specs.Device.{ConsumesUpTo, GaveBytes, IsInputOrTooLong};
+ghost use Rattle.trlab_campaign.specs.Flushes.{FlushedAtMostOnce, FlushedOnce};
+ghost use Rattle.trlab_campaign.specs.Writers.{AddsByResult, bytes_of};
 ghost use Rattle.trlab_campaign.specs.declared.end.Failure.TheVariants.{Device};
 
 use crate::device::{DeviceError, Sink, Source};
@@ -20,10 +20,10 @@ use trlab_bounds::texts::TEXT_LIMIT;
 /// `Memory` if an allocation fails, `Device` if the reader fails.
 pub fn read_text<S: Source>(alloc: Global, reader: &mut S) -> Result<Vec<u8>, Failure>
     requires { S.failed reader.old ≡ false }
-    ensures text { IfOk result (λ text. IfSome (S.left reader.old) (IsReadOf text.items)) }
+    ensures text { IfOk result (λ text. IfSome (S.left reader.old) (IsInputOrTooLong text.items)) }
     ensures read { ConsumesUpTo (TEXT_LIMIT + 1) (S.left reader.old) (S.left reader.new) }
     ensures given { IfOk result (λ text. S.given reader.new ≡ S.given reader.old ++ text.items) }
-    ensures stops { Gave (λ bytes. length bytes ≤ TEXT_LIMIT + 1) (S.given reader.old) (S.given reader.new) }
+    ensures stops { GaveBytes (λ bytes. length bytes ≤ TEXT_LIMIT + 1) (S.given reader.old) (S.given reader.new) }
     ensures fails { IfErr result (λ failure. (S.failed reader.new ≡ true) ↔ (failure ≡ Device)) }
     ensures works { OnOk result (S.failed reader.new ≡ false) }
 {
@@ -52,7 +52,7 @@ pub fn read_text<S: Source>(alloc: Global, reader: &mut S) -> Result<Vec<u8>, Fa
 /// `DeviceError` if the writer fails; then a prefix of the text was written.
 #[tactic(auto, using(crate::proofs::WrittenBytes::adds_part))]
 pub fn write_text<K: Sink>(writer: &mut K, text: &[u8]) -> Result<(), DeviceError>
-    ensures wrote { AddsBy result (bytes_of K.Sink writer.old) (bytes_of K.Sink writer.new) text.now }
+    ensures wrote { AddsByResult result (bytes_of K.Sink writer.old) (bytes_of K.Sink writer.new) text.now }
     ensures fails { K.failed writer.new ≡ (K.failed writer.old || is_err result) }
     ensures flushed { K.flushes writer.new ≡ K.flushes writer.old }
 {
@@ -71,10 +71,10 @@ pub fn write_text<K: Sink>(writer: &mut K, text: &[u8]) -> Result<(), DeviceErro
 ///
 /// `DeviceError` if the writer fails; then a prefix of the text was written, or all of it without a successful flush.
 pub fn write_last<K: Sink>(writer: &mut K, text: &[u8]) -> Result<(), DeviceError>
-    ensures wrote { AddsBy result (bytes_of K.Sink writer.old) (bytes_of K.Sink writer.new) text.now }
+    ensures wrote { AddsByResult result (bytes_of K.Sink writer.old) (bytes_of K.Sink writer.new) text.now }
     ensures handed { OnOk result
-        (HandedOnce (K.handed_on writer.new) (K.flushes writer.old) (K.flushes writer.new)) }
-    ensures flushed { AtMostOnce (K.flushes writer.old) (K.flushes writer.new) }
+        (FlushedOnce (K.handed_on writer.new) (K.flushes writer.old) (K.flushes writer.new)) }
+    ensures flushed { FlushedAtMostOnce (K.flushes writer.old) (K.flushes writer.new) }
     ensures fails { K.failed writer.new ≡ (K.failed writer.old || is_err result) }
 {
     write_text(writer, text)?;

@@ -5,7 +5,7 @@ ghost use Rattle.std.specs.Prelude.{◌≡◌, ◌<◌, IfErr, IfOk, IfSome, OnO
 ghost use Rattle.std.specs.Arc.{arc_value};
 ghost use Rattle.trlab_road.specs.Cells.{cars};
 ghost use Rattle.trlab_segments.specs.Drawers.{IsNew};
-ghost use Rattle.trlab_segments.specs.Results.{AnswersAll, IsCutWhole};
+ghost use Rattle.trlab_segments.specs.Results.{AnswersAll, CoversAllCars};
 
 use crate::phase::Asked;
 use crate::pool::Pool;
@@ -103,7 +103,7 @@ impl<'a, R: Wait, G: Gate> Pool<'a, R, G> {
         observer: &mut O,
     ) -> (Road, Result<(), AllocError>)
         requires new { IsNew brief.tickets drawer }
-        requires cut { IsCutWhole brief }
+        requires cut { CoversAllCars brief }
         requires lanes { P.can_ask brief.road }
         ensures road { result.0 ≡ brief.road }
         ensures seen { O.observes observer.old brief.road observer.new }

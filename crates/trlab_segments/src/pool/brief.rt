@@ -4,7 +4,7 @@ ghost use Rattle.std.specs.Prelude.{◌≡◌, ◌<◌, ◌≤◌, IfOk, OnErr, 
 ghost use Rattle.trlab_bounds.specs.declared.runs.TheConstants.{MAX_WORKERS};
 ghost use Rattle.trlab_segments.specs.Answered.{HasParts};
 ghost use Rattle.trlab_segments.specs.Drawers.{IsFrom, IsNew};
-ghost use Rattle.trlab_segments.specs.Results.{AnswersAll, AsksOf, HasDone, IsCutWhole, IsRight};
+ghost use Rattle.trlab_segments.specs.Results.{AnswersAll, IsBriefOf, HasDone, CoversAllCars, IsRight};
 ghost use Rattle.trlab_segments.specs.Segments.{first_car};
 
 use crate::parts::{Part, collect, work};
@@ -63,8 +63,8 @@ pub fn brief_of<A, P: Asked<A> + Drop>(
 ) -> Result<(Brief<P>, Drawer), AllocError>
     requires some { 0 < workers }
     requires few { workers ≤ MAX_WORKERS }
-    ensures asked { IfOk result (λ r. AsksOf program.now dice.now road.old r.0) }
-    ensures cut { IfOk result (λ r. IsCutWhole r.0) }
+    ensures asked { IfOk result (λ r. IsBriefOf program.now dice.now road.old r.0) }
+    ensures cut { IfOk result (λ r. CoversAllCars r.0) }
     ensures new { IfOk result (λ r. IsNew r.0.tickets r.1) }
     ensures err { OnErr result (road.new ≡ road.old) }
 {
@@ -121,7 +121,7 @@ pub fn finish<A: Copy + Drop, P: Asked<A> + Drop>(
     drawer: Drawer,
     parts: &[Part<A>],
 ) -> (Road, Result<(), AllocError>)
-    requires cut { IsCutWhole brief }
+    requires cut { CoversAllCars brief }
     requires lanes { P.can_ask brief.road }
     requires done { HasDone P.answers brief drawer parts.now }
     ensures road { result.0 ≡ brief.road }

@@ -1,7 +1,7 @@
 //! The results of a phase so far: the deposits of helpers, and the passes that none of them has taken.
 
 ghost use Rattle.std.specs.Prelude.{IfSome};
-ghost use Rattle.trlab_segments.specs.Results.{AreResults, TellsDone};
+ghost use Rattle.trlab_segments.specs.Results.{AreResults, IsRightResult};
 ghost use Rattle.trlab_segments.specs.Drawers.{IsFrom, IsJoined, IsNew};
 
 use crate::parts::{Part, joined};
@@ -78,7 +78,7 @@ pub fn deposit<A: Drop, P: Asked<A>>(
     more: Result<Vec<Part<A>>, AllocError>,
 ) -> Results<A>
     requires results { AreResults P.answers P.can_ask brief.now results }
-    requires done { TellsDone P.answers brief.now drawer more }
+    requires done { IsRightResult P.answers brief.now drawer more }
     ensures { AreResults P.answers P.can_ask brief.now result }
 {
     let Results {
@@ -117,8 +117,8 @@ pub fn gathered<A: Drop, P: Asked<A>>(
     parts: Result<Vec<Part<A>>, AllocError>,
 ) -> (Drawer, Result<Vec<Part<A>>, AllocError>)
     requires results { AreResults P.answers P.can_ask brief.now results }
-    requires done { TellsDone P.answers brief.now mine parts }
-    ensures { TellsDone P.answers brief.now result.0 result.1 }
+    requires done { IsRightResult P.answers brief.now mine parts }
+    ensures { IsRightResult P.answers brief.now result.0 result.1 }
 {
     let Results {
         reserve,

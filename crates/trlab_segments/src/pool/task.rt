@@ -1,7 +1,7 @@
 //! A phase that threads share: its brief and the results so far; and the slot in which helpers find it.
 
 ghost use Rattle.std.specs.Prelude.{◌≡◌, IfErr, IfOk, IfSome, OnOk};
-ghost use Rattle.trlab_segments.specs.Results.{AnswersAll, AreResults, IsCutWhole, TellsDone};
+ghost use Rattle.trlab_segments.specs.Results.{AnswersAll, AreResults, CoversAllCars, IsRightResult};
 ghost use Rattle.trlab_segments.specs.Drawers.{IsNew};
 ghost use Rattle.trlab_segments.specs.KeyedLocks.{HasOnly};
 
@@ -96,8 +96,8 @@ impl<A: Copy + Drop, P: Asked<A> + Drop> Task<A, P> {
         mine: Drawer,
         parts: Result<Vec<Part<A>>, AllocError>,
     ) -> (Road, Result<(), AllocError>)
-        requires cut { IsCutWhole self.brief }
-        requires done { TellsDone P.answers self.brief mine parts }
+        requires cut { CoversAllCars self.brief }
+        requires done { IsRightResult P.answers self.brief mine parts }
         ensures road { result.0 ≡ self.brief.road }
         ensures answers { OnOk result.1 (AnswersAll P.answers self.brief answers.new.items) }
     {

@@ -4,7 +4,7 @@ use Rattle.std.proofs.lemmas.List.Elements.{All-more}
 use Rattle.trlab_code.specs.declared.instruction.Instr.TheVariants.{Num}
 use Rattle.trlab_code.specs.declared.instruction.Register.TheVariants.{R0}
 use Rattle.trlab_asm.specs.Canonical.{instr_line, is_jumped_to}
-use Rattle.trlab_code.specs.Laws.{HasWord}
+use Rattle.trlab_code.specs.Laws.{FitsIn32Bits}
 use Rattle.trlab_asm.proofs.PrintedFrom.{text_next, text_end}
 use Rattle.trlab_asm.proofs.Reread.{reread}
 use Rattle.trlab_asm.proofs.printing.disassemble.Goals as goal
@@ -16,7 +16,7 @@ loop-pc-preserved c =
     let next = text_next c.instrs-instrs.result.now c.loop-pc.pc (Num R0 0) c.loop-pc.text.items inside in
     record {
       printed = rw (pushed, append_assoc) (next ∙ c.loop-pc.invariant.printed);
-      words = All-more HasWord c.instrs-instrs.result.now c.loop-pc.pc (Num R0 0) inside c.loop-pc.invariant.words c.push_line.ensures.word;
+      words = All-more FitsIn32Bits c.instrs-instrs.result.now c.loop-pc.pc (Num R0 0) inside c.loop-pc.invariant.words c.push_line.ensures.word;
     }
 
 pub returns-clause-canonical : goal.returns-clause-canonical

@@ -2,7 +2,7 @@ use Rattle.std.proofs.Common.{◌≡◌, ℕ, List, Bool, true, false, refl, sym
 use Rattle.std.proofs.lemmas.Bool.{false≢true}
 use Rattle.std.proofs.lemmas.Option.{IfSome_then}
 use Rattle.trlab_campaign.specs.declared.end.End.TheVariants.{Memory, DeviceFault}
-use Rattle.trlab_campaign.specs.Ending.{EndsSo}
+use Rattle.trlab_campaign.specs.Ending.{WroteAtEnd}
 use Rattle.trlab_campaign.specs.Writers.{bytes_of}
 use Rattle.trlab_campaign.proofs.Endings.{if_told}
 use Rattle.trlab_campaign.proofs.WrittenBytes.{kept}
@@ -38,7 +38,7 @@ returns-in-Err-Memory-clause-ends g c =
     let works : g.S.Source.failed c.read_text.new.reader ≡ false = not_true _ (λ failed. cc (fault.0 failed)) in
     record {
       exact = (read.stops.0, (read.stops.1.0, inl (kept _)));
-      answer = if_told (λ (text : List ℕ). EndsSo (g.E.Engine.outputs c.args.engine text) Memory (bytes_of g.K.Sink c.args.writer.now) (bytes_of g.K.Sink c.args.writer.now)) _ (λ text. inl (kept _));
+      answer = if_told (λ (text : List ℕ). WroteAtEnd (g.E.Engine.outputs c.args.engine text) Memory (bytes_of g.K.Sink c.args.writer.now) (bytes_of g.K.Sink c.args.writer.now)) _ (λ text. inl (kept _));
       silent = λ failed. kept _;
       handed = refl;
       device = rw (works, c.requires.writer_works) (λ e. absurd (memory≢device e), λ e. absurd (false≢true e));
@@ -53,7 +53,7 @@ returns-clause-ends g c =
     let failed : g.S.Source.failed c.read_text.new.reader ≡ true = fault.1 refl in
     record {
       exact = (read.stops.0, (read.stops.1.0, inl (kept _)));
-      answer = if_told (λ (text : List ℕ). EndsSo (g.E.Engine.outputs c.args.engine text) DeviceFault (bytes_of g.K.Sink c.args.writer.now) (bytes_of g.K.Sink c.args.writer.now)) _ (λ text. inl (kept _));
+      answer = if_told (λ (text : List ℕ). WroteAtEnd (g.E.Engine.outputs c.args.engine text) DeviceFault (bytes_of g.K.Sink c.args.writer.now) (bytes_of g.K.Sink c.args.writer.now)) _ (λ text. inl (kept _));
       silent = λ failed. kept _;
       handed = inl refl;
       device = rw failed (λ e. refl, λ e. refl);

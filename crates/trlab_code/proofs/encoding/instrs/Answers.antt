@@ -6,7 +6,7 @@ use Rattle.std.proofs.lemmas.List.Elements.{All-push}
 use Rattle.trlab_bounds.specs.declared.programs.TheConstants.{HEADER_BYTES, INSTR_BYTES}
 use Rattle.trlab_code.specs.Program.{IsInRange}
 use Rattle.trlab_code.specs.Encoding.{instr_bytes}
-use Rattle.trlab_code.specs.Faults.{IsGoodBefore, stated_count}
+use Rattle.trlab_code.specs.Faults.{IsValidBefore, stated_count}
 use Rattle.trlab_code.proofs.Rows.{rows_more, good_more}
 use Rattle.trlab_code.proofs.encoding.instrs.Goals as goal
 
@@ -33,4 +33,4 @@ returns-clause-spelt c =
 pub returns-clause-rows : goal.returns-clause-rows
 returns-clause-rows c =
     let all : c.loop-pc.pc ≡ stated_count c.args.bytes.now = omega arith in
-    subst (λ (k : ℕ). IsGoodBefore c.args.bytes.now k) all c.loop-pc.invariant.before
+    subst (λ (k : ℕ). IsValidBefore c.args.bytes.now k) all c.loop-pc.invariant.before

@@ -1,5 +1,5 @@
 use Rattle.std.proofs.Common.{◌≡◌, Bool, true, false, sym, subst}
-use Rattle.trlab_code.specs.Program.{IsInRange, IsOfVersion}
+use Rattle.trlab_code.specs.Program.{IsInRange, VersionAllows}
 use Rattle.trlab_code.proofs.row.instruction_of.Goals as goal
 use Rattle.trlab_code.proofs.row.instruction_of.Goals.{else-spells-via-then-spells+then-is_in_range+else-is_of_version, else-spells-via-then-spells+else-is_in_range, else-spells-via-else-spells}
 
@@ -21,7 +21,7 @@ returns-else-spells-clause-none c = λ e instr is range version.
     let it = c.candidate-instr.ensures instr is in
     elim c.else-spells.branch [
       | else-spells-via-then-spells+then-is_in_range+else-is_of_version w ↦
-          differ _ (w.is_of_version.ensures.1 (subst (λ i. IsOfVersion c.args.version i) (sym it) version)) w.if-is_of_version.false
+          differ _ (w.is_of_version.ensures.1 (subst (λ i. VersionAllows c.args.version i) (sym it) version)) w.if-is_of_version.false
       | else-spells-via-then-spells+else-is_in_range w ↦ differ _ (w.is_in_range.ensures.1 (subst IsInRange (sym it) range)) w.if-is_in_range.false
       | else-spells-via-else-spells w ↦ differ _ (c.spells.ensures.1 (rw it is)) w.if-spells.false
     ]

@@ -1,6 +1,6 @@
 use Rattle.std.specs.Prelude.{nat_eq}
 use Rattle.trlab_rules.specs.Standard.{nasch_program, vdr_program, rickert_program}
-use Rattle.trlab_jobs.specs.RuleParts.{MotionSays, ExchangeSays}
+use Rattle.trlab_jobs.specs.RuleParts.{MotionSays, TwoLaneRuleSays}
 use Rattle.trlab_jobs.proofs.RuleSteps.{line_told}
 use Rattle.trlab_jobs.proofs.rule.rule_from.Goals as goal
 
@@ -14,4 +14,4 @@ returns-in-Vdr-clause-told c = rw c.in-Vdr.is
 
 pub returns-in-Rickert-clause-told : goal.returns-in-Rickert-clause-told
 returns-in-Rickert-clause-told c = rw c.in-Rickert.is
-    (line_told (ExchangeSays (nat_eq c.args.lanes.count 1) (nasch_program c.in-Rickert.brake) (rickert_program c.in-Rickert.crossing)) c.args.number c.args.rest c.rickert_rule.result c.of_line-in-Rickert.result c.rickert_rule.ensures.told c.of_line-in-Rickert.ensures)
+    (line_told (TwoLaneRuleSays (nat_eq c.args.lanes.count 1) (nasch_program c.in-Rickert.brake) (rickert_program c.in-Rickert.crossing)) c.args.number c.args.rest c.rickert_rule.result c.of_line-in-Rickert.result c.rickert_rule.ensures.told c.of_line-in-Rickert.ensures)

@@ -1,6 +1,6 @@
 use Rattle.std.proofs.lemmas.Result.{err_from_is_err_and}
 use Rattle.std.proofs.Common.{subst}
-use Rattle.trlab_step.specs.Answers.{IsCrossesPart}
+use Rattle.trlab_step.specs.Answers.{IsCrossingsPart}
 use Rattle.trlab_step.proofs.AskedCars.{same_dice}
 use Rattle.trlab_step.proofs.lane_change.choose_part.Goals as goal
 
@@ -19,4 +19,4 @@ returns-in_err-compute_crossings c = let p = err_from_is_err_and c.from_residual
 pub returns : goal.returns
 returns c =
     let dice = same_dice c.new.result _ _ _ c.new.ensures.key c.new.ensures.road c.new.ensures.step in
-    subst (λ d. IsCrossesPart c.args.change.now d c.args.road.now c.args.from c.args.to c.compute_crossings.new.crosses.items) dice c.in_ok-compute_crossings.ensures
+    subst (λ d. IsCrossingsPart c.args.change.now d c.args.road.now c.args.from c.args.to c.compute_crossings.new.crosses.items) dice c.in_ok-compute_crossings.ensures

@@ -7,7 +7,7 @@ use Rattle.trlab_rules.specs.Rules.{Programs}
 use Rattle.trlab_machine.specs.declared.dice.Dice.{Dice}
 use Rattle.trlab_step.specs.declared.step.StepFault.TheVariants.{LanesMismatch, Memory}
 use Rattle.trlab_step.specs.declared.tally.StepTally.{StepTally}
-use Rattle.trlab_step.specs.Next.{TellsNext, IsNext, IsCleanNext}
+use Rattle.trlab_step.specs.Next.{IsStepResult, IsNext, IsCleanNext}
 use Rattle.trlab_step.proofs.step.step_road_by.Goals as goal
 
 differ : (b : Bool) → b ≡ true → b ≡ false → ⊥
@@ -18,13 +18,13 @@ two_of n some few other = omega (arith, some, few, other)
 
 -- what is told, by cases
 module _ (rule : Programs) (dice : Dice) (road : Cells) where
-  tells_mismatch : IsSome rule.change → length road.lanes ≡ 1 → TellsNext rule dice road (Err LanesMismatch)
+  tells_mismatch : IsSome rule.change → length road.lanes ≡ 1 → IsStepResult rule dice road (Err LanesMismatch)
   tells_mismatch some one = record { mismatch = ((λ e. (some, one)), (λ h. refl)); next = tt; clean = tt; legal = tt }
 
-  tells_memory : (IsSome rule.change × (length road.lanes ≡ 1) → ⊥) → TellsNext rule dice road (Err Memory)
+  tells_memory : (IsSome rule.change × (length road.lanes ≡ 1) → ⊥) → IsStepResult rule dice road (Err Memory)
   tells_memory never = record { mismatch = ((λ e. absurd cc), (λ h. absurd (never h))); next = tt; clean = tt; legal = tt }
 
-  tells_next : (IsSome rule.change × (length road.lanes ≡ 1) → ⊥) → (next : Cells) (tally : StepTally) → IsNext rule dice road next tally → IsCleanNext rule dice road next tally → IsLegal next → TellsNext rule dice road (Ok (next, tally))
+  tells_next : (IsSome rule.change × (length road.lanes ≡ 1) → ⊥) → (next : Cells) (tally : StepTally) → IsNext rule dice road next tally → IsCleanNext rule dice road next tally → IsLegal next → IsStepResult rule dice road (Ok (next, tally))
   tells_next never next tally is clean legal = record { mismatch = ((λ e. absurd cc), (λ h. absurd (never h))); next = is; clean = clean; legal = legal }
 
 pub returns-then-lanes_mismatch : goal.returns-then-lanes_mismatch

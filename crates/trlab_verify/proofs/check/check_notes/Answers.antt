@@ -8,7 +8,7 @@ use Rattle.trlab_code.specs.declared.instruction.Instr.{Instr}
 use Rattle.trlab_notes.specs.Notes.{entry}
 use Rattle.trlab_notes.specs.Order.{IsNoStronger}
 use Rattle.trlab_verify.specs.declared.note.Note.{Note as Form}
-use Rattle.trlab_verify.specs.TableForm.{HasLevels, meaning, meaning_at, table_of, empty_form}
+use Rattle.trlab_verify.specs.TableForm.{HasValidLevels, meaning, meaning_at, table_of, empty_form}
 use Rattle.trlab_verify.specs.Tables.{Checks, ChecksAt, blank, note_in}
 use Rattle.trlab_verify.proofs.Best.{accepted}
 use Rattle.trlab_verify.proofs.Checking.{as_table, at_same, by_notes}
@@ -46,9 +46,9 @@ each_of form k is h pc i e =
     (λ pc lt. sym (listed k form pc (omega (arith, lt, h.one_each, length-map form (meaning k))))) pc i e (h.each pc i e)
 
 -- and none of its levels is above 2
-levels_of : (form : List Form) (k : Kind) (is : List Instr) → ChecksFor form k is → (pc : ℕ) → pc < length is → HasLevels (meaning_at k form pc)
+levels_of : (form : List Form) (k : Kind) (is : List Instr) → ChecksFor form k is → (pc : ℕ) → pc < length is → HasValidLevels (meaning_at k form pc)
 levels_of form k is h pc lt =
-    subst HasLevels (sym (listed k form pc (omega (arith, lt, h.one_each, length-map form (meaning k)))))
+    subst HasValidLevels (sym (listed k form pc (omega (arith, lt, h.one_each, length-map form (meaning k)))))
     (checked_two k (record { kind = k; instrs = is }) (note_in (table_of k form)) (by_notes k (record { kind = k; instrs = is }) (table_of k form) h) pc lt)
 
 -- so is the first

@@ -11,7 +11,7 @@ use Rattle.trlab_verify.specs.declared.note.Note.{Note as Form}
 use Rattle.trlab_verify.specs.Tables.{AreVerdictNotes, blank, note_in}
 use Rattle.trlab_verify.proofs.Verdicts.{incoming_settled}
 use Rattle.trlab_verify.specs.Incoming.{note_at}
-use Rattle.trlab_verify.specs.TableForm.{SaysRanges, meaning, meaning_at, table_of, empty_form}
+use Rattle.trlab_verify.specs.TableForm.{HasInputRanges, meaning, meaning_at, table_of, empty_form}
 use Rattle.trlab_verify.specs.Verdict.{IsAccepted, IsRefused}
 use Rattle.trlab_verify.proofs.Inputs.{incoming_shows, closure_shows}
 use Rattle.trlab_verify.proofs.Runs.{fetch}
@@ -33,11 +33,11 @@ accepted_at kind code (Some r) e h = absurd (cc e)
 -- the notes that are stored, and what they say of the inputs
 note_there : (kind : Kind) (code : List Instr) (stored : ℕ → Option Note) → IsAccepted kind (record { kind = kind; instrs = code }) →
     ((q : ℕ) → q < length code → stored q ≡ maybe_closure (note_at kind code q)) → (pc : ℕ) → pc < length code →
-    (n : Note) × (stored pc ≡ Some n) × SaysRanges kind n
+    (n : Note) × (stored pc ≡ Some n) × HasInputRanges kind n
 note_there kind code stored accepted h pc lt =
     let (i, e) = fetch code pc lt in
     let (n, en, f) = noted kind (record { kind = kind; instrs = code }) accepted pc i e in
-    (closure n, h pc lt ∙ ap maybe_closure en, closure_shows kind n (subst (λ z. IfSome z (SaysRanges kind)) en (incoming_shows kind code pc pc)))
+    (closure n, h pc lt ∙ ap maybe_closure en, closure_shows kind n (subst (λ z. IfSome z (HasInputRanges kind)) en (incoming_shows kind code pc pc)))
 
 -- each note that is handed out is that of the verdict
 each_best : (kind : Kind) (code : List Instr) (stored : ℕ → Option Note) (notes : List Form) →

@@ -2,7 +2,7 @@ use Rattle.std.proofs.Common.{◌≡◌, ◌⊎◌, ℕ, List, true, inl, inr, �
 use Rattle.std.specs.List.{starts_with, slice_index}
 use Rattle.trlab_bounds.specs.declared.programs.TheConstants.{MAGIC}
 use Rattle.trlab_code.specs.declared.program.Kind.TheVariants.{Motion, Change}
-use Rattle.trlab_code.specs.Faults.{HasMagic, HasVersion, HasKind, HasCount, HasGoodHeader}
+use Rattle.trlab_code.specs.Faults.{HasMagic, HasVersion, HasKind, HasCount, HasValidHeader}
 use Rattle.trlab_code.proofs.encoding.Header.read.Goals as goal
 use Rattle.trlab_code.proofs.encoding.Header.read.Goals.{in-0, in-1, then-count-eq0-via-then-count-eq0, then-count-eq0-via-else-count-eq0+then-count-gt-MAX_INSTRUCTIONS}
 
@@ -41,7 +41,7 @@ returns-then-count-eq0-clause-fault c =
 
 pub returns-then-bytes-count-clause-fault : goal.returns-then-bytes-count-clause-fault
 returns-then-bytes-count-clause-fault c =
-    let good : HasGoodHeader c.args.bytes.now = record {
+    let good : HasValidHeader c.args.bytes.now = record {
       whole = c.if-bytes-lt-HEADER_BYTES.false;
       magic = has_magic c.args.bytes.now c.if-not-starts_with.ensures.value;
       version = has_version c.args.bytes.now c.else-version-ne-PLAIN_VERSION.either;

@@ -4,18 +4,18 @@ use Rattle.trlab_road.specs.declared.gaps.Beside.{Beside}
 use Rattle.trlab_road.specs.LaneCars.{LaneCar}
 use Rattle.trlab_road.specs.Cells.{Cells, Lane, cars_before, lane_cars}
 use Rattle.trlab_road.specs.Gaps.{side, sideback, sidegap}
-use Rattle.trlab_road.specs.LaneChange.{IsBeside, IsGapBeside, sides}
-use Rattle.trlab_road.specs.Stored.{IsFoundAt, IsListedRoad, IsBesidePlace, cells_of, lanes_from, list_at, lists_of, place_of}
+use Rattle.trlab_road.specs.LaneChange.{IsOnOtherLane, IsGapBeside, sides}
+use Rattle.trlab_road.specs.Stored.{IsFoundAt, IsListedRoad, DescribesSideCell, cells_of, lanes_from, list_at, lists_of, place_of}
 use Rattle.trlab_road.proofs.ListRoads.{below_counted, few_cells, few_lists, found_by, found_in_order, found_inside, found_later, lane_from, lanes_count, length_first}
 use Rattle.trlab_road.proofs.road.Road.beside.Goals as goal
 
 -- what is told of the k-th car in standing order
 record IsTold (road : Cells) (k : ℕ) (beside : Beside) : Type 0 where
   value : beside.is_empty ≡ get_or (sides road) k false
-  empty : IsBeside side road k beside.is_empty
+  empty : IsOnOtherLane side road k beside.is_empty
   ahead : IsGapBeside sidegap road k beside.ahead
   behind : IsGapBeside sideback road k beside.behind
-  next : IsBeside cars_before road k beside.next
+  next : IsOnOtherLane cars_before road k beside.next
 
 -- what stands beside its place in the list of the other lane is told of a car that was found
 module _ (n : ℕ) (lists : List (Vec LaneCar Global)) (limit k l i x : ℕ) (own other : List LaneCar) (beside : Beside) where
@@ -30,7 +30,7 @@ module _ (n : ℕ) (lists : List (Vec LaneCar Global)) (limit k l i x : ℕ) (ow
       ∙ ap (λ (lane : Lane). look lane (place_of (list_at lists l) i)) (sym (lane_from n lists (1 - l) on))
 
   told : IsListedRoad n lists road → 1 - l < length lists → IsFoundAt lists k l i → own ≡ list_at lists l → other ≡ list_at lists (1 - l) → x ≡ place_of own i
-      → IsBesidePlace n other x beside → beside.next ≡ cars_before (cells_of n other) x → IsTold road k beside
+      → DescribesSideCell n other x beside → beside.next ≡ cars_before (cells_of n other) x → IsTold road k beside
   told stored on f own_is other_is at stands next =
       record {
         value = found_in_order (λ l x. side (get_or (lanes_from n lists) (1 - l) []) x) n lists limit k l i stored.sorted f beside.is_empty (here side _ on own_is other_is at stands.empty) false;
@@ -94,13 +94,13 @@ module _ (n : ℕ) (lists given read : List (Vec LaneCar Global)) (limit k x : �
   second_is (_, same, _, is) = is ∙ ap (λ (ls : List (Vec LaneCar Global)). list_at ls 1) same
 
   first_told : IsListedRoad n lists cells → length (lanes_from n lists) ≡ 2 → IsRead → k < length first → x ≡ place_of first k
-      → IsBesidePlace n second x beside → beside.next ≡ cars_before (cells_of n second) x → IsTold cells k beside
+      → DescribesSideCell n second x beside → beside.next ≡ cars_before (cells_of n second) x → IsTold cells k beside
   first_told stored two r low at stands next =
       let both = two_lists lists _ two (lanes_count n lists limit stored) in
       told n lists limit k 0 k x first second beside stored both.1 (first_of lists k first both.0 (first_is r) low) (first_is r) (second_is r) at stands next
 
   second_told : IsListedRoad n lists cells → length (lanes_from n lists) ≡ 2 → IsRead → k < sum_by lane_cars (lanes_from n lists) → length first ≤ k → x ≡ place_of second (k - length first)
-      → IsBesidePlace n first x beside → beside.next ≡ cars_before (cells_of n first) x → IsTold cells k beside
+      → DescribesSideCell n first x beside → beside.next ≡ cars_before (cells_of n first) x → IsTold cells k beside
   second_told stored two r below past at stands next =
       let both = two_lists lists _ two (lanes_count n lists limit stored) in
       let f = second_of lists k first (few_lists n lists limit stored) (below_counted n lists limit stored k below) (first_is r) past in

@@ -1,14 +1,14 @@
 use Rattle.std.proofs.Common.{ℕ, OnOk, List, Result, subst, sym, ◌∙◌}
 use Rattle.trlab_machine.specs.declared.dice.Dice.{Dice}
 use Rattle.trlab_road.specs.Cells.{Cells, cars}
-use Rattle.trlab_segments.specs.Results.{AnswersAll, AsksOf}
+use Rattle.trlab_segments.specs.Results.{AnswersAll, IsBriefOf}
 use Rattle.trlab_segments.specs.declared.pool.brief.Brief.{Brief}
 use Rattle.trlab_segments.proofs.pool.Pool.ask.Goals as goal
 
 -- answers to a brief are answers to its program, dice and road
 as_asked : {A B E P : Type 0} (answers : P → Dice → Cells → ℕ → ℕ → List A → Type 0)
     → (program : P) (dice : Dice) (road : Cells) (b : Brief P) (asked : Result B E) (found : List A)
-    → AsksOf program dice road b → OnOk asked (AnswersAll answers b found)
+    → IsBriefOf program dice road b → OnOk asked (AnswersAll answers b found)
     → OnOk asked (answers program dice road 0 (cars road) found)
 as_asked answers program dice road b asked found asks all =
     subst (λ r. OnOk asked (answers program dice r 0 (cars r) found)) asks.2

@@ -1,6 +1,6 @@
 use Rattle.std.proofs.Common.{◌≡◌, OnOk, ap, subst, sym, ◌∙◌}
 use Rattle.trlab_segments.specs.Drawers.{IsNew}
-use Rattle.trlab_segments.specs.Results.{AnswersAll, IsCutWhole, TellsDone}
+use Rattle.trlab_segments.specs.Results.{AnswersAll, CoversAllCars, IsRightResult}
 use Rattle.trlab_segments.specs.declared.pool.brief.Brief.{Brief}
 use Rattle.trlab_segments.specs.declared.pool.task.Task.{Task}
 use Rattle.trlab_segments.proofs.pool.Pool.execute.Goals as goal
@@ -20,8 +20,8 @@ pub settle-requires : goal.settle-requires
 settle-requires g c =
     let shown = ap asked c.deref.ensures ∙ c.in-Ok.ensures.ok in
     let left = sym (ap asked c.alone.ensures ∙ c.in-Ok.ensures.ok) in record {
-      cut = subst IsCutWhole left c.requires.cut;
-      done = subst (λ b. TellsDone g.P.Asked.answers b c.draw_all-parts.new.drawer c.draw_all-parts.result)
+      cut = subst CoversAllCars left c.requires.cut;
+      done = subst (λ b. IsRightResult g.P.Asked.answers b c.draw_all-parts.new.drawer c.draw_all-parts.result)
           (shown ∙ left) (c.draw_all-parts.ensures.from, c.draw_all-parts.ensures.parts);
     }
 
