@@ -5,27 +5,29 @@ use Rattle.trlab_road.specs.declared.fault.RoadFault.TheVariants.{Lanes, Length,
 use Rattle.trlab_road.specs.Cells.{Lane, Cells, at, lane_of}
 use Rattle.trlab_road.specs.Legal.{LanesFit, LengthFits, LimitFits}
 
--- the flat cell of car i, one of n cars spread over `lanes` lanes of `cells` cells; flat cells are counted
--- place by place, at each place across the lanes
+-- the cell of car i, one of n evenly spaced cars on `lanes` lanes of `cells` cells, as one number: place *
+-- `lanes` + lane; for example, 4 cars on 2 lanes of 6 cells have the flat cells 0, 3, 6 and 9
 abbrev pub flat_cell : ℕ → ℕ → ℕ → ℕ → ℕ
 flat_cell lanes cells n i = i * (lanes * cells) / n
 
--- the lane of car i, one of n evenly spaced cars on `lanes` lanes of `cells` cells
+-- the lane of car i, one of n evenly spaced cars on `lanes` lanes of `cells` cells; for example, 4 cars on 2
+-- lanes of 6 cells are on the lanes 0, 1, 0 and 1
 abbrev pub even_lane : ℕ → ℕ → ℕ → ℕ → ℕ
 even_lane lanes cells n i = flat_cell lanes cells n i % lanes
 
--- the place of car i, one of n evenly spaced cars on `lanes` lanes of `cells` cells
+-- the place of car i, one of n evenly spaced cars on `lanes` lanes of `cells` cells; for example, 4 cars on 2
+-- lanes of 6 cells are at the places 0, 1, 3 and 4
 abbrev pub even_place : ℕ → ℕ → ℕ → ℕ → ℕ
 even_place lanes cells n i = flat_cell lanes cells n i / lanes
 
--- lane l and place x are those of the car with this number, one of n evenly spaced cars
+-- the car with this number is one of n evenly spaced cars, on lane l at place x
 pub record IsInPlace (lanes cells n number l x : ℕ) : Type 0 where
   pub numbered : number < n
   pub on_lane : even_lane lanes cells n number ≡ l
   pub at_place : even_place lanes cells n number ≡ x
 
--- `lane` is lane l of a road with n evenly spaced cars: it has `cells` cells, its cars are at their places
--- with speed 0, and there are no others
+-- `lane` is lane l of a road with n evenly spaced cars: it has `cells` cells, the cars of lane l are at their
+-- places with speed 0, and there are no others
 pub record IsEvenLane (lanes cells n l : ℕ) (lane : Lane) : Type 0 where
   pub same_length : length lane ≡ cells
   pub stands : (i : ℕ) → i < n → even_lane lanes cells n i ≡ l
@@ -46,8 +48,8 @@ pub record CanSpread (lanes cells limit n : ℕ) : Type 0 where
   pub limit_fits : LimitFits limit
   pub room : n ≤ lanes * cells
 
--- the first fault of the number of lanes, their cells, the limit and n cars, tested in this order; `Memory`
--- is always possible, faults of characters never
+-- the first fault of the number of lanes, their length, the limit and the number n of cars, in this order;
+-- `Memory`, a failed allocation, is always possible, and faults of characters never
 abbrev pub IsEvenFault : ℕ → ℕ → ℕ → ℕ → RoadFault → Type 0
 IsEvenFault lanes cells limit n Lanes = ¬ (LanesFit lanes)
 IsEvenFault lanes cells limit n Length = LanesFit lanes × ¬ (LengthFits cells)
