@@ -32,8 +32,8 @@ abbrev pub GoodPicturesHaveNoFault : Type 0
 GoodPicturesHaveNoFault = (limit : ℕ) (pictures : List (List ℕ)) (fault : RoadFault)
     → AreGoodPictures limit pictures → IsFirstFault limit pictures fault → fault ≡ Memory
 
--- the meaning of a limit and pictures: the legal road that they show, or their first fault; `Memory`, a failed
--- allocation, is never the meaning
+-- the meaning of a limit and pictures: the legal road that they show, or their first fault; never `Memory`, a
+-- failed allocation
 abbrev pub Says : ℕ → List (List ℕ) → Result Cells RoadFault → Type 0
 Says limit pictures (Ok road) = Shows limit pictures road × IsLegal road
 Says limit pictures (Err fault) = IsFirstFault limit pictures fault × (fault ≢ Memory)
@@ -129,7 +129,7 @@ LaneChangeKeepsLegal = (crosses : ℕ → ℕ → Bool) (old new : Cells)
     → IsLegal old → CrossesToEmpty crosses old → Crosses crosses old new → IsLegal new
 
 -- the meaning of n evenly spaced cars on `lanes` lanes of `cells` cells with a limit: the legal road with
--- these cars, or the first fault; `Memory`, a failed allocation, is never the meaning
+-- these cars, or the first fault; never `Memory`, a failed allocation
 abbrev pub EvenCarsMean : ℕ → ℕ → ℕ → ℕ → Result Cells RoadFault → Type 0
 EvenCarsMean lanes cells limit n (Ok road) =
     CanSpread lanes cells limit n × IsEven lanes cells limit n road × IsLegal road
