@@ -1,5 +1,5 @@
--- The ChaCha20 states of eight blocks, computed side by side. A quarter, one column or diagonal of the states,
--- has four words of each block, `a` to `d`; the words `d` are kept as bytes.
+-- The ChaCha20 states of eight blocks, computed side by side. A quarter is one column or diagonal of each
+-- state: it has four words of each block, `a` to `d`, and keeps the words `d` as bytes.
 use Rattle.std.specs.Prelude.{ℕ, List, [], ◌∷◌, slice_index}
 use Rattle.rand_core.specs.Steps.{u32_at}
 use Rattle.trlab_words.specs.declared.block.Quarter.{Quarter}
