@@ -104,9 +104,9 @@ HasExtraBytes bytes = HEADER_BYTES + INSTR_BYTES * stated_count bytes < length b
 abbrev pub PassesInstrs : List ℕ → Type 0 → Type 0
 PassesInstrs bytes claim = IsValidBefore bytes (stated_count bytes) × claim
 
--- the first fault after a valid header: the opcode, or else a field, of the first invalid instruction; then an
--- unneeded HEADSPEED_VERSION; then bytes after the last instruction. `Memory`, a failed allocation, is always
--- possible, and faults of the header never
+-- the first fault after a valid header: the opcode, or else a field, of the first invalid instruction; then
+-- an unneeded HEADSPEED_VERSION; then bytes after the last instruction. `Memory`, a failed allocation, is
+-- always possible, and faults of the header never
 abbrev pub IsFaultAfterHeader : List ℕ → CodeFault → Type 0
 IsFaultAfterHeader bytes (fault.Opcode pc) = ReachesInstr bytes pc (λ row. ¬ (HasOpcode row))
 IsFaultAfterHeader bytes (fault.Field pc) =
