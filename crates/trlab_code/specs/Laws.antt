@@ -20,8 +20,8 @@ pub record IsRepresentable (program : Program) : Type 0 where
   pub is_program : IsProgram program
   pub has_words : All FitsIn32Bits program.instrs
 
--- the meaning of bytes: the valid program that they encode, or their first fault; never `Memory`, a failed
--- allocation
+-- the meaning of bytes: the valid program that they encode, or their first fault, apart from `Memory` (a
+-- failed allocation)
 abbrev pub Says : List ℕ → Result Program CodeFault → Type 0
 Says bytes (Ok program) = (bytes ≡ encoding program) × IsProgram program
 Says bytes (Err fault) = IsFirstFault bytes fault × (fault ≢ Memory)

@@ -23,8 +23,7 @@ abbrev pub greatest : (ℕ → Bool) → ℕ → ℕ
 greatest test zero = zero
 greatest test (suc n) = cond (test (suc n)) (suc n) (greatest test n)
 
--- the number of empty cells at the beginning of a path, before its first car; at most one less than the lane
--- length
+-- the number of empty cells at the beginning of a path, before its first car; at most all cells but one
 abbrev pub clear_cells : Lane → (ℕ → ℕ) → ℕ
 clear_cells lane path = greatest (is_clear lane path) (length lane - 1)
 

@@ -12,8 +12,8 @@ use Rattle.trlab_road.specs.Stored.{car_on, no_car}
 abbrev pub IsLineOf : Cells → ℕ → List LaneCar → Type 0
 IsLineOf road lane line = map (car_on lane) line ≡ standing_from lane 0 (lane_of road lane)
 
--- `line` lists the k-th car in standing order, which exists, and all cars after it on the same lane, in order
--- of place
+-- `line` lists the k-th car in standing order, which exists, and all cars after it on the same lane, in this
+-- order
 pub record IsLineFrom (road : Cells) (k : ℕ) (line : List LaneCar) : Type 0 where
   pub lane : ℕ
   pub some : 0 < length line

@@ -27,8 +27,8 @@ pub record LaneCrosses (own_crosses beside_crosses : ℕ → Bool) (own beside n
   pub each_cell : (x : ℕ) → x < length own
       → at new x ≡ cell_after_change (own_crosses x) (beside_crosses x) (at own x) (at beside x)
 
--- road `new` is road `old` after the lane change, in which the car on lane l at place x crosses if `crosses l
--- x`; for example, if only the car at place 2 crosses, lanes `1.0.` and `....` become `1...` and `..0.`
+-- road `new` is road `old` after the lane change: the car on lane l at place x crosses if `crosses l x`;
+-- for example, if only the car at place 2 crosses, `1.0.` and `....` become `1...` and `..0.`
 pub record Crosses (crosses : ℕ → ℕ → Bool) (old new : Cells) : Type 0 where
   pub same_limit : new.limit ≡ old.limit
   pub same_lanes : length new.lanes ≡ length old.lanes

@@ -52,8 +52,7 @@ PicturesHaveOneMeaning = (limit : ℕ) (pictures : List (List ℕ)) (meaning oth
 abbrev pub PicturesOfLegalRoads : Type 0
 PicturesOfLegalRoads = (road : Cells) → IsLegal road → AreGoodPictures road.limit (map picture road.lanes)
 
--- if the cars of a legal road are numbered in standing order, its limit and its pictures mean this road and
--- nothing else
+-- if the cars of a legal road are numbered in standing order, its limit and its pictures mean only this road
 abbrev pub PicturesMeanTheRoad : Type 0
 PicturesMeanTheRoad = (road : Cells) (meaning : Result Cells RoadFault)
     → IsLegal road → AreNumberedInOrder road
@@ -135,13 +134,12 @@ EvenCarsMean lanes cells limit n (Ok road) =
     CanSpread lanes cells limit n × IsEven lanes cells limit n road × IsLegal road
 EvenCarsMean lanes cells limit n (Err fault) = IsEvenFault lanes cells limit n fault × (fault ≢ Memory)
 
--- any numbers of lanes, cells and evenly spaced cars have, with any limit, a meaning: a legal road or a first
--- fault
+-- any numbers of lanes, cells and evenly spaced cars, with any limit, mean a legal road or have a first fault
 abbrev pub EvenCarsHaveMeaning : Type 0
 EvenCarsHaveMeaning = (lanes cells limit n : ℕ)
     → (meaning : Result Cells RoadFault) × EvenCarsMean lanes cells limit n meaning
 
--- numbers of lanes, cells and evenly spaced cars have, with a limit, at most one meaning
+-- numbers of lanes, cells and evenly spaced cars, with a limit, have at most one meaning
 abbrev pub EvenCarsHaveOneMeaning : Type 0
 EvenCarsHaveOneMeaning = (lanes cells limit n : ℕ) (meaning other : Result Cells RoadFault)
     → EvenCarsMean lanes cells limit n meaning → EvenCarsMean lanes cells limit n other → meaning ≡ other
@@ -163,8 +161,8 @@ abbrev pub EvenRoadHasAllCars : Type 0
 EvenRoadHasAllCars = (lanes cells limit n : ℕ) (road : Cells)
     → CanSpread lanes cells limit n → IsEven lanes cells limit n road → cars road ≡ n
 
--- numbers of lanes, cells and cars have, with a limit, at most one first fault, apart from `Memory` (a failed
--- allocation)
+-- numbers of lanes, cells and evenly spaced cars, with a limit, have at most one first fault, apart from
+-- `Memory` (a failed allocation)
 abbrev pub OneEvenFault : Type 0
 OneEvenFault = (lanes cells limit n : ℕ) (fault other : RoadFault)
     → IsEvenFault lanes cells limit n fault → IsEvenFault lanes cells limit n other

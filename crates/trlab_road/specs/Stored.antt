@@ -109,14 +109,14 @@ list_answer n lists answers l =
     let before = sum_by lane_cars (take l (lanes_from n lists)) in
     lane_answer (cells_of n (list_at lists l)) answers before
 
--- the answer of each car, on all lanes of n cells, is at most the gap ahead of it; `answers` is in standing
--- order
+-- on each lane of n cells, the answer of each car is at most the gap ahead of it; `answers` lists the answers
+-- of all cars in standing order
 pub record ListsFit (n : ℕ) (lists : List (Vec LaneCar Global)) (answers : List ℕ) : Type 0 where
   pub each_lane : (l : ℕ) → l < length lists
       → LaneFits (list_answer n lists answers l) (cells_of n (list_at lists l))
 
 -- the lanes of n cells with the cars of `lists` have the cars of `next` after the motion by `answers`, which
--- are in standing order
+-- lists the answers of all cars in standing order
 pub record ListsMove (n : ℕ) (lists next : List (Vec LaneCar Global)) (answers : List ℕ) : Type 0 where
   pub same_lanes : length next ≡ length lists
   pub each_lane : (l : ℕ) → l < length lists

@@ -14,8 +14,8 @@ abbrev pub ComputesSpeed : (View → List ℕ → ℕ) → Program → Type 0
 ComputesSpeed speed program = (view : View) (words : List ℕ) → IsView view
     → (n : ℕ) × EndsWith Motion program.instrs view words (Goes (speed view words)) n
 
--- for every view in range and any random words, the change program ends with the answer to cross if `crosses
--- view words` is true, otherwise with the answer to stay
+-- for every view in range and any random words, the change program ends with the answer to cross if
+-- `crosses view words` is true, otherwise with the answer to stay
 abbrev pub ComputesCrossing : (View → List ℕ → Bool) → Program → Type 0
 ComputesCrossing crosses program = (view : View) (words : List ℕ) → IsView view
     → (n : ℕ) × EndsWith Change program.instrs view words (if crosses view words then Crosses else Stays) n
