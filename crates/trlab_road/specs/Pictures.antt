@@ -1,4 +1,4 @@
--- Pictures of roads: a dot for an empty cell, the character of its speed for a car. A character is a number,
+-- Pictures of roads: `.` for an empty cell, the character of its speed for a car. A character is a number,
 -- its ASCII code.
 use Rattle.std.specs.Prelude.{◌≡◌, ℕ, ◌+◌, ◌-◌, ◌<◌, ◌≤◌, cond, nat_lt, Some, None, List, [], map, length, slice_index, slice_index_or, ◌⊎◌}
 use Rattle.std.specs.Borrow.{Bor}

@@ -29,14 +29,14 @@ abbrev pub IsSheet : Sheet → Type 0
 IsSheet [] = ⊥
 IsSheet (first ∷ later) = (first.0 ≡ 0) × Rises 1 later
 
--- the sheet with the rule `first` from step 0 on, and then the given entries; an entry for step 0 replaces
--- `first`
+-- the sheet with the rule `first` from step 0 on, and then the given entries; if the first of these is for
+-- step 0, it replaces `first`
 abbrev pub sheet_with : Programs → Sheet → Sheet
 sheet_with first [] = (0, first) ∷ []
 sheet_with first (entry ∷ later) = if entry.0 == 0 then entry ∷ later else (0, first) ∷ entry ∷ later
 
--- the rule in force at a step: that of the last entry that begins at this step or earlier, or `None`; for
--- example, with entries for steps 0 and 100, the second rule is in force from step 100 on
+-- the rule in force at a step of a valid sheet: that of the last entry for this step or an earlier one; for
+-- example, with entries for the steps 0 and 100, it is the first rule until step 99, then the second
 abbrev pub in_force : Sheet → ℕ → Option Programs
 in_force [] step = None
 in_force (entry ∷ sheet) step =
