@@ -52,7 +52,8 @@ PicturesHaveOneMeaning = (limit : ℕ) (pictures : List (List ℕ)) (meaning oth
 abbrev pub PicturesOfLegalRoads : Type 0
 PicturesOfLegalRoads = (road : Cells) → IsLegal road → AreGoodPictures road.limit (map picture road.lanes)
 
--- if the cars of a legal road are numbered in standing order, its limit and its pictures mean only this road
+-- if the cars of a legal road are numbered in standing order, its limit and its pictures mean this road, and
+-- nothing else
 abbrev pub PicturesMeanTheRoad : Type 0
 PicturesMeanTheRoad = (road : Cells) (meaning : Result Cells RoadFault)
     → IsLegal road → AreNumberedInOrder road

@@ -106,7 +106,9 @@ IsFirstFault limit pictures Lanes = ¬ (LanesFit (length pictures))
 IsFirstFault limit pictures Length = LanesFit (length pictures) × ¬ (HaveEqualLengths pictures)
 IsFirstFault limit pictures Limit =
     LanesFit (length pictures) × HaveEqualLengths pictures × ¬ (LimitFits limit)
-IsFirstFault limit pictures (Character l x) = IsFaultAt limit pictures l x × ¬ (ShowsAnySpeed pictures l x)
-IsFirstFault limit pictures (SpeedAboveLimit l x) = IsFaultAt limit pictures l x × ShowsAnySpeed pictures l x
+IsFirstFault limit pictures (Character l x) =
+    IsFaultAt limit pictures l x × ¬ (ShowsAnySpeed pictures l x)
+IsFirstFault limit pictures (SpeedAboveLimit l x) =
+    IsFaultAt limit pictures l x × ShowsAnySpeed pictures l x
 IsFirstFault limit pictures Memory = Unit {0}
 IsFirstFault limit pictures TooManyCars = ⊥

@@ -12,13 +12,14 @@ use Rattle.trlab_code.specs.Machine.{Flag, Goes, Crosses, Stays, Store, Writes, 
 -- for every view in range and any random words, the motion program ends with the speed `speed view words`
 abbrev pub ComputesSpeed : (View → List ℕ → ℕ) → Program → Type 0
 ComputesSpeed speed program = (view : View) (words : List ℕ) → IsView view
-    → (n : ℕ) × EndsWith Motion program.instrs view words (Goes (speed view words)) n
+    → (steps : ℕ) × EndsWith Motion program.instrs view words (Goes (speed view words)) steps
 
 -- for every view in range and any random words, the change program ends with the answer to cross if
 -- `crosses view words` is true, otherwise with the answer to stay
 abbrev pub ComputesCrossing : (View → List ℕ → Bool) → Program → Type 0
 ComputesCrossing crosses program = (view : View) (words : List ℕ) → IsView view
-    → (n : ℕ) × EndsWith Change program.instrs view words (if crosses view words then Crosses else Stays) n
+    → (steps : ℕ)
+    × EndsWith Change program.instrs view words (if crosses view words then Crosses else Stays) steps
 
 -- the instruction `draw` writes the flag true if an event of probability chance / 2 ^ 31 happens on random
 -- word k, otherwise the flag false

@@ -12,7 +12,8 @@ use Rattle.trlab_rules.specs.Laws.{ComputesSpeed, ComputesCrossing}
 
 -- `motion` is the motion program `program`, which the verifier accepts, and it computes the speed that the
 -- function `speed` gives
-pub record IsMotion (speed : View → List ℕ → ℕ) (program : Program) (motion : CheckedProgram) : Type 0 where
+pub record IsMotion (speed : View → List ℕ → ℕ) (program : Program) (motion : CheckedProgram)
+    : Type 0 where
   pub same : motion.program ≡ program
   pub accepted : IsAccepted Motion program
   pub moves : ComputesSpeed speed motion.program

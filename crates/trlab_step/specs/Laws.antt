@@ -92,11 +92,11 @@ abbrev pub tally_of_answers : List Bool → List ℕ → StepTally
 tally_of_answers crosses speeds = record {
   distance = sum speeds;
   stopped = count_by (λ speed. nat_eq speed 0) speeds;
-  changes = count_by (λ crosses. crosses) crosses;
+  changes = count_by (λ answer. answer) crosses;
 }
 
--- if a lane change by a list of answers leads from `road` to `middle`, and a motion from there to `next`,
--- then `next` is the next road after `road`, with the tally of these answers
+-- if a lane change by a list of answers leads from `road` to `middle`, and a motion by a list of answers leads
+-- from there to `next`, then `next` is the next road after `road`, with the tally of these answers
 abbrev pub AnswersLeadOn : Type 0
 AnswersLeadOn =
     (rule : Programs) (dice : Dice) (road middle next : Cells) (crosses : List Bool) (speeds : List ℕ)

@@ -78,8 +78,8 @@ pub record IsCleanStep (rule : Programs) (dice : Dice) (road middle next : Cells
 abbrev pub IsCleanNext : Programs → Dice → Cells → Cells → StepTally → Type 0
 IsCleanNext rule dice road next tally = (middle : Cells) × IsCleanStep rule dice road middle next tally
 
--- `told` is the result of a step: the next road after a clean step, which is legal, and the tally; or a
--- fault. The fault `LanesMismatch` comes exactly if the rule has a change program and the road has one lane
+-- `told` is the result of a step: the next road after a clean step, which is legal, and the tally; or
+-- a fault, which is `LanesMismatch` exactly if the rule has a change program and the road has one lane
 pub record IsStepResult (rule : Programs) (dice : Dice) (road : Cells)
     (told : Result (Cells × StepTally) StepFault) : Type 0 where
   pub mismatch : (told ≡ Err LanesMismatch) ↔ (IsSome rule.change × (length road.lanes ≡ 1))

@@ -26,7 +26,7 @@ pub record IsUnderway (run : Progress) : Type 0 where
   pub suits : IsSheetFor (length run.seed.road.lanes) run.sheet
   pub comes : ComesTo run.seed run.sheet run.step run.road run.sum
 
--- `new` has the start and the sheet of the run `old`, and has made one more step
+-- `new` has the start and the sheet of the run `old`, and its number of steps is one larger
 pub record IsOneStepOn (old new : Progress) : Type 0 where
   pub same_seed : new.seed ≡ old.seed
   pub same_sheet : new.sheet ≡ old.sheet

@@ -30,8 +30,9 @@ nasch_goes p dice road car =
 abbrev pub vdr_goes : ℕ → ℕ → Dice → Cells → Car → ℕ
 vdr_goes p p0 dice road car = nasch_goes (vdr_chance p p0 car.speed) dice road car
 
--- does a car cross by the rule of 1996 (Rickert and others)? It does if its side cell is empty, gap < speed +
--- 1, speed + 1 < sidegap, limit < sideback, and an event of probability c / 2 ^ 31 happens on random word 1
+-- does a car cross by the rule of 1996 (Rickert and others)? It does if its side cell is empty,
+-- gap < speed + 1, speed + 1 < sidegap, limit < sideback, and an event of probability c / 2 ^ 31 happens on
+-- random word 1
 abbrev pub rickert_car_crosses : ℕ → Dice → Cells → Car → Bool
 rickert_car_crosses c dice road car =
     let other = lane_of road (other_lane car.lane) in
@@ -50,7 +51,8 @@ car_ahead road car speed = record {
 
 -- each car of road `old` is on road `new`, moved ahead by its new speed, `new_speed car`
 abbrev pub AllGo : (Car → ℕ) → Cells → Cells → Type 0
-AllGo new_speed old new = (car : Car) → IsAt old car → IsAt new (car_ahead old car (new_speed car))
+AllGo new_speed old new =
+    (car : Car) → IsAt old car → IsAt new (car_ahead old car (new_speed car))
 
 -- each car of road `old` for which `crosses` is true is in its side cell on road `new`, and each other car is
 -- still in its cell
