@@ -95,8 +95,8 @@ tally_of_answers crosses speeds = record {
   changes = count_by (λ answer. answer) crosses;
 }
 
--- if a lane change by a list of answers leads from `road` to `middle`, and a motion by a list of answers leads
--- from there to `next`, then `next` is the next road after `road`, with the tally of these answers
+-- if a lane change by a list of answers leads from `road` to `middle`, and a motion by such a list from there
+-- to `next`, then `next` is the next road after `road`, with the tally of these answers
 abbrev pub AnswersLeadOn : Type 0
 AnswersLeadOn =
     (rule : Programs) (dice : Dice) (road middle next : Cells) (crosses : List Bool) (speeds : List ℕ)
