@@ -1,5 +1,5 @@
--- Cars as cells that are taken: the rule of 1992 with the limit 1 and without randomization is rule 184 of
--- Wolfram's elementary cellular automata (1983).
+-- Lanes as cells that are taken or empty: the rule of 1992 with the limit 1 and without randomization is rule
+-- 184 of Wolfram's elementary cellular automata (1983).
 use Rattle.std.specs.Prelude.{◌≡◌, ℕ, ◌+◌, ◌*◌, ◌/◌, ◌%◌, ◌^◌, ◌<◌, Bool, not, is_some, length, nat_eq, if◌then◌else◌}
 use Rattle.trlab_road.specs.Cells.{Cells, Lane, at, lane_of}
 use Rattle.trlab_road.specs.Gaps.{ahead, behind}
@@ -19,22 +19,23 @@ abbrev pub digit : Bool → ℕ
 digit taken = if taken then 1 else 0
 
 -- is a cell taken after a step of Wolfram's elementary automaton `number`? The states of the cell behind, of
--- the cell itself and of the cell ahead, read as three binary digits, say which binary digit of `number` to
--- take: 1 is taken
+-- the cell itself and of the cell ahead are three binary digits of a number k, and binary digit k of `number`
+-- is the new state. For example, 184 is 10111000 in binary: an empty cell with a car behind and an empty cell
+-- ahead has k = 4, and digit 4, counted from the right and from 0, is 1
 abbrev pub elementary : ℕ → Bool → Bool → Bool → Bool
 elementary number behind own ahead =
     nat_eq (number / 2 ^ (4 * digit behind + 2 * digit own + digit ahead) % 2) 1
 
--- each cell of the lane `old`, a ring, takes a step of the elementary automaton `number`; `new` is the lane
--- after it
+-- lane `new` is lane `old`, a ring, after a step of the elementary automaton `number`: the state of each cell
+-- follows from the cell behind, the cell itself and the cell ahead on `old`
 abbrev pub GoesBy : ℕ → Lane → Lane → Type 0
 GoesBy number old new = (x : ℕ) → x < length old
     → let taken_behind = is_taken old (behind (length old) x 1) in
     let taken_ahead = is_taken old (ahead (length old) x 1) in
     is_taken new x ≡ elementary number taken_behind (is_taken old x) taken_ahead
 
--- with the limit 1 and without randomization, the rule of 1992 takes each lane of a legal road through a step
--- of rule 184, whatever the speeds of its cars are
+-- with the limit 1 and without randomization the rule of 1992 takes each lane of a legal road through a step
+-- of rule 184, for any speeds of its cars
 abbrev pub NaschIsRule184 : Type 0
 NaschIsRule184 =
     (rule : Programs) (dice : Dice) (old new : Cells) (tally : StepTally) (l : ℕ)
