@@ -110,7 +110,8 @@ some_unset note instr =
 -- before it?
 abbrev pub some_of_other_kind : Note → Instr → Bool
 some_of_other_kind note instr =
-    among is_flag note (numbers_of (operands_of instr)) || among is_range note (flags_of (operands_of instr))
+    among is_flag note (numbers_of (operands_of instr))
+    || among is_range note (flags_of (operands_of instr))
 
 -- may control continue past the end of the program: is the instruction at pc the last of len instructions,
 -- and not an end or a `jump`?

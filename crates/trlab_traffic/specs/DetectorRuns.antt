@@ -63,7 +63,8 @@ abbrev pub DetectorsAgreeByCars : Type 0
 DetectorsAgreeByCars =
     (seed : Seed) (sheet : Sheet) (step : ℕ) (road : Cells) (sum : StepTally) (l x k first second : ℕ)
     → EachRule StaysInLane sheet → ComesTo seed sheet step road sum → k ≤ length (lane_of seed.road l)
-    → CountBoth seed sheet step l x k first second → AreWithin (scarcer (lane_of seed.road l)) first second
+    → CountBoth seed sheet step l x k first second
+    → AreWithin (scarcer (lane_of seed.road l)) first second
 
 -- in a run on one lane, under any sheet of rules, the counts of all detectors add up to the distance;
 -- `count x` is the count at the end of cell x
@@ -77,7 +78,8 @@ DetectorsCountRun =
 -- `count` measures the flow on a ring of n cells: n times `count` differs from `distance` by at most n times
 -- the number of cars or of empty cells, whichever is smaller
 abbrev pub Measures : Lane → ℕ → ℕ → Type 0
-Measures lane count distance = AreWithin (length lane * scarcer lane) (length lane * count) distance
+Measures lane count distance =
+    AreWithin (length lane * scarcer lane) (length lane * count) distance
 
 -- in a run on one lane, under any sheet of rules without lane changes, each detector measures the flow: the
 -- bound of its error does not grow with the number of steps
