@@ -19,11 +19,11 @@ use Rattle.trlab_bounds.specs.declared.programs.TheConstants.{LONGEST_LABEL}
 abbrev pub word : List ℕ → Result (List ℕ) Why
 word text = ok_or (only_word text) Operand
 
--- the register that an operand names; the fault `Operand` if it names none
+-- the register that an operand names, for example ` r0 `; the fault `Operand` if it names none
 abbrev pub register : List ℕ → Result Register Why
 register text = word text >>= λ name. ok_or (register_named name) Operand
 
--- the input that an operand names; the fault `Operand` if it names none
+-- the input that an operand names, for example ` gap `; the fault `Operand` if it names none
 abbrev pub input : List ℕ → Result Input Why
 input text = word text >>= λ name. ok_or (input_named name) Operand
 
@@ -96,7 +96,7 @@ abbrev pub ◌then◌ : {A B : Type 0} → (List ℕ → Result A Why) → (List
 
 -- the shapes of operands, besides `register` and `jump_target`
 
--- no operand: the text is blank, otherwise the fault `Operand`
+-- the operands of an instruction without operands: the text is blank, otherwise the fault `Operand`
 abbrev pub no_operand : List ℕ → Result (Unit {0}) Why
 no_operand text = word text >>= λ found. if length found == 0 then Ok tt else Err Operand
 

@@ -44,7 +44,8 @@ reason_number reason = range_reason_number reason
 abbrev pub is_of_kind : Kind → Kind → Instr → Bool
 is_of_kind kind own instr = allows kind instr && allows own instr
 
--- the registers that an instruction reads, with the kind of value that they must hold
+-- the registers that an instruction reads, with the type of value that each must hold: a number, a flag, or
+-- either
 abbrev pub operands_of : Instr → Operands
 operands_of (Copy d a) = read.Value a
 operands_of (Add d a b) = read.Numbers a b
@@ -142,7 +143,7 @@ abbrev pub may_be_occupied : Note → Instr → Bool
 may_be_occupied note Cross = not note.side
 may_be_occupied note _ = false
 
--- a reason to reject an instruction, and whether it holds
+-- a reason to reject an instruction, and whether it holds against this instruction
 pub record JudgedReason : Type 0 where
   pub reason : Reason
   pub holds : Bool

@@ -126,9 +126,9 @@ abbrev pub assign_result : Note → Register → Instr → Note
 assign_result note d instr =
     assign note d (result_said note instr) (result_to note instr) (to_result note instr)
 
--- the level of x to y that follows from the levels i of x to p, k of p to q, and j of q to y: 0 if i or j is
--- 0, otherwise the largest of the three. For example, x at most p (1), p below q (2) and q at most y (1) give
--- x below y (2)
+-- the level of x to y that follows from the levels i of x to p, k of p to q, and j of q to y, for k of 1 or
+-- 2: 0 if i or j is 0, otherwise the largest of the three. For example, x at most p (1), p below q (2) and q
+-- at most y (1) give x below y (2)
 abbrev pub chain : ℕ → ℕ → ℕ → ℕ
 chain zero k j = 0
 chain (suc i) k zero = 0

@@ -1,5 +1,5 @@
--- Capacity: the maximum distance of all cars of a road in one step, under any rule. Cars pass only over empty
--- cells, no two over the same, and none is faster than the limit. So flow against density lies under a
+-- Capacity: a bound on the distance of all cars of a road in one step, under any rule. Cars pass only over
+-- empty cells, no two over the same, and none is faster than the limit. So flow against density lies under a
 -- triangle, whose sides are the limit times the density, and one minus the density.
 use Rattle.std.specs.Prelude.{◌≡◌, ℕ, ◌+◌, ◌*◌, ◌≤◌, count_by, is_none, length, min, sum_by}
 use Rattle.trlab_road.specs.Cells.{Cells, Lane, cars, lane_cars}
@@ -11,7 +11,7 @@ use Rattle.trlab_step.specs.Next.{IsNext}
 use Rattle.trlab_step.specs.Run.{Seed, Sheet, ComesTo}
 use Rattle.trlab_traffic.specs.Runs.{counted_steps}
 
--- the number of cells of a lane
+-- the number of cells of a lane, taken or empty
 abbrev pub lane_cells : Lane → ℕ
 lane_cells lane = length lane
 
@@ -19,7 +19,7 @@ lane_cells lane = length lane
 abbrev pub lane_empty_cells : Lane → ℕ
 lane_empty_cells lane = count_by is_none lane
 
--- the number of cells of a road, on all lanes together
+-- the number of cells of a road, taken or empty, on all lanes together
 abbrev pub all_cells : Cells → ℕ
 all_cells road = sum_by lane_cells road.lanes
 

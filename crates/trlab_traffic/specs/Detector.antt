@@ -38,8 +38,8 @@ passages lane x = count_by (passes (length lane) x) (standing_from 0 0 lane)
 abbrev pub all_passages : Lane → ℕ
 all_passages lane = sum_by (passages lane) (range_with_len 0 (length lane))
 
--- under any rule all detectors of a road, one per cell, together count the distance of a step, so the mean of
--- their counts is the flow
+-- under any rule the counts of all detectors of a road, one per cell, add up to the distance of the step, so
+-- their mean is the flow
 abbrev pub DetectorsCountDistance : Type 0
 DetectorsCountDistance =
     (rule : Programs) (dice : Dice) (road next : Cells) (tally : StepTally)

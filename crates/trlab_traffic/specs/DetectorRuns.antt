@@ -18,7 +18,7 @@ Counts seed sheet l x (suc step) count =
     (road : Cells) × (before : ℕ) × IsRoadAt seed sheet (suc step) road × Counts seed sheet l x step before
     × (count ≡ (if nat_le seed.warm step then before + passages (lane_of road l) x else before))
 
--- each detector of a run has a count after each number of steps
+-- after each number of steps of a run each detector has a count
 abbrev pub CountExists : Type 0
 CountExists =
     (seed : Seed) (sheet : Sheet) (step : ℕ) (road : Cells) (sum : StepTally) (l x : ℕ)

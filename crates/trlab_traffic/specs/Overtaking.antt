@@ -22,7 +22,7 @@ pub record IsNextOf (road : Cells) (number next : ℕ) : Type 0 where
   pub next_numbered : next_car.number ≡ next
   pub follows : IsNextAhead road car next_car
 
--- each car of a road has a next car ahead, possibly itself
+-- each car of a road has a next car ahead, which is the car itself if its lane has no other car
 abbrev pub EachCarHasNext : Type 0
 EachCarHasNext = (road : Cells) (car : Car) → IsAt road car → (next : ℕ) × IsNextOf road car.number next
 

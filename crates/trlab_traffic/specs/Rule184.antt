@@ -42,7 +42,8 @@ NaschIsRule184 =
     → IsNasch 0 rule → IsLegal old → old.limit ≡ 1 → IsNext rule dice old new tally
     → l < length old.lanes → GoesBy 184 (lane_of old l) (lane_of new l)
 
--- empty cells follow rule 184 too, in the other direction round the ring
+-- exchanging taken with empty, and behind with ahead, leaves rule 184 as it is: empty cells move as cars do,
+-- in the other direction round the ring
 abbrev pub EmptyCellsGoBack : Type 0
 EmptyCellsGoBack = (behind own ahead : Bool)
     → not (elementary 184 behind own ahead) ≡ elementary 184 (not ahead) (not own) (not behind)

@@ -50,7 +50,7 @@ incoming kind code (suc n) q =
     add_notes n (incoming kind code n n) (slice_get code n) q (incoming kind code n q)
 
 -- the note of the instruction at pc: the join of the notes that earlier instructions send to it, and of the
--- entry note if pc is 0; `None` if there are none, so that the instruction is unreachable
+-- entry note if pc is 0; `None` if there are none, because the instruction is unreachable
 abbrev pub note_at : Kind → List Instr → ℕ → Option Note
 note_at kind code pc = incoming kind code pc pc
 

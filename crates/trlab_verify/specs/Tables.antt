@@ -31,15 +31,15 @@ pub record ChecksAt (kind : Kind) (program : Program) (note : ℕ → Note) (pc 
   pub jumps : (t : ℕ) → target i ≡ Some t → t < length program.instrs
       → IsNoStronger (note t) (jump_note (note pc) i)
 
--- a table checks: it has one note per instruction, the first note is no stronger than the entry note, and the
--- notes check at each instruction
+-- a table checks for the program as one of this kind: it has one note per instruction, its first note is no
+-- stronger than the entry note, and its notes check at each instruction
 pub record Checks (kind : Kind) (program : Program) (table : List Note) : Type 0 where
   pub one_each : length table ≡ length program.instrs
   pub first : IsNoStronger (note_in table 0) (entry kind)
   pub each : (pc : ℕ) (i : Instr) → slice_get program.instrs pc ≡ Some i
       → ChecksAt kind program (note_in table) pc i
 
--- for the program as one of this kind some table of notes checks
+-- some table of notes checks for the program as one of this kind
 abbrev pub SomeTableChecks : Kind → Program → Type 0
 SomeTableChecks kind program = (table : List Note) × Checks kind program table
 
