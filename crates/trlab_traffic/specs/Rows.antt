@@ -32,10 +32,9 @@ StepIsContinuousByRows =
     → let end = ahead (length (lane_of old 0)) x k in
     cars_ahead_of_row new x k + row_passages new end ≡ cars_ahead_of_row old x k + row_passages new x
 
--- in a run from a legal road, under any sheet of rules, from step `warm`, at which the detectors begin to
--- count, to each step from there on, the number of cars in the k cells ahead of place x grows by the count of
--- the row at x, and shrinks by the count of the row k cells ahead; `first l` and `second l` are the counts on
--- lane l
+-- in a run from a legal road, under any sheet of rules, the number of cars in the k cells ahead of place x
+-- grows, from step `warm` on, by the count of the row at x, and shrinks by the count of the row k cells
+-- ahead; `first l` and `second l` are the counts on lane l
 abbrev pub RunIsContinuousByRows : Type 0
 RunIsContinuousByRows =
     (seed : Seed) (sheet : Sheet) (step : ℕ) (start road : Cells) (x k : ℕ) (first second : ℕ → ℕ)

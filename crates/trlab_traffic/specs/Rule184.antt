@@ -18,10 +18,10 @@ is_taken lane x = is_some (at lane x)
 abbrev pub digit : Bool → ℕ
 digit taken = if taken then 1 else 0
 
--- is a cell taken after a step of Wolfram's elementary automaton `number`? The states of the cell behind, of
--- the cell itself and of the cell ahead are three binary digits of a number k, and binary digit k of `number`
--- is the new state. For example, 184 is 10111000 in binary: an empty cell with a car behind and an empty cell
--- ahead has k = 4, and digit 4, counted from the right and from 0, is 1
+-- is a cell taken after a step of Wolfram's elementary automaton `number`? It is if digit k of `number` in
+-- binary, counted from 0 at the right, is 1; the binary digits of k are the cells behind, own and ahead
+-- before the step, 1 if taken. For example, 184 is 10111000, and cells 1, 0, 0 give k = 4: a car comes from
+-- behind
 abbrev pub elementary : ℕ → Bool → Bool → Bool → Bool
 elementary number behind own ahead =
     nat_eq (number / 2 ^ (4 * digit behind + 2 * digit own + digit ahead) % 2) 1
