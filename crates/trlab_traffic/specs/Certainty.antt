@@ -12,7 +12,8 @@ use Rattle.trlab_step.specs.Next.{IsNext}
 use Rattle.trlab_step.specs.Run.{Seed, Sheet, ComesTo}
 use Rattle.trlab_traffic.specs.Runs.{EachRule}
 
--- an instruction has only one outcome: if it is a draw, its probability is 0 or 1
+-- an instruction has the same outcome for all random words: a draw has probability 0 or 1 (chance 0 or
+-- CERTAIN, which is 2 ^ 31), and no other instruction reads random words
 abbrev pub HasOneOutcome : Instr → Type 0
 HasOneOutcome (Draw d k chance) = (chance ≡ 0) ⊎ (chance ≡ CERTAIN)
 HasOneOutcome _ = Unit {0}
@@ -33,7 +34,7 @@ StepIsDeterministic =
     (rule : Programs) (dice other : Dice) (road next : Cells) (tally : StepTally)
     → IsCertain rule → IsNext rule dice road next tally → IsNext rule other road next tally
 
--- under a sheet of deterministic rules a run is the same for all keys and all numbers of its road
+-- under a sheet of deterministic rules a run is the same for all keys and all road numbers
 abbrev pub RunIsDeterministic : Type 0
 RunIsDeterministic =
     (seed : Seed) (key : List ℕ) (number : ℕ) (sheet : Sheet) (step : ℕ) (road : Cells) (sum : StepTally)

@@ -11,14 +11,14 @@ use Rattle.trlab_step.specs.Next.{IsNext}
 use Rattle.trlab_step.specs.Published.{AllGo, car_ahead}
 use Rattle.trlab_traffic.specs.Runs.{StaysInLane}
 
--- `next` has the lane of `car` and the place of the next car ahead of it; this is the car's own place if the
--- lane has no other car
+-- `next` is at the place of the next car ahead of `car`, on the same lane; this is the place of `car` itself
+-- if the lane has no other car
 pub record IsNextAhead (road : Cells) (car next : Car) : Type 0 where
   pub same_lane : next.lane ≡ car.lane
   pub ahead : next.place ≡ next_place (lane_of road car.lane) car.place
 
--- under any rule without lane changes the gap of `car` grows by the cells that the next car ahead moves, and
--- shrinks by the cells that `car` moves itself; `goes` gives how far each car moves
+-- under any rule without lane changes the new gap of `car` is its old gap, plus the cells that the next car
+-- ahead moves, minus the cells that `car` moves; `goes` gives the number of cells that each car moves
 abbrev pub GapsFollow : Type 0
 GapsFollow =
     (rule : Programs) (dice : Dice) (old new : Cells) (tally : StepTally) (goes : Car → ℕ) (car next : Car)

@@ -28,21 +28,22 @@ FreeFlowGoesOn =
     → IsNasch 0 rule → IsLegal old → IsFree old → IsNext rule dice old new tally
     → AllGo (λ car. old.limit) old new × IsFree new
 
--- after `step` steps a run is in free flow, and the distance of its counted steps is that of all cars driving
--- at the limit, so the flow is the limit times the density
+-- a run flows freely: its road after `step` steps is in free flow, and the distance of its counted steps is
+-- that of all cars driving at the limit, so the flow is the limit times the density
 abbrev pub FlowsFreely : Seed → ℕ → Cells → StepTally → Type 0
 FlowsFreely seed step road sum =
     IsFree road × (sum.distance ≡ counted_steps seed step * distance_at_limit seed.road)
 
--- under the rule of 1992 without randomization a run from a legal road in free flow stays in free flow
+-- under the rule of 1992 without randomization a run from a legal road in free flow stays in free flow, with
+-- all cars driving at the limit
 abbrev pub FreeFlowStaysFree : Type 0
 FreeFlowStaysFree =
     (rule : Programs) (seed : Seed) (step : ℕ) (road : Cells) (sum : StepTally)
     → IsNasch 0 rule → IsLegal seed.road → IsFree seed.road → ComesTo seed (always rule) step road sum
     → FlowsFreely seed step road sum
 
--- a run has moved as one: turned by the limit times `step`, its road after `step` steps is the road of the
--- start
+-- a run has moved as one: its road after `step` steps, turned by the limit times `step` cells, is the road of
+-- the start
 abbrev pub MovesAsOne : Seed → ℕ → Cells → Type 0
 MovesAsOne seed step road = turned (seed.road.limit * step) road ≡ seed.road
 

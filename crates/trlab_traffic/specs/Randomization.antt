@@ -10,14 +10,14 @@ use Rattle.trlab_step.specs.declared.tally.StepTally.{StepTally}
 use Rattle.trlab_step.specs.Next.{IsNext}
 
 -- of two steps of a road, the one with the tally `slow` is no faster than the one with `fast`: its distance
--- is at most the other's, and less by at most one cell per car, and no fewer cars stop in it
+-- is not larger, and smaller by at most one cell per car, and no fewer cars stop in it
 pub record IsSlower (road : Cells) (fast slow : StepTally) : Type 0 where
   pub no_further : slow.distance ≤ fast.distance
   pub cell_each : fast.distance ≤ slow.distance + cars road
   pub no_fewer_stop : fast.stopped ≤ slow.stopped
 
 -- under the rule of 1992 a step with probability q of braking is no faster than one with p, if p is at most
--- q; both are from the same legal road, with the same dice
+-- q; both start from the same legal road, with the same dice
 abbrev pub RandomizationSlows : Type 0
 RandomizationSlows =
     (p q : ℕ) (light heavy : Programs) (dice : Dice) (road next other : Cells) (fast slow : StepTally)
@@ -25,8 +25,8 @@ RandomizationSlows =
     → IsNext light dice road next fast → IsNext heavy dice road other slow → IsSlower road fast slow
 
 -- under the rule of 1998 a step with probabilities q and q0 of braking, for moving and for stopped cars, is
--- no faster than one with p and p0, if these are at most q and q0; both are from the same legal road, with
--- the same dice
+-- no faster than one with p and p0, if p is at most q and p0 at most q0; both start from the same legal road,
+-- with the same dice
 abbrev pub SlowStartsSlow : Type 0
 SlowStartsSlow =
     (p q p0 q0 : ℕ) (light heavy : Programs) (dice : Dice) (road next other : Cells) (fast slow : StepTally)

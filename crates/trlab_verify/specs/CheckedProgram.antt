@@ -10,8 +10,8 @@ pub record CheckedProgram : Type 0 where
   pub program : Program
   pub budget : ℕ
 
--- the invariant of an accepted program of a kind: it is a valid program of that kind, its jumps go forward
--- and stay in it, and it is safe within its budget, which is its longest path
+-- the invariant of an accepted program of a kind: it is a valid program of that kind, its control goes
+-- forward and stays in it, and it is safe within its budget, which is the length of its longest path
 pub record IsChecked (kind : Kind) (checked : CheckedProgram) : Type 0 where
   pub program : IsProgram checked.program
   pub kind_is : checked.program.kind ≡ kind
