@@ -9,8 +9,8 @@ abbrev pub transferred_bytes : {E : Type 0} → Result ℕ E → List ℕ → Li
 transferred_bytes (Ok count) bytes = take count bytes
 transferred_bytes (Err fault) bytes = []
 
--- `after` is `before` and then bytes with the property `Holds`: these bytes were given by the calls of a
--- reader between `before`, all bytes that it had given, and `after`
+-- all bytes that the calls of a reader have given, first `before` and then `after`, have grown by bytes with
+-- the property `Holds`
 abbrev pub GaveBytes : (List ℕ → Type 0) → List ℕ → List ℕ → Type 0
 GaveBytes Holds before after = (bytes : List ℕ) × ((after ≡ before ++ bytes) × Holds bytes)
 
