@@ -51,7 +51,8 @@ pub record IsDrivenSweep (text out : List ℕ) : Type 0 where
   pub points : List Point
   pub one_each : length points ≡ length said.cars
   pub each : (i cars : ℕ) (point : Point) → i < length said.cars
-      → IsDrivenPoint said.setup i (slice_index_or said.cars i cars) (slice_index_or points i point)
+      → IsDrivenPoint said.setup i (slice_index_or said.cars i cars)
+          (slice_index_or points i point)
   pub table : out ≡ points_text points
 
 -- every output of `sweep` for a sweep text that is not a refusal is the output of a driven sweep

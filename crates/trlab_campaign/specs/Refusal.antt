@@ -21,6 +21,7 @@ OutputFor Output (Err fault) refused out = (refused ≡ true) × (out ≡ fault_
 
 -- the outputs for a text, of which `IsResult` gives the result: those that `Output` allows for its value, or
 -- as a refusal the line of its first fault
-abbrev pub OutputOfText : {A : Type 0} → (List ℕ → Result A Fault → Type 0) → (A → Outputs) → List ℕ → Outputs
+abbrev pub OutputOfText : {A : Type 0} → (List ℕ → Result A Fault → Type 0) → (A → Outputs)
+    → List ℕ → Outputs
 OutputOfText {A} IsResult Output text refused out =
     (result : Result A Fault) × (IsResult text result × OutputFor Output result refused out)

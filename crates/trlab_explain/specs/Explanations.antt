@@ -62,11 +62,14 @@ IsCheckHead text (Err fault) refused answer quote = IsFaultHead text fault refus
 -- the head for a text that is read as this kind of input
 abbrev pub IsHeadAs : Subject → List ℕ → Heads
 IsHeadAs Job text refused answer quote =
-    (result : Result JobSaid Fault) × JobText text result × IsTextHead text result refused answer quote
+    (result : Result JobSaid Fault) × JobText text result
+    × IsTextHead text result refused answer quote
 IsHeadAs Sweep text refused answer quote =
-    (result : Result SweepSaid Fault) × SweepText text result × IsTextHead text result refused answer quote
+    (result : Result SweepSaid Fault) × SweepText text result
+    × IsTextHead text result refused answer quote
 IsHeadAs Check text refused answer quote =
-    (result : Result CheckSaid Fault) × CheckText text result × IsCheckHead text result refused answer quote
+    (result : Result CheckSaid Fault) × CheckText text result
+    × IsCheckHead text result refused answer quote
 
 -- a text that is read as this kind of input has this first fault; or an allocation failed
 abbrev pub IsRefusedWith : Subject → List ℕ → TextFault → Type 0

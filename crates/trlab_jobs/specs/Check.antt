@@ -83,4 +83,4 @@ CheckLinesSay (text ∷ left) result = QuestionSays (question_of text) left resu
 -- the result for a check text: a question about a program, or the first fault; for a text that is too long,
 -- this is `TooBig`
 abbrev pub CheckText : List ℕ → Result Check Fault → Type 0
-CheckText text result = TextSays (λ short. CheckLinesSay (lines_of short)) text result
+CheckText text result = TextSays (λ input. CheckLinesSay (lines_of input)) text result

@@ -33,8 +33,8 @@ counts_from cells steps point number (text ∷ left) =
     counts_from cells steps (point + 1) (number + 1) left >>= λ counts.
     Ok (count ∷ counts)
 
--- the numbers of cars of all points, one on each line that is left, or the first fault; if no line is left,
--- the line `number` is missing
+-- the numbers of cars of all points, one on each line that is left, or the first fault: 0 and 10 for the
+-- lines `cars 0` and `cars 10`; if no line is left, the line `number` is missing
 abbrev pub counts : ℕ → ℕ → ℕ → List (List ℕ) → Result (List ℕ) Fault
 counts cells steps number [] = Err (record { line = number; cause = Line })
 counts cells steps number (text ∷ left) = counts_from cells steps 1 number (text ∷ left)

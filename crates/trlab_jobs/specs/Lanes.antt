@@ -10,7 +10,7 @@ use Rattle.trlab_texts.specs.declared.fault.Cause.TheVariants.{Road}
 use Rattle.trlab_texts.specs.Words.{word_after, next_word_is}
 use Rattle.trlab_texts.specs.Reading.{Fault, Reading, ◌>>=◌, line, exactly, read_if, before}
 
--- the picture P on the line `lane P`
+-- the word P on the line `lane P`, which should be the picture of a lane; the cause `Line` for any other line
 abbrev pub lane_word : List ℕ → Result (List ℕ) Cause
 lane_word text = word_after (codes "lane ") text
 
@@ -59,7 +59,8 @@ road_of first limit picture second rest out =
     (result : Result Cells Fault)
     × (PicturesSay first limit picture second result × (out ≡ before rest result))
 
--- reads a road with this limit: the line `lane P`, and another one if the next line begins with `lane`
+-- reads a road with this limit: the line `lane P`, and a second one if the first word of the next line is
+-- `lane`
 abbrev pub lanes : ℕ → Reading Cells
 lanes limit rest out =
     (line (exactly lane_word) >>= λ picture. second_lane >>= road_of rest.number limit picture) rest out
