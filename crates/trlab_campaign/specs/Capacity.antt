@@ -41,8 +41,8 @@ SweepsKeepToCapacity =
     → SweepText text (Ok sweep) → ArePoints sweep points
     → All (IsUnderTriangle sweep.setup.shape.limit) points
 
--- a point that is not above the peak of the triangle: its mean distance per cell and step is at most limit /
--- (limit + 1), and so is its flow; for the limit 5, this is 833333 millionths
+-- a point that is not above the peak of the triangle: its mean distance per cell and step is at most
+-- `limit / (limit + 1)`, and so is its flow; for the limit 5, this is 833333 millionths
 pub record IsNotAbovePeak (limit : ℕ) (point : Point) : Type 0 where
   pub distance : (limit + 1) * point.distance ≤ point.steps * (limit * point.cells)
   pub flow : flow_of point ≤ limit * 1000000 / (limit + 1)

@@ -85,7 +85,7 @@ pub record EngineEnds {S K : Type 0} (source : Source.Ghosts S) (sink : Sink.Gho
   -- known
   pub answer : IfSome (source.left before)
       (λ text. WroteAtEnd (outputs text) end (bytes_of sink old) (bytes_of sink new))
-  -- nothing was written if the input was not read
+  -- nothing was written if the reader has failed
   pub silent : source.failed after ≡ true → AddsNone (bytes_of sink old) (bytes_of sink new)
   -- a complete output was flushed once; nothing was flushed if an allocation failed
   pub handed : FlushedAtEnd end (sink.handed_on new) (sink.flushes old) (sink.flushes new)

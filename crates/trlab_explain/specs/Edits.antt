@@ -29,9 +29,9 @@ HasFirstFault Sweep text fault =
 HasFirstFault Check text fault =
     (result : Result CheckSaid Fault) × CheckText text result × (fault ≡ fault_of result)
 
--- a text with the lines `changed` has no fault; or its first fault is after the line `number`, and fewer
--- lines come after it than after that line in the text with the lines `lines`. For example, a fault at line 4
--- of 9 is later than one at line 3 of 9, but not later than one at line 3 of 8
+-- there is no fault in a text with the lines `changed`; or it is after the line `number`, and fewer lines
+-- come after it than after the line `number` in a text with the lines `lines`. For example, line 4 of 9 is
+-- later than line 3 of 9, but not later than line 3 of 8
 abbrev pub IsLaterOrNone : List (List ℕ) → ℕ → List (List ℕ) → Option (ℕ × Cause) → Type 0
 IsLaterOrNone lines number changed None = Unit {0}
 IsLaterOrNone lines number changed (Some fault) =

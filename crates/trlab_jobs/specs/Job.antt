@@ -88,6 +88,7 @@ JobText text result = TextSays JobLinesSay text result
 abbrev pub seed_of : Job → Seed
 seed_of job = record { road = job.road; key = job.key; number = 0; warm = 0 }
 
--- the sheet of a job: its first rule from step 0 on, and its later rules
+-- the sheet of a job: its first rule from step 0 on, and its later rules; a later rule for step 0 replaces
+-- the first rule
 abbrev pub sheet_of : Job → Sheet
 sheet_of job = sheet_with job.first job.later
