@@ -101,7 +101,7 @@ HasHead Text refused answer quote out = BeginsWith (text_front refused answer qu
 HasHead Json refused answer quote out = EndsObject refused answer out
 
 -- the explanation of a text in this form, marked as a refusal if the input is rejected; its bytes are plain,
--- whatever bytes the text has
+-- even if those of the text are not
 abbrev pub Explains : Form → Option Subject → List ℕ → Outputs
 Explains form wanted text refused out = (answer quote : List ℕ)
     × IsHead wanted text refused answer quote × HasHead form refused answer quote out × All IsPlain out

@@ -71,7 +71,7 @@ job = do
   road ← lanes limit
   job_after key road
 
--- the result of `reading` from `place` on: its value, whatever rest it leaves, or its fault
+-- the result of `reading` from `place` on: its value, with any rest after it, or its fault
 abbrev pub ResultWithoutRest : {A : Type 0} → Reading A → Rest → Result A Fault → Type 0
 ResultWithoutRest reading place (Ok x) = (rest : Rest) × reading place (Ok (x, rest))
 ResultWithoutRest reading place (Err fault) = reading place (Err fault)

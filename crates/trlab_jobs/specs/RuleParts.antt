@@ -44,7 +44,7 @@ TwoLaneRuleSays true motion change result = result ≡ Err OneLane
 TwoLaneRuleSays false motion change result = TwoProgramsSay motion change result
 
 -- the cause for a change program in hexadecimal digits on a road with one lane, by the decoded digits: `Hex`
--- if they are invalid, and otherwise `OneLane`, whatever the bytes are
+-- if they are invalid, and otherwise `OneLane`, also for bytes that are not a program
 abbrev pub digits_misplacement : Result (List ℕ) FromHexError → Cause
 digits_misplacement (Ok bytes) = OneLane
 digits_misplacement (Err fault) = Hex

@@ -50,8 +50,8 @@ abbrev pub IsWantedAt : List ℕ → LineFault → Wish → Type 0
 IsWantedAt line (Wrong cause) wanted = IsWantedIn line cause wanted
 IsWantedAt line NoMemory wanted = wanted ≡ Nothing
 
--- a reader can want this input at a fault of a text, where `line` is the line of the fault; `Nothing` if an
--- allocation failed
+-- a reader can want this input at a fault of a text that is in the line `line`; `Nothing` if an allocation
+-- failed
 abbrev pub IsWanted : List ℕ → TextFault → Wish → Type 0
 IsWanted line (At number cause) wanted = IsWantedIn line cause wanted
 IsWanted line Memory wanted = wanted ≡ Nothing
