@@ -23,8 +23,8 @@ pub record IsDrivenJob (shown : ℕ → Bool) (text out : List ℕ) : Type 0 whe
   pub driven : IsDriven (seed_of job) (sheet_of job) job.steps roads
   pub pictures : out ≡ steps_text shown roads (job.steps + 1)
 
--- for any choice of shown steps, every output for a job text that is not a refusal is the output of a driven
--- job
+-- whichever steps are shown, every output of `run` for a job text that is not a refusal is the output of a
+-- driven job
 abbrev pub JobTextsAreDriven : Type 0
 JobTextsAreDriven =
     (shown : ℕ → Bool) (text out : List ℕ)
@@ -51,9 +51,10 @@ pub record IsDrivenSweep (text out : List ℕ) : Type 0 where
   pub points : List Point
   pub one_each : length points ≡ length said.cars
   pub each : (i cars : ℕ) (point : Point) → i < length said.cars
-      → IsDrivenPoint said.setup i (slice_index_or said.cars i cars) (slice_index_or points i point)
+      → IsDrivenPoint said.setup i (slice_index_or said.cars i cars)
+          (slice_index_or points i point)
   pub table : out ≡ points_text points
 
--- every output for a sweep text that is not a refusal is the output of a driven sweep
+-- every output of `sweep` for a sweep text that is not a refusal is the output of a driven sweep
 abbrev pub SweepTextsAreDriven : Type 0
 SweepTextsAreDriven = (text out : List ℕ) → IsSweepOutput text false out → IsDrivenSweep text out

@@ -27,6 +27,6 @@ window_line window = join_with_byte 44 (map decimal (window_numbers window))
 abbrev pub window_text : Window → List ℕ
 window_text window = line_text (window_line window)
 
--- the text of the table of a series: the heading, and a line for each window
+-- the table of a series: the heading, and a line for each window; each line ends with LF
 abbrev pub series_text : List Window → List ℕ
 series_text windows = line_text series_heading ++ flat_map window_text windows

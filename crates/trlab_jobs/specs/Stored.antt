@@ -17,14 +17,15 @@ AreLaterRules lanes steps least (entry ∷ later) =
     (least ≤ entry.0) × ((entry.0 < steps)
     × (IsRuleFor lanes entry.1 × AreLaterRules lanes steps (entry.0 + 1) later))
 
--- a job as the code keeps it: its road is legal, its rules are for its number of lanes, and the steps of its
--- later rules increase and are below its number of steps
+-- a job as the code keeps it: its road is legal, its rules are for the number of its lanes, and the steps of
+-- its later rules increase and are below its number of steps
 pub record IsStoredJob (job : Job) : Type 0 where
   pub legal : IsLegal job.road
   pub first : IsRuleFor (length job.road.lanes) job.first
   pub later : AreLaterRules (length job.road.lanes) job.steps 0 job.later
 
--- `count` cars can be spread evenly on a road of this shape
+-- `count` cars can be spread evenly over a road of this shape: it has a cell for each, and a valid size and
+-- limit
 abbrev pub Spreads : Shape → ℕ → Type 0
 Spreads shape count = CanSpread shape.lanes shape.cells shape.limit count
 
