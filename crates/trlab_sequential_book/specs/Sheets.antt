@@ -34,7 +34,7 @@ pub record IsBookSheet (sheet : Sheet) : Type 0 where
   pub at_most_max : length sheet ≤ 1024
 
 -- the steps `applied`, the first of them step `first`, were each run under the rule that the sheet has in
--- force at this step
+-- force at its step
 abbrev pub AreInForce : Sheet → ℕ → List ExecutedStep → Type 0
 AreInForce sheet first applied =
     (k : ℕ) (ran : ExecutedStep) → slice_get applied k ≡ Some ran → in_force sheet (first + k) ≡ Some ran.rule
