@@ -33,8 +33,7 @@ abbrev pub parts_of : {L : Type 0} {ledger : Ghosts L} → Desk L ledger → ℕ
 parts_of desk = desk.parts
 
 -- the subhistory of a desk: the events made through it, each with all earlier events of the history. For
--- example, if the history is [a, b, c] and b was made through another desk, it is a after [] and c after [a,
--- b]
+-- example, if the history is [a, b] and a was made through another desk, it is only b after [a]
 abbrev pub subhistory_of : {L : Type 0} {ledger : Ghosts L} → Desk L ledger → List (Noted Event)
 subhistory_of desk = strand_events desk.strand
 
@@ -50,13 +49,13 @@ HasSeen old count new =
     (parts_of new ≡ parts_of old) × (subhistory_of new ≡ subhistory_of old)
     × (clock_of old ≤ clock_of new) × (count ≤ clock_of new)
 
--- the desk has now seen more events than it has made, so its subhistory lacks one. Its parts and its
--- subhistory are unchanged
+-- the desk has now seen more events than are in its subhistory, so at least one was made through another
+-- desk. Its parts and its subhistory are unchanged
 abbrev pub LacksSome : {L : Type 0} {ledger : Ghosts L} → Desk L ledger → Desk L ledger → Type 0
 LacksSome old new = HasSeen old (length (subhistory_of old) + 1) new
 
 -- the effect on a desk of a call that is not an event: if the reply is that the history is full, the desk has
--- now seen MAX_EVENTS events; otherwise the desk is unchanged
+-- now seen a full history, that is MAX_EVENTS events; otherwise the desk is unchanged
 abbrev pub IsNoEvent : {L : Type 0} {ledger : Ghosts L} → Desk L ledger → Reply → Desk L ledger → Type 0
 IsNoEvent old reply new =
     MatchBool (is_history_full reply) (HasSeen old MAX_EVENTS new) (IsSameStrand old.strand new.strand)
