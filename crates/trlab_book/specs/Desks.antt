@@ -70,8 +70,7 @@ pub record IsOneEvent {L : Type 0} {ledger : Ghosts L} (old : Desk L ledger) (ca
   pub noted : Adds old.strand before (event call answer) new.strand
 
 -- the effect of a call on its desk. If the reply makes the call an event, the desk adds this event, and
--- `Holds` is true of the book before the call. Otherwise the desk makes no event (`IsNoEvent`). In both cases
--- it keeps its parts
+-- `Holds` is true of the book before the call. Otherwise `IsNoEvent` holds. In both cases it keeps its parts
 abbrev pub MakesOf : {L : Type 0} {ledger : Ghosts L} → (BookState → Type 0)
     → Desk L ledger → Call → Reply → Desk L ledger → Type 0
 MakesOf Holds old call reply new =

@@ -51,7 +51,8 @@ HasAll tickets drawer = passes_of drawer ≡ drawers_of tickets
 abbrev pub HasDrawn : Tickets → Drawer → ℕ → Drawer → Type 0
 HasDrawn tickets old ticket new =
     (ticket < count_of tickets) × (least_of old ≤ ticket)
-    × (tickets_of new ≡ tickets_of old ++ ticket ∷ []) × (least_of new ≡ ticket + 1) × (is_ended new ≡ false)
+    × (tickets_of new ≡ tickets_of old ++ ticket ∷ []) × (least_of new ≡ ticket + 1)
+    × (is_ended new ≡ false)
 
 -- both are the same drawer: they belong to the same tickets, and have the same knowledge, passes and end
 abbrev pub IsSameDrawer : Drawer → Drawer → Type 0

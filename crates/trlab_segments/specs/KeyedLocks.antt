@@ -8,12 +8,14 @@ use Rattle.atomic_table.specs.Table.{State, Me}
 module _ {T K : Type 0} where
   -- the slot of the lock holds a value for which `Fits` holds
   abbrev pub HasAtHome : (T → Type 0) → State (Option T) K → Type 0
-  HasAtHome Fits state = (value : T) × (get_elem? state.homes 0 ≡ some (some (Some value))) × Fits value
+  HasAtHome Fits state =
+      (value : T) × (get_elem? state.homes 0 ≡ some (some (Some value))) × Fits value
 
   -- the rule of the lock: it has one word, and while this word is 0, the slot holds a value for which `Fits`
   -- holds
   abbrev pub Guarded : (T → Type 0) → State (Option T) K → Type 0
-  Guarded Fits state = (length state.words ≡ 1) × (slice_index state.words 0 ≡ 0 → HasAtHome Fits state)
+  Guarded Fits state =
+      (length state.words ≡ 1) × (slice_index state.words 0 ≡ 0 → HasAtHome Fits state)
 
   -- a thread has taken the slot, with a value in it for which `Fits` holds, and no other slot
   abbrev pub Seized : (T → Type 0) → Me (Option T) K → Type 0

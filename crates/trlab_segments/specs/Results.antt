@@ -24,7 +24,8 @@ CoversAllCars brief =
 -- a part has the answers of the brief's program for the cars of its segment
 abbrev pub IsRight : {P A : Type 0} → (P → Dice → Cells → ℕ → ℕ → List A → Type 0)
     → Brief P → Part A → Type 0
-IsRight answers brief = AnswersSegment answers brief.program brief.dice brief.road (count_of brief.tickets)
+IsRight answers brief =
+    AnswersSegment answers brief.program brief.dice brief.road (count_of brief.tickets)
 
 -- the drawer belongs to the brief's tickets and has found none left, and `parts` has the right part for each
 -- ticket that it drew, in its order

@@ -58,9 +58,10 @@ DrawsTicket step old found new =
 pub record LearnsCounter (counter : ℕ) (drawer : TicketKnowledge) : Type 0 where
   pub passes : drawer.passes ≤ drawer.plan.drawers
   pub drawers : drawer.plan.drawers ≤ MAX_WORKERS
-  pub whole : drawer.passes ≡ drawer.plan.drawers → IsWhole drawer.tickets (min drawer.plan.count counter)
+  pub whole : drawer.passes ≡ drawer.plan.drawers
+      → IsWhole drawer.tickets (min drawer.plan.count counter)
   pub late : drawer.ended ≡ true → drawer.plan.count ≤ counter
 
--- the step that reads the counter, `found`: it changes nothing, and shows the facts of `LearnsCounter`
+-- the step that reads the counter, `found`: it changes nothing, and shows that `LearnsCounter` holds
 abbrev pub ReadsCounter : Step ℕ → Me ℕ TicketKnowledge → ℕ → Me ℕ TicketKnowledge → Type 0
 ReadsCounter step old found new = (new ≡ old) × LearnsCounter found old.0

@@ -63,7 +63,8 @@ pub record IsFresh (job : JobState) (number : ℕ) (lease : LeaseState) : Type 0
 -- no lease went out, and this is always true
 abbrev pub IsLent : List JobState → ℕ → Option LeaseState → Type 0
 IsLent jobs number None = Unit {0}
-IsLent jobs number (Some lease) = MatchOption (slice_get jobs lease.job) ⊥ (λ job. IsFresh job number lease)
+IsLent jobs number (Some lease) =
+    MatchOption (slice_get jobs lease.job) ⊥ (λ job. IsFresh job number lease)
 
 -- the call `lease`; it has this name because `Lease` is the type of its result
 abbrev pub LeaseCall : Call

@@ -103,7 +103,8 @@ ordering lease job =
 -- `StrangerLease` if the job does not accept the lease as its own
 abbrev pub giving_back : Offered → JobState → Outcome
 giving_back lease job =
-    if is_own lease job then record { reply = reply.Done; job = record job { done = lease.step; out = None } }
+    if is_own lease job
+    then record { reply = reply.Done; job = record job { done = lease.step; out = None } }
     else refused fault.StrangerLease job
 
 -- the lease that is out ends, and its steps are lost. The fault is `StrangerLease` if none is out
@@ -184,7 +185,8 @@ is_full book = not (ltb book.count 1000000)
 
 -- the reply of a book to a call: `HistoryFull` if its history is full
 abbrev pub reply_of : BookState → Call → Reply
-reply_of book call = if is_full book then reply.Refused fault.HistoryFull else (served book call).reply
+reply_of book call =
+    if is_full book then reply.Refused fault.HistoryFull else (served book call).reply
 
 -- the book after a call, which is one more event, also if it was refused; a book with a full history stays as
 -- it is

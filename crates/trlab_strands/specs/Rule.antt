@@ -52,11 +52,13 @@ pub record LearnsList {E : Type 0} (strand : StrandKnowledge E) : Type 0 where
   pub once : strand.keeps ≡ true → length strand.own ≡ length strand.all
       → (n : ℕ) → times n strand.own ≡ once_below n (length strand.all)
 
--- the step that compares a strand with the list: it changes nothing, and shows the facts of `LearnsList`
-abbrev pub Looks : {E : Type 0} → Step E → Me E (StrandKnowledge E) → ℕ → Me E (StrandKnowledge E) → Type 0
+-- the step that compares a strand with the list: it changes nothing, and shows that `LearnsList` holds
+abbrev pub Looks : {E : Type 0}
+    → Step E → Me E (StrandKnowledge E) → ℕ → Me E (StrandKnowledge E) → Type 0
 Looks step old found new = (new ≡ old) × LearnsList old.0
 
 -- the step in which a strand sees the whole list, which it keeps: its clock, which was at most the list's
 -- length, becomes this length
-abbrev pub Sees : {E : Type 0} → Step E → Me E (StrandKnowledge E) → ℕ → Me E (StrandKnowledge E) → Type 0
+abbrev pub Sees : {E : Type 0}
+    → Step E → Me E (StrandKnowledge E) → ℕ → Me E (StrandKnowledge E) → Type 0
 Sees step old found new = (new ≡ (up_to_date old.0, old.1)) × (old.0.least ≤ length old.0.all)
