@@ -69,8 +69,8 @@ pub record IsOneEvent {L : Type 0} {ledger : Ghosts L} (old : Desk L ledger) (ca
   pub reply : answer ≡ reply_of book call
   pub noted : Adds old.strand before (event call answer) new.strand
 
--- the effect of a call on its desk. If the reply makes the call an event, the desk adds this event, and
--- `Holds` is true of the book before the call. Otherwise `IsNoEvent` holds. In both cases it keeps its parts
+-- the effect of a call on its desk, which keeps its parts. If the reply makes the call an event, the desk
+-- adds this event, and `Holds` is true of the book before the call; otherwise `IsNoEvent` holds
 abbrev pub MakesOf : {L : Type 0} {ledger : Ghosts L} → (BookState → Type 0)
     → Desk L ledger → Call → Reply → Desk L ledger → Type 0
 MakesOf Holds old call reply new =
