@@ -8,18 +8,20 @@ use Rattle.trlab_sequential_book.specs.declared.seed.Seed.{Seed}
 use Rattle.trlab_sequential_book.specs.Machine.{JobState}
 use Rattle.trlab_sequential_book.specs.Sheets.{BeginBy}
 
--- the start of a run from this seed: its road, key, number and `warm`, the step from which on tallies are
--- counted
+-- the start of the run from this seed: its road, its key, its road number, and `warm`, the step from which on
+-- tallies are counted
 abbrev pub run_start : Seed → Start
 run_start seed = record { road = seed.road; key = seed.key.0; number = seed.number; warm = seed.warm }
 
--- a run from a seed under a sheet, at a step, with the road there and the sum of the tallies
+-- the progress of a run from a seed under a sheet: its current step, and the road and the sum of tallies
+-- there
 abbrev pub run_of : Seed → Sheet → ℕ → Cells → StepTally → Progress
 run_of seed sheet step road sum =
     record { seed = run_start seed; sheet = sheet; step = step; road = road; sum = sum }
 
--- the run of a job has this road and this sum at the steps done; the steps done are at most those ordered
--- (`high`), these are at most all its steps, and each of its rules begins at step `high` or before
+-- the invariant of a job: the steps done are at most the steps ordered (`high`), and these are at most all
+-- its steps; each of its rules begins at step `high` or before; and after the steps done its run is at this
+-- road, with this sum of tallies
 pub record IsJob (job : JobState) (road : Cells) (sum : StepTally) : Type 0 where
   pub ordered : job.done ≤ job.high
   pub within : job.high ≤ job.steps
