@@ -7,7 +7,7 @@ use Rattle.trlab_code.specs.declared.program.Kind.{Kind}
 use Rattle.trlab_code.specs.declared.instruction.Instr.{Instr}
 use Rattle.trlab_code.specs.declared.instruction.Instr.TheVariants.{Jump, JumpLess, JumpAtMost, JumpTrue, JumpFalse}
 use Rattle.trlab_asm.specs.Results.{◌>>=◌}
-use Rattle.trlab_asm.specs.Reading.{InstrDraft, Labels, Line, line_says}
+use Rattle.trlab_asm.specs.Reading.{InstrDraft, Labels, Line, line_content}
 use Rattle.trlab_asm.specs.declared.fault.Why.{Why}
 use Rattle.trlab_asm.specs.declared.fault.Why.TheVariants.{Empty, NoLabel, Memory}
 use Rattle.trlab_asm.specs.declared.fault.AsmFault.{AsmFault}
@@ -58,7 +58,7 @@ with_line parts number line = record {
 unfoldable pub first_pass : Parts → ℕ → List (List ℕ) → Result Parts AsmFault
 first_pass parts number [] = Ok parts
 first_pass parts number (line ∷ lines) =
-    in_line number (line_says parts.labels (length parts.reads) line)
+    in_line number (line_content parts.labels (length parts.reads) line)
     >>= λ said. first_pass (with_line parts number said) (number + 1) lines
 
 -- the same jump with this pc as its target; other instructions stay as they are

@@ -39,11 +39,11 @@ abbrev pub row_text : Mnemonic → List ℕ → List ℕ
 row_text name operands = mnemonic_text name ++ (32 ∷ operands)
 
 -- an operation as it is printed: its name, and its operands separated by commas
-abbrev pub row_says : Operation → List ℕ
-row_says (Bare name) = mnemonic_text name
-row_says (One name a) = row_text name (operand_text a)
-row_says (Two name a b) = row_text name (operand_text a comma operand_text b)
-row_says (Three name a b c) = row_text name (operand_text a comma operand_text b comma operand_text c)
+abbrev pub operation_text : Operation → List ℕ
+operation_text (Bare name) = mnemonic_text name
+operation_text (One name a) = row_text name (operand_text a)
+operation_text (Two name a b) = row_text name (operand_text a comma operand_text b)
+operation_text (Three name a b c) = row_text name (operand_text a comma operand_text b comma operand_text c)
 
 -- an instruction as it is printed in a program of `count` instructions, for example `add r0, r1, r2` or
 -- `jtrue r0, L12`

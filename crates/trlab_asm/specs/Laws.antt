@@ -3,7 +3,7 @@ use Rattle.std.specs.Prelude.{◌≡◌, ◌≢◌, ◌↔◌, ℕ, List, Some, 
 use Rattle.trlab_code.specs.declared.program.Kind.{Kind}
 use Rattle.trlab_code.specs.declared.instruction.Register.{Register}
 use Rattle.trlab_code.specs.declared.instruction.Input.{Input}
-use Rattle.trlab_code.specs.Program.{Program, IsProgram}
+use Rattle.trlab_code.specs.Program.{Program, IsValidProgram}
 use Rattle.trlab_code.specs.Laws.{IsRepresentable}
 use Rattle.trlab_lines.specs.Lines.{lines_of}
 use Rattle.trlab_asm.specs.Names.{register_text, input_text, mnemonic_text, register_named, input_named, mnemonic_named}
@@ -16,7 +16,7 @@ use Rattle.trlab_asm.specs.declared.fault.Why.TheVariants.{Memory}
 -- `Memory`
 abbrev pub TextsHaveMeaning : Type 0
 TextsHaveMeaning = (kind : Kind) (text : List ℕ)
-    → MatchResult (code_of kind (lines_of text)) IsProgram (λ fault. fault.why ≢ Memory)
+    → MatchResult (code_of kind (lines_of text)) IsValidProgram (λ fault. fault.why ≢ Memory)
 
 -- reading the lines of the canonical text of a representable program gives this program again
 abbrev pub CanonicalTextGivesProgram : Type 0

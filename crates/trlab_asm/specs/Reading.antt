@@ -19,8 +19,8 @@ pub record InstrDraft : Type 0 where
   pub label : Option (List ℕ)
 
 -- an instruction that names no label, as it was read: no target is left to resolve
-abbrev pub whole_draft : Instr → Result InstrDraft Why
-whole_draft instr = Ok (record { instr = instr; label = None })
+abbrev pub draft_without_label : Instr → Result InstrDraft Why
+draft_without_label instr = Ok (record { instr = instr; label = None })
 
 -- a jump as it was read, from its target: `instr` gives the jump to the target's pc, and the target's label,
 -- if it has one, is kept to be resolved
@@ -67,28 +67,28 @@ of_two_target other a b t = JumpAtMost a b t
 -- the instruction as it is read, of this name and with this text of its operands; or the fault of the
 -- operands
 abbrev pub draft_of : Mnemonic → List ℕ → Result InstrDraft Why
-draft_of name.Num text = register_and_number 0 text >>= λ x. whole_draft (Num x.0 x.1)
-draft_of name.Get text = register_input text >>= λ x. whole_draft (Get x.0 x.1)
-draft_of name.Side text = register text >>= λ d. whole_draft (Side d)
-draft_of name.Draw text = register_word_chance text >>= λ x. whole_draft (Draw x.0 x.1.0 x.1.1)
-draft_of name.Copy text = two_registers text >>= λ x. whole_draft (Copy x.0 x.1)
-draft_of name.Add text = three_registers text >>= λ x. whole_draft (Add x.0 x.1.0 x.1.1)
-draft_of name.Sub text = three_registers text >>= λ x. whole_draft (Sub x.0 x.1.0 x.1.1)
-draft_of name.Mul text = two_registers_number 0 text >>= λ x. whole_draft (Mul x.0 x.1.0 x.1.1)
-draft_of name.Div text = two_registers_number 1 text >>= λ x. whole_draft (Div x.0 x.1.0 x.1.1)
-draft_of name.Min text = three_registers text >>= λ x. whole_draft (Min x.0 x.1.0 x.1.1)
-draft_of name.Max text = three_registers text >>= λ x. whole_draft (Max x.0 x.1.0 x.1.1)
-draft_of name.Not text = two_registers text >>= λ x. whole_draft (Not x.0 x.1)
-draft_of name.And text = three_registers text >>= λ x. whole_draft (And x.0 x.1.0 x.1.1)
-draft_of name.Or text = three_registers text >>= λ x. whole_draft (Or x.0 x.1.0 x.1.1)
+draft_of name.Num text = register_and_number 0 text >>= λ x. draft_without_label (Num x.0 x.1)
+draft_of name.Get text = register_input text >>= λ x. draft_without_label (Get x.0 x.1)
+draft_of name.Side text = register text >>= λ d. draft_without_label (Side d)
+draft_of name.Draw text = register_word_chance text >>= λ x. draft_without_label (Draw x.0 x.1.0 x.1.1)
+draft_of name.Copy text = two_registers text >>= λ x. draft_without_label (Copy x.0 x.1)
+draft_of name.Add text = three_registers text >>= λ x. draft_without_label (Add x.0 x.1.0 x.1.1)
+draft_of name.Sub text = three_registers text >>= λ x. draft_without_label (Sub x.0 x.1.0 x.1.1)
+draft_of name.Mul text = two_registers_number 0 text >>= λ x. draft_without_label (Mul x.0 x.1.0 x.1.1)
+draft_of name.Div text = two_registers_number 1 text >>= λ x. draft_without_label (Div x.0 x.1.0 x.1.1)
+draft_of name.Min text = three_registers text >>= λ x. draft_without_label (Min x.0 x.1.0 x.1.1)
+draft_of name.Max text = three_registers text >>= λ x. draft_without_label (Max x.0 x.1.0 x.1.1)
+draft_of name.Not text = two_registers text >>= λ x. draft_without_label (Not x.0 x.1)
+draft_of name.And text = three_registers text >>= λ x. draft_without_label (And x.0 x.1.0 x.1.1)
+draft_of name.Or text = three_registers text >>= λ x. draft_without_label (Or x.0 x.1.0 x.1.1)
 draft_of name.Jump text = jump_target text >>= jump_draft Jump
 draft_of name.JumpLess text = two_registers_target text >>= λ x. jump_draft (JumpLess x.0 x.1.0) x.1.1
 draft_of name.JumpAtMost text = two_registers_target text >>= λ x. jump_draft (JumpAtMost x.0 x.1.0) x.1.1
 draft_of name.JumpTrue text = register_target text >>= λ x. jump_draft (JumpTrue x.0) x.1
 draft_of name.JumpFalse text = register_target text >>= λ x. jump_draft (JumpFalse x.0) x.1
-draft_of name.Go text = register text >>= λ a. whole_draft (Go a)
-draft_of name.Cross text = no_operand text >>= λ none. whole_draft Cross
-draft_of name.Stay text = no_operand text >>= λ none. whole_draft Stay
+draft_of name.Go text = register text >>= λ a. draft_without_label (Go a)
+draft_of name.Cross text = no_operand text >>= λ none. draft_without_label Cross
+draft_of name.Stay text = no_operand text >>= λ none. draft_without_label Stay
 
 -- the instruction at pc as it is read, from its name and the text after the name: the name is checked first,
 -- then that pc is below MAX_INSTRUCTIONS, then the operands
@@ -128,13 +128,13 @@ pub record Line : Type 0 where
 
 -- the content of a line, from the text before its `:`, if it has one, and the text after it: the label is
 -- checked before the instruction
-abbrev pub parts_say : Labels → ℕ → Option (List ℕ) × List ℕ → Result Line Why
-parts_say labels pc parts = do
+abbrev pub content_of_parts : Labels → ℕ → Option (List ℕ) × List ℕ → Result Line Why
+content_of_parts labels pc parts = do
   label ← label_of labels parts.0
   draft ← body pc (without_indent parts.1)
   Ok (record { label = label; draft = draft })
 
 -- the content of a line: its label, if it has one, and its instruction, if it has one, which is then at pc;
 -- `labels` are those of earlier lines
-abbrev pub line_says : Labels → ℕ → List ℕ → Result Line Why
-line_says labels pc line = parts_say labels pc (label_and_rest (without_comment line))
+abbrev pub line_content : Labels → ℕ → List ℕ → Result Line Why
+line_content labels pc line = content_of_parts labels pc (label_and_rest (without_comment line))

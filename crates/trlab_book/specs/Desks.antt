@@ -5,7 +5,7 @@ use Rattle.trlab_sequential_book.specs.declared.fault.BookFault.{BookFault}
 use Rattle.trlab_sequential_book.specs.declared.book.TheConstants.{MAX_EVENTS}
 use Rattle.trlab_sequential_book.specs.declared.order.Order.{Order}
 use Rattle.trlab_sequential_book.specs.Leases.{LeaseState}
-use Rattle.trlab_sequential_book.specs.Comparison.{IsLent, IsRuleAt, IsSeen}
+use Rattle.trlab_sequential_book.specs.Comparison.{IsFreshIfLent, HasRuleInForce, ShowsJob}
 use Rattle.trlab_sequential_book.specs.Comparison as comparison
 use Rattle.trlab_sequential_book.specs.declared.event.Call.{Call}
 use Rattle.trlab_sequential_book.specs.declared.event.Call.TheVariants as call
@@ -51,18 +51,18 @@ HasSeen old count new =
 
 -- the desk has now seen more events than are in its subhistory, so at least one was made through another
 -- desk. Its parts and its subhistory are unchanged
-abbrev pub LacksSome : {L : Type 0} {ledger : Ghosts L} → Desk L ledger → Desk L ledger → Type 0
-LacksSome old new = HasSeen old (length (subhistory_of old) + 1) new
+abbrev pub LacksEvents : {L : Type 0} {ledger : Ghosts L} → Desk L ledger → Desk L ledger → Type 0
+LacksEvents old new = HasSeen old (length (subhistory_of old) + 1) new
 
 -- the effect on a desk of a call that is not an event: if the reply is that the history is full, the desk has
 -- now seen a full history, that is MAX_EVENTS events; otherwise the desk is unchanged
-abbrev pub IsNoEvent : {L : Type 0} {ledger : Ghosts L} → Desk L ledger → Reply → Desk L ledger → Type 0
-IsNoEvent old reply new =
+abbrev pub MakesNoEvent : {L : Type 0} {ledger : Ghosts L} → Desk L ledger → Reply → Desk L ledger → Type 0
+MakesNoEvent old reply new =
     MatchBool (is_history_full reply) (HasSeen old MAX_EVENTS new) (IsSameStrand old.strand new.strand)
 
 -- a call with the reply `answer` is one event: the events before it replay to `book`, the answer is the reply
 -- of this book, and the desk adds the event to its subhistory
-pub record IsOneEvent {L : Type 0} {ledger : Ghosts L} (old : Desk L ledger) (call : Call) (answer : Reply)
+pub record MakesEvent {L : Type 0} {ledger : Ghosts L} (old : Desk L ledger) (call : Call) (answer : Reply)
     (new : Desk L ledger) (book : BookState) : Type 0 where
   pub before : List Event
   pub replays : ∥ Replays before book ∥₁
@@ -70,19 +70,19 @@ pub record IsOneEvent {L : Type 0} {ledger : Ghosts L} (old : Desk L ledger) (ca
   pub noted : Adds old.strand before (event call answer) new.strand
 
 -- the effect of a call on its desk, which keeps its parts. If the reply makes the call an event, the desk
--- adds this event, and `Holds` is true of the book before the call; otherwise `IsNoEvent` holds
-abbrev pub MakesOf : {L : Type 0} {ledger : Ghosts L} → (BookState → Type 0)
+-- adds this event, and `Holds` is true of the book before the call; otherwise `MakesNoEvent` holds
+abbrev pub MakesCallOn : {L : Type 0} {ledger : Ghosts L} → (BookState → Type 0)
     → Desk L ledger → Call → Reply → Desk L ledger → Type 0
-MakesOf Holds old call reply new =
+MakesCallOn Holds old call reply new =
     (parts_of new ≡ parts_of old)
     × MatchBool (is_event reply)
-    ((book : BookState) × IsOneEvent old call reply new book × Holds book)
-    (IsNoEvent old reply new)
+    ((book : BookState) × MakesEvent old call reply new book × Holds book)
+    (MakesNoEvent old reply new)
 
 -- the effect of a call on its desk, whatever the book before the call
 abbrev pub Makes : {L : Type 0} {ledger : Ghosts L}
     → Desk L ledger → Call → Reply → Desk L ledger → Type 0
-Makes old call reply new = MakesOf (λ book. Unit {0}) old call reply new
+Makes old call reply new = MakesCallOn (λ book. Unit {0}) old call reply new
 
 -- a desk notes a call that was made after the events `before`. If the reply makes the call an event, the desk
 -- adds it. If the reply is that the history is full, the desk has now seen all of `before`. Otherwise the
@@ -99,36 +99,36 @@ NotesCall old before call reply new =
 
 -- `same` is true if and only if the lease runs the road of its job in the book
 abbrev pub SameIsCorrect : LeaseState → Bool → BookState → Type 0
-SameIsCorrect lease same book = IsTrue same ↔ comparison.IsSame book.jobs lease
+SameIsCorrect lease same book = IsTrue same ↔ comparison.RunsRoadOfItsJob book.jobs lease
 
 -- if the call `lease` succeeded and a lease went out, it is a fresh lease of a job of the book, with the
 -- book's next number
 abbrev pub LeaseIsFresh : Result (Option LeaseState) BookFault → BookState → Type 0
-LeaseIsFresh answer book = IfOk answer (λ lent. IsLent book.jobs book.next lent)
+LeaseIsFresh answer book = IfOk answer (λ lent. IsFreshIfLent book.jobs book.next lent)
 
 -- `same` is true if and only if the lease runs the road of its job in the book; and if the call `order`
 -- succeeded, the order has the rule that is in force at its step in its job's sheet
 abbrev pub OrderMatchesJob : LeaseState → Bool → Result Order BookFault → BookState → Type 0
 OrderMatchesJob lease same answer book =
-    SameIsCorrect lease same book × IfOk answer (λ order. IsRuleAt book.jobs order)
+    SameIsCorrect lease same book × IfOk answer (λ order. HasRuleInForce book.jobs order)
 
 -- if the call `read` succeeded, the snapshot is one of the book's job with this number
 abbrev pub ReadShowsJob : ℕ → Result Progress BookFault → BookState → Type 0
-ReadShowsJob number answer book = IfOk answer (λ snapshot. IsSeen book.jobs number snapshot)
+ReadShowsJob number answer book = IfOk answer (λ snapshot. ShowsJob book.jobs number snapshot)
 
 -- is this one of the calls that runners make: `lease`, `order`, `give_back` or `revoke`?
-abbrev pub is_of_runner : Call → Bool
-is_of_runner call.Lease = true
-is_of_runner (call.Order lease) = true
-is_of_runner (call.GiveBack lease) = true
-is_of_runner (call.Revoke job) = true
-is_of_runner _ = false
+abbrev pub is_runner_call : Call → Bool
+is_runner_call call.Lease = true
+is_runner_call (call.Order lease) = true
+is_runner_call (call.GiveBack lease) = true
+is_runner_call (call.Revoke job) = true
+is_runner_call _ = false
 
 -- all these events are calls that runners make, with numbers from `from` up to, but not including, `to`
-abbrev pub AreOfRunners : ℕ → ℕ → List (Noted Event) → Type 0
-AreOfRunners from to events =
+abbrev pub AreRunnerCalls : ℕ → ℕ → List (Noted Event) → Type 0
+AreRunnerCalls from to events =
     All (λ made. (from ≤ event_number made) × (event_number made < to)
-    × (is_of_runner made.event.call ≡ true)) events
+    × (is_runner_call made.event.call ≡ true)) events
 
 -- the desk `old` is `new` after runners have called through it: it keeps its parts, and its subhistory is the
 -- old one, followed by the calls of the runners (`more`). In the history these come after all events that the
@@ -138,7 +138,7 @@ pub record AddsRunnerCalls {L : Type 0} {ledger : Ghosts L} (old new : Desk L le
   pub least : clock_of old ≤ clock_of new
   pub more : List (Noted Event)
   pub subhistory : subhistory_of new ≡ subhistory_of old ++ more
-  pub runners : AreOfRunners (clock_of old) (clock_of new) more
+  pub runners : AreRunnerCalls (clock_of old) (clock_of new) more
 
 -- is this the call `lease`?
 abbrev pub is_lease : Call → Bool

@@ -9,7 +9,7 @@ use Rattle.trlab_road.specs.Cells.{Lane, Cells}
 use Rattle.trlab_road.specs.InLine.{IsLineOf}
 use Rattle.trlab_road.specs.Standing.{standing, standing_from, standing_lanes}
 use Rattle.trlab_road.specs.Stored.{car_on}
-use Rattle.trlab_campaign.specs.SeriesOutput.{cars_on, is_on, speed_on, stopped_on}
+use Rattle.trlab_campaign.specs.SeriesOutput.{cars_on, is_on, total_speed_on, stopped_on}
 
 -- a number of each car on a lane, 0 for the others
 abbrev pub on : ℕ → (Car → ℕ) → Car → ℕ
@@ -102,7 +102,7 @@ module _ (road : Cells) (lane : ℕ) (past : length road.lanes ≤ lane) where
   pub no_cars_on : cars_on lane road ≡ 0
   no_cars_on = none (λ (car : Car). 1)
 
-  pub no_speed_on : speed_on lane road ≡ 0
+  pub no_speed_on : total_speed_on lane road ≡ 0
   no_speed_on = none (λ (car : Car). car.speed)
 
   pub none_stopped_on : stopped_on lane road ≡ 0
@@ -127,7 +127,7 @@ module _ (road : Cells) (lane : ℕ) (line : List LaneCar) (is : IsLineOf road l
   pub line_cars : length line ≡ cars_on lane road
   line_cars = sym (ones line) ∙ of_line (λ (car : Car). 1)
 
-  pub line_speed : sum_by (λ (car : LaneCar). car.speed) line ≡ speed_on lane road
+  pub line_speed : sum_by (λ (car : LaneCar). car.speed) line ≡ total_speed_on lane road
   line_speed = of_line (λ (car : Car). car.speed)
 
   pub line_stopped : count_by (λ (car : LaneCar). nat_eq car.speed 0) line ≡ stopped_on lane road

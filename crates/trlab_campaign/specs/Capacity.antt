@@ -7,7 +7,7 @@ use Rattle.trlab_texts.specs.declared.fault.Cause.{Cause}
 use Rattle.trlab_jobs.specs.declared.rule_line.RuleLine.{RuleLine}
 use Rattle.trlab_jobs.specs.declared.rule_line.RuleLine.TheVariants.{Nasch}
 use Rattle.trlab_jobs.specs.RuleLines.{rule_line}
-use Rattle.trlab_jobs.specs.Sweep.{Setup, Sweep, SweepText}
+use Rattle.trlab_jobs.specs.Sweep.{Setup, Sweep, ParsesAsSweep}
 use Rattle.trlab_campaign.specs.SweepOutput.{ArePoints}
 
 -- the number of empty cells at a point
@@ -38,7 +38,7 @@ pub record IsUnderTriangle (limit : ℕ) (point : Point) : Type 0 where
 abbrev pub SweepsKeepToCapacity : Type 0
 SweepsKeepToCapacity =
     (text : List ℕ) (sweep : Sweep) (points : List Point)
-    → SweepText text (Ok sweep) → ArePoints sweep points
+    → ParsesAsSweep text (Ok sweep) → ArePoints sweep points
     → All (IsUnderTriangle sweep.setup.shape.limit) points
 
 -- a point that is not above the peak of the triangle: its mean distance per cell and step is at most
@@ -51,7 +51,7 @@ pub record IsNotAbovePeak (limit : ℕ) (point : Point) : Type 0 where
 abbrev pub SweepsDoNotExceedPeak : Type 0
 SweepsDoNotExceedPeak =
     (text : List ℕ) (sweep : Sweep) (points : List Point)
-    → SweepText text (Ok sweep) → ArePoints sweep points
+    → ParsesAsSweep text (Ok sweep) → ArePoints sweep points
     → All (IsNotAbovePeak sweep.setup.shape.limit) points
 
 -- the mean speed of the moving cars at a point is from one cell per step to the limit; a car is counted as
@@ -65,7 +65,7 @@ pub record HasBoundedMovingSpeed (limit : ℕ) (point : Point) : Type 0 where
 abbrev pub SweepsBoundMovingSpeed : Type 0
 SweepsBoundMovingSpeed =
     (text : List ℕ) (sweep : Sweep) (points : List Point)
-    → SweepText text (Ok sweep) → ArePoints sweep points
+    → ParsesAsSweep text (Ok sweep) → ArePoints sweep points
     → All (HasBoundedMovingSpeed sweep.setup.shape.limit) points
 
 -- a point on the triangle: its mean distance per step is the capacity, and its flow is the flow of the
@@ -90,5 +90,5 @@ pub record AsksForTriangle (text : List ℕ) (common : Setup) : Type 0 where
 abbrev pub DiagramIsTriangle : Type 0
 DiagramIsTriangle =
     (text : List ℕ) (sweep : Sweep) (points : List Point)
-    → SweepText text (Ok sweep) → ArePoints sweep points → AsksForTriangle text sweep.setup
+    → ParsesAsSweep text (Ok sweep) → ArePoints sweep points → AsksForTriangle text sweep.setup
     → All (IsOnTriangle sweep.setup.shape.limit) points

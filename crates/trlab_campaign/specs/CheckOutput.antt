@@ -6,9 +6,9 @@ use Rattle.trlab_verify.specs.Longest.{IsLongest}
 use Rattle.trlab_verify.specs.Verdict.{IsAccepted, IsRefused}
 use Rattle.trlab_jobs.specs.declared.check.Question.{Question}
 use Rattle.trlab_jobs.specs.declared.check.Question.TheVariants.{Verdict, Notes}
-use Rattle.trlab_jobs.specs.Check.{Check, CheckText}
+use Rattle.trlab_jobs.specs.Check.{Check, ParsesAsCheck}
 use Rattle.trlab_campaign.specs.NoteLines.{notes_text}
-use Rattle.trlab_campaign.specs.Refusal.{Outputs, OutputOfText}
+use Rattle.trlab_campaign.specs.Refusal.{Outputs, IsOutputForText}
 
 -- the text for an accepted program: the line `accepted budget B`, and then the program in canonical form
 abbrev pub accepted_text : ℕ → Program → List ℕ
@@ -37,4 +37,4 @@ VerdictOutput check true out = (at reason : ℕ)
 -- a complete output of `check` for a text, marked as a refusal or not: the output for its check, or the line
 -- of its first fault
 abbrev pub IsCheckOutput : List ℕ → Outputs
-IsCheckOutput text refused out = OutputOfText CheckText VerdictOutput text refused out
+IsCheckOutput text refused out = IsOutputForText ParsesAsCheck VerdictOutput text refused out

@@ -6,7 +6,7 @@ use Rattle.trlab_step.specs.Progress.{Progress}
 use Rattle.trlab_diagram.specs.declared.point.LaneCount.{LaneCount}
 
 -- `new` is the run `old` after `count` more steps
-pub record IsStepsLater (count : ℕ) (old new : Progress) : Type 0 where
+pub record IsLaterBy (count : ℕ) (old new : Progress) : Type 0 where
   pub same_seed : new.seed ≡ old.seed
   pub same_sheet : new.sheet ≡ old.sheet
   pub later : new.step ≡ old.step + count

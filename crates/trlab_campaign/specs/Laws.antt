@@ -8,6 +8,6 @@ HasSomeOutput IsOutput = (text : List ℕ) → (refused : Bool) × (out : List �
 
 -- every text has at most one output: two outputs for the same text are equal, and both are refusals or
 -- neither is
-abbrev pub HasOneOutput : (List ℕ → Outputs) → Type 0
-HasOneOutput IsOutput = (text : List ℕ) (refused also_refused : Bool) (out other : List ℕ)
+abbrev pub HasAtMostOneOutput : (List ℕ → Outputs) → Type 0
+HasAtMostOneOutput IsOutput = (text : List ℕ) (refused also_refused : Bool) (out other : List ℕ)
     → IsOutput text refused out → IsOutput text also_refused other → (refused ≡ also_refused) × (out ≡ other)

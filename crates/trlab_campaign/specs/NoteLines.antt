@@ -18,16 +18,16 @@ register_entry register value = 32 ∷ (register_text register ++ (32 ∷ value)
 
 -- the text for a register with this abstract value: ` r0 0 35` for r0 from 0 to 35, ` r0 flag` for a flag,
 -- ` r0 side` for a flag that implies, if true, that the side cell is empty, and nothing if r0 may be unset
-abbrev pub said_text : Register → AbstractValue → List ℕ
-said_text register Nothing = []
-said_text register (Between lo hi) = register_entry register (decimal lo ++ (32 ∷ decimal hi))
-said_text register (Implies true) = register_entry register (codes "side")
-said_text register (Implies false) = register_entry register (codes "flag")
+abbrev pub abstract_value_text : Register → AbstractValue → List ℕ
+abstract_value_text register Nothing = []
+abstract_value_text register (Between lo hi) = register_entry register (decimal lo ++ (32 ∷ decimal hi))
+abstract_value_text register (Implies true) = register_entry register (codes "side")
+abstract_value_text register (Implies false) = register_entry register (codes "flag")
 
 -- the text for a register of a note; if the side cell is known to be empty, every flag is `side`
 abbrev pub register_value_text : Note → Register → List ℕ
 register_value_text note register =
-    said_text register (with_side note.side (note.said (variable.Register register)))
+    abstract_value_text register (with_side note.side (note.said (variable.Register register)))
 
 -- the text for all registers of a note, in their order
 abbrev pub registers_text : Note → List ℕ

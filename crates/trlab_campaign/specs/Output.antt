@@ -5,8 +5,8 @@ use Rattle.std.specs.List.{range_with_len}
 use Rattle.trlab_road.specs.Cells.{Cells}
 use Rattle.trlab_road.specs.Pictures.{picture}
 use Rattle.trlab_step.specs.Run.{IsRoadAt}
-use Rattle.trlab_campaign.specs.Refusal.{Outputs, OutputOfText}
-use Rattle.trlab_jobs.specs.Job.{Job, JobText, seed_of, sheet_of}
+use Rattle.trlab_campaign.specs.Refusal.{Outputs, IsOutputForText}
+use Rattle.trlab_jobs.specs.Job.{Job, ParsesAsJob, seed_of, sheet_of}
 
 -- the picture of a lane, and the LF that ends its line
 abbrev pub picture_line : List ℕ → List ℕ
@@ -49,7 +49,7 @@ JobOutput shown job refused out =
 -- a complete output for a job text, marked as a refusal or not: an output that `Output` allows for its job,
 -- or the line of its first fault
 abbrev pub IsOutputOf : (Job → Outputs) → List ℕ → Outputs
-IsOutputOf Output text refused out = OutputOfText JobText Output text refused out
+IsOutputOf Output text refused out = IsOutputForText ParsesAsJob Output text refused out
 
 -- a complete output of `run` for a job text at the steps that are shown, marked as a refusal or not
 abbrev pub IsShownOutput : (ℕ → Bool) → List ℕ → Outputs

@@ -15,13 +15,13 @@ Outputs = Bool → List ℕ → Type 0
 
 -- the outputs for the result of reading a text: those that `Output` allows for its value, or as a refusal the
 -- line of its fault
-abbrev pub OutputFor : {A : Type 0} → (A → Outputs) → Result A Fault → Outputs
-OutputFor Output (Ok x) refused out = Output x refused out
-OutputFor Output (Err fault) refused out = (refused ≡ true) × (out ≡ fault_line fault)
+abbrev pub IsOutputForResult : {A : Type 0} → (A → Outputs) → Result A Fault → Outputs
+IsOutputForResult Output (Ok x) refused out = Output x refused out
+IsOutputForResult Output (Err fault) refused out = (refused ≡ true) × (out ≡ fault_line fault)
 
 -- the outputs for a text, of which `IsResult` gives the result: those that `Output` allows for its value, or
 -- as a refusal the line of its first fault
-abbrev pub OutputOfText : {A : Type 0} → (List ℕ → Result A Fault → Type 0) → (A → Outputs)
+abbrev pub IsOutputForText : {A : Type 0} → (List ℕ → Result A Fault → Type 0) → (A → Outputs)
     → List ℕ → Outputs
-OutputOfText {A} IsResult Output text refused out =
-    (result : Result A Fault) × (IsResult text result × OutputFor Output result refused out)
+IsOutputForText {A} IsResult Output text refused out =
+    (result : Result A Fault) × (IsResult text result × IsOutputForResult Output result refused out)

@@ -1,8 +1,8 @@
 -- Laws of series, independent of the code that counts them.
 use Rattle.std.specs.Prelude.{◌≡◌, ℕ, ◌+◌, ◌*◌, ◌≤◌, All, List, Ok}
 use Rattle.trlab_diagram.specs.declared.point.Window.{Window}
-use Rattle.trlab_jobs.specs.Job.{Job, JobText}
-use Rattle.trlab_campaign.specs.Laws.{HasOneOutput, HasSomeOutput}
+use Rattle.trlab_jobs.specs.Job.{Job, ParsesAsJob}
+use Rattle.trlab_campaign.specs.Laws.{HasAtMostOneOutput, HasSomeOutput}
 use Rattle.trlab_campaign.specs.SeriesOutput.{IsSeries, IsSeriesOutput}
 
 -- the counts of the two lanes of a window add up to those of the road: the cars, each counted once per step,
@@ -16,12 +16,12 @@ pub record LanesAddUp (window : Window) : Type 0 where
 abbrev pub LanesOfSeriesAddUp : Type 0
 LanesOfSeriesAddUp =
     (text : List ℕ) (job : Job) (every from : ℕ) (windows : List Window)
-    → JobText text (Ok job) → IsSeries job every from windows → All LanesAddUp windows
+    → ParsesAsJob text (Ok job) → IsSeries job every from windows → All LanesAddUp windows
 
 -- with windows of at least one step, every text has an output of `series`, which is a refusal or not
 abbrev pub SeriesHasSomeOutput : Type 0
 SeriesHasSomeOutput = (every from : ℕ) → 1 ≤ every → HasSomeOutput (IsSeriesOutput every from)
 
 -- every text has at most one output of `series`, for windows of any length, from any step on
-abbrev pub SeriesHasOneOutput : Type 0
-SeriesHasOneOutput = (every from : ℕ) → HasOneOutput (IsSeriesOutput every from)
+abbrev pub SeriesHasAtMostOneOutput : Type 0
+SeriesHasAtMostOneOutput = (every from : ℕ) → HasAtMostOneOutput (IsSeriesOutput every from)

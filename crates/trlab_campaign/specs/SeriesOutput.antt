@@ -44,8 +44,8 @@ abbrev pub cars_on : ℕ → Cells → ℕ
 cars_on lane road = count_by (is_on lane) (standing road)
 
 -- the sum of the speeds of the cars on a lane of a road
-abbrev pub speed_on : ℕ → Cells → ℕ
-speed_on lane road = sum_by (λ (car : Car). cond (is_on lane car) car.speed 0) (standing road)
+abbrev pub total_speed_on : ℕ → Cells → ℕ
+total_speed_on lane road = sum_by (λ (car : Car). cond (is_on lane car) car.speed 0) (standing road)
 
 -- the number of stopped cars on a lane of a road
 abbrev pub stopped_on : ℕ → Cells → ℕ
@@ -55,7 +55,7 @@ stopped_on lane road = count_by (λ (car : Car). is_on lane car && nat_eq car.sp
 abbrev pub lane_count : ℕ → List Cells → LaneCount
 lane_count lane roads = record {
   cars = sum_by (cars_on lane) roads;
-  distance = sum_by (speed_on lane) roads;
+  distance = sum_by (total_speed_on lane) roads;
   stopped = sum_by (stopped_on lane) roads;
 }
 

@@ -1,6 +1,6 @@
 -- Laws of the steps that are shown, and of the outputs that show them.
 use Rattle.std.specs.Prelude.{◌≡◌, ◌↔◌, ℕ, ◌+◌, ◌*◌, Bool, true, List}
-use Rattle.trlab_campaign.specs.Laws.{HasOneOutput, HasSomeOutput}
+use Rattle.trlab_campaign.specs.Laws.{HasAtMostOneOutput, HasSomeOutput}
 use Rattle.trlab_campaign.specs.Output.{IsOutput, IsShownOutput, every_from}
 
 -- a step is shown exactly if it is one of `from`, `from + every`, `from + 2 * every` and so on
@@ -20,5 +20,5 @@ abbrev pub ShownHasSomeOutput : Type 0
 ShownHasSomeOutput = (shown : ℕ → Bool) → HasSomeOutput (IsShownOutput shown)
 
 -- whichever steps are shown, every text has at most one output of `run`
-abbrev pub ShownHasOneOutput : Type 0
-ShownHasOneOutput = (shown : ℕ → Bool) → HasOneOutput (IsShownOutput shown)
+abbrev pub ShownHasAtMostOneOutput : Type 0
+ShownHasAtMostOneOutput = (shown : ℕ → Bool) → HasAtMostOneOutput (IsShownOutput shown)

@@ -6,12 +6,12 @@ use Rattle.trlab_diagram.specs.declared.point.Point.{Point}
 use Rattle.trlab_diagram.specs.Flow.{IsMeasured}
 use Rattle.trlab_diagram.specs.Table.{points_text}
 use Rattle.trlab_road.specs.Cells.{Cells}
-use Rattle.trlab_road.specs.Spreading.{IsEven}
+use Rattle.trlab_road.specs.Spreading.{IsEvenlySpaced}
 use Rattle.trlab_step.specs.declared.tally.StepTally.{StepTally}
 use Rattle.trlab_step.specs.Run.{Seed, Sheet, IsTallyAt}
 use Rattle.trlab_jobs.specs.Shapes.{cell_count, all_steps}
-use Rattle.trlab_jobs.specs.Sweep.{Setup, Sweep, SweepText}
-use Rattle.trlab_campaign.specs.Refusal.{Outputs, OutputOfText}
+use Rattle.trlab_jobs.specs.Sweep.{Setup, Sweep, ParsesAsSweep}
+use Rattle.trlab_campaign.specs.Refusal.{Outputs, IsOutputForText}
 
 -- the start of a point's run: this road, which has the number `number`, the key of the sweep, and its warm
 -- steps, which are not counted
@@ -39,7 +39,7 @@ point_of setup cars tally = record {
 pub record IsPoint (setup : Setup) (number cars : ℕ) (point : Point) : Type 0 where
   pub start : Cells
   pub tally : StepTally
-  pub even : IsEven setup.shape.lanes setup.shape.cells setup.shape.limit cars start
+  pub even : IsEvenlySpaced setup.shape.lanes setup.shape.cells setup.shape.limit cars start
   pub counted : IsTallyAt (point_seed setup number start) (sweep_sheet setup) (all_steps setup.span) tally
   pub told : point ≡ point_of setup cars tally
 
@@ -66,7 +66,7 @@ SweepOutput sweep refused out =
 -- a complete output of `sweep` for a text, marked as a refusal or not: the table of the sweep's points, or
 -- the line of the text's first fault
 abbrev pub IsSweepOutput : List ℕ → Outputs
-IsSweepOutput text refused out = OutputOfText SweepText SweepOutput text refused out
+IsSweepOutput text refused out = IsOutputForText ParsesAsSweep SweepOutput text refused out
 
 -- a call with the contract `pre` and `post` can be made for any sweep, and returns the sweep's table unless
 -- it fails

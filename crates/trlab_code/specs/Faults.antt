@@ -118,10 +118,10 @@ IsFaultAfterHeader bytes _ = ⊥
 
 -- the first fault of bytes: too short for a header; then a wrong MAGIC, version, kind or number of
 -- instructions; then too short for these instructions, which is `Short` too; then a fault after the header
-abbrev pub IsFirstFault : List ℕ → CodeFault → Type 0
-IsFirstFault bytes fault.Short = EndsEarly bytes
-IsFirstFault bytes fault.Magic = HasHeader bytes × ¬ (HasMagic bytes)
-IsFirstFault bytes fault.Version = PassesMagic bytes (¬ (HasVersion bytes))
-IsFirstFault bytes fault.Kind = PassesMagic bytes (HasVersion bytes × ¬ (HasKind bytes))
-IsFirstFault bytes fault.Count = PassesKind bytes (¬ (HasCount bytes))
-IsFirstFault bytes fault = IsFaultAfterHeader bytes fault
+abbrev pub IsFirstCodeFault : List ℕ → CodeFault → Type 0
+IsFirstCodeFault bytes fault.Short = EndsEarly bytes
+IsFirstCodeFault bytes fault.Magic = HasHeader bytes × ¬ (HasMagic bytes)
+IsFirstCodeFault bytes fault.Version = PassesMagic bytes (¬ (HasVersion bytes))
+IsFirstCodeFault bytes fault.Kind = PassesMagic bytes (HasVersion bytes × ¬ (HasKind bytes))
+IsFirstCodeFault bytes fault.Count = PassesKind bytes (¬ (HasCount bytes))
+IsFirstCodeFault bytes fault = IsFaultAfterHeader bytes fault

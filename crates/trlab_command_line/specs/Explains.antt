@@ -50,8 +50,8 @@ explained None number json = Ok (Text None (form_by json))
 explained (Some name) number json = request_by_name (subject_of_command name) (topic_named name) number json
 
 -- the request of `explain`, or its kind of error, by its matches
-abbrev pub explained_in : List Row → Result Explaining ErrorKind
-explained_in matches =
+abbrev pub request_by_matches : List Row → Result Explaining ErrorKind
+request_by_matches matches =
     explained (first_of (codes "what") matches) (argument_number (codes "number") matches)
     (is_given (codes "json") matches)
 
@@ -62,7 +62,7 @@ error_kinds (Err kind) = kind ∷ []
 
 -- the kinds of error of the command that was entered with these matches: that the arguments of `explain` do
 -- not go together; none for other commands, or if none was entered
-abbrev pub pair_fault : Option (Word × List Row) → Kinds
-pair_fault None = []
-pair_fault (Some (name, matches)) =
-    if bytes_eq name (codes "explain") then error_kinds (explained_in matches) else []
+abbrev pub explain_arguments_fault : Option (Word × List Row) → Kinds
+explain_arguments_fault None = []
+explain_arguments_fault (Some (name, matches)) =
+    if bytes_eq name (codes "explain") then error_kinds (request_by_matches matches) else []

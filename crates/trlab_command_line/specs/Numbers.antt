@@ -37,13 +37,13 @@ abbrev pub flag_text : Bool → Option Text
 flag_text given = Some (bool_text given)
 
 -- whether a flag is given, by its value among the matches of a command: it is given if the value is `true`
-abbrev pub says_given : Option Text → Bool
-says_given None = false
-says_given (Some text) = bytes_eq text (bool_text true)
+abbrev pub is_true_value : Option Text → Bool
+is_true_value None = false
+is_true_value (Some text) = bytes_eq text (bool_text true)
 
 -- whether `flag` is given, among the matches of a command
 abbrev pub is_given : Text → List Row → Bool
-is_given flag matches = says_given (one_of flag matches)
+is_given flag matches = is_true_value (one_of flag matches)
 
 -- among the matches of a command, `flag` has the value `true` if `given` is true, and otherwise the value
 -- `false`

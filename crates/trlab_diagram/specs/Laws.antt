@@ -14,6 +14,6 @@ pub record CountsFit64Bits (point : Point) : Type 0 where
 
 -- the table determines the points: two lists of points with the same table are equal, if all counts are below
 -- 2^64
-abbrev pub TableTellsPoints : Type 0
-TableTellsPoints = (points others : List Point) → All CountsFit64Bits points → All CountsFit64Bits others
+abbrev pub TableDeterminesPoints : Type 0
+TableDeterminesPoints = (points others : List Point) → All CountsFit64Bits points → All CountsFit64Bits others
     → points_text points ≡ points_text others → points ≡ others

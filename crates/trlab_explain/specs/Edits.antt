@@ -3,9 +3,9 @@ use Rattle.std.specs.Prelude.{◌≡◌, ℕ, ◌+◌, ◌<◌, List, ◌++◌, 
 use Rattle.trlab_lines.specs.Lines.{lines_of}
 use Rattle.trlab_texts.specs.declared.fault.Cause.{Cause}
 use Rattle.trlab_texts.specs.Reading.{Fault}
-use Rattle.trlab_jobs.specs.Job.{Job as JobSaid, JobText}
-use Rattle.trlab_jobs.specs.Sweep.{Sweep as SweepSaid, SweepText}
-use Rattle.trlab_jobs.specs.Check.{Check as CheckSaid, CheckText}
+use Rattle.trlab_jobs.specs.Job.{Job as JobSaid, ParsesAsJob}
+use Rattle.trlab_jobs.specs.Sweep.{Sweep as SweepSaid, ParsesAsSweep}
+use Rattle.trlab_jobs.specs.Check.{Check as CheckSaid, ParsesAsCheck}
 use Rattle.trlab_jobs.specs.declared.subject.Subject.{Subject}
 use Rattle.trlab_jobs.specs.declared.subject.Subject.TheVariants.{Job, Sweep, Check}
 
@@ -23,11 +23,11 @@ fault_of (Err fault) = Some (fault.line, fault.cause)
 -- the text has no fault
 abbrev pub HasFirstFault : Subject → List ℕ → Option (ℕ × Cause) → Type 0
 HasFirstFault Job text fault =
-    (result : Result JobSaid Fault) × JobText text result × (fault ≡ fault_of result)
+    (result : Result JobSaid Fault) × ParsesAsJob text result × (fault ≡ fault_of result)
 HasFirstFault Sweep text fault =
-    (result : Result SweepSaid Fault) × SweepText text result × (fault ≡ fault_of result)
+    (result : Result SweepSaid Fault) × ParsesAsSweep text result × (fault ≡ fault_of result)
 HasFirstFault Check text fault =
-    (result : Result CheckSaid Fault) × CheckText text result × (fault ≡ fault_of result)
+    (result : Result CheckSaid Fault) × ParsesAsCheck text result × (fault ≡ fault_of result)
 
 -- there is no fault in a text with the lines `changed`; or it is after the line `number`, and fewer lines
 -- come after it than after the line `number` in a text with the lines `lines`. For example, line 4 of 9 is

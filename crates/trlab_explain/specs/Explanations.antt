@@ -5,9 +5,9 @@ use Rattle.trlab_lines.specs.Lines.{lines_of}
 use Rattle.trlab_verify.specs.Verdict.{IsAccepted, IsRefused}
 use Rattle.trlab_texts.specs.Reading.{Fault, Reports}
 use Rattle.trlab_texts.specs.declared.fault.TextFault.{TextFault}
-use Rattle.trlab_jobs.specs.Job.{Job as JobSaid, JobText}
-use Rattle.trlab_jobs.specs.Check.{Check as CheckSaid, CheckText}
-use Rattle.trlab_jobs.specs.Sweep.{Sweep as SweepSaid, SweepText}
+use Rattle.trlab_jobs.specs.Job.{Job as JobSaid, ParsesAsJob}
+use Rattle.trlab_jobs.specs.Check.{Check as CheckSaid, ParsesAsCheck}
+use Rattle.trlab_jobs.specs.Sweep.{Sweep as SweepSaid, ParsesAsSweep}
 use Rattle.trlab_campaign.specs.CheckOutput.{refused_line}
 use Rattle.trlab_campaign.specs.Refusal.{Outputs, fault_line}
 use Rattle.trlab_lines.specs.Lines.{line_at}
@@ -62,20 +62,20 @@ IsCheckHead text (Err fault) refused answer quote = IsFaultHead text fault refus
 -- the head for a text that is read as this kind of input
 abbrev pub IsHeadAs : Subject → List ℕ → Heads
 IsHeadAs Job text refused answer quote =
-    (result : Result JobSaid Fault) × JobText text result
+    (result : Result JobSaid Fault) × ParsesAsJob text result
     × IsTextHead text result refused answer quote
 IsHeadAs Sweep text refused answer quote =
-    (result : Result SweepSaid Fault) × SweepText text result
+    (result : Result SweepSaid Fault) × ParsesAsSweep text result
     × IsTextHead text result refused answer quote
 IsHeadAs Check text refused answer quote =
-    (result : Result CheckSaid Fault) × CheckText text result
+    (result : Result CheckSaid Fault) × ParsesAsCheck text result
     × IsCheckHead text result refused answer quote
 
 -- a text that is read as this kind of input has this first fault; or an allocation failed
 abbrev pub IsRefusedWith : Subject → List ℕ → TextFault → Type 0
-IsRefusedWith Job text fault = Reports (JobText text) (Err fault)
-IsRefusedWith Sweep text fault = Reports (SweepText text) (Err fault)
-IsRefusedWith Check text fault = Reports (CheckText text) (Err fault)
+IsRefusedWith Job text fault = Reports (ParsesAsJob text) (Err fault)
+IsRefusedWith Sweep text fault = Reports (ParsesAsSweep text) (Err fault)
+IsRefusedWith Check text fault = Reports (ParsesAsCheck text) (Err fault)
 
 -- a text is read as the kind of input `subject`: the wanted kind, or if none is wanted, a kind that it may be
 -- meant to be

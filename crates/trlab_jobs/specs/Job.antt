@@ -12,7 +12,7 @@ use Rattle.trlab_texts.specs.declared.fault.Cause.TheVariants.{Line, Key}
 use Rattle.trlab_bounds.specs.declared.runs.TheConstants.{MAX_STEPS}
 use Rattle.trlab_texts.specs.Lines.{all_lines, Rest}
 use Rattle.trlab_texts.specs.Words.{word_after, number_within}
-use Rattle.trlab_texts.specs.Reading.{Fault, Reading, say, ◌>>=◌, ◌>>◌, line, exactly, TextSays}
+use Rattle.trlab_texts.specs.Reading.{Fault, Reading, say, ◌>>=◌, ◌>>◌, line, exactly, TextParsesTo}
 use Rattle.trlab_jobs.specs.Lanes.{lanes}
 use Rattle.trlab_jobs.specs.RuleParts.{rule}
 use Rattle.trlab_jobs.specs.Later.{later_rules}
@@ -72,17 +72,17 @@ job = do
   job_after key road
 
 -- the result of `reading` from `place` on: its value, with any rest after it, or its fault
-abbrev pub ResultWithoutRest : {A : Type 0} → Reading A → Rest → Result A Fault → Type 0
-ResultWithoutRest reading place (Ok x) = (rest : Rest) × reading place (Ok (x, rest))
-ResultWithoutRest reading place (Err fault) = reading place (Err fault)
+abbrev pub ReadingHasResult : {A : Type 0} → Reading A → Rest → Result A Fault → Type 0
+ReadingHasResult reading place (Ok x) = (rest : Rest) × reading place (Ok (x, rest))
+ReadingHasResult reading place (Err fault) = reading place (Err fault)
 
 -- the result for the lines of a job text: a job, or the first fault
-abbrev pub JobLinesSay : List ℕ → Result Job Fault → Type 0
-JobLinesSay text = ResultWithoutRest job (all_lines text)
+abbrev pub JobLinesParseTo : List ℕ → Result Job Fault → Type 0
+JobLinesParseTo text = ReadingHasResult job (all_lines text)
 
 -- the result for a job text: a job, or the first fault; for a text that is too long, this is `TooBig`
-abbrev pub JobText : List ℕ → Result Job Fault → Type 0
-JobText text result = TextSays JobLinesSay text result
+abbrev pub ParsesAsJob : List ℕ → Result Job Fault → Type 0
+ParsesAsJob text result = TextParsesTo JobLinesParseTo text result
 
 -- the start of a job's run: its road and key, as road 0, with tallies counted from step 0 on
 abbrev pub seed_of : Job → Seed

@@ -2,7 +2,7 @@
 use Rattle.std.specs.Prelude.{◌≡◌, ◌≢◌, ℕ, ◌+◌, ◌==◌, List, ◌∷◌, codes, Option, None, Some, Result, Ok, Err, option_to_list, if◌then◌else◌}
 use Rattle.trlab_road.specs.Cells.{Cells}
 use Rattle.trlab_road.specs.Legal.{IsLegal}
-use Rattle.trlab_road.specs.Pictures.{Shows, IsFirstFault}
+use Rattle.trlab_road.specs.Pictures.{PicturesShow, IsFirstPictureFault}
 use Rattle.trlab_road.specs.declared.fault.RoadFault.{RoadFault}
 use Rattle.trlab_road.specs.declared.fault.RoadFault.TheVariants.{Lanes, Length, Limit, Character, SpeedAboveLimit, Memory, TooManyCars}
 use Rattle.trlab_texts.specs.declared.fault.Cause.{Cause}
@@ -20,9 +20,9 @@ abbrev pub second_lane : Reading (Option (List ℕ))
 second_lane rest out = read_if (next_word_is (codes "lane") rest.left) (line (exactly lane_word)) rest out
 
 -- the number of the last lane's line: that of the first lane's line, or one more if there is a second lane
-abbrev pub last_line : ℕ → Option (List ℕ) → ℕ
-last_line first None = first
-last_line first (Some second) = first + 1
+abbrev pub line_of_last_lane : ℕ → Option (List ℕ) → ℕ
+line_of_last_lane first None = first
+line_of_last_lane first (Some second) = first + 1
 
 -- the line of a lane: `first` for lane 0, and `last` for any other lane
 abbrev pub line_of_lane : ℕ → ℕ → ℕ → ℕ
@@ -41,23 +41,23 @@ line_of_fault first last TooManyCars = last
 
 -- the result for the pictures of lanes on the lines from `first` to `last`, with this limit: the legal road
 -- that they show, or their first fault, at its line; a failed allocation is not a fault of pictures
-abbrev pub LanesSay : ℕ → ℕ → ℕ → List (List ℕ) → Result Cells Fault → Type 0
-LanesSay first last limit pictures (Ok road) = IsLegal road × Shows limit pictures road
-LanesSay first last limit pictures (Err fault) =
-    (wrong : RoadFault) × (IsFirstFault limit pictures wrong × ((wrong ≢ Memory)
+abbrev pub LanesParseTo : ℕ → ℕ → ℕ → List (List ℕ) → Result Cells Fault → Type 0
+LanesParseTo first last limit pictures (Ok road) = IsLegal road × PicturesShow limit pictures road
+LanesParseTo first last limit pictures (Err fault) =
+    (wrong : RoadFault) × (IsFirstPictureFault limit pictures wrong × ((wrong ≢ Memory)
     × (fault ≡ record { line = line_of_fault first last wrong; cause = Road wrong })))
 
 -- the result for one or two pictures of lanes with this limit; the first is on the line `first`
-abbrev pub PicturesSay : ℕ → ℕ → List ℕ → Option (List ℕ) → Result Cells Fault → Type 0
-PicturesSay first limit picture second result =
-    LanesSay first (last_line first second) limit (picture ∷ option_to_list second) result
+abbrev pub PicturesParseTo : ℕ → ℕ → List ℕ → Option (List ℕ) → Result Cells Fault → Type 0
+PicturesParseTo first limit picture second result =
+    LanesParseTo first (line_of_last_lane first second) limit (picture ∷ option_to_list second) result
 
 -- gives the road of one or two pictures with this limit, or their first fault; the pictures were read
 -- already, the first on the line `first`
 abbrev pub road_of : ℕ → ℕ → List ℕ → Option (List ℕ) → Reading Cells
 road_of first limit picture second rest out =
     (result : Result Cells Fault)
-    × (PicturesSay first limit picture second result × (out ≡ before rest result))
+    × (PicturesParseTo first limit picture second result × (out ≡ before rest result))
 
 -- reads a road with this limit: the line `lane P`, and a second one if the first word of the next line is
 -- `lane`

@@ -9,8 +9,8 @@ abbrev pub HasSomeResult : {A : Type 0} → (List ℕ → Result A Fault → Typ
 HasSomeResult IsResult = (text : List ℕ) → (result : _) × IsResult text result
 
 -- every text has at most one result
-abbrev pub HasOneResult : {A : Type 0} → (List ℕ → Result A Fault → Type 0) → Type 0
-HasOneResult IsResult =
+abbrev pub HasAtMostOneResult : {A : Type 0} → (List ℕ → Result A Fault → Type 0) → Type 0
+HasAtMostOneResult IsResult =
     (text : List ℕ) (result other : _) → IsResult text result → IsResult text other → result ≡ other
 
 -- no text is rejected because the verifier rejects a standard rule
@@ -20,6 +20,6 @@ NeverRefusesStandardRules IsResult =
 
 -- all texts of more than TEXT_LIMIT bytes have the same results, so a reader needs no more than the first
 -- TEXT_LIMIT + 1 bytes
-abbrev pub LongTextsSayTheSame : {A : Type 0} → (List ℕ → Result A Fault → Type 0) → Type 0
-LongTextsSayTheSame IsResult = (text other : List ℕ) (result : _)
+abbrev pub LongTextsHaveTheSameResults : {A : Type 0} → (List ℕ → Result A Fault → Type 0) → Type 0
+LongTextsHaveTheSameResults IsResult = (text other : List ℕ) (result : _)
     → TEXT_LIMIT < length text → TEXT_LIMIT < length other → IsResult text result → IsResult other result

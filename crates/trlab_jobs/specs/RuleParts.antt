@@ -16,32 +16,32 @@ use Rattle.trlab_jobs.specs.declared.rule_line.RuleLine.{RuleLine}
 use Rattle.trlab_jobs.specs.declared.rule_line.RuleLine.TheVariants.{Nasch, Vdr, Rickert, Own}
 use Rattle.trlab_texts.specs.Words.{word_after, next_word_is}
 use Rattle.trlab_texts.specs.Reading.{Fault, Reading, say, ◌>>=◌, line, exactly, read_if, of_line}
-use Rattle.trlab_texts.specs.Programs.{Part, part, part_of, heading_line}
+use Rattle.trlab_texts.specs.Programs.{EndSplit, part, split_at_end, heading_line}
 use Rattle.trlab_jobs.specs.RuleLines.{rule_line}
 
 -- the verifier accepts `program` as one of this kind, and `checked` is the program with its budget
-abbrev pub Accepts : Kind → Program → CheckedProgram → Type 0
-Accepts kind program checked =
+abbrev pub VerifiesAs : Kind → Program → CheckedProgram → Type 0
+VerifiesAs kind program checked =
     (checked.program ≡ program) × (IsAccepted kind program × IsChecked kind checked)
 
 -- the result for a rule with this standard motion program and no change program: always a rule whose program
 -- the verifier accepts, and never a fault
-abbrev pub MotionSays : Program → Result Programs Cause → Type 0
-MotionSays motion (Ok rule) = Accepts Motion motion rule.motion × (rule.change ≡ None)
-MotionSays motion (Err cause) = ⊥
+abbrev pub IsMotionRule : Program → Result Programs Cause → Type 0
+IsMotionRule motion (Ok rule) = VerifiesAs Motion motion rule.motion × (rule.change ≡ None)
+IsMotionRule motion (Err cause) = ⊥
 
 -- the result for a rule with these standard programs: always a rule whose two programs the verifier accepts,
 -- and never a fault
-abbrev pub TwoProgramsSay : Program → Program → Result Programs Cause → Type 0
-TwoProgramsSay motion change (Ok rule) =
-    Accepts Motion motion rule.motion × MatchOption rule.change ⊥ (Accepts Change change)
-TwoProgramsSay motion change (Err cause) = ⊥
+abbrev pub IsTwoProgramRule : Program → Program → Result Programs Cause → Type 0
+IsTwoProgramRule motion change (Ok rule) =
+    VerifiesAs Motion motion rule.motion × MatchOption rule.change ⊥ (VerifiesAs Change change)
+IsTwoProgramRule motion change (Err cause) = ⊥
 
 -- the result for a rule with these standard programs: the cause `OneLane` if the road has one lane (`true`),
 -- and otherwise the rule
-abbrev pub TwoLaneRuleSays : Bool → Program → Program → Result Programs Cause → Type 0
-TwoLaneRuleSays true motion change result = result ≡ Err OneLane
-TwoLaneRuleSays false motion change result = TwoProgramsSay motion change result
+abbrev pub IsTwoLaneRule : Bool → Program → Program → Result Programs Cause → Type 0
+IsTwoLaneRule true motion change result = result ≡ Err OneLane
+IsTwoLaneRule false motion change result = IsTwoProgramRule motion change result
 
 -- the cause for a change program in hexadecimal digits on a road with one lane, by the decoded digits: `Hex`
 -- if they are invalid, and otherwise `OneLane`, also for bytes that are not a program
@@ -57,14 +57,14 @@ code_misplacement (Err cause) = cause
 
 -- the fault of a change program's block on a road with one lane, by its split at `end`: `OneLane` at its
 -- first line, `first`; without a line `end`, a line is missing after the last line of the text
-abbrev pub block_misplacement : ℕ → List (List ℕ) → Option Part → Fault
+abbrev pub block_misplacement : ℕ → List (List ℕ) → Option EndSplit → Fault
 block_misplacement first left None = record { line = first + 1 + length left; cause = Line }
 block_misplacement first left (Some parts) = record { line = first; cause = OneLane }
 
 -- the fault of a change part on a road with one lane, whose first line is `text`, with the number `first`:
 -- that of a block if the line is a heading (`true`), and otherwise that of the line `code X`
 abbrev pub part_misplacement : Bool → ℕ → List ℕ → List (List ℕ) → Fault
-part_misplacement true first text left = block_misplacement first left (part_of left)
+part_misplacement true first text left = block_misplacement first left (split_at_end left)
 part_misplacement false first text left =
     record { line = first; cause = code_misplacement (word_after (codes "code ") text) }
 
@@ -99,10 +99,10 @@ own_rule lanes = do
 -- reads the rest of a rule for a road with `lanes` lanes after its line, which has the number `number`: the
 -- programs of `rule own`, and no lines for any other rule
 abbrev pub rule_from : ℕ → ℕ → RuleLine ℕ → Reading Programs
-rule_from lanes number (Nasch p) = of_line number (MotionSays (nasch_program p))
-rule_from lanes number (Vdr p p0) = of_line number (MotionSays (vdr_program p p0))
+rule_from lanes number (Nasch p) = of_line number (IsMotionRule (nasch_program p))
+rule_from lanes number (Vdr p p0) = of_line number (IsMotionRule (vdr_program p p0))
 rule_from lanes number (Rickert p c) =
-    of_line number (TwoLaneRuleSays (nat_eq lanes 1) (nasch_program p) (rickert_program c))
+    of_line number (IsTwoLaneRule (nat_eq lanes 1) (nasch_program p) (rickert_program c))
 rule_from lanes number Own = own_rule lanes
 
 -- reads a rule for a road with `lanes` lanes: a line `rule ..`, and after `rule own` its programs

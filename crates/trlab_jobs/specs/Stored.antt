@@ -26,14 +26,14 @@ pub record IsStoredJob (job : Job) : Type 0 where
 
 -- `count` cars can be spread evenly over a road of this shape: it has a cell for each, and a valid size and
 -- limit
-abbrev pub Spreads : Shape → ℕ → Type 0
-Spreads shape count = CanSpread shape.lanes shape.cells shape.limit count
+abbrev pub CanSpreadOn : Shape → ℕ → Type 0
+CanSpreadOn shape count = CanSpread shape.lanes shape.cells shape.limit count
 
 -- a sweep as the code keeps it: a rule for its number of lanes, cars that can be spread evenly at each point,
 -- at most MAX_POINTS points, at least one counted step, and at most MAX_WORK steps per point
 pub record IsStoredSweep (sweep : Sweep) : Type 0 where
   pub rule : IsRuleFor sweep.setup.shape.lanes sweep.setup.rule
-  pub spreads : All (Spreads sweep.setup.shape) sweep.cars
+  pub spreads : All (CanSpreadOn sweep.setup.shape) sweep.cars
   pub few : length sweep.cars ≤ MAX_POINTS
   pub counted : 1 ≤ sweep.setup.span.measure
   pub short : all_steps sweep.setup.span ≤ MAX_WORK

@@ -5,7 +5,7 @@ use Rattle.trlab_rules.specs.Rules.{Programs}
 use Rattle.trlab_texts.specs.declared.fault.Cause.{Cause}
 use Rattle.trlab_texts.specs.declared.fault.Cause.TheVariants.{Line}
 use Rattle.trlab_texts.specs.Lines.{all_lines, Rest}
-use Rattle.trlab_texts.specs.Reading.{Fault, Reading, say, ◌>>=◌, ◌>>◌, line, exactly, TextSays}
+use Rattle.trlab_texts.specs.Reading.{Fault, Reading, say, ◌>>=◌, ◌>>◌, line, exactly, TextParsesTo}
 use Rattle.trlab_asm.specs.Results.{map_ok}
 use Rattle.trlab_jobs.specs.declared.sweep.Shape.{Shape}
 use Rattle.trlab_jobs.specs.declared.sweep.Span.{Span}
@@ -60,10 +60,10 @@ with_counts (Ok found) =
     (counts (cell_count found.0.shape) (all_steps found.0.span) found.1.number found.1.left)
 
 -- the result for the lines of a sweep text: a sweep, or the first fault
-abbrev pub SweepLinesSay : List ℕ → Result Sweep Fault → Type 0
-SweepLinesSay text result =
+abbrev pub SweepLinesParseTo : List ℕ → Result Sweep Fault → Type 0
+SweepLinesParseTo text result =
     (found : Result (Setup × Rest) Fault) × (setup (all_lines text) found × (result ≡ with_counts found))
 
 -- the result for a sweep text: a sweep, or the first fault; for a text that is too long, this is `TooBig`
-abbrev pub SweepText : List ℕ → Result Sweep Fault → Type 0
-SweepText text result = TextSays SweepLinesSay text result
+abbrev pub ParsesAsSweep : List ℕ → Result Sweep Fault → Type 0
+ParsesAsSweep text result = TextParsesTo SweepLinesParseTo text result

@@ -3,14 +3,14 @@ use Rattle.std.specs.Prelude.{ℕ, ◌+◌, ◌==◌, ◌||◌, not, Bool, List,
 use Rattle.std.specs.List.{position}
 
 -- the bytes of a text before index i, and those after it; `None` if there is no index
-abbrev pub around : List ℕ → Option ℕ → Option (List ℕ × List ℕ)
-around text None = None
-around text (Some i) = Some (take i text, drop (i + 1) text)
+abbrev pub split_around : List ℕ → Option ℕ → Option (List ℕ × List ℕ)
+split_around text None = None
+split_around text (Some i) = Some (take i text, drop (i + 1) text)
 
 -- the bytes of a text before its first byte c, and those after it; `None` if it has no byte c (Rust's
 -- `split_once`). For example, at commas `a,b,c` is cut into `a` and `b,c`
 abbrev pub cut : ℕ → List ℕ → Option (List ℕ × List ℕ)
-cut c text = around text (position (λ b. b == c) text)
+cut c text = split_around text (position (λ b. b == c) text)
 
 -- a text without the prefix with which it begins; `None` if it does not begin with the prefix (Rust's
 -- `strip_prefix`)

@@ -14,8 +14,8 @@ abbrev pub BeginsWithLine : List ℕ → List ℕ → List ℕ → Type 0
 BeginsWithLine text line rest = (text ≡ line ++ (10 ∷ rest)) ⊎ ((text ≡ line) × (rest ≡ []))
 
 -- no byte of a line is an LF
-abbrev pub HasNoEnd : List ℕ → Type 0
-HasNoEnd line = All (λ byte. byte ≢ 10) line
+abbrev pub HasNoLineFeed : List ℕ → Type 0
+HasNoLineFeed line = All (λ byte. byte ≢ 10) line
 
 -- line n of a list of lines, counted from 1; `None` if there is no line n, as for n = 0
 abbrev pub line_at : ℕ → List (List ℕ) → Option (List ℕ)

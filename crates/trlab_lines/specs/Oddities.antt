@@ -12,11 +12,11 @@ Contains line byte = IsTrue (list_any (λ c. c == byte) line)
 
 -- the line has this oddity: it begins with a byte order mark, contains a carriage return, has no bytes,
 -- contains a tab, begins or ends with a space, or contains a `;` or `#` as comments do
-abbrev pub Shows : List ℕ → Oddity → Type 0
-Shows line ByteOrderMark = IsTrue (is_some (without_prefix (239 ∷ 187 ∷ 191 ∷ []) line))
-Shows line CarriageReturn = Contains line 13
-Shows line Empty = line ≡ []
-Shows line Tab = Contains line 9
-Shows line FirstSpace = slice_get line 0 ≡ Some 32
-Shows line FinalSpace = slice_get line (length line - 1) ≡ Some 32
-Shows line Comment = Contains line 59 ⊎ Contains line 35
+abbrev pub HasOddity : List ℕ → Oddity → Type 0
+HasOddity line ByteOrderMark = IsTrue (is_some (without_prefix (239 ∷ 187 ∷ 191 ∷ []) line))
+HasOddity line CarriageReturn = Contains line 13
+HasOddity line Empty = line ≡ []
+HasOddity line Tab = Contains line 9
+HasOddity line FirstSpace = slice_get line 0 ≡ Some 32
+HasOddity line FinalSpace = slice_get line (length line - 1) ≡ Some 32
+HasOddity line Comment = Contains line 59 ⊎ Contains line 35

@@ -28,10 +28,10 @@ abbrev pub all_shown : List ℕ → List ℕ
 all_shown bytes = flat_map shown bytes
 
 -- the mark ` ..` if a line has more bytes than are shown, otherwise nothing
-abbrev pub goes_on : Bool → List ℕ
-goes_on more = if more then codes " .." else []
+abbrev pub ellipsis : Bool → List ℕ
+ellipsis more = if more then codes " .." else []
 
 -- a line as it is quoted in a message: its first MAX_QUOTED bytes as they are shown, and the mark ` ..` if it
 -- has more
 abbrev pub quoted : List ℕ → List ℕ
-quoted line = all_shown (take MAX_QUOTED line) ++ goes_on (nat_lt MAX_QUOTED (length line))
+quoted line = all_shown (take MAX_QUOTED line) ++ ellipsis (nat_lt MAX_QUOTED (length line))

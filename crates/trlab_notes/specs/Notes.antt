@@ -30,8 +30,8 @@ with_side side (Between lo hi) = Between lo hi
 with_side side (Implies implied) = Implies (implied || side)
 
 -- the abstract value of variable x in a note, refined by the note's knowledge of the side cell
-unfoldable pub said_with_side : Note → Variable → AbstractValue
-said_with_side note x = with_side note.side (note.said x)
+unfoldable pub value_with_side : Note → Variable → AbstractValue
+value_with_side note x = with_side note.side (note.said x)
 
 -- the smallest number of a range; 0 for other abstract values
 abbrev pub low : AbstractValue → ℕ

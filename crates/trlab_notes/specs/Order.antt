@@ -3,7 +3,7 @@ use Rattle.std.specs.Prelude.{◌≤◌, ◌&&◌, min, max, IsTrue, Option, Som
 use Rattle.trlab_code.specs.declared.instruction.Variable.{Variable}
 use Rattle.trlab_notes.specs.declared.note.AbstractValue.{AbstractValue}
 use Rattle.trlab_notes.specs.declared.note.AbstractValue.TheVariants.{Nothing, Between, Implies}
-use Rattle.trlab_notes.specs.Notes.{Note, said_with_side, known_level}
+use Rattle.trlab_notes.specs.Notes.{Note, value_with_side, known_level}
 
 -- an abstract value is no more precise than another: it is `Nothing`; or a range that contains the other
 -- range, as `Between 0 9` contains `Between 2 5`; or a flag that implies an empty side cell only if the other
@@ -16,7 +16,7 @@ IsNoMorePrecise _ _ = ⊥
 
 -- note m is no stronger than note n: it knows no more of the values, of the order and of the side cell
 pub record IsNoStronger (m n : Note) : Type 0 where
-  pub said : (x : Variable) → IsNoMorePrecise (said_with_side m x) (said_with_side n x)
+  pub said : (x : Variable) → IsNoMorePrecise (value_with_side m x) (value_with_side n x)
   pub order : (x y : Variable) → known_level m x y ≤ known_level n x y
   pub beside : IsTrue m.side → IsTrue n.side
 
@@ -30,16 +30,16 @@ AreNoStronger _ _ = ⊥
 -- the common knowledge of two abstract values: the smallest range around two ranges, for example
 -- `Between 0 9` for `Between 0 3` and `Between 5 9`; a flag that implies an empty side cell if both flags do;
 -- otherwise `Nothing`
-abbrev pub join_said : AbstractValue → AbstractValue → AbstractValue
-join_said (Between lo hi) (Between least most) = Between (min lo least) (max hi most)
-join_said (Implies implied) (Implies other) = Implies (implied && other)
-join_said _ _ = Nothing
+abbrev pub join_values : AbstractValue → AbstractValue → AbstractValue
+join_values (Between lo hi) (Between least most) = Between (min lo least) (max hi most)
+join_values (Implies implied) (Implies other) = Implies (implied && other)
+join_values _ _ = Nothing
 
 -- the join of notes m and n, the strongest note that is no stronger than either: their common knowledge of
 -- the values, the order and the side cell
 unfoldable pub join : Note → Note → Note
 join m n = record {
-  said = λ x. join_said (said_with_side m x) (said_with_side n x);
+  said = λ x. join_values (value_with_side m x) (value_with_side n x);
   level = λ x y. min (known_level m x y) (known_level n x y);
   side = m.side && n.side;
 }

@@ -18,7 +18,7 @@ use Rattle.trlab_notes.specs.declared.reasons.Operands.TheVariants as read
 use Rattle.trlab_notes.specs.declared.reasons.Reason.{Reason}
 use Rattle.trlab_notes.specs.declared.reasons.Reason.TheVariants as why
 use Rattle.trlab_notes.specs.Notes.{Note, known_level}
-use Rattle.trlab_notes.specs.Transfer.{register_said, most, register_level}
+use Rattle.trlab_notes.specs.Transfer.{register_value, most, register_level}
 
 -- the number of a reason against the result or the answer of an instruction, 8 to 12; 0 for other reasons
 abbrev pub range_reason_number : Reason → ℕ
@@ -97,22 +97,22 @@ is_flag (Implies implied) = true
 is_flag _ = false
 
 -- does one of these registers have an abstract value in the note that passes a test?
-abbrev pub among : (AbstractValue → Bool) → Note → List Register → Bool
-among test note registers = list_any (λ a. test (register_said note a)) registers
+abbrev pub any_register : (AbstractValue → Bool) → Note → List Register → Bool
+any_register test note registers = list_any (λ a. test (register_value note a)) registers
 
 -- may an operand of the instruction be unset, by the note before it?
 abbrev pub some_unset : Note → Instr → Bool
 some_unset note instr =
-    among is_nothing note (numbers_of (operands_of instr))
-    || (among is_nothing note (flags_of (operands_of instr))
-        || among is_nothing note (values_of (operands_of instr)))
+    any_register is_nothing note (numbers_of (operands_of instr))
+    || (any_register is_nothing note (flags_of (operands_of instr))
+        || any_register is_nothing note (values_of (operands_of instr)))
 
 -- is an operand of the instruction a flag instead of a number, or a number instead of a flag, by the note
 -- before it?
-abbrev pub some_of_other_kind : Note → Instr → Bool
-some_of_other_kind note instr =
-    among is_flag note (numbers_of (operands_of instr))
-    || among is_range note (flags_of (operands_of instr))
+abbrev pub some_of_wrong_type : Note → Instr → Bool
+some_of_wrong_type note instr =
+    any_register is_flag note (numbers_of (operands_of instr))
+    || any_register is_range note (flags_of (operands_of instr))
 
 -- may control continue past the end of the program: is the instruction at pc the last of len instructions,
 -- and not an end or a `jump`?
@@ -155,7 +155,7 @@ abbrev pub form_checks : Kind → Kind → ℕ → ℕ → Note → Instr → Li
 form_checks kind own len pc note instr =
     record { reason = why.WrongProgram; holds = not (is_of_kind kind own instr) }
     ∷ record { reason = why.MaybeUnset; holds = some_unset note instr }
-    ∷ record { reason = why.WrongValue; holds = some_of_other_kind note instr }
+    ∷ record { reason = why.WrongValue; holds = some_of_wrong_type note instr }
     ∷ record { reason = why.JumpsBack; holds = on_target (λ t. nat_le t pc) (target instr) }
     ∷ record { reason = why.JumpsOut; holds = on_target (λ t. nat_le len t) (target instr) }
     ∷ record { reason = why.FallsOut; holds = falls_out len pc instr }

@@ -11,24 +11,24 @@ use Rattle.trlab_code.specs.Machine.{update}
 use Rattle.trlab_code.specs.Flow.{destination}
 use Rattle.trlab_notes.specs.declared.note.AbstractValue.{AbstractValue}
 use Rattle.trlab_notes.specs.declared.note.AbstractValue.TheVariants.{Nothing, Between, Implies}
-use Rattle.trlab_notes.specs.Notes.{Note, same_variable, said_with_side, low, high, implies, known_level}
+use Rattle.trlab_notes.specs.Notes.{Note, same_variable, value_with_side, low, high, implies, known_level}
 
 -- the abstract value of register a in a note
-abbrev pub register_said : Note → Register → AbstractValue
-register_said note a = note.said (variable.Register a)
+abbrev pub register_value : Note → Register → AbstractValue
+register_value note a = note.said (variable.Register a)
 
 -- the smallest number that register a may hold, by the note; 0 if it is not known to hold a number
 abbrev pub least : Note → Register → ℕ
-least note a = low (register_said note a)
+least note a = low (register_value note a)
 
 -- the largest number that register a may hold, by the note; 0 if it is not known to hold a number
 abbrev pub most : Note → Register → ℕ
-most note a = high (register_said note a)
+most note a = high (register_value note a)
 
 -- does the flag in register a imply, by the note, that the side cell is empty? false if the register is not
 -- known to hold a flag
 abbrev pub flag_implies : Note → Register → Bool
-flag_implies note a = implies (said_with_side note (variable.Register a))
+flag_implies note a = implies (value_with_side note (variable.Register a))
 
 -- the known level of register a to register b in a note
 abbrev pub register_level : Note → Register → Register → ℕ
@@ -59,32 +59,32 @@ abbrev pub least_difference : ℕ → ℕ
 least_difference k = if nat_le 2 k then 1 else 0
 
 -- the abstract value of the result of an instruction, from the note before it; `Nothing` if it has no result
-abbrev pub result_said : Note → Instr → AbstractValue
-result_said note (Num d n) = Between n n
-result_said note (Get d k) = said_with_side note (variable.Input k)
-result_said note (Side d) = Implies true
-result_said note (Draw d k t) = Implies false
-result_said note (Copy d a) = said_with_side note (variable.Register a)
-result_said note (Add d a b) =
+abbrev pub result_value : Note → Instr → AbstractValue
+result_value note (Num d n) = Between n n
+result_value note (Get d k) = value_with_side note (variable.Input k)
+result_value note (Side d) = Implies true
+result_value note (Draw d k t) = Implies false
+result_value note (Copy d a) = value_with_side note (variable.Register a)
+result_value note (Add d a b) =
     Between (min (least note a + least note b) MAX_NUMBER) (most note a + most note b)
-result_said note (Sub d a b) =
+result_value note (Sub d a b) =
     Between (max (least note a - most note b) (least_difference (register_level note b a)))
         (most note a - least note b)
-result_said note (Mul d a n) = Between (min (least note a * n) MAX_NUMBER) (most note a * n)
-result_said note (Div d a n) = Between (least note a / n) (most note a / n)
-result_said note (Min d a b) = Between (min (least note a) (least note b)) (min (most note a) (most note b))
-result_said note (Max d a b) = Between (max (least note a) (least note b)) (max (most note a) (most note b))
-result_said note (Not d a) = Implies false
-result_said note (And d a b) = Implies (flag_implies note a || flag_implies note b)
-result_said note (Or d a b) = Implies (flag_implies note a && flag_implies note b)
-result_said note (Jump t) = Nothing
-result_said note (JumpLess a b t) = Nothing
-result_said note (JumpAtMost a b t) = Nothing
-result_said note (JumpTrue a t) = Nothing
-result_said note (JumpFalse a t) = Nothing
-result_said note (Go a) = Nothing
-result_said note Cross = Nothing
-result_said note Stay = Nothing
+result_value note (Mul d a n) = Between (min (least note a * n) MAX_NUMBER) (most note a * n)
+result_value note (Div d a n) = Between (least note a / n) (most note a / n)
+result_value note (Min d a b) = Between (min (least note a) (least note b)) (min (most note a) (most note b))
+result_value note (Max d a b) = Between (max (least note a) (least note b)) (max (most note a) (most note b))
+result_value note (Not d a) = Implies false
+result_value note (And d a b) = Implies (flag_implies note a || flag_implies note b)
+result_value note (Or d a b) = Implies (flag_implies note a && flag_implies note b)
+result_value note (Jump t) = Nothing
+result_value note (JumpLess a b t) = Nothing
+result_value note (JumpAtMost a b t) = Nothing
+result_value note (JumpTrue a t) = Nothing
+result_value note (JumpFalse a t) = Nothing
+result_value note (Go a) = Nothing
+result_value note Cross = Nothing
+result_value note Stay = Nothing
 
 -- the level of an instruction's result to variable y, from the note before it; 0 if nothing is known of it,
 -- or the result is a flag
@@ -124,7 +124,7 @@ assign note d said to from = record {
 -- the note after an instruction has written its result to register d, from the note before it
 abbrev pub assign_result : Note → Register → Instr → Note
 assign_result note d instr =
-    assign note d (result_said note instr) (result_to note instr) (to_result note instr)
+    assign note d (result_value note instr) (result_to note instr) (to_result note instr)
 
 -- the level of x to y that follows from the levels i of x to p, k of p to q, and j of q to y, for k of 1 or
 -- 2: 0 if i or j is 0, otherwise the largest of the three. For example, x at most p (1), p below q (2) and q
@@ -144,13 +144,13 @@ refine_order note p q k = record note {
 -- the note refined by the knowledge that the flag in register a is true: if the flag implies an empty side
 -- cell, that cell is empty
 unfoldable pub refine_flag : Note → Register → Note
-refine_flag note a = record note { side = note.side || implies (register_said note a) }
+refine_flag note a = record note { side = note.side || implies (register_value note a) }
 
 -- the note after an instruction has written its result to its destination, from the note before it; `None` if
 -- it has no destination
-abbrev pub assign_any : Note → Instr → Option Register → Option Note
-assign_any note instr None = None
-assign_any note instr (Some d) = Some (assign_result note d instr)
+abbrev pub assign_destination : Note → Instr → Option Register → Option Note
+assign_destination note instr None = None
+assign_destination note instr (Some d) = Some (assign_result note d instr)
 
 -- the note that an instruction sends to the next one, from the note before it: a conditional jump refines it
 -- by its false condition, and other instructions write their result; `None` if control does not continue
@@ -160,7 +160,7 @@ next_note note (JumpLess a b t) = Some (refine_order note (variable.Register b) 
 next_note note (JumpAtMost a b t) = Some (refine_order note (variable.Register b) (variable.Register a) 2)
 next_note note (JumpTrue a t) = Some note
 next_note note (JumpFalse a t) = Some (refine_flag note a)
-next_note note instr = assign_any note instr (destination instr)
+next_note note instr = assign_destination note instr (destination instr)
 
 -- the note that a jump sends to its target, from the note before it: a conditional jump refines it by its
 -- true condition

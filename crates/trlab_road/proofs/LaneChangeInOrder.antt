@@ -1,7 +1,7 @@
 -- From answers in standing order to the lane change.
 use Rattle.std.proofs.Common.{◌≡◌, ℕ, Bool, false, List, get_or, sym, ◌∙◌, ap}
 use Rattle.trlab_road.specs.Cells.{Cells, cell, lane_of}
-use Rattle.trlab_road.specs.LaneChange.{other_lane, crosses_at, MayCross, Crosses, CrossesToEmpty, CleanLaneChange}
+use Rattle.trlab_road.specs.LaneChange.{other_lane, crosses_at, MayCross, Crosses, CrossesToEmpty, IsCleanLaneChange}
 use Rattle.trlab_road.specs.Gaps.{side}
 use Rattle.trlab_road.specs.Legal.{IsLegal}
 use Rattle.trlab_road.specs.Motion.{in_order}
@@ -34,5 +34,5 @@ pub cross_legal : (road new : Cells) (answers : List Bool) → IsLegal road → 
 cross_legal road new answers legal allowed m = lane_change_legal (crosses_at road answers) road new legal m (allowed_free road answers allowed)
 
 pub cross_clean : (road new : Cells) (answers : List Bool) → IsLegal road → MayCross road answers
-    → Crosses (crosses_at road answers) road new → CleanLaneChange road new
+    → Crosses (crosses_at road answers) road new → IsCleanLaneChange road new
 cross_clean road new answers legal allowed m = lane_change_clean (crosses_at road answers) road new legal m (allowed_free road answers allowed)

@@ -29,16 +29,16 @@ abbrev pub cell : Cells → ℕ → ℕ → Cell
 cell road l x = at (lane_of road l) x
 
 -- the number of cars on a lane
-abbrev pub lane_cars : Lane → ℕ
-lane_cars lane = count_by is_some lane
+abbrev pub lane_car_count : Lane → ℕ
+lane_car_count lane = count_by is_some lane
 
 -- the number of cars on a lane at places smaller than x
 abbrev pub cars_before : Lane → ℕ → ℕ
-cars_before lane x = lane_cars (take x lane)
+cars_before lane x = lane_car_count (take x lane)
 
 -- the number of cars on a road, all lanes together
 abbrev pub cars : Cells → ℕ
-cars road = sum_by lane_cars road.lanes
+cars road = sum_by lane_car_count road.lanes
 
 -- the car is on the road: the cell at its lane and place holds its number and its speed
 abbrev pub IsAt : Cells → Car → Type 0

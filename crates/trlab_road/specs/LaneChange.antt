@@ -8,7 +8,7 @@ use Rattle.trlab_road.specs.declared.car.Car.{Car}
 use Rattle.trlab_road.specs.Cells.{Cell, Lane, Cells, IsAt, at, cell, lane_of, cars}
 use Rattle.trlab_road.specs.Gaps.{side}
 use Rattle.trlab_road.specs.Motion.{in_order}
-use Rattle.trlab_road.specs.Standing.{IsStanding, rank}
+use Rattle.trlab_road.specs.Standing.{IsNthCar, rank}
 
 -- the other lane of a road with two lanes: 1 for lane 0, and 0 for lane 1
 abbrev pub other_lane : ℕ → ℕ
@@ -56,8 +56,8 @@ pub record CrossesToEmpty (crosses : ℕ → ℕ → Bool) (road : Cells) : Type
       → cell road (other_lane car.lane) car.place ≡ None
 
 -- a car after it has crossed: at the same place on the other lane, with the same number and speed
-abbrev pub car_beside : Car → Car
-car_beside car = record {
+abbrev pub car_after_crossing : Car → Car
+car_after_crossing car = record {
   number = car.number;
   lane = other_lane car.lane;
   place = car.place;
@@ -68,12 +68,12 @@ car_beside car = record {
 -- its number and its speed are unchanged
 pub data StaysOrCrosses (old new : Cells) (car : Car) : Type 0 where
   on_own_lane : IsAt new car → StaysOrCrosses old new car
-  on_other_lane : cell old (other_lane car.lane) car.place ≡ None → IsAt new (car_beside car)
+  on_other_lane : cell old (other_lane car.lane) car.place ≡ None → IsAt new (car_after_crossing car)
       → StaysOrCrosses old new car
 
 -- the lane change from `old` to `new` loses and adds no car: each stays or crosses to an empty side cell, and
 -- each car of `new` was at the same place of some lane, with the same number and speed
-pub record CleanLaneChange (old new : Cells) : Type 0 where
+pub record IsCleanLaneChange (old new : Cells) : Type 0 where
   pub same_count : cars new ≡ cars old
   pub none_lost : (car : Car) → IsAt old car → StaysOrCrosses old new car
   pub none_made : (car : Car) → IsAt new car
@@ -81,14 +81,14 @@ pub record CleanLaneChange (old new : Cells) : Type 0 where
 
 -- `value` is the result of `look` for the other lane, at the place of the k-th car in standing order; any
 -- value if there is no k-th car
-abbrev pub IsOnOtherLane : {X : Type 0} → (Lane → ℕ → X) → Cells → ℕ → X → Type 0
-IsOnOtherLane look road k value = (car : Car) → IsStanding road k car
+abbrev pub IsValueOnOtherLane : {X : Type 0} → (Lane → ℕ → X) → Cells → ℕ → X → Type 0
+IsValueOnOtherLane look road k value = (car : Car) → IsNthCar road k car
     → value ≡ look (lane_of road (other_lane car.lane)) car.place
 
 -- `gap` is the result of `look` for the other lane, at the place of the k-th car in standing order, and below
 -- the lane length; `look` is `sidegap` or `sideback`
-pub record IsGapBeside (look : Lane → ℕ → ℕ) (road : Cells) (k gap : ℕ) : Type 0 where
-  pub of_car : IsOnOtherLane look road k gap
+pub record IsGapOnOtherLane (look : Lane → ℕ → ℕ) (road : Cells) (k gap : ℕ) : Type 0 where
+  pub of_car : IsValueOnOtherLane look road k gap
   pub below : gap < length (lane_of road 0)
 
 -- for each car of a road with two lanes, in standing order: is its side cell empty?

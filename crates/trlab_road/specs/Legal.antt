@@ -20,7 +20,7 @@ pub record LimitFits (limit : ℕ) : Type 0 where
   pub low_limit : limit ≤ MAX_LIMIT
 
 -- all lanes of a road have the same length, and the number of lanes, their length and the limit are in range
-pub record HasShape (road : Cells) : Type 0 where
+pub record HasValidShape (road : Cells) : Type 0 where
   pub lanes : LanesFit (length road.lanes)
   pub cells : LengthFits (length (lane_of road 0))
   pub equal : (l : ℕ) → l < length road.lanes → length (lane_of road l) ≡ length (lane_of road 0)
@@ -29,7 +29,7 @@ pub record HasShape (road : Cells) : Type 0 where
 -- a legal road: lanes and limit are in range, no car is faster than the limit, each car number is below the
 -- number of cars, and no two cars have the same number. So n cars have the numbers 0 to n - 1
 pub record IsLegal (road : Cells) : Type 0 where
-  pub shape : HasShape road
+  pub shape : HasValidShape road
   pub within_limit : (car : Car) → IsAt road car → car.speed ≤ road.limit
   pub numbered : (car : Car) → IsAt road car → car.number < cars road
   pub once : (car other : Car) → IsAt road car → IsAt road other → car.number ≡ other.number

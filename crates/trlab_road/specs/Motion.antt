@@ -2,9 +2,9 @@
 -- functions of a lane and a place: how many cells does the car there move?
 use Rattle.std.specs.Prelude.{◌≡◌, ℕ, ◌<◌, ◌≤◌, Some, None, List, length, map, slice_index}
 use Rattle.trlab_road.specs.declared.car.Car.{Car}
-use Rattle.trlab_road.specs.Cells.{Lane, Cells, IsAt, at, lane_of, cars, lane_cars}
+use Rattle.trlab_road.specs.Cells.{Lane, Cells, IsAt, at, lane_of, cars, lane_car_count}
 use Rattle.trlab_road.specs.Gaps.{ahead, gap}
-use Rattle.trlab_road.specs.Standing.{IsStanding, standing}
+use Rattle.trlab_road.specs.Standing.{IsNthCar, standing}
 
 -- the car with this number and speed, at y after the motion of lane `old`, was at x with the speed `before`
 -- and has moved `answer x` cells, its new speed
@@ -53,8 +53,8 @@ pub record GoesAhead (old new : Lane) (x number speed : ℕ) : Type 0 where
 
 -- the motion of a lane from `old` to `new` is clean: no car is lost or added, and each has moved ahead over
 -- empty cells by its new speed
-pub record CleanLaneMotion (old new : Lane) : Type 0 where
-  pub same_count : lane_cars new ≡ lane_cars old
+pub record IsCleanLaneMotion (old new : Lane) : Type 0 where
+  pub same_count : lane_car_count new ≡ lane_car_count old
   pub none_lost : (x number before : ℕ)
       → at old x ≡ Some (number, before) → (speed : ℕ) × GoesAhead old new x number speed
   pub none_made : (y number speed : ℕ)
@@ -63,9 +63,9 @@ pub record CleanLaneMotion (old new : Lane) : Type 0 where
 
 -- the motion of a road from `old` to `new` is clean: on each lane no car is lost or added, and each has moved
 -- ahead over empty cells
-pub record CleanMotion (old new : Cells) : Type 0 where
+pub record IsCleanMotion (old new : Cells) : Type 0 where
   pub same_lanes : length new.lanes ≡ length old.lanes
-  pub each_lane : (l : ℕ) → l < length old.lanes → CleanLaneMotion (lane_of old l) (lane_of new l)
+  pub each_lane : (l : ℕ) → l < length old.lanes → IsCleanLaneMotion (lane_of old l) (lane_of new l)
 
 -- the list of the answers of a road's cars in standing order, from `answer`, a function of a lane and a place
 abbrev pub in_order : {X : Type 0} → (ℕ → ℕ → X) → Cells → List X
@@ -73,8 +73,8 @@ in_order answer road = map (λ (car : Car). answer car.lane car.place) (standing
 
 -- `value` is the result of `look` for the lane and the place of the k-th car in standing order; any value if
 -- there is no k-th car
-abbrev pub IsOnOwnLane : {X : Type 0} → (Lane → ℕ → X) → Cells → ℕ → X → Type 0
-IsOnOwnLane look road k value = (car : Car) → IsStanding road k car
+abbrev pub IsValueOnOwnLane : {X : Type 0} → (Lane → ℕ → X) → Cells → ℕ → X → Type 0
+IsValueOnOwnLane look road k value = (car : Car) → IsNthCar road k car
     → value ≡ look (lane_of road car.lane) car.place
 
 -- the gap ahead of each car of a road, in standing order

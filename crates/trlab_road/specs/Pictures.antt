@@ -12,8 +12,8 @@ use Rattle.trlab_road.specs.Legal.{LanesFit, LengthFits, LimitFits}
 use Rattle.trlab_road.specs.Standing.{standing}
 
 -- the character of an empty cell, `.`
-abbrev pub point : ℕ
-point = 46
+abbrev pub dot : ℕ
+dot = 46
 
 -- the character of a speed: a digit up to 9, then a small letter, `a` for 10 up to `z` for 35
 abbrev pub speed_character : ℕ → ℕ
@@ -21,7 +21,7 @@ speed_character speed = cond (nat_lt speed 10) (48 + speed) (97 + (speed - 10))
 
 -- the character of a cell: `.` if it is empty, otherwise the character of its car's speed
 abbrev pub character : Cell → ℕ
-character None = point
+character None = dot
 character (Some car) = speed_character car.1
 
 -- the picture of a lane: the character of each cell; for example, `2..0` shows a car of speed 2, two empty
@@ -35,7 +35,7 @@ pub record AreNumberedInOrder (road : Cells) : Type 0 where
 
 -- a limit and pictures show a road: it has this limit, its lanes have these pictures, and its cars are
 -- numbered in standing order
-pub record Shows (limit : ℕ) (pictures : List (List ℕ)) (road : Cells) : Type 0 where
+pub record PicturesShow (limit : ℕ) (pictures : List (List ℕ)) (road : Cells) : Type 0 where
   pub same_limit : road.limit ≡ limit
   pub drawn : map picture road.lanes ≡ pictures
   pub numbered : AreNumberedInOrder road
@@ -59,7 +59,7 @@ pub record HaveEqualLengths (pictures : List (List ℕ)) : Type 0 where
       → length (picture_at pictures l) ≡ length (picture_at pictures 0)
 
 -- the limit, the number of pictures and their common length are in range
-pub record HaveShape (limit : ℕ) (pictures : List (List ℕ)) : Type 0 where
+pub record HaveValidShape (limit : ℕ) (pictures : List (List ℕ)) : Type 0 where
   pub lanes : LanesFit (length pictures)
   pub lengths : HaveEqualLengths pictures
   pub limit_fits : LimitFits limit
@@ -72,17 +72,17 @@ pub record ShowsSpeed (most character : ℕ) : Type 0 where
 
 -- the character is that of a cell: `.`, or the character of a speed of at most the limit
 abbrev pub ShowsCell : ℕ → ℕ → Type 0
-ShowsCell limit character = (character ≡ point) ⊎ ShowsSpeed limit character
+ShowsCell limit character = (character ≡ dot) ⊎ ShowsSpeed limit character
 
 -- the limit, the number of pictures and their common length are in range, and each character shows a cell:
 -- these are the pictures of some legal road
 pub record AreGoodPictures (limit : ℕ) (pictures : List (List ℕ)) : Type 0 where
-  pub shape : HaveShape limit pictures
+  pub shape : HaveValidShape limit pictures
   pub cells : (l x : ℕ) → l < length pictures → x < length (picture_at pictures l)
       → ShowsCell limit (character_at pictures l x)
 
 -- the character of lane l at place x is the first that shows no cell, lane by lane and from left to right
-pub record IsFirstBad (limit : ℕ) (pictures : List (List ℕ)) (l x : ℕ) : Type 0 where
+pub record IsFirstBadCharacter (limit : ℕ) (pictures : List (List ℕ)) (l x : ℕ) : Type 0 where
   pub on_lane : l < length pictures
   pub inside : x < length (picture_at pictures l)
   pub bad : ¬ (ShowsCell limit (character_at pictures l x))
@@ -93,7 +93,7 @@ pub record IsFirstBad (limit : ℕ) (pictures : List (List ℕ)) (l x : ℕ) : T
 -- the limit and the number and length of the pictures are in range, and the first character that shows no
 -- cell is that of lane l at place x
 abbrev pub IsFaultAt : ℕ → List (List ℕ) → ℕ → ℕ → Type 0
-IsFaultAt limit pictures l x = HaveShape limit pictures × IsFirstBad limit pictures l x
+IsFaultAt limit pictures l x = HaveValidShape limit pictures × IsFirstBadCharacter limit pictures l x
 
 -- the character of lane l at place x is that of some speed up to MAX_LIMIT, possibly above the road's limit
 abbrev pub ShowsAnySpeed : List (List ℕ) → ℕ → ℕ → Type 0
@@ -101,14 +101,14 @@ ShowsAnySpeed pictures l x = ShowsSpeed MAX_LIMIT (character_at pictures l x)
 
 -- the first fault of a limit and pictures: first of the number of pictures, then of their lengths, the limit
 -- and the characters; `Memory`, a failed allocation, is always possible, and `TooManyCars` never
-abbrev pub IsFirstFault : ℕ → List (List ℕ) → RoadFault → Type 0
-IsFirstFault limit pictures Lanes = ¬ (LanesFit (length pictures))
-IsFirstFault limit pictures Length = LanesFit (length pictures) × ¬ (HaveEqualLengths pictures)
-IsFirstFault limit pictures Limit =
+abbrev pub IsFirstPictureFault : ℕ → List (List ℕ) → RoadFault → Type 0
+IsFirstPictureFault limit pictures Lanes = ¬ (LanesFit (length pictures))
+IsFirstPictureFault limit pictures Length = LanesFit (length pictures) × ¬ (HaveEqualLengths pictures)
+IsFirstPictureFault limit pictures Limit =
     LanesFit (length pictures) × HaveEqualLengths pictures × ¬ (LimitFits limit)
-IsFirstFault limit pictures (Character l x) =
+IsFirstPictureFault limit pictures (Character l x) =
     IsFaultAt limit pictures l x × ¬ (ShowsAnySpeed pictures l x)
-IsFirstFault limit pictures (SpeedAboveLimit l x) =
+IsFirstPictureFault limit pictures (SpeedAboveLimit l x) =
     IsFaultAt limit pictures l x × ShowsAnySpeed pictures l x
-IsFirstFault limit pictures Memory = Unit {0}
-IsFirstFault limit pictures TooManyCars = ⊥
+IsFirstPictureFault limit pictures Memory = Unit {0}
+IsFirstPictureFault limit pictures TooManyCars = ⊥

@@ -1,7 +1,7 @@
 -- The standing order of the cars of a road: lane by lane, and on each lane by increasing place.
 use Rattle.std.specs.Prelude.{◌≡◌, ℕ, suc, ◌+◌, Some, None, List, [], ◌∷◌, ◌++◌, slice_get, sum_by, take}
 use Rattle.trlab_road.specs.declared.car.Car.{Car}
-use Rattle.trlab_road.specs.Cells.{Lane, Cells, lane_of, lane_cars}
+use Rattle.trlab_road.specs.Cells.{Lane, Cells, lane_of, lane_car_count}
 
 -- the cars in a list of cells, which are the cells of lane l from place x on
 abbrev pub standing_from : ℕ → ℕ → Lane → List Car
@@ -20,10 +20,10 @@ abbrev pub standing : Cells → List Car
 standing road = standing_lanes 0 road.lanes
 
 -- the car is the k-th of the road in standing order, counted from 0
-abbrev pub IsStanding : Cells → ℕ → Car → Type 0
-IsStanding road k car = slice_get (standing road) k ≡ Some car
+abbrev pub IsNthCar : Cells → ℕ → Car → Type 0
+IsNthCar road k car = slice_get (standing road) k ≡ Some car
 
 -- the number of cars before place x of lane l in standing order; if a car is there, it is the car of this
 -- index, counted from 0
 abbrev pub rank : Cells → ℕ → ℕ → ℕ
-rank road l x = sum_by lane_cars (take l road.lanes) + lane_cars (take x (lane_of road l))
+rank road l x = sum_by lane_car_count (take l road.lanes) + lane_car_count (take x (lane_of road l))

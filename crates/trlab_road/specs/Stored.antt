@@ -5,11 +5,11 @@ use Rattle.std.specs.List.{range_with_len}
 use Rattle.trlab_road.specs.declared.car.Car.{Car}
 use Rattle.trlab_road.specs.declared.gaps.Beside.{Beside}
 use Rattle.trlab_road.specs.LaneCars.{LaneCar}
-use Rattle.trlab_road.specs.Cells.{Cell, Lane, Cells, at, lane_cars}
+use Rattle.trlab_road.specs.Cells.{Cell, Lane, Cells, at, lane_car_count}
 use Rattle.trlab_road.specs.Gaps.{greatest, side, sideback, sidegap}
 use Rattle.trlab_road.specs.Legal.{IsLegal}
 use Rattle.trlab_road.specs.Motion.{LaneFits, LaneMoves}
-use Rattle.trlab_road.specs.Pictures.{point, speed_character}
+use Rattle.trlab_road.specs.Pictures.{dot, speed_character}
 
 -- the cell at place x of a lane with the listed cars: the first of them at x, or empty if none is at x
 abbrev pub cell_at : List LaneCar → ℕ → Cell
@@ -38,7 +38,7 @@ abbrev pub place_of : List LaneCar → ℕ → ℕ
 place_of cars k = (slice_index_or cars k no_car).place
 
 -- the cars before the index `next` of the list are at place x or before it, and all others are past x
-pub record IsParted (cars : List LaneCar) (x next : ℕ) : Type 0 where
+pub record IsFirstPast (cars : List LaneCar) (x next : ℕ) : Type 0 where
   pub before : (k : ℕ) → k < next → k < length cars → place_of cars k ≤ x
   pub after : (k : ℕ) → next ≤ k → k < length cars → x < place_of cars k
 
@@ -96,17 +96,17 @@ pub record HasLeavingCars (crosses : ℕ → Bool) (old leaving : Lane) : Type 0
 
 -- the answer of the car at place x of a lane; the answers of the lane's cars begin at the index `from`
 abbrev pub lane_answer : Lane → List ℕ → ℕ → ℕ → ℕ
-lane_answer lane answers from x = slice_index answers (from + lane_cars (take x lane))
+lane_answer lane answers from x = slice_index answers (from + lane_car_count (take x lane))
 
 -- does the car at place x of a lane cross? The answers of the lane's cars begin at the index `from`; false if
 -- the list is too short
 abbrev pub lane_crosses_at : Lane → List Bool → ℕ → ℕ → Bool
-lane_crosses_at lane answers from x = slice_index_or answers (from + lane_cars (take x lane)) false
+lane_crosses_at lane answers from x = slice_index_or answers (from + lane_car_count (take x lane)) false
 
 -- the answer of the car at each place of lane l, from a list of the answers of all cars in standing order
 abbrev pub list_answer : ℕ → List (Vec LaneCar Global) → List ℕ → ℕ → ℕ → ℕ
 list_answer n lists answers l =
-    let before = sum_by lane_cars (take l (lanes_from n lists)) in
+    let before = sum_by lane_car_count (take l (lanes_from n lists)) in
     lane_answer (cells_of n (list_at lists l)) answers before
 
 -- on each lane of n cells, the answer of each car is at most the gap ahead of it; `answers` lists the answers
@@ -133,7 +133,7 @@ speed_of_character character =
 abbrev pub lane_of_picture : ℕ → List ℕ → Lane
 lane_of_picture n [] = []
 lane_of_picture n (character ∷ picture) =
-    cond (nat_eq character point)
+    cond (nat_eq character dot)
     (None ∷ lane_of_picture n picture)
     (Some (n, speed_of_character character) ∷ lane_of_picture (suc n) picture)
 
@@ -142,4 +142,4 @@ abbrev pub lanes_of_pictures : ℕ → List (List ℕ) → List Lane
 lanes_of_pictures n [] = []
 lanes_of_pictures n (picture ∷ pictures) =
     let lane = lane_of_picture n picture in
-    lane ∷ lanes_of_pictures (n + lane_cars lane) pictures
+    lane ∷ lanes_of_pictures (n + lane_car_count lane) pictures

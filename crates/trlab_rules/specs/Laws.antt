@@ -6,18 +6,18 @@ use Rattle.trlab_code.specs.declared.instruction.Instr.TheVariants.{Draw}
 use Rattle.trlab_code.specs.declared.program.Kind.TheVariants.{Motion, Change}
 use Rattle.trlab_code.specs.declared.view.View.{View}
 use Rattle.trlab_code.specs.Program.{Program}
-use Rattle.trlab_code.specs.Views.{IsView}
+use Rattle.trlab_code.specs.Views.{IsViewInRange}
 use Rattle.trlab_code.specs.Machine.{Flag, Goes, Crosses, Stays, Store, Writes, EndsWith, effect}
 
 -- for every view in range and any random words, the motion program ends with the speed `speed view words`
 abbrev pub ComputesSpeed : (View → List ℕ → ℕ) → Program → Type 0
-ComputesSpeed speed program = (view : View) (words : List ℕ) → IsView view
+ComputesSpeed speed program = (view : View) (words : List ℕ) → IsViewInRange view
     → (steps : ℕ) × EndsWith Motion program.instrs view words (Goes (speed view words)) steps
 
 -- for every view in range and any random words, the change program ends with the answer to cross if
 -- `crosses view words` is true, otherwise with the answer to stay
 abbrev pub ComputesCrossing : (View → List ℕ → Bool) → Program → Type 0
-ComputesCrossing crosses program = (view : View) (words : List ℕ) → IsView view
+ComputesCrossing crosses program = (view : View) (words : List ℕ) → IsViewInRange view
     → (steps : ℕ)
     × EndsWith Change program.instrs view words (if crosses view words then Crosses else Stays) steps
 

@@ -7,7 +7,7 @@ use Rattle.trlab_segments.specs.declared.parts.Part.{Part}
 use Rattle.trlab_segments.specs.declared.phase.Phase.{Phase}
 use Rattle.trlab_segments.specs.declared.tickets.Drawer.{Drawer}
 use Rattle.trlab_segments.specs.declared.tickets.Tickets.{Tickets}
-use Rattle.trlab_segments.specs.Drawers.{IsFrom, is_ended, passes_of, tickets_of}
+use Rattle.trlab_segments.specs.Drawers.{IsDrawerOf, is_ended, passes_of, tickets_of}
 use Rattle.trlab_segments.specs.Segments.{first_car}
 use Rattle.trlab_step.specs.Answers.{IsCrossingsPart, IsSpeedsPart}
 use Rattle.trlab_verify.specs.CheckedProgram.{CheckedProgram}
@@ -15,8 +15,8 @@ use Rattle.std.specs.Borrow.{Bor}
 use Rattle.trlab_road.specs.declared.road.Road.{Road}
 
 -- a road on which a motion program can run: any road
-abbrev pub HasLanes : Cells → Type 0
-HasLanes road = Unit {0}
+abbrev pub IsAnyRoad : Cells → Type 0
+IsAnyRoad road = Unit {0}
 
 -- a road on which a change program can run: it has two lanes
 abbrev pub HasTwoLanes : Cells → Type 0
@@ -38,9 +38,9 @@ AnswersSegment answers program dice road count part =
 -- a part has the answers of the phase's program for the cars of its segment, with the dice and the road of
 -- the phase. The last two arguments are the number of segments and the part; `answers` is as in
 -- `AnswersSegment`
-abbrev pub IsPart : {P A : Type 0} → (P → Dice → Cells → ℕ → ℕ → List A → Type 0)
+abbrev pub IsPartOfPhase : {P A : Type 0} → (P → Dice → Cells → ℕ → ℕ → List A → Type 0)
     → Phase P → ℕ → Part A → Type 0
-IsPart answers phase = AnswersSegment answers phase.program.now phase.dice.now phase.road.now
+IsPartOfPhase answers phase = AnswersSegment answers phase.program.now phase.dice.now phase.road.now
 
 -- the drawer has found that no ticket is left, and `parts` has one part for each ticket that it drew, in the
 -- same order; `Fits` holds for each part
@@ -55,13 +55,13 @@ pub record HasParts {A : Type 0} (Fits : Part A → Type 0) (drawer : Drawer)
 abbrev pub HasWorked : {A B E : Type 0} → (Part A → Type 0) → Tickets → Drawer
     → Drawer × Result (Vec (Part A) B) E → Type 0
 HasWorked Fits tickets old outcome =
-    IsFrom tickets outcome.0 × (passes_of outcome.0 ≡ passes_of old)
+    IsDrawerOf tickets outcome.0 × (passes_of outcome.0 ≡ passes_of old)
     × IfOk outcome.1 (λ parts. HasParts Fits outcome.0 parts.items)
 
 -- the part at this index of the list has this ticket; `other`, which `slice_index_or` would give beyond the
 -- end, is never used
-abbrev pub IsPlaceOf : {A : Type 0} → List (Part A) → ℕ → ℕ → Type 0
-IsPlaceOf parts index ticket =
+abbrev pub IsIndexOfTicket : {A : Type 0} → List (Part A) → ℕ → ℕ → Type 0
+IsIndexOfTicket parts index ticket =
     (index < length parts) × ((other : Part _) → ticket_of (slice_index_or parts index other) ≡ ticket)
 
 -- a call with precondition `pre` and postcondition `post` can be made on any road and, unless an allocation

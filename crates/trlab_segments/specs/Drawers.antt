@@ -5,8 +5,8 @@ use Rattle.trlab_segments.specs.declared.tickets.Tickets.{Tickets}
 use Rattle.trlab_segments.specs.declared.tickets.Drawer.{Drawer}
 
 -- the number of tickets; for example, 3 tickets have the numbers 0, 1 and 2
-abbrev pub count_of : Tickets → ℕ
-count_of tickets = tickets.plan.count
+abbrev pub ticket_count : Tickets → ℕ
+ticket_count tickets = tickets.plan.count
 
 -- the maximum number of drawers of these tickets, which is also the number of their passes
 abbrev pub drawers_of : Tickets → ℕ
@@ -22,16 +22,16 @@ abbrev pub tickets_of : Drawer → List ℕ
 tickets_of drawer = drawer.seat.me.0.tickets
 
 -- the smallest number that the next ticket of a drawer may have
-abbrev pub least_of : Drawer → ℕ
-least_of drawer = drawer.seat.me.0.least
+abbrev pub least_next_ticket : Drawer → ℕ
+least_next_ticket drawer = drawer.seat.me.0.least
 
 -- has a drawer found that no ticket is left?
 abbrev pub is_ended : Drawer → Bool
 is_ended drawer = drawer.ended
 
 -- the drawer belongs to these tickets: it draws from their counter, and has their plan
-abbrev pub IsFrom : Tickets → Drawer → Type 0
-IsFrom tickets drawer =
+abbrev pub IsDrawerOf : Tickets → Drawer → Type 0
+IsDrawerOf tickets drawer =
     (drawer.seat.table_id ≡ tickets.table.shared.table_id) × (drawer.seat.me.0.plan ≡ tickets.plan)
 
 -- the drawer has drawn no ticket, and has not found that none is left
@@ -39,19 +39,19 @@ abbrev pub IsUnused : Drawer → Type 0
 IsUnused drawer = (tickets_of drawer ≡ []) × (is_ended drawer ≡ false)
 
 -- the drawer belongs to these tickets, and has drawn none of them; it may have found that none is left
-abbrev pub IsNew : Tickets → Drawer → Type 0
-IsNew tickets drawer = IsFrom tickets drawer × (tickets_of drawer ≡ [])
+abbrev pub HasDrawnNone : Tickets → Drawer → Type 0
+HasDrawnNone tickets drawer = IsDrawerOf tickets drawer × (tickets_of drawer ≡ [])
 
 -- the drawer has all passes of these tickets
-abbrev pub HasAll : Tickets → Drawer → Type 0
-HasAll tickets drawer = passes_of drawer ≡ drawers_of tickets
+abbrev pub HasAllPasses : Tickets → Drawer → Type 0
+HasAllPasses tickets drawer = passes_of drawer ≡ drawers_of tickets
 
 -- the drawer `old` has drawn this ticket, and is now `new`, which has not ended. The ticket is below the
 -- number of tickets, and not below the smallest that the drawer could draw; the next one will be above it
 abbrev pub HasDrawn : Tickets → Drawer → ℕ → Drawer → Type 0
 HasDrawn tickets old ticket new =
-    (ticket < count_of tickets) × (least_of old ≤ ticket)
-    × (tickets_of new ≡ tickets_of old ++ ticket ∷ []) × (least_of new ≡ ticket + 1)
+    (ticket < ticket_count tickets) × (least_next_ticket old ≤ ticket)
+    × (tickets_of new ≡ tickets_of old ++ ticket ∷ []) × (least_next_ticket new ≡ ticket + 1)
     × (is_ended new ≡ false)
 
 -- both are the same drawer: they belong to the same tickets, and have the same knowledge, passes and end
@@ -62,7 +62,7 @@ IsSameDrawer one other =
 
 -- the drawer `all` has the drawn tickets of `one`, then those of `other`, and has ended if either of them has
 pub record Joins (t : Tickets) (one other all : Drawer) : Type 0 where
-  pub from : IsFrom t all
+  pub from : IsDrawerOf t all
   pub tickets : tickets_of all ≡ tickets_of one ++ tickets_of other
   pub ended : is_ended all ≡ (is_ended one || is_ended other)
 

@@ -7,25 +7,25 @@ use Rattle.atomic_table.specs.Table.{State, Me}
 
 module _ {T K : Type 0} where
   -- the slot of the lock holds a value for which `Fits` holds
-  abbrev pub HasAtHome : (T → Type 0) → State (Option T) K → Type 0
-  HasAtHome Fits state =
+  abbrev pub HoldsFittingValue : (T → Type 0) → State (Option T) K → Type 0
+  HoldsFittingValue Fits state =
       (value : T) × (get_elem? state.homes 0 ≡ some (some (Some value))) × Fits value
 
   -- the rule of the lock: it has one word, and while this word is 0, the slot holds a value for which `Fits`
   -- holds
-  abbrev pub Guarded : (T → Type 0) → State (Option T) K → Type 0
-  Guarded Fits state =
-      (length state.words ≡ 1) × (slice_index state.words 0 ≡ 0 → HasAtHome Fits state)
+  abbrev pub ObeysLockRule : (T → Type 0) → State (Option T) K → Type 0
+  ObeysLockRule Fits state =
+      (length state.words ≡ 1) × (slice_index state.words 0 ≡ 0 → HoldsFittingValue Fits state)
 
   -- a thread has taken the slot, with a value in it for which `Fits` holds, and no other slot
-  abbrev pub Seized : (T → Type 0) → Me (Option T) K → Type 0
-  Seized Fits thread = (value : T) × (thread.1 ≡ (0, Some value) ∷ []) × Fits value
+  abbrev pub HasTakenValue : (T → Type 0) → Me (Option T) K → Type 0
+  HasTakenValue Fits thread = (value : T) × (thread.1 ≡ (0, Some value) ∷ []) × Fits value
 
   -- a thread that finds 0 in the word takes the slot, with a value for which `Fits` holds; a thread that
   -- finds another number must try again
   abbrev pub Acquires : (T → Type 0) → ℕ → Me (Option T) K → Type 0
-  Acquires Fits found thread = found ≡ 0 → Seized Fits thread
+  Acquires Fits found thread = found ≡ 0 → HasTakenValue Fits thread
 
   -- a thread has taken the slot, which may be empty by now, and no other slot
-  abbrev pub HasOnly : Me (Option T) K → Type 0
-  HasOnly thread = (held : Option T) × (thread.1 ≡ (0, held) ∷ [])
+  abbrev pub HasTakenSlot : Me (Option T) K → Type 0
+  HasTakenSlot thread = (held : Option T) × (thread.1 ≡ (0, held) ∷ [])

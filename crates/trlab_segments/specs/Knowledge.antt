@@ -12,8 +12,8 @@ occurrences x tickets = count_by (λ ticket. eqb ticket x) tickets
 
 -- the list is a permutation of the numbers below `count`: it has each of them exactly once, and no other
 -- number. An example with `count` 3 is [2, 0, 1]
-abbrev pub IsWhole : List ℕ → ℕ → Type 0
-IsWhole tickets count = (x : ℕ) → occurrences x tickets ≡ once_below x count
+abbrev pub IsPermutation : List ℕ → ℕ → Type 0
+IsPermutation tickets count = (x : ℕ) → occurrences x tickets ≡ once_below x count
 
 -- the knowledge of a drawer: the plan of its tickets, its passes, the tickets that it drew, the smallest
 -- number that its next ticket may have, and whether it has found that no ticket is left

@@ -7,22 +7,22 @@ use Rattle.atomic_table.specs.Table.{State}
 use Rattle.trlab_bounds.specs.declared.runs.TheConstants.{MAX_WORKERS}
 use Rattle.trlab_segments.specs.declared.ticket_rule.Plan.{Plan}
 use Rattle.trlab_segments.specs.declared.ticket_rule.TicketKnowledge.{TicketKnowledge}
-use Rattle.trlab_segments.specs.Knowledge.{IsWhole}
-use Rattle.trlab_segments.specs.Rule.{KeepsTickets, counter_of}
+use Rattle.trlab_segments.specs.Knowledge.{IsPermutation}
+use Rattle.trlab_segments.specs.Rule.{ObeysTicketRule, counter_of}
 use Rattle.trlab_segments.specs.Segments.{segment_count, first_car, segment}
 
 -- if the rule of tickets holds, the counter is at most the number of tickets plus the maximum number of
 -- workers
 abbrev pub CounterIsBounded : Type 0
 CounterIsBounded = (plan : Plan) (state : State ℕ TicketKnowledge)
-    → KeepsTickets plan state → counter_of state ≤ plan.count + MAX_WORKERS
+    → ObeysTicketRule plan state → counter_of state ≤ plan.count + MAX_WORKERS
 
 -- if the rule of tickets holds, a drawer with all passes has drawn each ticket exactly once, if and only if
 -- the counter has reached the number of tickets
 abbrev pub AllPassesHaveAllTickets : Type 0
 AllPassesHaveAllTickets = (plan : Plan) (state : State ℕ TicketKnowledge) (seat : ℕ) (mine : TicketKnowledge)
-    → KeepsTickets plan state → get_elem? state.views seat ≡ some mine → mine.passes ≡ plan.drawers
-    → IsWhole mine.tickets plan.count ↔ (plan.count ≤ counter_of state)
+    → ObeysTicketRule plan state → get_elem? state.views seat ≡ some mine → mine.passes ≡ plan.drawers
+    → IsPermutation mine.tickets plan.count ↔ (plan.count ≤ counter_of state)
 
 -- the first of `count` segments begins with the first car, and the last one ends with the last car
 abbrev pub SegmentsBeginAndEnd : Type 0

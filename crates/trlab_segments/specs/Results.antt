@@ -5,7 +5,7 @@ use Rattle.std.specs.Prelude.{◌≡◌, ℕ, List, [], Option, IfSome, MatchOpt
 use Rattle.trlab_machine.specs.declared.dice.Dice.{Dice}
 use Rattle.trlab_road.specs.Cells.{Cells, cars}
 use Rattle.trlab_segments.specs.Answered.{AnswersSegment, HasParts}
-use Rattle.trlab_segments.specs.Drawers.{IsFrom, IsNew, count_of}
+use Rattle.trlab_segments.specs.Drawers.{IsDrawerOf, HasDrawnNone, ticket_count}
 use Rattle.trlab_segments.specs.Segments.{first_car}
 use Rattle.trlab_segments.specs.declared.tickets.Drawer.{Drawer}
 use Rattle.trlab_segments.specs.declared.parts.Part.{Part}
@@ -19,28 +19,28 @@ IsBriefOf program dice road brief = (brief.program ≡ program) × (brief.dice �
 -- the last segment of a brief ends with the last car of its road
 abbrev pub CoversAllCars : {P : Type 0} → Brief P → Type 0
 CoversAllCars brief =
-    first_car (cars brief.road) (count_of brief.tickets) (count_of brief.tickets) ≡ cars brief.road
+    first_car (cars brief.road) (ticket_count brief.tickets) (ticket_count brief.tickets) ≡ cars brief.road
 
 -- a part has the answers of the brief's program for the cars of its segment
-abbrev pub IsRight : {P A : Type 0} → (P → Dice → Cells → ℕ → ℕ → List A → Type 0)
+abbrev pub IsPartOfBrief : {P A : Type 0} → (P → Dice → Cells → ℕ → ℕ → List A → Type 0)
     → Brief P → Part A → Type 0
-IsRight answers brief =
-    AnswersSegment answers brief.program brief.dice brief.road (count_of brief.tickets)
+IsPartOfBrief answers brief =
+    AnswersSegment answers brief.program brief.dice brief.road (ticket_count brief.tickets)
 
 -- the drawer belongs to the brief's tickets and has found none left, and `parts` has the right part for each
 -- ticket that it drew, in its order
 abbrev pub HasDone : {P A : Type 0} → (P → Dice → Cells → ℕ → ℕ → List A → Type 0)
     → Brief P → Drawer → List (Part A) → Type 0
 HasDone answers brief drawer parts =
-    IsFrom brief.tickets drawer × HasParts (IsRight answers brief) drawer parts
+    IsDrawerOf brief.tickets drawer × HasParts (IsPartOfBrief answers brief) drawer parts
 
 -- the drawer belongs to the brief's tickets; and unless an allocation failed, it has found none left, and
 -- there is the right part for each ticket that it drew
 abbrev pub IsRightResult : {P A B E : Type 0} → (P → Dice → Cells → ℕ → ℕ → List A → Type 0)
     → Brief P → Drawer → Result (Vec (Part A) B) E → Type 0
 IsRightResult answers brief drawer parts_or_error =
-    IsFrom brief.tickets drawer
-    × IfOk parts_or_error (λ parts. HasParts (IsRight answers brief) drawer parts.items)
+    IsDrawerOf brief.tickets drawer
+    × IfOk parts_or_error (λ parts. HasParts (IsPartOfBrief answers brief) drawer parts.items)
 
 -- the deposit of the helpers is right. With no drawer (`None`), no helper has deposited, and there are no
 -- parts; otherwise the drawer and the parts are a right result. In both cases there may be an error instead
@@ -61,5 +61,5 @@ AnswersAll answers brief found = answers brief.program brief.dice brief.road 0 (
 pub record AreResults {P A : Type 0} (answers : P → Dice → Cells → ℕ → ℕ → List A → Type 0)
     (can_ask : Cells → Type 0) (brief : Brief P) (results : Results A) : Type 0 where
   pub lanes : can_ask brief.road
-  pub reserve : IfSome results.reserve (IsNew brief.tickets)
+  pub reserve : IfSome results.reserve (HasDrawnNone brief.tickets)
   pub done : IsDeposited answers brief results.done results.parts

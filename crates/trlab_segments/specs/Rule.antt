@@ -8,7 +8,7 @@ use Rattle.trlab_bounds.specs.declared.runs.TheConstants.{MAX_WORKERS}
 use Rattle.trlab_segments.specs.declared.ticket_rule.Plan.{Plan}
 use Rattle.trlab_segments.specs.declared.ticket_rule.TicketKnowledge.{TicketKnowledge}
 use Rattle.trlab_strands.specs.Knowledge.{once_below}
-use Rattle.trlab_segments.specs.Knowledge.{occurrences, IsWhole, no_knowledge, with_ticket, at_end}
+use Rattle.trlab_segments.specs.Knowledge.{occurrences, IsPermutation, no_knowledge, with_ticket, at_end}
 use Rattle.trlab_segments.specs.Knowledge.{passes_at_end}
 
 -- the counter, the word that drawers share: it is the next ticket, and all tickets below it were drawn
@@ -22,7 +22,7 @@ pub record IsSoundDrawer (plan : Plan) (counter : ℕ) (drawer : TicketKnowledge
   pub idle : drawer.passes ≡ 0 → drawer ≡ no_knowledge
   pub same_plan : 0 < drawer.passes → drawer.plan ≡ plan
   pub late : drawer.ended ≡ true → plan.count ≤ counter
-  pub rises : drawer.least ≤ counter
+  pub least_within : drawer.least ≤ counter
 
 -- the knowledge of all seats is true for this plan and counter. Each ticket below the counter was drawn
 -- exactly once, by one drawer, and no other number was drawn. The passes add up to the drawers of the plan,
@@ -38,7 +38,7 @@ pub record AreSoundDrawers (plan : Plan) (counter : ℕ) (known : List TicketKno
 -- the rule of tickets, which holds before and after each atomic step: the only word is the counter, the
 -- numbers of tickets and drawers are in range, and the knowledge of all seats is true for the plan and the
 -- counter
-pub record KeepsTickets (plan : Plan) (state : State ℕ TicketKnowledge) : Type 0 where
+pub record ObeysTicketRule (plan : Plan) (state : State ℕ TicketKnowledge) : Type 0 where
   pub one_word : length state.words ≡ 1
   pub count : plan.count < 2 ^ 32
   pub drawers : plan.drawers ≤ MAX_WORKERS
@@ -55,13 +55,13 @@ DrawsTicket step old found new =
 -- facts about a drawer that follow from the rule. It has at most all passes, of which there are at most
 -- `MAX_WORKERS`; if it has all, it has drawn each ticket below the counter exactly once; if it has ended, the
 -- counter has reached the number of tickets
-pub record LearnsCounter (counter : ℕ) (drawer : TicketKnowledge) : Type 0 where
+pub record AgreesWithCounter (counter : ℕ) (drawer : TicketKnowledge) : Type 0 where
   pub passes : drawer.passes ≤ drawer.plan.drawers
   pub drawers : drawer.plan.drawers ≤ MAX_WORKERS
   pub whole : drawer.passes ≡ drawer.plan.drawers
-      → IsWhole drawer.tickets (min drawer.plan.count counter)
+      → IsPermutation drawer.tickets (min drawer.plan.count counter)
   pub late : drawer.ended ≡ true → drawer.plan.count ≤ counter
 
--- the step that reads the counter, `found`: it changes nothing, and shows that `LearnsCounter` holds
+-- the step that reads the counter, `found`: it changes nothing, and shows that `AgreesWithCounter` holds
 abbrev pub ReadsCounter : Step ℕ → Me ℕ TicketKnowledge → ℕ → Me ℕ TicketKnowledge → Type 0
-ReadsCounter step old found new = (new ≡ old) × LearnsCounter found old.0
+ReadsCounter step old found new = (new ≡ old) × AgreesWithCounter found old.0

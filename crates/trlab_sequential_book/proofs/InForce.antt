@@ -6,13 +6,13 @@ use Rattle.std.proofs.Math.Nat.{eq-or-lt_of_le}
 use Rattle.std.specs.Prelude.{All, slice_get, Option, Some, None, nat_le, unwrap_or, option_map, if◌then◌else◌}
 use Rattle.std.specs.List.{AllWithin}
 use Rattle.trlab_rules.specs.Rules.{Programs}
-use Rattle.trlab_step.specs.Run.{Sheet, Rises, IsSheet, in_force}
+use Rattle.trlab_step.specs.Run.{Sheet, StepsIncreaseFrom, IsSheet, in_force}
 use Rattle.trlab_sequential_book.specs.declared.lease.ExecutedStep.{ExecutedStep}
 use Rattle.trlab_sequential_book.specs.Leases.{IsSteady}
 use Rattle.trlab_sequential_book.specs.Sheets.{AreInForce, entry_in_force}
 
 -- the steps of a sheet rise from 0 on
-pub rises_from_0 : (sheet : Sheet) → IsSheet sheet → Rises 0 sheet
+pub rises_from_0 : (sheet : Sheet) → IsSheet sheet → StepsIncreaseFrom 0 sheet
 rises_from_0 [] is = absurd is
 rises_from_0 (first ∷ later) is = (omega arith, rw is.0 is.1)
 
@@ -59,7 +59,7 @@ rule_in_force (entry ∷ sheet) step =
     ∙ ap (λ (others : Option Programs). if nat_le entry.0 step then Some (unwrap_or others entry.1) else None) (rule_in_force sheet step)
 
 -- below the steps of a sheet no rule is in force
-pub none_in_force : (sheet : Sheet) (least step : ℕ) → Rises least sheet → step < least → in_force sheet step ≡ None
+pub none_in_force : (sheet : Sheet) (least step : ℕ) → StepsIncreaseFrom least sheet → step < least → in_force sheet step ≡ None
 none_in_force [] least step rises below = refl
 none_in_force (entry ∷ sheet) least step rises below =
     let here = rises.0 in
@@ -105,7 +105,7 @@ pub record IsLastIn (least : ℕ) (sheet : Sheet) (step : ℕ) (entry : ℕ × P
 one_entry : {a b : ℕ × Programs} → Some a ≡ Some b → a ≡ b
 one_entry e = cc
 
-pub last_in_force : (least : ℕ) (sheet : Sheet) (step n : ℕ) (entry : ℕ × Programs) → Rises least sheet
+pub last_in_force : (least : ℕ) (sheet : Sheet) (step n : ℕ) (entry : ℕ × Programs) → StepsIncreaseFrom least sheet
     → slice_get sheet n ≡ Some entry → length sheet ≡ suc n → IsLastIn least sheet step entry
 last_in_force least [] step n entry rises at long = absurd cc
 last_in_force least (x ∷ []) step zero entry rises at long =

@@ -33,14 +33,14 @@ order_reply (Ok order) = Ordered order.job order.lease order.step order.from
 order_reply (Err fault) = Refused fault
 
 -- the reply for a result of `give_back`: `Done`, or the fault, which the result has together with the lease
-abbrev pub back_reply : Result (Unit {0}) (LeaseState × BookFault) → Reply
-back_reply (Ok done) = Done
-back_reply (Err lease_and_fault) = Refused lease_and_fault.1
+abbrev pub give_back_reply : Result (Unit {0}) (LeaseState × BookFault) → Reply
+give_back_reply (Ok done) = Done
+give_back_reply (Err lease_and_fault) = Refused lease_and_fault.1
 
 -- the reply for a result of `read`: the steps done and the number of entries of the sheet, or the fault
-abbrev pub seen_reply : Result Progress BookFault → Reply
-seen_reply (Ok snapshot) = Seen snapshot.step (length snapshot.sheet)
-seen_reply (Err fault) = Refused fault
+abbrev pub read_reply : Result Progress BookFault → Reply
+read_reply (Ok snapshot) = Seen snapshot.step (length snapshot.sheet)
+read_reply (Err fault) = Refused fault
 
 -- the reply for a result of `lease`: `NoLease` if no job is free; otherwise the job, the number of the lease,
 -- its next step and the steps of the job; or the fault

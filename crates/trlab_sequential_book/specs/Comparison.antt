@@ -24,19 +24,19 @@ offered lease same = record {
 
 -- the lease runs the job's road: it has the key and the number of the job's seed, its base is the job's road
 -- at the steps done, and its steps were run under the rules in force in the job's sheet
-pub record IsOwnRun (job : JobState) (lease : LeaseState) : Type 0 where
+pub record RunsRoadOfJob (job : JobState) (lease : LeaseState) : Type 0 where
   pub key : lease.key ≡ job.seed.key
   pub number : lease.road_number ≡ job.seed.number
   pub base : IsRoadAt (run_start job.seed) job.sheet job.done lease.base.road
   pub rules : AreInForce job.sheet lease.base.step lease.applied
 
 -- the job of the lease exists, and the lease runs this job's road: the meaning of `same` in an offered lease
-abbrev pub IsSame : List JobState → LeaseState → Type 0
-IsSame jobs lease = MatchOption (slice_get jobs lease.job) ⊥ (λ job. IsOwnRun job lease)
+abbrev pub RunsRoadOfItsJob : List JobState → LeaseState → Type 0
+RunsRoadOfItsJob jobs lease = MatchOption (slice_get jobs lease.job) ⊥ (λ job. RunsRoadOfJob job lease)
 
 -- the job of the order exists, and the order's rule is in force at the order's step in this job's sheet
-abbrev pub IsRuleAt : List JobState → Order → Type 0
-IsRuleAt jobs order =
+abbrev pub HasRuleInForce : List JobState → Order → Type 0
+HasRuleInForce jobs order =
     MatchOption (slice_get jobs order.job) ⊥ (λ job. in_force job.sheet order.step ≡ Some order.rule)
 
 -- a snapshot of the job: it has the job's seed and sheet, and its step is the number of steps done. Its road
@@ -47,8 +47,8 @@ pub record IsSnapshotOf (job : JobState) (snapshot : Progress) : Type 0 where
   pub step : snapshot.step ≡ job.done
 
 -- the job with this number exists, and the snapshot is one of this job
-abbrev pub IsSeen : List JobState → ℕ → Progress → Type 0
-IsSeen jobs number snapshot = MatchOption (slice_get jobs number) ⊥ (λ job. IsSnapshotOf job snapshot)
+abbrev pub ShowsJob : List JobState → ℕ → Progress → Type 0
+ShowsJob jobs number snapshot = MatchOption (slice_get jobs number) ⊥ (λ job. IsSnapshotOf job snapshot)
 
 -- a lease of the job that has just gone out, with this number: it begins at the job's road after the steps
 -- done, has the job's number of steps, and has run none
@@ -57,13 +57,13 @@ pub record IsFresh (job : JobState) (number : ℕ) (lease : LeaseState) : Type 0
   pub steps : lease.steps ≡ job.steps
   pub base_step : lease.base.step ≡ job.done
   pub step : lease.step ≡ job.done
-  pub own : IsOwnRun job lease
+  pub own : RunsRoadOfJob job lease
 
 -- if a lease went out, its job exists, and the lease is a fresh one of this job, with this number; for `None`
 -- no lease went out, and this is always true
-abbrev pub IsLent : List JobState → ℕ → Option LeaseState → Type 0
-IsLent jobs number None = Unit {0}
-IsLent jobs number (Some lease) =
+abbrev pub IsFreshIfLent : List JobState → ℕ → Option LeaseState → Type 0
+IsFreshIfLent jobs number None = Unit {0}
+IsFreshIfLent jobs number (Some lease) =
     MatchOption (slice_get jobs lease.job) ⊥ (λ job. IsFresh job number lease)
 
 -- the call `lease`; it has this name because `Lease` is the type of its result

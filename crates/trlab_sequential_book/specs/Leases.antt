@@ -73,8 +73,8 @@ pub record FitsOrder (lease : LeaseState) (order : Order) : Type 0 where
   pub rule : suits order.rule lease.road ≡ true
 
 -- the lease after one more step under `rule`, with this tally, to the road `next`
-abbrev pub one_more : LeaseState → Programs → StepTally → Cells → LeaseState
-one_more lease rule tally next = record lease {
+abbrev pub with_executed_step : LeaseState → Programs → StepTally → Cells → LeaseState
+with_executed_step lease rule tally next = record lease {
   step = lease.step + 1;
   road = next;
   applied = lease.applied ++ record { rule = rule; tally = tally } ∷ [];
@@ -85,4 +85,4 @@ pub record HasRun (old : LeaseState) (order : Order) (new : LeaseState) : Type 0
   pub fits : FitsOrder old order
   pub tally : StepTally
   pub next : IsNext order.rule (dice_of old.key.0 old.road_number old.step) old.road new.road tally
-  pub grown : new ≡ one_more old order.rule tally new.road
+  pub grown : new ≡ with_executed_step old order.rule tally new.road

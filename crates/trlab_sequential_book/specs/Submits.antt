@@ -9,7 +9,7 @@ use Rattle.trlab_sequential_book.specs.declared.event.Event.{Event}
 use Rattle.trlab_sequential_book.specs.declared.event.Call.TheVariants as call
 use Rattle.trlab_sequential_book.specs.declared.event.Reply.TheVariants as reply
 use Rattle.trlab_sequential_book.specs.Machine.{JobState, BookState}
-use Rattle.trlab_sequential_book.specs.Comparison.{IsSeen, IsSnapshotOf}
+use Rattle.trlab_sequential_book.specs.Comparison.{ShowsJob, IsSnapshotOf}
 use Rattle.trlab_sequential_book.specs.Replay.{Replays, event}
 
 -- event k of a history, counted from 0, is a submit with this seed, this rule and this number of steps, and
@@ -32,8 +32,8 @@ JobsAreSubmitted =
     → slice_get book.jobs number ≡ Some job → IsSubmitted history number job
 
 -- if a history replays to a book, no two of its submits have the same number as their reply
-abbrev pub SubmitsHaveTheirNumbers : Type 0
-SubmitsHaveTheirNumbers =
+abbrev pub SubmitNumbersAreUnique : Type 0
+SubmitNumbersAreUnique =
     (history : List Event) (book : BookState) (j k number : ℕ) (seed other_seed : Seed)
     (rule other_rule : Programs) (steps other_steps : ℕ) → Replays history book
     → IsSubmit history j seed rule steps number
@@ -44,7 +44,7 @@ SubmitsHaveTheirNumbers =
 abbrev pub SnapshotsAreOfSubmits : Type 0
 SnapshotsAreOfSubmits =
     (history : List Event) (book : BookState) (number : ℕ) (seen : Progress) → Replays history book
-    → IsSeen book.jobs number seen
+    → ShowsJob book.jobs number seen
     → (job : JobState) × IsSubmitted history number job × IsSnapshotOf job seen
 
 -- the snapshot `seen` of the job with this number shows the last road of a driven run, in which one worker
@@ -63,4 +63,4 @@ pub record IsDrivenRead (history : List Event) (number : ℕ) (seen : Progress) 
 abbrev pub ReadsAreDriven : Type 0
 ReadsAreDriven =
     (history : List Event) (book : BookState) (number : ℕ) (seen : Progress) → Replays history book
-    → IsSeen book.jobs number seen → IsUnderway seen → IsDrivenRead history number seen
+    → ShowsJob book.jobs number seen → IsUnderway seen → IsDrivenRead history number seen

@@ -6,11 +6,11 @@ use Rattle.trlab_code.specs.declared.program.Kind.TheVariants.{Motion, Change}
 use Rattle.trlab_verify.specs.CheckedProgram.{CheckedProgram, IsChecked}
 use Rattle.trlab_road.specs.declared.car.Car.{Car}
 use Rattle.trlab_road.specs.Cells.{Cells, AgreeAtCars}
-use Rattle.trlab_road.specs.LaneChange.{CleanLaneChange, road_after_change}
+use Rattle.trlab_road.specs.LaneChange.{IsCleanLaneChange, road_after_change}
 use Rattle.trlab_road.specs.LaneChange.StaysOrCrosses.{on_own_lane}
 use Rattle.trlab_road.specs.Standing.{standing}
 use Rattle.trlab_road.specs.Legal.{IsLegal}
-use Rattle.trlab_road.specs.Motion.{CleanMotion}
+use Rattle.trlab_road.specs.Motion.{IsCleanMotion}
 use Rattle.trlab_road.proofs.MotionLaws.{moves_clean, moves_same_count, moved_legal, one_road_only}
 use Rattle.trlab_road.proofs.MotionExists.{road_moves_somewhere}
 use Rattle.trlab_road.proofs.MotionInOrder.{moves_by}
@@ -38,7 +38,7 @@ like_next old middle new a b = record {
 }
 
 -- where no car crosses, the lane change is clean
-pub no_change_clean : (road : Cells) → CleanLaneChange road road
+pub no_change_clean : (road : Cells) → IsCleanLaneChange road road
 no_change_clean road = record { same_count = refl; none_lost = λ car here. on_own_lane here; none_made = λ car here. (car.lane, here) }
 
 -- the lane change leads to a road
@@ -46,7 +46,7 @@ pub record LaneChangeSomewhere (change : Option CheckedProgram) (dice : Dice) (r
   pub middle : Cells
   pub changes : ℕ
   pub lane_change : IsLaneChangePhase change dice road middle changes
-  pub clean : CleanLaneChange road middle
+  pub clean : IsCleanLaneChange road middle
   pub like : IsLegalLike road middle
 
 pub lane_change_somewhere : (change : Option CheckedProgram) (dice : Dice) (road : Cells) → IfSome change (λ c. IsChecked Change c) → (IsSome change → length road.lanes ≡ 2) → IsLegal road → LaneChangeSomewhere change dice road
@@ -75,7 +75,7 @@ lane_change_somewhere (Some change) dice road checked two legal =
 pub record MotionSomewhere (motion : CheckedProgram) (dice : Dice) (road : Cells) : Type 0 where
   pub next : Cells
   pub motion_phase : IsMotionPhase motion dice road next
-  pub clean : CleanMotion road next
+  pub clean : IsCleanMotion road next
   pub like : IsLegalLike road next
 
 pub motion_somewhere : (motion : CheckedProgram) (dice : Dice) (road : Cells) → IsChecked Motion motion → IsLegal road → MotionSomewhere motion dice road

@@ -10,7 +10,7 @@ use Rattle.trlab_machine.specs.Blocks.{words_of}
 use Rattle.trlab_machine.specs.Crossings.{crossing_answer}
 use Rattle.trlab_road.specs.declared.car.Car.{Car}
 use Rattle.trlab_road.specs.Cells.{Cells, IsAt, lane_of}
-use Rattle.trlab_road.specs.Standing.{IsStanding}
+use Rattle.trlab_road.specs.Standing.{IsNthCar}
 use Rattle.trlab_road.specs.Motion.{gaps}
 use Rattle.trlab_road.specs.Gaps.{gap, headspeed, side, sidegap, sideback}
 use Rattle.trlab_road.specs.LaneChange.{other_lane, sides}
@@ -61,7 +61,7 @@ pub record AreAnswersPart {X : Type 0} (IsAnswer : Car → X → Type 0) (road :
     (answers : List X) : Type 0 where
   pub one_each : from + length answers ≡ to
   pub each : (k : ℕ) (car : Car) (answer : X) → slice_get answers k ≡ Some answer
-      → IsStanding road (from + k) car → IsAnswer car answer
+      → IsNthCar road (from + k) car → IsAnswer car answer
 
 -- a function of lane and place gives, for each car of the road, the speed that the motion program answers
 abbrev pub AnswersSpeeds : CheckedProgram → Dice → Cells → (ℕ → ℕ → ℕ) → Type 0

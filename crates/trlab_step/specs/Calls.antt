@@ -4,7 +4,7 @@ use Rattle.std.specs.Prelude.{IfSome}
 use Rattle.trlab_code.specs.declared.program.Kind.{Kind}
 use Rattle.trlab_code.specs.declared.program.Kind.TheVariants.{Motion, Change}
 use Rattle.trlab_code.specs.Machine.{EndsWithin}
-use Rattle.trlab_code.specs.Views.{IsView}
+use Rattle.trlab_code.specs.Views.{IsViewInRange}
 use Rattle.trlab_verify.specs.CheckedProgram.{CheckedProgram}
 use Rattle.trlab_machine.specs.declared.dice.Dice.{Dice}
 use Rattle.trlab_machine.specs.Blocks.{words_of}
@@ -17,7 +17,7 @@ use Rattle.trlab_step.specs.Block.{view_by}
 -- words the program ends with an answer within its budget
 pub record IsSafeCall (kind : Kind) (checked : CheckedProgram) (dice : Dice) (road : Cells)
     (car : Car) : Type 0 where
-  pub in_range : IsView (view_by kind road car)
+  pub in_range : IsViewInRange (view_by kind road car)
   pub ends : EndsWithin kind checked.program.instrs (view_by kind road car)
       (words_of dice car.number) checked.budget
 

@@ -3,7 +3,7 @@
 use Rattle.std.specs.Prelude.{◌≡◌, ◌≤◌, ◌++◌, ℕ, suc, Bool, Option, Some, None, List, [], All, IfSome, IsSome, length, sum, count_by, nat_eq, nat_le, if◌then◌else◌}
 use Rattle.trlab_code.specs.declared.program.Kind.{Kind}
 use Rattle.trlab_code.specs.declared.program.Kind.TheVariants.{Motion, Change}
-use Rattle.trlab_code.specs.Views.{IsView}
+use Rattle.trlab_code.specs.Views.{IsViewInRange}
 use Rattle.trlab_verify.specs.CheckedProgram.{CheckedProgram, IsChecked}
 use Rattle.trlab_road.specs.declared.car.Car.{Car}
 use Rattle.trlab_road.specs.Cells.{Cells, IsAt, cars}
@@ -73,15 +73,15 @@ CrossingsJoin =
 -- the lane change from `road` to `middle` by the list `crosses`. With a change program, the road has two
 -- lanes, the list has the program's answers for all cars in standing order, and all cars whose answer is true
 -- cross at once. Without one (`None`), the list is empty, and the road does not change
-abbrev pub CrossByAnswers : Option CheckedProgram → Dice → Cells → Cells → List Bool → Type 0
-CrossByAnswers None dice road middle crosses = (middle ≡ road) × (crosses ≡ [])
-CrossByAnswers (Some change) dice road middle crosses =
+abbrev pub IsLaneChangeByAnswers : Option CheckedProgram → Dice → Cells → Cells → List Bool → Type 0
+IsLaneChangeByAnswers None dice road middle crosses = (middle ≡ road) × (crosses ≡ [])
+IsLaneChangeByAnswers (Some change) dice road middle crosses =
     (length road.lanes ≡ 2) × AnswersCrossingsPart change dice road 0 (cars road) crosses
     × ((answer : ℕ → ℕ → Bool) → crosses ≡ in_order answer road → Crosses answer road middle)
 
 -- the motion from `road` to `next` by the list `speeds`: it has the motion program's answers for all cars in
 -- standing order, each at most the limit and the car's gap, and all cars move by these speeds at once
-pub record GoByAnswers (motion : CheckedProgram) (dice : Dice) (road next : Cells) (speeds : List ℕ)
+pub record IsMotionByAnswers (motion : CheckedProgram) (dice : Dice) (road next : Cells) (speeds : List ℕ)
     : Type 0 where
   pub answers : IsSpeedsPart motion dice road 0 (cars road) speeds
   pub moves : (answer : ℕ → ℕ → ℕ) → speeds ≡ in_order answer road → Moves answer road next
@@ -97,11 +97,11 @@ tally_of_answers crosses speeds = record {
 
 -- if a lane change by a list of answers leads from `road` to `middle`, and a motion by such a list from there
 -- to `next`, then `next` is the next road after `road`, with the tally of these answers
-abbrev pub AnswersLeadOn : Type 0
-AnswersLeadOn =
+abbrev pub AnswersLeadToNextRoad : Type 0
+AnswersLeadToNextRoad =
     (rule : Programs) (dice : Dice) (road middle next : Cells) (crosses : List Bool) (speeds : List ℕ)
-    → CrossByAnswers rule.change dice road middle crosses
-    → GoByAnswers rule.motion dice middle next speeds
+    → IsLaneChangeByAnswers rule.change dice road middle crosses
+    → IsMotionByAnswers rule.motion dice middle next speeds
     → IsNext rule dice road next (tally_of_answers crosses speeds)
 
 -- on a legal road, the view of each car is in range: for motion programs, and on two lanes for change
@@ -109,20 +109,20 @@ AnswersLeadOn =
 abbrev pub ViewsAreInRange : Type 0
 ViewsAreInRange =
     (kind : Kind) (road : Cells) (car : Car) → IsLegal road → (kind ≡ Change → length road.lanes ≡ 2)
-    → IsAt road car → IsView (view_by kind road car)
+    → IsAt road car → IsViewInRange (view_by kind road car)
 
 -- if an accepted motion program answers a speed for a car of a legal road, it has executed at most as many
 -- instructions as its budget
-abbrev pub SpeedsComeInTime : Type 0
-SpeedsComeInTime =
+abbrev pub SpeedsComeWithinBudget : Type 0
+SpeedsComeWithinBudget =
     (motion : CheckedProgram) (dice : Dice) (road : Cells) (car : Car) (speed : ℕ)
     → IsChecked Motion motion → IsLegal road → IsAt road car
     → (answer : AnswersSpeed motion dice road car speed) → answer.0 ≤ motion.budget
 
 -- if an accepted change program answers for a car of a legal road with two lanes, it has executed at most as
 -- many instructions as its budget
-abbrev pub CrossingsComeInTime : Type 0
-CrossingsComeInTime =
+abbrev pub CrossingsComeWithinBudget : Type 0
+CrossingsComeWithinBudget =
     (change : CheckedProgram) (dice : Dice) (road : Cells) (car : Car) (crosses : Bool)
     → IsChecked Change change → IsLegal road → length road.lanes ≡ 2 → IsAt road car
     → (answer : AnswersCrossing change dice road car crosses) → answer.0 ≤ change.budget
@@ -165,8 +165,8 @@ RoadIsUnique =
 
 -- from its road at a step, a run continues with the next road under the rule in force; if the step is `warm`
 -- or later, its tally is added to the sum
-abbrev pub RunGoesOn : Type 0
-RunGoesOn =
+abbrev pub RunContinues : Type 0
+RunContinues =
     (seed : Seed) (sheet : Sheet) (step : ℕ) (road next : Cells) (sum tally : StepTally) (rule : Programs)
     → ComesTo seed sheet step road sum → in_force sheet step ≡ Some rule
     → IsNext rule (dice_at seed step) road next tally

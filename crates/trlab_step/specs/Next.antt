@@ -4,8 +4,8 @@ use Rattle.trlab_road.specs.declared.car.Car.{Car}
 use Rattle.trlab_road.specs.Cells.{Cells}
 use Rattle.trlab_road.specs.Legal.{IsLegal}
 use Rattle.trlab_road.specs.Standing.{standing}
-use Rattle.trlab_road.specs.LaneChange.{Crosses, CleanLaneChange}
-use Rattle.trlab_road.specs.Motion.{Moves, CleanMotion}
+use Rattle.trlab_road.specs.LaneChange.{Crosses, IsCleanLaneChange}
+use Rattle.trlab_road.specs.Motion.{Moves, IsCleanMotion}
 use Rattle.trlab_verify.specs.CheckedProgram.{CheckedProgram}
 use Rattle.trlab_rules.specs.Rules.{Programs}
 use Rattle.trlab_step.specs.declared.step.StepFault.{StepFault}
@@ -48,7 +48,7 @@ pub record IsCountedMotion (motion : CheckedProgram) (dice : Dice) (road next : 
   pub distance : tally.distance ≡ total_speed next
   pub stopped : tally.stopped ≡ stopped_cars next
   pub changes : tally.changes ≡ 0
-  pub clean : CleanMotion road next
+  pub clean : IsCleanMotion road next
   pub legal : IsLegal next
 
 -- a step under a rule: the lane change from `road` to `middle` (Rickert and others 1996), then the motion
@@ -70,19 +70,19 @@ IsNext rule dice road next tally = (middle : Cells) × IsStep rule dice road mid
 pub record IsCleanStep (rule : Programs) (dice : Dice) (road middle next : Cells)
     (tally : StepTally) : Type 0 where
   pub step : IsStep rule dice road middle next tally
-  pub clean_lane_change : CleanLaneChange road middle
-  pub clean_motion : CleanMotion middle next
+  pub clean_lane_change : IsCleanLaneChange road middle
+  pub clean_motion : IsCleanMotion middle next
   pub calls : StepCallsAreSafe rule dice road middle
 
 -- a clean step under a rule, with the dice of the step, leads from `road` to `next`; `tally` is its tally
 abbrev pub IsCleanNext : Programs → Dice → Cells → Cells → StepTally → Type 0
 IsCleanNext rule dice road next tally = (middle : Cells) × IsCleanStep rule dice road middle next tally
 
--- `told` is the result of a step: the next road after a clean step, which is legal, and the tally; or
+-- `step_result` is the result of a step: the next road after a clean step, which is legal, and the tally; or
 -- a fault, which is `LanesMismatch` exactly if the rule has a change program and the road has one lane
 pub record IsStepResult (rule : Programs) (dice : Dice) (road : Cells)
-    (told : Result (Cells × StepTally) StepFault) : Type 0 where
-  pub mismatch : (told ≡ Err LanesMismatch) ↔ (IsSome rule.change × (length road.lanes ≡ 1))
-  pub next : IfOk told (λ after. IsNext rule dice road after.0 after.1)
-  pub clean : IfOk told (λ after. IsCleanNext rule dice road after.0 after.1)
-  pub legal : IfOk told (λ after. IsLegal after.0)
+    (step_result : Result (Cells × StepTally) StepFault) : Type 0 where
+  pub mismatch : (step_result ≡ Err LanesMismatch) ↔ (IsSome rule.change × (length road.lanes ≡ 1))
+  pub next : IfOk step_result (λ after. IsNext rule dice road after.0 after.1)
+  pub clean : IfOk step_result (λ after. IsCleanNext rule dice road after.0 after.1)
+  pub legal : IfOk step_result (λ after. IsLegal after.0)

@@ -20,14 +20,14 @@ abbrev pub Sheet : Type 0
 Sheet = List (ℕ × Programs)
 
 -- the steps of the entries strictly increase, and the first is `least` or later; true without entries
-abbrev pub Rises : ℕ → Sheet → Type 0
-Rises least [] = Unit {0}
-Rises least (entry ∷ later) = (least ≤ entry.0) × Rises (entry.0 + 1) later
+abbrev pub StepsIncreaseFrom : ℕ → Sheet → Type 0
+StepsIncreaseFrom least [] = Unit {0}
+StepsIncreaseFrom least (entry ∷ later) = (least ≤ entry.0) × StepsIncreaseFrom (entry.0 + 1) later
 
 -- a valid sheet: it has a first entry, for step 0, and the steps of its entries strictly increase
 abbrev pub IsSheet : Sheet → Type 0
 IsSheet [] = ⊥
-IsSheet (first ∷ later) = (first.0 ≡ 0) × Rises 1 later
+IsSheet (first ∷ later) = (first.0 ≡ 0) × StepsIncreaseFrom 1 later
 
 -- the sheet with the rule `first` from step 0 on, and then the given entries; if the first of these is for
 -- step 0, it replaces `first`
@@ -60,7 +60,7 @@ dice_at seed step = dice_of seed.key seed.number step
 
 -- step `step` of a run leads from the road `before` to `after` under the rule in force, with this tally; from
 -- step `warm` on, `sum` is `sum_before` plus the tally, and in earlier steps it is `sum_before`
-pub record GoesOn (seed : Seed) (sheet : Sheet) (step : ℕ) (before after : Cells)
+pub record IsRunStep (seed : Seed) (sheet : Sheet) (step : ℕ) (before after : Cells)
     (sum_before sum : StepTally) (rule : Programs) (tally : StepTally) : Type 0 where
   pub under : in_force sheet step ≡ Some rule
   pub next : IsNext rule (dice_at seed step) before after tally
@@ -73,7 +73,7 @@ ComesTo seed sheet zero road sum = IsSheet sheet × (road ≡ seed.road) × (sum
 ComesTo seed sheet (suc step) road sum =
     (before : Cells) × (sum_before : StepTally) × (rule : Programs) × (tally : StepTally)
     × ComesTo seed sheet step before sum_before
-    × GoesOn seed sheet step before road sum_before sum rule tally
+    × IsRunStep seed sheet step before road sum_before sum rule tally
 
 -- `road` is the road of the run after `step` steps
 abbrev pub IsRoadAt : Seed → Sheet → ℕ → Cells → Type 0

@@ -20,8 +20,8 @@ abbrev pub event_number : {E : Type 0} → Noted E → ℕ
 event_number noted_event = length noted_event.before
 
 -- how many of the events `own` have the number k
-abbrev pub times : {E : Type 0} → ℕ → List (Noted E) → ℕ
-times k own = count_by (λ noted_event. eqb (event_number noted_event) k) own
+abbrev pub count_with_number : {E : Type 0} → ℕ → List (Noted E) → ℕ
+count_with_number k own = count_by (λ noted_event. eqb (event_number noted_event) k) own
 
 -- the list `events` has this event right after the events before it, and possibly more events after it; for
 -- example, b after [a] is in the list [a, b, c]
@@ -38,7 +38,7 @@ AreInList events own = All (IsInList events) own
 pub record IsLinearization {E : Type 0} (events : List E) (own : List (Noted E)) : Type 0 where
   pub count : length own ≡ length events
   pub stand : AreInList events own
-  pub once : (k : ℕ) → times k own ≡ once_below k (length events)
+  pub once : (k : ℕ) → count_with_number k own ≡ once_below k (length events)
 
 -- the knowledge of a seat: how many parts it has, its own events, its clock, which is the smallest number
 -- that its next event may have, whether it keeps the list, and the list that it keeps
@@ -60,8 +60,8 @@ without_list old = strand_knowledge old.parts old.own old.least false []
 
 -- the knowledge of a new seat that took the list from the seat `old`: it has no part and no event, and keeps
 -- the list if `old` kept it
-abbrev pub list_alone : {E : Type 0} → StrandKnowledge E → StrandKnowledge E
-list_alone old = strand_knowledge 0 [] 0 old.keeps old.all
+abbrev pub list_seat : {E : Type 0} → StrandKnowledge E → StrandKnowledge E
+list_seat old = strand_knowledge 0 [] 0 old.keeps old.all
 
 -- the knowledge of a strand that has given one part away
 abbrev pub less_a_part : {E : Type 0} → StrandKnowledge E → StrandKnowledge E

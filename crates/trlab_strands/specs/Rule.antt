@@ -6,13 +6,13 @@ use lib.ListN.{get_elem?}
 use Rattle.atomic_table.specs.Table.{State, Step, Me}
 use Rattle.trlab_strands.specs.declared.knowledge.TheConstants.{ALL_PARTS}
 use Rattle.trlab_strands.specs.declared.knowledge.StrandKnowledge.{StrandKnowledge}
-use Rattle.trlab_strands.specs.Knowledge.{times, once_below, AreInList, up_to_date, with_event}
+use Rattle.trlab_strands.specs.Knowledge.{count_with_number, once_below, AreInList, up_to_date, with_event}
 
 -- the knowledge of a seat is true if the list is `events`: a seat without parts has no events, its clock is
 -- at most the list's length, its own events are in the list, and if it keeps a list, it is this one
 pub record IsSoundStrand {E : Type 0} (events : List E) (strand : StrandKnowledge E) : Type 0 where
   pub idle : strand.parts ≡ 0 → strand.own ≡ []
-  pub rises : strand.least ≤ length events
+  pub least_within : strand.least ≤ length events
   pub stand : AreInList events strand.own
   pub list : strand.keeps ≡ true → strand.all ≡ events
 
@@ -23,14 +23,14 @@ pub record AreSoundStrands {E : Type 0} (events : List E) (known : List (StrandK
   pub parts : sum_by (λ strand. strand.parts) known ≡ ALL_PARTS
   pub keepers : sum_by (λ strand. cond strand.keeps 1 0) known ≡ 1
   pub count : sum_by (λ strand. length strand.own) known ≡ length events
-  pub once : (n : ℕ) → sum_by (λ strand. times n strand.own) known ≡ once_below n (length events)
+  pub once : (n : ℕ) → sum_by (λ strand. count_with_number n strand.own) known ≡ once_below n (length events)
   pub each : (seat : ℕ) (strand : StrandKnowledge E)
       → get_elem? known seat ≡ some strand → IsSoundStrand events strand
 
 -- the rule of strands, which holds before and after each atomic step: there is a list of events for which the
 -- knowledge of all seats is true
-abbrev pub KeepsStrands : {E : Type 0} → State E (StrandKnowledge E) → Type 0
-KeepsStrands {E} state = (events : List E) × AreSoundStrands events state.views
+abbrev pub ObeysStrandRule : {E : Type 0} → State E (StrandKnowledge E) → Type 0
+ObeysStrandRule {E} state = (events : List E) × AreSoundStrands events state.views
 
 -- the step that adds the event that it is given (`said`): the event is now the last of the list and the last
 -- of the strand's own, and the strand's clock was at most the list's length. The number `found` in the shared
@@ -44,21 +44,21 @@ NotesEvent {E} step old found new =
 -- facts about a strand that follow from the rule. It has at most all parts. If it keeps the list, its events
 -- are in the list and at most as many; with all parts they are as many; and if they are as many, each event
 -- of the list is one of them, once
-pub record LearnsList {E : Type 0} (strand : StrandKnowledge E) : Type 0 where
+pub record AgreesWithList {E : Type 0} (strand : StrandKnowledge E) : Type 0 where
   pub few : strand.parts ≤ ALL_PARTS
   pub stand : strand.keeps ≡ true → AreInList strand.all strand.own
   pub most : strand.keeps ≡ true → length strand.own ≤ length strand.all
   pub whole : strand.keeps ≡ true → strand.parts ≡ ALL_PARTS → length strand.own ≡ length strand.all
   pub once : strand.keeps ≡ true → length strand.own ≡ length strand.all
-      → (n : ℕ) → times n strand.own ≡ once_below n (length strand.all)
+      → (n : ℕ) → count_with_number n strand.own ≡ once_below n (length strand.all)
 
--- the step that compares a strand with the list: it changes nothing, and shows that `LearnsList` holds
-abbrev pub Looks : {E : Type 0}
+-- the step that compares a strand with the list: it changes nothing, and shows that `AgreesWithList` holds
+abbrev pub AuditsList : {E : Type 0}
     → Step E → Me E (StrandKnowledge E) → ℕ → Me E (StrandKnowledge E) → Type 0
-Looks step old found new = (new ≡ old) × LearnsList old.0
+AuditsList step old found new = (new ≡ old) × AgreesWithList old.0
 
 -- the step in which a strand sees the whole list, which it keeps: its clock, which was at most the list's
 -- length, becomes this length
-abbrev pub Sees : {E : Type 0}
+abbrev pub SeesWholeList : {E : Type 0}
     → Step E → Me E (StrandKnowledge E) → ℕ → Me E (StrandKnowledge E) → Type 0
-Sees step old found new = (new ≡ (up_to_date old.0, old.1)) × (old.0.least ≤ length old.0.all)
+SeesWholeList step old found new = (new ≡ (up_to_date old.0, old.1)) × (old.0.least ≤ length old.0.all)

@@ -13,8 +13,8 @@ abbrev pub name_of : {E : Type 0} → Blank E → TableId
 name_of blank = blank.table.shared.table_id
 
 -- the list of all events, as its keeper knows it
-abbrev pub list_of : {L E : Type 0} {ledger : Ghosts L} → Keeper L E ledger → List E
-list_of keeper = keeper.seat.me.0.all
+abbrev pub keeper_list : {L E : Type 0} {ledger : Ghosts L} → Keeper L E ledger → List E
+keeper_list keeper = keeper.seat.me.0.all
 
 -- the number of parts of a strand, from 1 to 1024; a strand with two or more can be split
 abbrev pub strand_parts : {L E : Type 0} {ledger : Ghosts L} → Strand L E ledger → ℕ

@@ -15,8 +15,8 @@ pub record Fault : Type 0 where
   pub cause : Cause
 
 -- the rule by which a line is read: it relates the line to its value, or to the cause of its fault
-abbrev pub Rule : Type 0 → Type 1
-Rule A = List ℕ → Result A Cause → Type 0
+abbrev pub LineRule : Type 0 → Type 1
+LineRule A = List ℕ → Result A Cause → Type 0
 
 -- a reading relates the rest of a text to a value and the rest after it, or to the first fault
 abbrev pub Reading : Type 0 → Type 1
@@ -53,32 +53,32 @@ line_with_rest number left (Err cause) = Err (record { line = number; cause = ca
 
 -- the result of reading the next line, which has this number, by a rule; if no line is left, that line is
 -- missing
-abbrev pub LineSays : {A : Type 0} → Rule A → ℕ → List (List ℕ)
+abbrev pub LineParsesTo : {A : Type 0} → LineRule A → ℕ → List (List ℕ)
     → Result (A × Rest) Fault → Type 0
-LineSays rule number [] out = out ≡ Err (record { line = number; cause = Line })
-LineSays {A} rule number (text ∷ left) out =
+LineParsesTo rule number [] out = out ≡ Err (record { line = number; cause = Line })
+LineParsesTo {A} rule number (text ∷ left) out =
     (result : Result A Cause) × (rule text result × (out ≡ line_with_rest number left result))
 
 -- reads the next line by this rule
-abbrev pub line : {A : Type 0} → Rule A → Reading A
-line rule rest out = LineSays rule rest.number rest.left out
+abbrev pub line : {A : Type 0} → LineRule A → Reading A
+line rule rest out = LineParsesTo rule rest.number rest.left out
 
 -- the rule by which each line has the one result that the function `parse` computes
-abbrev pub exactly : {A : Type 0} → (List ℕ → Result A Cause) → Rule A
+abbrev pub exactly : {A : Type 0} → (List ℕ → Result A Cause) → LineRule A
 exactly parse text result = result ≡ parse text
 
 -- the result for a text: the fault `TooBig` at line 0 if it is too long (`true`), and otherwise a result that
 -- `IsResult` allows
-abbrev pub SizedTextSays : {A : Type 0} → (List ℕ → Result A Fault → Type 0) → Bool → List ℕ
+abbrev pub SizedTextParsesTo : {A : Type 0} → (List ℕ → Result A Fault → Type 0) → Bool → List ℕ
     → Result A Fault → Type 0
-SizedTextSays IsResult true text result = result ≡ Err (record { line = 0; cause = TooBig })
-SizedTextSays IsResult false text result = IsResult text result
+SizedTextParsesTo IsResult true text result = result ≡ Err (record { line = 0; cause = TooBig })
+SizedTextParsesTo IsResult false text result = IsResult text result
 
 -- the result for a text: the fault `TooBig` at line 0 if it has more than TEXT_LIMIT bytes, and otherwise a
 -- result that `IsResult` allows
-abbrev pub TextSays : {A : Type 0} → (List ℕ → Result A Fault → Type 0) → List ℕ
+abbrev pub TextParsesTo : {A : Type 0} → (List ℕ → Result A Fault → Type 0) → List ℕ
     → Result A Fault → Type 0
-TextSays IsResult text result = SizedTextSays IsResult (nat_lt TEXT_LIMIT (length text)) text result
+TextParsesTo IsResult text result = SizedTextParsesTo IsResult (nat_lt TEXT_LIMIT (length text)) text result
 
 -- a function that reads a text returns a result that `IsResult` allows, or reports that an allocation failed
 abbrev pub Reports : {A : Type 0} → (Result A Fault → Type 0) → Result A TextFault → Type 0

@@ -16,7 +16,7 @@ use Rattle.trlab_step.specs.declared.tally.StepTally.{StepTally}
 use Rattle.trlab_step.specs.Next.{IsLaneChangePhase}
 use Rattle.trlab_step.specs.Run.{ComesTo, Seed, Sheet, dice_at, tally_sum}
 use Rattle.trlab_traffic.specs.Capacity.{all_cells, empty_cells, lane_empty_cells}
-use Rattle.trlab_traffic.specs.Changing.{ChangesFew, RunChangesFew, StepChangesFew}
+use Rattle.trlab_traffic.specs.Changing.{BoundsLaneChanges, RunBoundsLaneChanges, StepBoundsLaneChanges}
 use Rattle.trlab_traffic.proofs.AnyRule.{crossings_free}
 use Rattle.trlab_traffic.proofs.Capacities.{next_cells}
 use Rattle.trlab_traffic.proofs.Going.{run_like}
@@ -103,7 +103,7 @@ few_changes (Some change) dice road middle changes legal phase =
 once : (m n : ℕ) → m ≤ n → m ≤ 1 * n
 once m n h = omega (arith, h)
 
-pub step_changes_few : StepChangesFew
+pub step_changes_few : StepBoundsLaneChanges
 step_changes_few rule dice road next tally legal is =
     let few = few_changes rule.change dice road is.0 tally.changes legal is.1.lane_change in
     record { by_cars = once tally.changes (cars road) few.by_cars; by_empty_cells = once tally.changes (empty_cells road) few.by_empty_cells }
@@ -125,7 +125,7 @@ run_cells seed sheet (suc step) road sum comes = next_cells comes.2 (dice_at see
 more : (most k a b : ℕ) → a ≤ k * most → b ≤ most → a + b ≤ suc k * most
 more most k a b before now = let e = suc-mul k most in omega (arith, before, now, e)
 
-change_few : (seed : Seed) (sheet : Sheet) (step : ℕ) (road : Cells) (sum : StepTally) → IsLegal seed.road → ComesTo seed sheet step road sum → ChangesFew seed.road (step - seed.warm) sum.changes
+change_few : (seed : Seed) (sheet : Sheet) (step : ℕ) (road : Cells) (sum : StepTally) → IsLegal seed.road → ComesTo seed sheet step road sum → BoundsLaneChanges seed.road (step - seed.warm) sum.changes
 change_few seed sheet zero road sum legal comes =
     let none = ap (λ (t : StepTally). t.changes) comes.2 in
     record { by_cars = omega (arith, none); by_empty_cells = omega (arith, none) }
@@ -146,15 +146,15 @@ change_few seed sheet (suc step) road sum legal comes =
       | inl early ↦
           let e : step - seed.warm ≡ suc step - seed.warm = omega (arith, early) in
           let same = changes_uncounted (nat_le seed.warm step) sum comes.1 tally on.counted (lt-leb seed.warm step early) in
-          subst (λ k. ChangesFew seed.road k sum.changes) e (subst (ChangesFew seed.road (step - seed.warm)) (sym same) before)
+          subst (λ k. BoundsLaneChanges seed.road k sum.changes) e (subst (BoundsLaneChanges seed.road (step - seed.warm)) (sym same) before)
       | inr late ↦
           let e : suc (step - seed.warm) ≡ suc step - seed.warm = omega (arith, late) in
           let same = changes_counted (nat_le seed.warm step) sum comes.1 tally on.counted (le-leb seed.warm step late) in
-          subst (λ k. ChangesFew seed.road k sum.changes) e (subst (ChangesFew seed.road (suc (step - seed.warm))) (sym same) (record {
+          subst (λ k. BoundsLaneChanges seed.road k sum.changes) e (subst (BoundsLaneChanges seed.road (suc (step - seed.warm))) (sym same) (record {
             by_cars = more (cars seed.road) (step - seed.warm) comes.1.changes tally.changes before.by_cars (omega (arith, by_cars, count));
             by_empty_cells = more (empty_cells seed.road) (step - seed.warm) comes.1.changes tally.changes before.by_empty_cells (omega (arith, by_empty_cells, count, cells, a, b));
           }))
     ]
 
-pub run_changes_few : RunChangesFew
+pub run_changes_few : RunBoundsLaneChanges
 run_changes_few seed sheet step road sum legal comes = change_few seed sheet step road sum legal comes

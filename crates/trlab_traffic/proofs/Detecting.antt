@@ -12,7 +12,7 @@ use Rattle.trlab_road.specs.Motion.{Fits, LaneFits, LaneMoves}
 use Rattle.trlab_road.specs.Standing.{standing_from, standing_lanes}
 use Rattle.trlab_road.proofs.MotionLaws.{on_lane}
 use Rattle.trlab_road.proofs.Ring.{car_in, inside}
-use Rattle.trlab_traffic.specs.Detector.{DetectorsCountDistance, StepIsContinuous, all_passages, cars_ahead_of, passages, passes, start_of, way}
+use Rattle.trlab_traffic.specs.Detector.{DetectorsCountDistance, StepIsContinuous, all_passages, cars_ahead_of, passages, passes, place_before_motion, way}
 use Rattle.trlab_traffic.specs.Rule184.{digit, is_taken}
 use Rattle.trlab_traffic.proofs.AnyRule.{answers_fit}
 use Rattle.trlab_traffic.proofs.LanesApart.{any_lane}
@@ -116,7 +116,7 @@ module _ (answer : ℕ → ℕ) (old new : Lane) (m : LaneMoves answer old new) 
     pub goes : speed ≡ answer from
     pub low : from < n
     pub short : speed < n
-    pub start : start_of n (car_in 0 y number speed) ≡ from
+    pub start : place_before_motion n (car_in 0 y number speed) ≡ from
 
   pub came_from : (y number speed : ℕ) → at new y ≡ Some (number, speed) → Came y number speed
   came_from y number speed there =
@@ -153,7 +153,7 @@ module _ (answer : ℕ → ℕ) (old new : Lane) (m : LaneMoves answer old new) 
     passed x car = cond (passes n x car) 1 0
 
     abbrev started : Car → ℕ
-    started car = is (start_of n car) c
+    started car = is (place_before_motion n car) c
 
     c_in : c < n
     c_in = ahead_below n b 1 (omega (arith, b_low))
@@ -167,9 +167,9 @@ module _ (answer : ℕ → ℕ) (old new : Lane) (m : LaneMoves answer old new) 
         let start = came.start in
         let all = car_balance n p car.1 b came.low came.short b_low in
         let one : is y c ≡ is (ahead n p car.1) c = ap (λ k. is k c) came.reaches in
-        let two : below (way n (start_of n (car_in 0 y car.0 car.1)) c) car.1 ≡ below (way n p c) car.1 = ap (λ k. below (way n k c) car.1) start in
-        let three : is (start_of n (car_in 0 y car.0 car.1)) c ≡ is p c = ap (λ k. is k c) start in
-        let four : below (way n (start_of n (car_in 0 y car.0 car.1)) b) car.1 ≡ below (way n p b) car.1 = ap (λ k. below (way n k b) car.1) start in
+        let two : below (way n (place_before_motion n (car_in 0 y car.0 car.1)) c) car.1 ≡ below (way n p c) car.1 = ap (λ k. below (way n k c) car.1) start in
+        let three : is (place_before_motion n (car_in 0 y car.0 car.1)) c ≡ is p c = ap (λ k. is k c) start in
+        let four : below (way n (place_before_motion n (car_in 0 y car.0 car.1)) b) car.1 ≡ below (way n p b) car.1 = ap (λ k. below (way n k b) car.1) start in
         omega (arith, all, one, two, three, four)
 
     -- who arrives at a cell is there
@@ -287,7 +287,7 @@ pub record IsShort (lane : Lane) : Type 0 where
 
 car_passes : (n y number speed : ℕ) → speed ≤ n → total (λ x. cond (passes n x (car_in 0 y number speed)) 1 0) n ≡ speed
 car_passes n y number speed short =
-    let r = n - start_of n (car_in 0 y number speed) in
+    let r = n - place_before_motion n (car_in 0 y number speed) in
     let all = total_turned (λ z. below z speed) n r in
     let count = total_below speed n in
     omega (arith, all, count, short)

@@ -12,7 +12,7 @@ use Rattle.trlab_road.specs.Standing.{standing_from}
 use Rattle.trlab_road.proofs.Ring.{car_in, clear_within_gap, inside}
 use Rattle.trlab_step.specs.Run.{IsRoadAt, Seed, Sheet, dice_at}
 use Rattle.trlab_step.proofs.RunLaws.{force_all, road_at_is_one}
-use Rattle.trlab_traffic.specs.Detector.{cars_ahead_of, passages, passes, start_of, way}
+use Rattle.trlab_traffic.specs.Detector.{cars_ahead_of, passages, passes, place_before_motion, way}
 use Rattle.trlab_traffic.specs.DetectorRuns.{Counts, DetectorCountsBelowPeak}
 use Rattle.trlab_traffic.specs.Rule184.{is_taken}
 use Rattle.trlab_traffic.specs.Runs.{EachRule, StaysInLane}
@@ -52,11 +52,11 @@ module _ (answer : ℕ → ℕ) (old new : Lane) (m : LaneMoves answer old new) 
   passer_at x y None there some = absurd (omega (arith, some))
   passer_at x y (Some car) there some =
       let came = came_from answer old new m fits y car.0 car.1 there in
-      let one : below (way (length old) (start_of (length old) (car_in 0 y car.0 car.1)) x) car.1 ≡ 1 = (elim (below_cases (way (length old) (start_of (length old) (car_in 0 y car.0 car.1)) x) car.1) [
+      let one : below (way (length old) (place_before_motion (length old) (car_in 0 y car.0 car.1)) x) car.1 ≡ 1 = (elim (below_cases (way (length old) (place_before_motion (length old) (car_in 0 y car.0 car.1)) x) car.1) [
         | inl none ↦ absurd (omega (arith, some, none))
         | inr is ↦ is
       ]) in
-      let far : way (length old) (start_of (length old) (car_in 0 y car.0 car.1)) x < car.1 = below_is (way (length old) (start_of (length old) (car_in 0 y car.0 car.1)) x) car.1 one in
+      let far : way (length old) (place_before_motion (length old) (car_in 0 y car.0 car.1)) x < car.1 = below_is (way (length old) (place_before_motion (length old) (car_in 0 y car.0 car.1)) x) car.1 one in
       let short : way (length old) came.from x < car.1 = subst (λ k. way (length old) k x < car.1) came.start far in
       let goes = came.goes in
       record { from = came.from; number = car.0; before = came.before; was = came.was; far = omega (arith, short, goes) }

@@ -8,7 +8,7 @@ use Rattle.trlab_road.specs.Gaps.{ahead, gap}
 use Rattle.trlab_road.specs.Motion.{LaneFits, LaneMoves}
 use Rattle.trlab_road.specs.Standing.{standing_from}
 use Rattle.trlab_road.proofs.Ring.{car_in, clear_within_gap, inside}
-use Rattle.trlab_traffic.specs.Detector.{DetectorCountsOne, passages, passes, start_of, way}
+use Rattle.trlab_traffic.specs.Detector.{DetectorCountsAtMostOne, passages, passes, place_before_motion, way}
 use Rattle.trlab_traffic.proofs.AnyRule.{answers_fit}
 use Rattle.trlab_traffic.proofs.Detecting.{any_lane_fits, came_from, way_reaches}
 use Rattle.trlab_traffic.proofs.LanesApart.{any_lane}
@@ -35,18 +35,18 @@ module _ (answer : ℕ → ℕ) (old new : Lane) (m : LaneMoves answer old new) 
 
   passing_cases : (y : ℕ) (here : Cell) → let w = weight (λ (car : Car). cond (passes (length old) x car) 1 0) 0 y here in (w ≡ 0) ⊎ (w ≡ 1)
   passing_cases y None = inl refl
-  passing_cases y (Some car) = below_cases (way (length old) (start_of (length old) (car_in 0 y car.0 car.1)) x) car.1
+  passing_cases y (Some car) = below_cases (way (length old) (place_before_motion (length old) (car_in 0 y car.0 car.1)) x) car.1
 
   -- a car that passes
   record Passing (y : ℕ) : Type 0 where
     number : ℕ
     speed : ℕ
     there : at new y ≡ Some (number, speed)
-    far : way (length old) (start_of (length old) (car_in 0 y number speed)) x < speed
+    far : way (length old) (place_before_motion (length old) (car_in 0 y number speed)) x < speed
 
   passing_car : (y : ℕ) (here : Cell) → at new y ≡ here → weight (λ (car : Car). cond (passes (length old) x car) 1 0) 0 y here ≡ 1 → Passing y
   passing_car y None there passed = absurd (omega (arith, passed))
-  passing_car y (Some car) there passed = record { number = car.0; speed = car.1; there = there; far = below_is (way (length old) (start_of (length old) (car_in 0 y car.0 car.1)) x) car.1 passed }
+  passing_car y (Some car) there passed = record { number = car.0; speed = car.1; there = there; far = below_is (way (length old) (place_before_motion (length old) (car_in 0 y car.0 car.1)) x) car.1 passed }
 
   one_passes : (y z : ℕ) → Passing y → Passing z → y ≡ z
   one_passes y z a b =
@@ -81,7 +81,7 @@ module _ (answer : ℕ → ℕ) (old new : Lane) (m : LaneMoves answer old new) 
       let all = single passing_at n (λ y low. passing_cases y (at new y)) (λ y z low high a b. one_passes y z (passing_car y (at new y) refl a) (passing_car z (at new z) refl b)) in
       omega (arith, are, all)
 
-pub detector_counts_one : DetectorCountsOne
+pub detector_counts_one : DetectorCountsAtMostOne
 detector_counts_one rule dice road next tally l x is_next low =
     let middle = is_next.0 in
     let phase = is_next.1.motion in

@@ -20,7 +20,7 @@ use Rattle.trlab_rules.specs.Laws.{ComputesCrossing, ComputesSpeed}
 use Rattle.trlab_rules.specs.Published.{nasch_speed, rickert_crosses, vdr_speed}
 use Rattle.trlab_rules.specs.Rules.{Programs}
 use Rattle.trlab_rules.specs.Standard.{rickert_program}
-use Rattle.trlab_rules.specs.StandardRules.{IsChange}
+use Rattle.trlab_rules.specs.StandardRules.{IsChangeComputing}
 use Rattle.trlab_step.specs.declared.tally.StepTally.{StepTally}
 use Rattle.trlab_step.specs.Answers.{AnswersCrossing, AnswersCrossings, AnswersSpeed, AnswersSpeeds, change_view_of, motion_view_of}
 use Rattle.trlab_step.specs.Laws.{IsLegalLike}
@@ -29,7 +29,7 @@ use Rattle.trlab_step.specs.Run.{ComesTo, Seed, dice_at}
 use Rattle.trlab_step.proofs.AnswersExist.{change_view_is_view, motion_view_is_view}
 use Rattle.trlab_step.proofs.NextLaws.{like_itself, like_next}
 use Rattle.trlab_step.proofs.PartLaws.{one_answer_each, one_crossing_each}
-use Rattle.trlab_traffic.specs.Reduction.{HaveSameSteps, RickertReducesToNasch, HaveSameRuns, VdrReducesToNasch}
+use Rattle.trlab_traffic.specs.Reduction.{HaveSameSteps, RickertReducesToNasch, SameStepsGiveSameRuns, VdrReducesToNasch}
 use Rattle.trlab_traffic.proofs.AnyRule.{middle_like, next_legal_like}
 use Rattle.trlab_traffic.proofs.Freely.{in_force_one, one_rule}
 use Rattle.trlab_traffic.proofs.NaschMoves.{never}
@@ -169,7 +169,7 @@ record AsNone (change : Option CheckedProgram) (dice : Dice) (road middle : Cell
   from : IsLaneChangePhase None dice road middle changes → IsLaneChangePhase change dice road middle changes
 
 rickert_as_none : (change : Option CheckedProgram) (dice : Dice) (road middle : Cells) (changes : ℕ) → IsLegal road → length road.lanes ≡ 2
-    → MatchOption change ⊥ (IsChange (rickert_crosses 0) (rickert_program 0)) → AsNone change dice road middle changes
+    → MatchOption change ⊥ (IsChangeComputing (rickert_crosses 0) (rickert_program 0)) → AsNone change dice road middle changes
 rickert_as_none None dice road middle changes legal two is = absurd is
 rickert_as_none (Some change) dice road middle changes legal two is = record {
   to = as_none change is.changes dice road legal two middle changes;
@@ -214,5 +214,5 @@ run_alike rule other seed (suc step) road sum legal alike comes =
       comes = (before, comes.1, other, tally, way.comes, record { under = in_force_one other step; next = also; counted = on.counted });
     }
 
-pub runs_alike : HaveSameRuns
+pub runs_alike : SameStepsGiveSameRuns
 runs_alike rule other seed step road sum legal alike comes = (run_alike rule other seed step road sum legal alike comes).comes

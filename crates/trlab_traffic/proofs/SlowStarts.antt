@@ -23,7 +23,7 @@ use Rattle.trlab_rules.specs.StandardRules.{IsVdr}
 use Rattle.trlab_step.specs.declared.tally.StepTally.{StepTally}
 use Rattle.trlab_step.specs.Next.{IsNext, total_speed}
 use Rattle.trlab_step.specs.Run.{ComesTo, Seed, dice_at}
-use Rattle.trlab_traffic.specs.FreeFlow.{IsFree}
+use Rattle.trlab_traffic.specs.FreeFlow.{IsInFreeFlow}
 use Rattle.trlab_traffic.specs.Metastable.{IsStopped, SlowStartsKeepFreeFlow, SlowStartsKeepJams, SlowStartsMoveFreeFlowAsOne}
 use Rattle.trlab_traffic.proofs.Capacities.{distance_counted, distance_uncounted}
 use Rattle.trlab_traffic.proofs.Freely.{FreeMotion, FreelyOn, free_speed, one_rule, run_freely, sum_by-same}
@@ -34,7 +34,7 @@ use Rattle.trlab_traffic.proofs.Places.{ahead_none}
 moving_chance : (p p0 speed limit : ℕ) → 1 ≤ limit → speed ≡ limit → vdr_chance p p0 speed ≡ p
 moving_chance p p0 speed limit some fast = ap (λ (b : Bool). if b then p0 else p) (ne_eqb speed 0 (λ e. omega (arith, e, some, fast)))
 
-free_motion : (p0 : ℕ) (rule : Programs) (dice : Dice) (old new : Cells) (tally : StepTally) → IsVdr 0 p0 rule → IsLegal old → IsFree old → IsNext rule dice old new tally → FreeMotion old new
+free_motion : (p0 : ℕ) (rule : Programs) (dice : Dice) (old new : Cells) (tally : StepTally) → IsVdr 0 p0 rule → IsLegal old → IsInFreeFlow old → IsNext rule dice old new tally → FreeMotion old new
 free_motion p0 rule dice old new tally is legal free next =
     let phase = motion_alone rule dice old new tally is.change next in
     record {
@@ -49,7 +49,7 @@ free_motion p0 rule dice old new tally is legal free next =
       moves = phase.2;
     }
 
-vdr_freely : (p0 : ℕ) (rule : Programs) (seed : Seed) (step : ℕ) (road : Cells) (sum : StepTally) → IsVdr 0 p0 rule → IsLegal seed.road → IsFree seed.road → ComesTo seed ((0, rule) ∷ []) step road sum → FreelyOn seed step road sum
+vdr_freely : (p0 : ℕ) (rule : Programs) (seed : Seed) (step : ℕ) (road : Cells) (sum : StepTally) → IsVdr 0 p0 rule → IsLegal seed.road → IsInFreeFlow seed.road → ComesTo seed ((0, rule) ∷ []) step road sum → FreelyOn seed step road sum
 vdr_freely p0 rule seed step road sum is =
     run_freely rule seed step road sum (λ dice old new tally fine flows next. free_motion p0 rule dice old new tally is fine flows next)
 

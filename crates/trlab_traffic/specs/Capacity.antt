@@ -2,7 +2,7 @@
 -- empty cells, no two over the same, and none is faster than the limit. So flow against density lies under a
 -- triangle, whose sides are the limit times the density, and one minus the density.
 use Rattle.std.specs.Prelude.{◌≡◌, ℕ, ◌+◌, ◌*◌, ◌≤◌, count_by, is_none, length, min, sum_by}
-use Rattle.trlab_road.specs.Cells.{Cells, Lane, cars, lane_cars}
+use Rattle.trlab_road.specs.Cells.{Cells, Lane, cars, lane_car_count}
 use Rattle.trlab_road.specs.Legal.{IsLegal}
 use Rattle.trlab_rules.specs.Rules.{Programs}
 use Rattle.trlab_machine.specs.declared.dice.Dice.{Dice}
@@ -44,7 +44,7 @@ capacity road = min (distance_at_limit road) (empty_cells road)
 -- the capacity of one lane of a road with this limit: the limit times the number of its cars, or the number
 -- of its empty cells, whichever is smaller
 abbrev pub lane_capacity : ℕ → Lane → ℕ
-lane_capacity limit lane = min (limit * lane_cars lane) (lane_empty_cells lane)
+lane_capacity limit lane = min (limit * lane_car_count lane) (lane_empty_cells lane)
 
 -- `distance`, added up over `steps` steps, is within the capacity of a road: per step it is at most the
 -- number of empty cells, and at most the limit times the number of cars

@@ -12,21 +12,21 @@ use Rattle.trlab_traffic.specs.Runs.{counted_steps}
 
 -- `changes`, the number of lane changes in `steps` steps of a road, is bounded: per step it is at most the
 -- number of cars, and at most the number of empty cells
-pub record ChangesFew (road : Cells) (steps changes : ℕ) : Type 0 where
+pub record BoundsLaneChanges (road : Cells) (steps changes : ℕ) : Type 0 where
   pub by_cars : changes ≤ steps * cars road
   pub by_empty_cells : changes ≤ steps * empty_cells road
 
 -- under any rule the number of lane changes in a step of a legal road is at most the number of cars, and at
 -- most the number of empty cells, because each change needs an empty cell of its own
-abbrev pub StepChangesFew : Type 0
-StepChangesFew =
+abbrev pub StepBoundsLaneChanges : Type 0
+StepBoundsLaneChanges =
     (rule : Programs) (dice : Dice) (road next : Cells) (tally : StepTally)
-    → IsLegal road → IsNext rule dice road next tally → ChangesFew road 1 tally.changes
+    → IsLegal road → IsNext rule dice road next tally → BoundsLaneChanges road 1 tally.changes
 
 -- under any sheet of rules the number of lane changes in the counted steps of a run from a legal road is per
 -- step at most the number of cars, and at most the number of empty cells
-abbrev pub RunChangesFew : Type 0
-RunChangesFew =
+abbrev pub RunBoundsLaneChanges : Type 0
+RunBoundsLaneChanges =
     (seed : Seed) (sheet : Sheet) (step : ℕ) (road : Cells) (sum : StepTally)
     → IsLegal seed.road → ComesTo seed sheet step road sum
-    → ChangesFew seed.road (counted_steps seed step) sum.changes
+    → BoundsLaneChanges seed.road (counted_steps seed step) sum.changes

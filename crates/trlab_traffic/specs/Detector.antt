@@ -20,14 +20,14 @@ way n from to = ahead n to (n - from)
 
 -- the place of a car before the last motion, on a ring of n cells: behind its place by as many cells as its
 -- speed
-abbrev pub start_of : ℕ → Car → ℕ
-start_of n car = behind n car.place car.speed
+abbrev pub place_before_motion : ℕ → Car → ℕ
+place_before_motion n car = behind n car.place car.speed
 
 -- did a car pass the end of cell x in the last motion, on a ring of n cells? Then cell x is less than its
 -- speed ahead of its old place. For example, on a ring of 10 cells a car that moved from cell 8 to cell 1
 -- passed the ends of cells 8, 9 and 0
 abbrev pub passes : ℕ → ℕ → Car → Bool
-passes n x car = nat_lt (way n (start_of n car) x) car.speed
+passes n x car = nat_lt (way n (place_before_motion n car) x) car.speed
 
 -- the count of the detector at the end of cell x of a lane: the number of cars that passed it in the step
 -- that led to this lane
@@ -47,8 +47,8 @@ DetectorsCountDistance =
 
 -- under any rule a detector counts at most one car in a step, because no car reaches the cell that the next
 -- car ahead had before
-abbrev pub DetectorCountsOne : Type 0
-DetectorCountsOne =
+abbrev pub DetectorCountsAtMostOne : Type 0
+DetectorCountsAtMostOne =
     (rule : Programs) (dice : Dice) (road next : Cells) (tally : StepTally) (l x : ℕ)
     → IsNext rule dice road next tally → x < length (lane_of next l) → passages (lane_of next l) x ≤ 1
 

@@ -1,7 +1,7 @@
 -- The counts of detectors in a run, from the first step on that its tally counts.
 use Rattle.std.specs.Prelude.{◌≡◌, ℕ, zero, suc, ◌+◌, ◌*◌, ◌<◌, ◌≤◌, if◌then◌else◌, length, min, nat_le, sum_by}
 use Rattle.std.specs.List.{range_with_len}
-use Rattle.trlab_road.specs.Cells.{Cells, Lane, lane_cars, lane_of}
+use Rattle.trlab_road.specs.Cells.{Cells, Lane, lane_car_count, lane_of}
 use Rattle.trlab_road.specs.Gaps.{ahead}
 use Rattle.trlab_road.specs.Legal.{IsLegal}
 use Rattle.trlab_step.specs.declared.tally.StepTally.{StepTally}
@@ -41,7 +41,7 @@ RunIsContinuous =
     → IsContinuous (lane_of start l) (lane_of road l) x k first second
 
 -- the numbers `first` and `second` differ by at most k
-pub record AreWithin (k first second : ℕ) : Type 0 where
+pub record DifferByAtMost (k first second : ℕ) : Type 0 where
   pub no_less : first ≤ second + k
   pub no_more : second ≤ first + k
 
@@ -51,11 +51,11 @@ abbrev pub DetectorsAgree : Type 0
 DetectorsAgree =
     (seed : Seed) (sheet : Sheet) (step : ℕ) (road : Cells) (sum : StepTally) (l x k first second : ℕ)
     → EachRule StaysInLane sheet → ComesTo seed sheet step road sum
-    → CountBoth seed sheet step l x k first second → AreWithin k first second
+    → CountBoth seed sheet step l x k first second → DifferByAtMost k first second
 
 -- the number of cars of a lane or the number of its empty cells, whichever is smaller
-abbrev pub scarcer : Lane → ℕ
-scarcer lane = min (lane_cars lane) (lane_empty_cells lane)
+abbrev pub min_of_cars_and_empty_cells : Lane → ℕ
+min_of_cars_and_empty_cells lane = min (lane_car_count lane) (lane_empty_cells lane)
 
 -- under any sheet of rules without lane changes the counts of two detectors of a lane, at most one lap apart,
 -- differ by at most the number of its cars, and by at most the number of its empty cells
@@ -64,7 +64,7 @@ DetectorsAgreeByCars =
     (seed : Seed) (sheet : Sheet) (step : ℕ) (road : Cells) (sum : StepTally) (l x k first second : ℕ)
     → EachRule StaysInLane sheet → ComesTo seed sheet step road sum → k ≤ length (lane_of seed.road l)
     → CountBoth seed sheet step l x k first second
-    → AreWithin (scarcer (lane_of seed.road l)) first second
+    → DifferByAtMost (min_of_cars_and_empty_cells (lane_of seed.road l)) first second
 
 -- in a run on one lane, under any sheet of rules, the counts of all detectors add up to the distance;
 -- `count x` is the count at the end of cell x
@@ -77,9 +77,9 @@ DetectorsCountRun =
 
 -- `count` measures the flow on a ring of n cells: n times `count` differs from `distance` by at most n times
 -- the number of cars or of empty cells, whichever is smaller
-abbrev pub Measures : Lane → ℕ → ℕ → Type 0
-Measures lane count distance =
-    AreWithin (length lane * scarcer lane) (length lane * count) distance
+abbrev pub MeasuresFlow : Lane → ℕ → ℕ → Type 0
+MeasuresFlow lane count distance =
+    DifferByAtMost (length lane * min_of_cars_and_empty_cells lane) (length lane * count) distance
 
 -- in a run on one lane, under any sheet of rules without lane changes, each detector measures the flow: the
 -- bound of its error does not grow with the number of steps
@@ -88,7 +88,7 @@ DetectorMeasuresFlow =
     (seed : Seed) (sheet : Sheet) (step : ℕ) (road : Cells) (sum : StepTally) (x count : ℕ)
     → EachRule StaysInLane sheet → length seed.road.lanes ≡ 1 → ComesTo seed sheet step road sum
     → x < length (lane_of seed.road 0) → Counts seed sheet 0 x step count
-    → Measures (lane_of seed.road 0) count sum.distance
+    → MeasuresFlow (lane_of seed.road 0) count sum.distance
 
 -- under any sheet of rules without lane changes a detector counts at most v cars in the first v + 1 counted
 -- steps of a run from a legal road, which is the peak flow v / (v + 1); v is the limit

@@ -4,7 +4,7 @@
 use Rattle.std.specs.Prelude.{◌≡◌, ℕ, ◌+◌, ◌*◌, ◌≤◌, length, sum_by}
 use Rattle.trlab_road.specs.Legal.{IsLegal}
 use Rattle.trlab_road.specs.Cells.{Cells, lane_of}
-use Rattle.trlab_road.specs.Spreading.{CanSpread, IsEven}
+use Rattle.trlab_road.specs.Spreading.{CanSpread, IsEvenlySpaced}
 use Rattle.trlab_rules.specs.Rules.{Programs}
 use Rattle.trlab_rules.specs.StandardRules.{IsNasch}
 use Rattle.trlab_step.specs.declared.tally.StepTally.{StepTally}
@@ -52,6 +52,6 @@ Rule184ComesToCapacity =
 abbrev pub EvenCarsFlowAtCapacity : Type 0
 EvenCarsFlowAtCapacity =
     (cells limit n : ℕ) (rule : Programs) (seed : Seed) (step : ℕ) (road : Cells) (sum : StepTally)
-    → IsNasch 0 rule → CanSpread 1 cells limit n → IsEven 1 cells limit n seed.road
+    → IsNasch 0 rule → CanSpread 1 cells limit n → IsEvenlySpaced 1 cells limit n seed.road
     → limit ≤ seed.warm + 1 → ComesTo seed (always rule) step road sum
     → FlowsAtCapacity seed step sum

@@ -7,7 +7,7 @@ use Rattle.trlab_code.specs.declared.instruction.Register.TheVariants.{R0, R1}
 use Rattle.trlab_code.specs.declared.program.Kind.TheVariants.{Motion}
 use Rattle.trlab_code.specs.declared.view.View.{View}
 use Rattle.trlab_code.specs.Program.{Program}
-use Rattle.trlab_code.specs.Views.{IsView}
+use Rattle.trlab_code.specs.Views.{IsViewInRange}
 use Rattle.trlab_code.specs.Machine.{EndsWith, Goes}
 use Rattle.trlab_road.specs.Cells.{Cells}
 use Rattle.trlab_road.specs.Legal.{IsLegal}
@@ -32,7 +32,7 @@ pub record IsNoFaster (seed : Seed) (slow fast : Sheet) (step : ℕ) : Type 0 wh
 -- at most the car's speed plus one
 abbrev pub AcceleratesByAtMostOne : Programs → Type 0
 AcceleratesByAtMostOne rule =
-    (view : View) (words : List ℕ) (speed n : ℕ) → IsView view
+    (view : View) (words : List ℕ) (speed n : ℕ) → IsViewInRange view
     → EndsWith Motion rule.motion.program.instrs view words (Goes speed) n → speed ≤ view.speed + 1
 
 -- the rule of 1992 accelerates by at most one, for every probability p

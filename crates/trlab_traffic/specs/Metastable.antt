@@ -12,7 +12,7 @@ use Rattle.trlab_rules.specs.StandardRules.{IsVdr}
 use Rattle.trlab_step.specs.declared.tally.StepTally.{StepTally}
 use Rattle.trlab_step.specs.Run.{Seed, ComesTo}
 use Rattle.trlab_traffic.specs.Capacity.{all_cells}
-use Rattle.trlab_traffic.specs.FreeFlow.{FlowsFreely, IsFree, MovesAsOne}
+use Rattle.trlab_traffic.specs.FreeFlow.{FlowsFreely, IsInFreeFlow, MovesAsOne}
 use Rattle.trlab_traffic.specs.Runs.{always, counted_steps}
 
 -- a road whose cars are all stopped
@@ -24,7 +24,7 @@ pub record IsStopped (road : Cells) : Type 0 where
 abbrev pub SlowStartsKeepFreeFlow : Type 0
 SlowStartsKeepFreeFlow =
     (p0 : ℕ) (rule : Programs) (seed : Seed) (step : ℕ) (road : Cells) (sum : StepTally)
-    → IsVdr 0 p0 rule → IsLegal seed.road → IsFree seed.road → ComesTo seed (always rule) step road sum
+    → IsVdr 0 p0 rule → IsLegal seed.road → IsInFreeFlow seed.road → ComesTo seed (always rule) step road sum
     → FlowsFreely seed step road sum
 
 -- under the rule of 1998, if moving cars brake with probability 0, a run from a legal road in free flow moves
@@ -32,7 +32,7 @@ SlowStartsKeepFreeFlow =
 abbrev pub SlowStartsMoveFreeFlowAsOne : Type 0
 SlowStartsMoveFreeFlowAsOne =
     (p0 : ℕ) (rule : Programs) (seed : Seed) (step : ℕ) (road : Cells) (sum : StepTally)
-    → IsVdr 0 p0 rule → IsLegal seed.road → IsFree seed.road → ComesTo seed (always rule) step road sum
+    → IsVdr 0 p0 rule → IsLegal seed.road → IsInFreeFlow seed.road → ComesTo seed (always rule) step road sum
     → MovesAsOne seed step road
 
 -- under the rule of 1998, if stopped cars brake with probability 1, a run from a legal road of stopped cars

@@ -6,7 +6,7 @@ use Rattle.trlab_rules.specs.Rules.{Programs}
 use Rattle.trlab_step.specs.Laws.{IsRuleFor}
 use Rattle.trlab_step.specs.Run.{Seed, Sheet, IsRoadAt}
 use Rattle.trlab_traffic.specs.Capacity.{all_cells}
-use Rattle.trlab_traffic.specs.Certainty.{IsCertain}
+use Rattle.trlab_traffic.specs.Certainty.{IsDeterministic}
 use Rattle.trlab_traffic.specs.Runs.{always}
 
 -- a run is periodic: from step `first` on the road of each step comes again `period` steps later, and
@@ -23,9 +23,9 @@ states road = (all_cells road * (road.limit + 1)) ^ cars road
 
 -- under a deterministic rule for its number of lanes a run from a legal road becomes periodic; `first` plus
 -- `period` is at most the number of states
-abbrev pub CertainRulesBecomePeriodic : Type 0
-CertainRulesBecomePeriodic =
+abbrev pub DeterministicRunsBecomePeriodic : Type 0
+DeterministicRunsBecomePeriodic =
     (rule : Programs) (seed : Seed)
-    → IsCertain rule → IsRuleFor (length seed.road.lanes) rule → IsLegal seed.road
+    → IsDeterministic rule → IsRuleFor (length seed.road.lanes) rule → IsLegal seed.road
     → (first : ℕ) × (period : ℕ) × IsPeriodic seed (always rule) first period
     × (first + period ≤ states seed.road)

@@ -7,7 +7,7 @@ use Rattle.trlab_road.specs.Gaps.{behind, gap}
 use Rattle.trlab_road.specs.Legal.{IsLegal}
 use Rattle.trlab_rules.specs.Rules.{Programs}
 use Rattle.trlab_rules.specs.StandardRules.{IsNasch}
-use Rattle.trlab_step.specs.Published.{car_ahead}
+use Rattle.trlab_step.specs.Published.{car_after_motion}
 use Rattle.trlab_step.specs.Run.{Seed, Sheet, IsRoadAt}
 use Rattle.trlab_traffic.specs.Jams.{stopped_car}
 use Rattle.trlab_traffic.specs.Rule184.{is_taken}
@@ -41,4 +41,4 @@ QueueStarts =
     (seed : Seed) (rule : Programs) (road : Cells) (x n j : ℕ) (car : Car)
     → IsNasch 0 rule → IsLegal seed.road → IsQueued seed.road x n j car
     → 1 ≤ gap (lane_of seed.road car.lane) x
-    → IsRoadAt seed (always rule) (j + 1) road → IsAt road (car_ahead seed.road car 1)
+    → IsRoadAt seed (always rule) (j + 1) road → IsAt road (car_after_motion seed.road car 1)

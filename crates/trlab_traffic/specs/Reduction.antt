@@ -31,8 +31,8 @@ RickertReducesToNasch =
 
 -- if two rules have the same steps on legal roads with as many lanes as the start, which is legal, each run
 -- under one of them is a run under the other, with the same sum of tallies
-abbrev pub HaveSameRuns : Type 0
-HaveSameRuns =
+abbrev pub SameStepsGiveSameRuns : Type 0
+SameStepsGiveSameRuns =
     (rule other : Programs) (seed : Seed) (step : ℕ) (road : Cells) (sum : StepTally)
     → IsLegal seed.road → HaveSameSteps (length seed.road.lanes) rule other
     → ComesTo seed (always rule) step road sum → ComesTo seed (always other) step road sum

@@ -12,7 +12,7 @@ use Rattle.trlab_step.specs.Next.{IsNext}
 use Rattle.trlab_step.specs.Run.{Seed, Sheet, ComesTo, IsRoadAt}
 use Rattle.trlab_traffic.specs.Capacity.{empty_cells}
 use Rattle.trlab_traffic.specs.Detector.{cars_ahead_of, passages}
-use Rattle.trlab_traffic.specs.DetectorRuns.{AreWithin, Counts}
+use Rattle.trlab_traffic.specs.DetectorRuns.{DifferByAtMost, Counts}
 
 -- the number of cars in the k cells ahead of place x, on all lanes together
 abbrev pub cars_ahead_of_row : Cells → ℕ → ℕ → ℕ
@@ -56,7 +56,7 @@ RowsAgree =
     → ((l : ℕ) → Counts seed sheet l x step (first l))
     → ((l : ℕ) → Counts seed sheet l (ahead (length (lane_of seed.road 0)) x k) step (second l))
     → let lanes = range_with_len 0 (length seed.road.lanes) in
-    AreWithin (min (cars seed.road) (empty_cells seed.road)) (sum_by first lanes) (sum_by second lanes)
+    DifferByAtMost (min (cars seed.road) (empty_cells seed.road)) (sum_by first lanes) (sum_by second lanes)
 
 -- in a run from a legal road with lanes of n cells, under any sheet of rules, each row measures the flow: n
 -- times its count differs from the distance by at most n times the number of cars or of empty cells of the
@@ -68,4 +68,4 @@ RowMeasuresFlow =
     → ((l : ℕ) → Counts seed sheet l x step (count l))
     → let cells = length (lane_of seed.road 0) in
     let row = sum_by count (range_with_len 0 (length seed.road.lanes)) in
-    AreWithin (cells * min (cars seed.road) (empty_cells seed.road)) (cells * row) sum.distance
+    DifferByAtMost (cells * min (cars seed.road) (empty_cells seed.road)) (cells * row) sum.distance

@@ -28,8 +28,8 @@ elementary number behind own ahead =
 
 -- lane `new` is lane `old`, a ring, after a step of the elementary automaton `number`: the state of each cell
 -- follows from the cell behind, the cell itself and the cell ahead on `old`
-abbrev pub GoesBy : ℕ → Lane → Lane → Type 0
-GoesBy number old new = (x : ℕ) → x < length old
+abbrev pub IsElementaryStep : ℕ → Lane → Lane → Type 0
+IsElementaryStep number old new = (x : ℕ) → x < length old
     → let taken_behind = is_taken old (behind (length old) x 1) in
     let taken_ahead = is_taken old (ahead (length old) x 1) in
     is_taken new x ≡ elementary number taken_behind (is_taken old x) taken_ahead
@@ -40,7 +40,7 @@ abbrev pub NaschIsRule184 : Type 0
 NaschIsRule184 =
     (rule : Programs) (dice : Dice) (old new : Cells) (tally : StepTally) (l : ℕ)
     → IsNasch 0 rule → IsLegal old → old.limit ≡ 1 → IsNext rule dice old new tally
-    → l < length old.lanes → GoesBy 184 (lane_of old l) (lane_of new l)
+    → l < length old.lanes → IsElementaryStep 184 (lane_of old l) (lane_of new l)
 
 -- exchanging taken with empty, and behind with ahead, leaves rule 184 as it is: empty cells move as cars do,
 -- in the other direction round the ring

@@ -18,20 +18,20 @@ use Rattle.trlab_verify.specs.declared.table.NotesFault.TheVariants.{Refused, Me
 use Rattle.trlab_verify.specs.Verdict.{IsRefused}
 
 -- the abstract value that the mark of a register means
-abbrev pub said_of : Mark → AbstractValue
-said_of Unset = Nothing
-said_of (Num lo hi) = Between lo hi
-said_of (Flag imp) = Implies imp
+abbrev pub mark_value : Mark → AbstractValue
+mark_value Unset = Nothing
+mark_value (Num lo hi) = Between lo hi
+mark_value (Flag imp) = Implies imp
 
 -- the abstract value of a variable in a form: for a register that of its mark, and nothing if it has no mark;
 -- for an input its range, if programs of this kind may read it
-abbrev pub form_said : Kind → Form → Variable → AbstractValue
-form_said kind form (variable.Register r) = said_of (slice_index_or form.regs (register_number r) Unset)
-form_said kind form (variable.Input k) = entry_said kind (variable.Input k)
+abbrev pub form_value : Kind → Form → Variable → AbstractValue
+form_value kind form (variable.Register r) = mark_value (slice_index_or form.regs (register_number r) Unset)
+form_value kind form (variable.Input k) = entry_said kind (variable.Input k)
 
 -- the note that a form means for programs of this kind
 abbrev pub meaning : Kind → Form → Note
-meaning kind form = record { said = form_said kind form; level = levels_in form.levels; side = form.side }
+meaning kind form = record { said = form_value kind form; level = levels_in form.levels; side = form.side }
 
 -- the table of the notes that these forms mean for programs of this kind
 abbrev pub table_of : Kind → List Form → List Note
@@ -55,6 +55,6 @@ HasInputRanges kind note = (k : Input) → note.said (variable.Input k) ≡ entr
 
 -- a fault instead of the notes of a program: with `Refused` the verdict rejects the program as one of its own
 -- kind; `Memory` is always possible
-abbrev pub HasNoNotes : Program → NotesFault → Type 0
-HasNoNotes program Refused = (at : ℕ) × (reason : ℕ) × IsRefused program.kind program at reason
-HasNoNotes program Memory = Unit {0}
+abbrev pub IsNotesFaultOf : Program → NotesFault → Type 0
+IsNotesFaultOf program Refused = (at : ℕ) × (reason : ℕ) × IsRefused program.kind program at reason
+IsNotesFaultOf program Memory = Unit {0}

@@ -14,12 +14,12 @@ use Rattle.trlab_verify.specs.Incoming.{note_at}
 use Rattle.trlab_verify.specs.Verdict.{IsRefused}
 
 -- the empty note, in which nothing is known
-abbrev pub blank : Note
-blank = record { said = λ x. Nothing; level = λ x y. 0; side = false }
+abbrev pub empty_note : Note
+empty_note = record { said = λ x. Nothing; level = λ x y. 0; side = false }
 
 -- the note of the instruction at pc in a table; the empty note if the table has none
 abbrev pub note_in : List Note → ℕ → Note
-note_in table pc = slice_index_or table pc blank
+note_in table pc = slice_index_or table pc empty_note
 
 -- the notes check at instruction i at pc: some instruction leads to it, unless it is the first; no reason
 -- holds against it; and the note of each instruction to which it leads is no stronger than the note that it
