@@ -100,36 +100,6 @@ fn explain_refusal(
     }
 }
 
-/// Explains an input that is read as a job.
-fn explain_job(explanation: &mut Explanation, text: &[u8]) -> Result<()>
-    requires { IsBlankHead explanation.old.refused explanation.old.answer explanation.old.quote }
-    ensures { OnOk result (IsHeadAs Subject.Job text.now
-        explanation.new.refused explanation.new.answer explanation.new.quote) }
-{
-    match parse_job(explanation.body.alloc, text) {
-        Ok(job) => {
-            add_job(&mut explanation.body, text, &job);
-            Ok(())
-        }
-        Err(refusal) => explain_refusal(explanation, Subject::Job, text, refusal),
-    }
-}
-
-/// Explains an input that is read as a sweep.
-fn explain_sweep(explanation: &mut Explanation, text: &[u8]) -> Result<()>
-    requires { IsBlankHead explanation.old.refused explanation.old.answer explanation.old.quote }
-    ensures { OnOk result (IsHeadAs Subject.Sweep text.now
-        explanation.new.refused explanation.new.answer explanation.new.quote) }
-{
-    match parse_sweep(explanation.body.alloc, text) {
-        Ok(sweep) => {
-            add_sweep(&mut explanation.body, text, &sweep);
-            Ok(())
-        }
-        Err(refusal) => explain_refusal(explanation, Subject::Sweep, text, refusal),
-    }
-}
-
 /// Explains a program that the verifier accepts with a budget.
 fn explain_accepted(
     explanation: &mut Explanation,
@@ -195,40 +165,33 @@ fn explain_program(explanation: &mut Explanation, text: &[u8], check: Check) -> 
     }
 }
 
-/// Explains an input that is read as a check.
-fn explain_check(explanation: &mut Explanation, text: &[u8]) -> Result<()>
-    requires { IsBlankHead explanation.old.refused explanation.old.answer explanation.old.quote }
-    ensures { OnOk result (IsHeadAs Subject.Check text.now
-        explanation.new.refused explanation.new.answer explanation.new.quote) }
-{
-    match parse_check(explanation.body.alloc, text) {
-        Ok(check) => explain_program(explanation, text, check),
-        Err(refusal) => explain_refusal(explanation, Subject::Check, text, refusal),
-    }
-}
-
 /// Explains an input as one of this kind.
 fn explain_as(explanation: &mut Explanation, subject: Subject, text: &[u8]) -> Result<()>
     requires { IsBlankHead explanation.old.refused explanation.old.answer explanation.old.quote }
     ensures { OnOk result (IsHeadAs subject text.now
         explanation.new.refused explanation.new.answer explanation.new.quote) }
 {
+    let alloc = explanation.body.alloc;
     match subject {
-        Subject::Job => explain_job(explanation, text),
-        Subject::Sweep => explain_sweep(explanation, text),
-        Subject::Check => explain_check(explanation, text),
+        Subject::Job => match parse_job(alloc, text) {
+            Ok(job) => {
+                add_job(&mut explanation.body, text, &job);
+                Ok(())
+            }
+            Err(refusal) => explain_refusal(explanation, subject, text, refusal),
+        },
+        Subject::Sweep => match parse_sweep(alloc, text) {
+            Ok(sweep) => {
+                add_sweep(&mut explanation.body, text, &sweep);
+                Ok(())
+            }
+            Err(refusal) => explain_refusal(explanation, subject, text, refusal),
+        },
+        Subject::Check => match parse_check(alloc, text) {
+            Ok(check) => explain_program(explanation, text, check),
+            Err(refusal) => explain_refusal(explanation, subject, text, refusal),
+        },
     }
-}
-
-/// The wanted kind of input, or else the kind that the text is meant to be.
-fn read_as(alloc: Global, wanted: Option<Subject>, text: &[u8]) -> Result<Subject>
-    ensures { IfOk result (IsReadAs wanted text.now) }
-{
-    let subject = match wanted {
-        Some(subject) => subject,
-        None => subject_of(alloc, text)?,
-    };
-    Ok(subject)
 }
 
 /// Plain text as bytes.
@@ -265,7 +228,10 @@ fn explained(
 ) -> Result<(bool, Vec<u8>)>
     ensures { IfOk result (λ output. Explains form wanted text.now output.0 output.1.items) }
 {
-    let subject = read_as(alloc, wanted, text)?;
+    let subject = match wanted {
+        Some(subject) => subject,
+        None => subject_of(alloc, text)?,
+    };
     let mut explanation = Explanation::new(alloc, subject);
     match explain_as(&mut explanation, subject, text) {
         Ok(()) => bytes_in_form(alloc, form, &explanation),

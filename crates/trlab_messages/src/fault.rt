@@ -12,7 +12,7 @@ use trlab_asm::{Why, mnemonic_named};
 use trlab_jobs::Subject;
 use trlab_lines::{Place, name_and_operands};
 use trlab_texts::word::head_word;
-use trlab_texts::{Cause, LineName, LineNames, Wanted};
+use trlab_texts::{Cause, LineName, Wanted};
 
 /// The first fault of an input.
 #[derive(Clone, Copy)]
@@ -60,13 +60,13 @@ fn intro_of(subject: Subject) -> &'static str {
 
 /// Adds the forms of the lines of a job or sweep that would be valid at a fault.
 fn push_line_forms(forms: &mut Draft, fault: &Fault<'_>) {
-    let names = match (fault.wanted, named(head_word(fault.line))) {
-        (Wanted::Lines(names), _) => *names,
-        (_, Some(name)) => LineNames::none().with(name),
-        (_, None) => LineNames::none(),
-    };
+    let own = named(head_word(fault.line));
     for line in &LineName::ALL {
-        if names.has(*line) {
+        let is_valid = match fault.wanted {
+            Wanted::Lines(names) => names.has(*line),
+            _ => own == Some(*line),
+        };
+        if is_valid {
             forms.line(form_of_line(*line));
         }
     }

@@ -59,11 +59,6 @@ impl Draft {
         self.say("\n");
     }
 
-    /// Adds bytes in full.
-    pub fn show(&mut self, bytes: &[u8]) {
-        write!(self, "{}", Shown(bytes));
-    }
-
     /// `write!` and `writeln!` call this.
     pub fn write_fmt<D: fmt::Display + Drop>(&mut self, words: D) {
         self.has_failed |= self.text.write_fmt(words).is_err();

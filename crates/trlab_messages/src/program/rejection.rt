@@ -4,7 +4,7 @@ use crate::body::{Body, Rejection};
 use crate::program::Listing;
 use crate::program::marks::push_fact;
 use crate::reasons::{advice, reason_meaning};
-use crate::sentence::{Draft, Shown};
+use crate::sentence::{Draft, Quoted, Shown};
 use std::alloc::Global;
 use trlab_asm::register_text;
 use trlab_code::{Instr, Register};
@@ -97,7 +97,7 @@ fn push_paths(facts: &mut Draft, program: Listing<'_>, at: u32) {
 /// The instruction at which a program is rejected, and why.
 fn rejection_at(alloc: Global, program: Listing<'_>, at: u32, reason: Reason) -> Rejection {
     let mut text = Draft::new(alloc);
-    program.push_text(&mut text, at);
+    write!(text, "{}", Quoted(program.line(at).1));
     let mut instruction = Draft::new(alloc);
     program.push_instruction(&mut instruction, at);
     Rejection {
@@ -111,20 +111,14 @@ fn rejection_at(alloc: Global, program: Listing<'_>, at: u32, reason: Reason) ->
     }
 }
 
-/// Adds the instruction above an unreachable one.
-fn push_above(facts: &mut Draft, program: Listing<'_>, at: u32) {
-    if let Some(above) = at.checked_sub(1) {
-        facts.line("The instruction above never continues here, and no jump comes here:");
-        program.push_instruction(facts, above);
-        facts.say("\n");
-    }
-}
-
 /// Adds why a program with these notes is rejected at an instruction.
 fn add_reason(body: &mut Body, program: Listing<'_>, notes: &[Note], at: u32, reason: Reason) {
     body.rejection = Some(rejection_at(body.alloc, program, at, reason));
     if reason == Reason::Unreachable {
-        return push_above(&mut body.facts, program, at);
+        let facts = &mut body.facts;
+        facts.line("The instruction above never continues here, and no jump comes here:");
+        program.push_instruction(facts, at.saturating_sub(1));
+        return facts.say("\n");
     }
     let instr = program.code.instrs().get(at as usize);
     if let (Some(note), Some(instr)) = (notes.get(at as usize), instr) {
