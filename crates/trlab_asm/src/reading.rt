@@ -172,12 +172,14 @@ pub(crate) fn read_draft(name: Mnemonic, text: &[u8]) -> Result<InstrDraft<'_>, 
     ensures { result ≡ draft_of name text.now }
 {
     match name {
-        Mnemonic::Num => register_and_number(0, text).map(|(d, n)| draft_without_label(Instr::Num(d, n))),
+        Mnemonic::Num => register_and_number(0, text).map(|(d, n)| draft_without_label(Instr::Num(
+            d, n,
+        ))),
         Mnemonic::Get => register_input(text).map(|(d, k)| draft_without_label(Instr::Get(d, k))),
         Mnemonic::Draw => read_draw(text),
-        Mnemonic::Mul => two_registers_number(0, text).map(|(d, (a, n))| draft_without_label(Instr::Mul(
-            d, a, n,
-        ))),
+        Mnemonic::Mul => two_registers_number(0, text).map(|(d, (a, n))| draft_without_label(
+            Instr::Mul(d, a, n),
+        )),
         Mnemonic::Div => read_div(text),
         Mnemonic::Jump => jump_target(text).map(|to| jump_draft(Instr::Jump(to.pc), to)),
         Mnemonic::JumpLess | Mnemonic::JumpAtMost => read_jump_by_two(name, text),

@@ -52,7 +52,7 @@ pub record IsDrivenSweep (text out : List ℕ) : Type 0 where
   pub one_each : length points ≡ length parsed_sweep.cars
   pub each : (i cars : ℕ) (point : Point) → i < length parsed_sweep.cars
       → IsDrivenPoint parsed_sweep.setup i (slice_index_or parsed_sweep.cars i cars)
-          (slice_index_or points i point)
+      (slice_index_or points i point)
   pub table : out ≡ points_text points
 
 -- every output of `sweep` for a sweep text that is not a refusal is the output of a driven sweep

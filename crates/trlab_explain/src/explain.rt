@@ -244,7 +244,8 @@ fn explained(
 pub fn write_explanation<K: Sink>(output: Result<(bool, Vec<u8>)>, writer: &mut K) -> End
     requires { K.failed writer.old ≡ false }
     ensures answer { MatchResult output
-        (λ output. WroteOutputAtEnd output.0 output.1.items result (bytes_of K.Sink writer.old) (bytes_of K.Sink writer.new))
+        (λ output. WroteOutputAtEnd output.0 output.1.items result
+        (bytes_of K.Sink writer.old) (bytes_of K.Sink writer.new))
         (λ _. (result ≡ Memory) × AddsNone (bytes_of K.Sink writer.old) (bytes_of K.Sink writer.new)) }
     ensures handed { FlushedAtEnd result
         (K.handed_on writer.new) (K.flushes writer.old) (K.flushes writer.new) }

@@ -105,7 +105,7 @@ abbrev pub some_unset : Note → Instr → Bool
 some_unset note instr =
     any_register is_nothing note (numbers_of (operands_of instr))
     || (any_register is_nothing note (flags_of (operands_of instr))
-        || any_register is_nothing note (values_of (operands_of instr)))
+    || any_register is_nothing note (values_of (operands_of instr)))
 
 -- is an operand of the instruction a flag instead of a number, or a number instead of a flag, by the note
 -- before it?

@@ -69,7 +69,7 @@ result_value note (Add d a b) =
     Between (min (least note a + least note b) MAX_NUMBER) (most note a + most note b)
 result_value note (Sub d a b) =
     Between (max (least note a - most note b) (least_difference (register_level note b a)))
-        (most note a - least note b)
+    (most note a - least note b)
 result_value note (Mul d a n) = Between (min (least note a * n) MAX_NUMBER) (most note a * n)
 result_value note (Div d a n) = Between (least note a / n) (most note a / n)
 result_value note (Min d a b) = Between (min (least note a) (least note b)) (min (most note a) (most note b))

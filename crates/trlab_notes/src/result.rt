@@ -81,7 +81,8 @@ fn known_ways(
 ) -> (LevelRow, LevelRow)
     requires { variable < VARIABLES }
     ensures to { (y : ℕ) → y < VARIABLES → level_in result.0 y ≡ known_level_from said.now variable y (level_in to y) }
-    ensures from { (x : ℕ) → x < VARIABLES → level_in result.1 x ≡ known_level_from said.now x variable (level_in from x) }
+    ensures from { (x : ℕ) → x < VARIABLES
+        → level_in result.1 x ≡ known_level_from said.now x variable (level_in from x) }
 {
     let (mut row, mut column) = (to, from);
     for x in 0..VARIABLES {

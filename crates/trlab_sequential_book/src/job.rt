@@ -111,7 +111,7 @@ impl JobRecord {
         Ok(self.high)
     }
 
-    /// Tests that the job has steps that were never ordered, and that a rule suits its road.
+    /// Tests that the job is not cancelled and has steps that were never ordered, and that a rule suits its road.
     fn admits(&self, rule: &Rule) -> Result<(), BookFault>
         ensures ok { IfOk result (λ _. (self.now.cancelled || (self.now.high == self.now.steps) ≡ false)
             × (suits rule.now self.now.seed.road ≡ true)) }

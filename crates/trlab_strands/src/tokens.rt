@@ -6,7 +6,8 @@ ghost use Rattle.trlab_strands.specs.Knowledge.{IsLinearization, AreInList, firs
 ghost use Rattle.trlab_strands.specs.declared.knowledge.TheConstants.{ALL_PARTS};
 
 use crate::knowledge::{
-    Apart, JoinStrands, Ledger, AuditList, NoteEvent, OncePerEvent, OnePart, SeeWholeList, StrandKnowledge,
+    Apart, AuditList, JoinStrands, Ledger, NoteEvent, OncePerEvent, OnePart, SeeWholeList,
+    StrandKnowledge,
 };
 use atomic_table::{Seat, Table};
 use std::alloc::{AllocError, Global};

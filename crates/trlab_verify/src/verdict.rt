@@ -32,7 +32,8 @@ fn send_next(notes: &mut [Option<Stored>], pc: usize, note: &Stored, instr: Inst
     requires in_range { IsInRange instr }
     requires fits { may_be_too_large (note_of note.now) instr ≡ false }
     ensures { (q : ℕ) → q < length notes.old →
-        stored_note_at notes.new q ≡ add_note (stored_note_at notes.old q) (next_note_to pc (note_of note.now) instr q) }
+        stored_note_at notes.new q
+        ≡ add_note (stored_note_at notes.old q) (next_note_to pc (note_of note.now) instr q) }
 {
     let next = pc + 1;
     if next >= notes.len() {
@@ -62,7 +63,8 @@ pub fn send(notes: &mut [Option<Stored>], pc: usize, note: &Stored, instr: Instr
     requires in_range { IsInRange instr }
     requires fits { may_be_too_large (note_of note.now) instr ≡ false }
     ensures { (q : ℕ) → q < length notes.old →
-        stored_note_at notes.new q ≡ add_notes pc (Some (note_of note.now)) (Some instr) q (stored_note_at notes.old q) }
+        stored_note_at notes.new q
+        ≡ add_notes pc (Some (note_of note.now)) (Some instr) q (stored_note_at notes.old q) }
 {
     send_next(notes, pc, note, instr);
     send_jump(notes, note, instr);

@@ -83,8 +83,8 @@ impl<A: Copy + Drop, P: Asked<A> + Drop> Task<A, P> {
         self.put_back(results, guard);
     }
 
-    /// Replaces `answers` by the answers of all cars, from the parts that helpers deposited and those of the caller, and
-    /// returns the road. All helpers must have left the phase.
+    /// Replaces `answers` by the answers of all cars, from the parts of the helpers and of the caller, and returns the
+    /// road. All helpers must have left the phase.
     ///
     /// # Errors
     ///
