@@ -1,7 +1,8 @@
 -- Explanations: whether an input is rejected, and how the text form begins and the JSON form ends.
-use Rattle.std.specs.Prelude.{◌≡◌, ℕ, Bool, true, false, not, All, List, [], ◌++◌, codes, decimal, Option, None, Some, Result, Ok, Err, if◌then◌else◌}
+use Rattle.std.specs.Prelude.{◌≡◌, ℕ, Bool, true, false, not, All, List, [], ◌∷◌, ◌++◌, codes, decimal, Option, None, Some, Result, Ok, Err, if◌then◌else◌}
 use Rattle.trlab_lines.specs.Plain.{IsPlain}
 use Rattle.trlab_lines.specs.Lines.{lines_of}
+use Rattle.trlab_verify.specs.Longest.{IsLongest}
 use Rattle.trlab_verify.specs.Verdict.{IsAccepted, IsRefused}
 use Rattle.trlab_texts.specs.Reading.{Fault, Reports}
 use Rattle.trlab_texts.specs.declared.fault.TextFault.{TextFault}
@@ -41,18 +42,24 @@ abbrev pub IsFaultHead : List ℕ → Fault → Heads
 IsFaultHead text fault refused answer quote = (refused ≡ true) × (answer ≡ fault_line fault)
     × (quote ≡ quote_line fault.line (line_at fault.line (lines_of text)))
 
--- the head for a job or sweep, by the result of reading it: not rejected, with nothing else fixed, for a
+-- the head for a job or sweep, by the result of reading it: not rejected and without a printed line for a
 -- value, and otherwise the head for its fault
 abbrev pub IsTextHead : {A : Type 0} → List ℕ → Result A Fault → Heads
-IsTextHead text (Ok x) refused answer quote = refused ≡ false
+IsTextHead text (Ok x) refused answer quote = (refused ≡ false) × (answer ≡ [])
 IsTextHead text (Err fault) refused answer quote = IsFaultHead text fault refused answer quote
 
--- the head for the program of a check: not rejected, with nothing else fixed, if the verifier accepts it;
--- otherwise rejected (`true`), with the line of the instruction and the verifier's reason, and any quote
+-- the line for an accepted program, `accepted budget B`, and the LF that ends it
+abbrev pub accepted_line : ℕ → List ℕ
+accepted_line budget = codes "accepted budget " ++ (decimal budget ++ (10 ∷ []))
+
+-- the head for the program of a check: not rejected, with the line of its budget, if the verifier accepts it;
+-- otherwise rejected (`true`), with the line of the instruction and the verifier's reason, and no quote
 abbrev pub IsProgramHead : CheckSaid → Heads
-IsProgramHead check false answer quote = IsAccepted check.program.kind check.program
-IsProgramHead check true answer quote = (at reason : ℕ)
-    × IsRefused check.program.kind check.program at reason × (answer ≡ refused_line at reason)
+IsProgramHead check false answer quote = IsAccepted check.program.kind check.program × ((budget : ℕ)
+    × IsLongest check.program.instrs 0 budget × (answer ≡ accepted_line budget))
+IsProgramHead check true answer quote =
+    (at reason : ℕ) × IsRefused check.program.kind check.program at reason
+    × (answer ≡ refused_line at reason) × (quote ≡ [])
 
 -- the head for a check, by the result of reading it: that for its program, or that for its fault
 abbrev pub IsCheckHead : List ℕ → Result CheckSaid Fault → Heads

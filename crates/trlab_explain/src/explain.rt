@@ -8,7 +8,7 @@ ghost use Rattle.trlab_lines.specs.Plain.{IsPlain};
 ghost use Rattle.trlab_verify.specs.Faults.{IsFaultOf};
 ghost use Rattle.trlab_jobs.specs.Check.{Check as CheckSaid};
 ghost use Rattle.trlab_explain.specs.Quotes.{quote_line};
-ghost use Rattle.trlab_explain.specs.Explanations.{Explains, HasHead, IsBlankHead, IsReadAs, IsRefusedWith, IsHeadAs, IsFaultHead, IsProgramHead};
+ghost use Rattle.trlab_explain.specs.Explanations.{Explains, HasHead, IsBlankHead, IsReadAs, IsRefusedWith, IsHeadAs, IsFaultHead, IsProgramHead, accepted_line};
 
 use crate::explanation::{Explanation, json_form, text_form};
 use crate::meant::subject_of;
@@ -107,7 +107,9 @@ fn explain_accepted(
     code: &Code,
     budget: u32,
 ) -> Result<()>
-    ensures { explanation.new.refused ≡ explanation.old.refused }
+    requires { explanation.old.answer ≡ [] }
+    ensures refused { explanation.new.refused ≡ explanation.old.refused }
+    ensures answer { OnOk result (explanation.new.answer ≡ accepted_line budget) }
 {
     explanation.answer.say("accepted budget ")?;
     explanation.answer.number(u64::from(budget))?;
