@@ -38,7 +38,8 @@ operand comma others = operand ++ (44 ∷ 32 ∷ others)
 abbrev pub row_text : Mnemonic → List ℕ → List ℕ
 row_text name operands = mnemonic_text name ++ (32 ∷ operands)
 
--- an operation as it is printed: its name, and its operands separated by commas
+-- the text of an instruction whose operands are ready to print: its name, a space and the operands separated
+-- by `, `, for example `add r0, r1, r2`; without operands only its name
 abbrev pub operation_text : Operation → List ℕ
 operation_text (Bare name) = mnemonic_text name
 operation_text (One name a) = row_text name (operand_text a)

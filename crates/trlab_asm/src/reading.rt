@@ -254,6 +254,7 @@ fn new_label<'a>(labels: &Labels<'a>, text: &'a [u8]) -> Result<Option<&'a [u8]>
     }
 }
 
+/// The label in the text before a colon; `None` without a colon. `Why::Word` unless it is one word that can be a label.
 fn label_of<'a>(labels: &Labels<'a>, text: Option<&'a [u8]>) -> Result<Option<&'a [u8]>, Why>
     ensures { map_ok (λ label. option_map (λ label. label.now) label) result
         ≡ label_of (pcs labels.now) (option_map (λ text. text.now) text.entry) }

@@ -18,7 +18,7 @@ use Rattle.trlab_sequential_book.specs.Answers.{LeadsAs, RepliesAs, is_event, is
 use Rattle.trlab_sequential_book.specs.Comparison.{RunsRoadOfItsJob, LeaseCall, OrderCall, offered}
 use Rattle.trlab_sequential_book.specs.Leases.{LeaseState, suits}
 use Rattle.trlab_sequential_book.specs.Machine.{JobState, JobOutcome, JobsOutcome, BookState, after, cancelling, giving_back, is_free, is_full, accepts_lease, leasing, new_job, next_after, on_free, on_job, ordering, reading, refused, replacing, reply_of, revoking, outcome_of_call, empty_book, submitting}
-use Rattle.trlab_sequential_book.specs.Sheets.{begin_in_force, entered}
+use Rattle.trlab_sequential_book.specs.Sheets.{begin_in_force, with_rule_from}
 use Rattle.trlab_sequential_book.specs.declared.seed.Seed.{Seed}
 use Rattle.trlab_rules.specs.Rules.{Programs}
 use Rattle.trlab_sequential_book.specs.Replay.{Replays, call_of, event, replies_from, state_from, reply_of_event}
@@ -119,7 +119,7 @@ replace_is_event s i rule free = reply_is_event s (Replace i rule) free (job_is_
   where
     taken : (job : JobState) → is_event (replacing rule job).reply ≡ true
     taken job =
-        let sheet = entered job.sheet job.high rule in
+        let sheet = with_rule_from job.sheet job.high rule in
         let made : JobOutcome = record { reply = Number job.high; job = record job { sheet = sheet } } in
         let full : JobOutcome = if ltb 1024 (length sheet) then refused SheetFull job else made in
         let lanes : JobOutcome = if not (suits rule job.seed.road) then refused LanesMismatch job else full in

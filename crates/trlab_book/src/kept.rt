@@ -110,7 +110,7 @@ impl Kept {
     ///
     /// # Errors
     ///
-    /// Those of `Book::lease`; `Memory` also if the history cannot grow.
+    /// The errors of `Book::lease`; also `Memory` if there is no memory for one more event.
     pub fn lease(&mut self, alloc: Global) -> Result<Option<Lease>, BookFault>
         ensures made { Records self.old LeaseCall (lease_reply result) self.new }
         ensures lent { IfOk result (λ o. IsFreshIfLent self.old.book.jobs self.old.book.next o) }

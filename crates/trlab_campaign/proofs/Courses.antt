@@ -16,7 +16,7 @@ use Rattle.trlab_step.specs.Next.{IsNext}
 use Rattle.trlab_step.specs.Run.{Seed, Sheet, ComesTo, IsRoadAt, IsTallyAt, dice_at, tally_sum}
 use Rattle.trlab_step.proofs.NextLaws.{next_road_is_one}
 use Rattle.trlab_step.proofs.RunLaws.{run_comes_to_road, road_is_one, road_at_is_one}
-use Rattle.trlab_step.specs.Progress.{Progress, IsUnderway}
+use Rattle.trlab_step.specs.Progress.{Progress, IsReachedByRun}
 use Rattle.trlab_campaign.specs.Counting.{IsBoundedCount, IsLaterBy}
 use Rattle.trlab_campaign.specs.SeriesOutput.{AreRoads, IsCourse, IsStepAt, cars_on, lane_count, roads_after, total_speed_on, stopped_on, tallies_from, window_of}
 
@@ -188,7 +188,7 @@ few_more steps old now new few more a b c =
 
 -- a run that went on for some steps, by its sums of tallies
 module _ (old new : Progress) (count : ℕ) (before : StepTally) (on : IsLaterBy count old new) (counts : old.seed.warm ≡ 0)
-    (tally : IsTallyAt old.seed old.sheet old.step before) (under : IsUnderway new) where
+    (tally : IsTallyAt old.seed old.sheet old.step before) (under : IsReachedByRun new) where
   pub run_since : (roads : ℕ → Cells) (tallies : ℕ → StepTally) → IsCourse old.seed old.sheet roads tallies → IsSumSince (tallies_from tallies old.step count) before new.sum
   run_since roads tallies course =
       let comes : ComesTo old.seed old.sheet new.step new.road new.sum = rw (← on.same_seed, ← on.same_sheet) under.comes in

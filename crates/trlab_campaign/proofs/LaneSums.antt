@@ -9,7 +9,7 @@ use Rattle.trlab_road.specs.Cells.{Cells, cars}
 use Rattle.trlab_road.specs.Legal.{IsLegal}
 use Rattle.trlab_road.specs.Standing.{standing}
 use Rattle.trlab_road.proofs.MotionLaws.{on_lane}
-use Rattle.trlab_road.proofs.StandingOrder.{length-standing_lanes, standing_cell}
+use Rattle.trlab_road.proofs.StandingOrder.{length-standing_from_lane, standing_cell}
 use Rattle.trlab_step.specs.declared.tally.StepTally.{StepTally}
 use Rattle.trlab_step.specs.Laws.{IsLegalLike}
 use Rattle.trlab_step.specs.Next.{stopped_cars, total_speed}
@@ -44,7 +44,7 @@ split_sum f (x ∷ xs) low =
 -- each car of a legal road stands on lane 0 or on lane 1
 on_two : (road : Cells) → IsLegal road → (k : ℕ) (d : Car) → k < length (standing road) → (get_or (standing road) k d).lane < 2
 on_two road legal k d inside =
-    let count = length-standing_lanes 0 road.lanes in
+    let count = length-standing_from_lane 0 road.lanes in
     let car = get_or (standing road) k d in
     let on = on_lane road car.lane car.place (car.number, car.speed) (standing_cell road k d (omega (arith, inside, count))) in
     let few = legal.shape.lanes.few_lanes in
@@ -52,7 +52,7 @@ on_two road legal k d inside =
 
 -- what stands on both lanes of a legal road
 both_cars : (road : Cells) → IsLegal road → cars_on 0 road + cars_on 1 road ≡ cars road
-both_cars road legal = split_sum (λ (car : Car). 1) (standing road) (on_two road legal) ∙ ones (standing road) ∙ length-standing_lanes 0 road.lanes
+both_cars road legal = split_sum (λ (car : Car). 1) (standing road) (on_two road legal) ∙ ones (standing road) ∙ length-standing_from_lane 0 road.lanes
 
 both_speeds : (road : Cells) → IsLegal road → total_speed_on 0 road + total_speed_on 1 road ≡ total_speed road
 both_speeds road legal = split_sum (λ (car : Car). car.speed) (standing road) (on_two road legal)

@@ -9,7 +9,7 @@ use Rattle.trlab_code.specs.declared.fault.CodeFault.{CodeFault}
 use Rattle.trlab_code.specs.declared.fault.CodeFault.TheVariants as fault
 use Rattle.trlab_code.specs.Program.{Program, IsValidProgram, VersionAllows, reads_headspeed}
 use Rattle.trlab_code.specs.Encoding.{instr_bytes, encoding}
-use Rattle.trlab_code.specs.Faults.{HasValidHeader, IsValidBefore, EncodesSomeInstr, HasOpcode, NeedsVersion, IsFirstCodeFault, stated_count, stated_version, bytes_at}
+use Rattle.trlab_code.specs.Faults.{HasValidHeader, IsValidBefore, EncodesSomeInstr, HasOpcode, VersionIsNeeded, IsFirstCodeFault, stated_count, stated_version, bytes_at}
 
 -- the bytes of instructions, eight for each
 length_rows : (instrs : List Instr) → length (flat_map instr_bytes instrs) ≡ 8 * length instrs
@@ -76,7 +76,7 @@ reads_in_second : (program : Program) → stated_version (encoding program) ≡ 
 unfolding encoding
 reads_in_second program second = elim (cases_Bool (list_any reads_headspeed program.instrs)) [ inl some ↦ some | inr none ↦ absurd (cc) ]
 
-needs_version : (program : Program) → NeedsVersion (encoding program)
+needs_version : (program : Program) → VersionIsNeeded (encoding program)
 needs_version program second =
     let some = Any-from_list_any reads_headspeed program.instrs (reads_in_second program second) in
     (some.0, some.1, omega (arith, count_is program, some.2), row_of_spelling program some.0 some.1 some.2 ∙ ap instr_bytes some.3, some.4)

@@ -92,9 +92,10 @@ abbrev pub HasHeadspeed : List ℕ → Type 0
 HasHeadspeed bytes = (pc : ℕ) × (instr : Instr)
     × (pc < stated_count bytes) × (bytes_at bytes pc ≡ instr_bytes instr) × IsTrue (reads_headspeed instr)
 
--- the header states HEADSPEED_VERSION only if a stated instruction needs it, that is, reads the headspeed
-abbrev pub NeedsVersion : List ℕ → Type 0
-NeedsVersion bytes = stated_version bytes ≡ HEADSPEED_VERSION → HasHeadspeed bytes
+-- the stated version is needed: PLAIN_VERSION always is, and HEADSPEED_VERSION is if a stated instruction
+-- reads the headspeed
+abbrev pub VersionIsNeeded : List ℕ → Type 0
+VersionIsNeeded bytes = stated_version bytes ≡ HEADSPEED_VERSION → HasHeadspeed bytes
 
 -- there are bytes after the last stated instruction
 abbrev pub HasExtraBytes : List ℕ → Type 0
@@ -111,8 +112,8 @@ abbrev pub IsFaultAfterHeader : List ℕ → CodeFault → Type 0
 IsFaultAfterHeader bytes (fault.Opcode pc) = ReachesInstr bytes pc (λ row. ¬ (HasOpcode row))
 IsFaultAfterHeader bytes (fault.Field pc) =
     ReachesInstr bytes pc (λ row. HasOpcode row × ¬ (EncodesSomeInstr (stated_version bytes) row))
-IsFaultAfterHeader bytes fault.NeedlessVersion = PassesInstrs bytes (¬ (NeedsVersion bytes))
-IsFaultAfterHeader bytes fault.Trailing = PassesInstrs bytes (NeedsVersion bytes × HasExtraBytes bytes)
+IsFaultAfterHeader bytes fault.NeedlessVersion = PassesInstrs bytes (¬ (VersionIsNeeded bytes))
+IsFaultAfterHeader bytes fault.Trailing = PassesInstrs bytes (VersionIsNeeded bytes × HasExtraBytes bytes)
 IsFaultAfterHeader bytes fault.Memory = Unit {0}
 IsFaultAfterHeader bytes _ = ⊥
 

@@ -25,7 +25,7 @@ use std::alloc::Global;
 pub enum Request {
     /// Check the program on standard input.
     Check,
-    /// Run the job on standard input.
+    /// Run the job on standard input, and print its road at some steps.
     Run {
         /// The number of workers that share the work, 1 to 16.
         workers: u32,

@@ -31,7 +31,7 @@ use Rattle.trlab_jobs.specs.declared.rule_line.RuleLine.{RuleLine}
 use Rattle.trlab_jobs.specs.declared.rule_line.RuleLine.TheVariants.{Nasch, Vdr, Rickert, Own}
 use Rattle.trlab_jobs.specs.RuleLines.{rule_line, later_line}
 use Rattle.trlab_jobs.specs.RuleParts.{VerifiesAs, IsMotionRule, IsTwoProgramRule, IsTwoLaneRule, digits_misplacement, code_misplacement, block_misplacement, part_misplacement, misplacement, change_by, next_is_change, change_part, own_rule, rule_from, rule}
-use Rattle.trlab_jobs.specs.Later.{later_rule, to_the_end, later_from, later_rules}
+use Rattle.trlab_jobs.specs.Later.{later_rule, to_the_end, later_rules_from, later_rules}
 use Rattle.trlab_jobs.specs.Stored.{AreLaterRules}
 use Rattle.trlab_jobs.proofs.FineLines.{Chances, rule_line_fine, later_line_fine}
 
@@ -188,16 +188,16 @@ to_the_end_one : {P : Sheet → Type 0} (left : List (List ℕ)) (reading : Read
 to_the_end_one [] reading none one = said_one [] none
 to_the_end_one (text ∷ left) reading none one = one
 
-later_from_one : (room lanes steps least : ℕ) → FewLanes lanes → OneReading (AreLaterRules lanes steps least) (later_from room lanes steps least)
-unfolding later_from
+later_from_one : (room lanes steps least : ℕ) → FewLanes lanes → OneReading (AreLaterRules lanes steps least) (later_rules_from room lanes steps least)
+unfolding later_rules_from
 later_from_one zero lanes steps least few place =
     to_the_end_one place.left (later_rule 0 lanes steps least >>= λ entry. say (entry ∷ [])) tt
     (then_one (later_rule 0 lanes steps least) (λ entry. say (entry ∷ [])) (later_rule_one 0 lanes steps least few)
     (λ entry is. said_one (entry ∷ []) (is.0, (is.1.0, (is.1.1, tt))))) place
 later_from_one (suc room) lanes steps least few place =
-    to_the_end_one place.left (later_rule (suc room) lanes steps least >>= λ entry. later_from room lanes steps (entry.0 + 1) >>= λ later. say (entry ∷ later)) tt
-    (then_one (later_rule (suc room) lanes steps least) (λ entry. later_from room lanes steps (entry.0 + 1) >>= λ later. say (entry ∷ later)) (later_rule_one (suc room) lanes steps least few) (λ entry is.
-    then_one (later_from room lanes steps (entry.0 + 1)) (λ later. say (entry ∷ later)) (later_from_one room lanes steps (entry.0 + 1) few) (λ later more.
+    to_the_end_one place.left (later_rule (suc room) lanes steps least >>= λ entry. later_rules_from room lanes steps (entry.0 + 1) >>= λ later. say (entry ∷ later)) tt
+    (then_one (later_rule (suc room) lanes steps least) (λ entry. later_rules_from room lanes steps (entry.0 + 1) >>= λ later. say (entry ∷ later)) (later_rule_one (suc room) lanes steps least few) (λ entry is.
+    then_one (later_rules_from room lanes steps (entry.0 + 1)) (λ later. say (entry ∷ later)) (later_from_one room lanes steps (entry.0 + 1) few) (λ later more.
     said_one (entry ∷ later) (is.0, (is.1.0, (is.1.1, more)))))) place
 
 pub later_rules_one : (lanes steps : ℕ) → FewLanes lanes → OneReading (AreLaterRules lanes steps 0) (later_rules lanes steps)

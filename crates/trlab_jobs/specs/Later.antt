@@ -20,14 +20,15 @@ to_the_end [] reading = say []
 to_the_end (text ∷ left) reading = reading
 
 -- reads the later rules up to the end of a text, at most `room`, for a road with `lanes` lanes; their steps
--- increase, the first is at least `least`, and all are below `steps`
-unfoldable pub later_from : ℕ → ℕ → ℕ → ℕ → Reading Sheet
-later_from zero lanes steps least = λ rest out.
+-- increase, the first is at least `least`, and all are below `steps`. With room for none, a line that is left
+-- is a fault
+unfoldable pub later_rules_from : ℕ → ℕ → ℕ → ℕ → Reading Sheet
+later_rules_from zero lanes steps least = λ rest out.
     to_the_end rest.left (later_rule 0 lanes steps least >>= λ entry. say (entry ∷ [])) rest out
-later_from (suc room) lanes steps least = λ rest out.
+later_rules_from (suc room) lanes steps least = λ rest out.
     to_the_end rest.left (later_rule (suc room) lanes steps least >>= λ entry.
-    later_from room lanes steps (entry.0 + 1) >>= λ later. say (entry ∷ later)) rest out
+    later_rules_from room lanes steps (entry.0 + 1) >>= λ later. say (entry ∷ later)) rest out
 
 -- reads the later rules of a run of `steps` steps, at most MAX_LATER, for a road with `lanes` lanes
 abbrev pub later_rules : ℕ → ℕ → Reading Sheet
-later_rules lanes steps = later_from MAX_LATER lanes steps 0
+later_rules lanes steps = later_rules_from MAX_LATER lanes steps 0

@@ -60,14 +60,15 @@ fn intro_of(subject: Subject) -> &'static str {
 
 /// Adds the forms of the lines of a job or sweep that would be valid at a fault.
 fn push_line_forms(forms: &mut Draft, fault: &Fault<'_>) {
-    let own = named(head_word(fault.line));
-    for line in &LineName::ALL {
+    let own_name = named(head_word(fault.line));
+    for name in &LineName::ALL {
         let is_valid = match fault.wanted {
-            Wanted::Lines(names) => names.has(*line),
-            _ => own == Some(*line),
+            Wanted::Lines(names) => names.has(*name),
+            // A value is wrong, not the name of its line.
+            _ => own_name == Some(*name),
         };
         if is_valid {
-            forms.line(form_of_line(*line));
+            forms.line(form_of_line(*name));
         }
     }
 }

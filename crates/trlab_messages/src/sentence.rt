@@ -40,7 +40,7 @@ pub struct Draft {
 }
 
 impl Draft {
-    /// An empty draft.
+    /// A draft that has allocated nothing yet.
     pub fn new(alloc: Global) -> Draft {
         Draft {
             text: String::new(alloc),

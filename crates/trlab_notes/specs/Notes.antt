@@ -67,7 +67,8 @@ level_between _ _ same level = 0
 unfoldable pub known_level : Note → Variable → Variable → ℕ
 known_level note x y = level_between (note.said x) (note.said y) (same_variable x y) (note.level x y)
 
--- the closure of a note: the same knowledge, with the known level of each variable to each as its level
+-- the closure of a note under its ranges: each level is the known level, so that the order of two variables
+-- that follows from their ranges is a level too. Levels are not chained through a third variable
 unfoldable pub closure : Note → Note
 closure note = record note { level = known_level note }
 

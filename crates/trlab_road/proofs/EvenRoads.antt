@@ -12,7 +12,7 @@ use Rattle.trlab_road.specs.Spreading.{even_lane, even_place, IsEvenlySpacedAt, 
 use Rattle.trlab_road.specs.Standing.{standing, rank}
 use Rattle.trlab_road.proofs.Ring.{inside, car_in}
 use Rattle.trlab_road.proofs.MotionLaws.{on_lane, fewer_cars}
-use Rattle.trlab_road.proofs.StandingOrder.{get_or-map_in, standing_rank, standing_cell, rank_below_cars, length-standing_lanes, car_of}
+use Rattle.trlab_road.proofs.StandingOrder.{get_or-map_in, standing_rank, standing_cell, rank_below_cars, length-standing_from_lane, car_of}
 use Rattle.trlab_road.proofs.Numbers.{car_cell, all_taken, full, no_one, no_more_cars}
 
 -- where each number below n has a car, there are n cars at least
@@ -33,13 +33,13 @@ enough_cars road n all =
     let here : cell road l p ≡ Some (x, v) = subst (λ (i : ℕ). cell road l p ≡ Some (i, v)) s.1.1 s.1.0 in
     let r = rank road l p in
     let low = rank_below_cars road l p (x, v) here in
-    let within : r < length (standing road) = rw length-standing_lanes low in
+    let within : r < length (standing road) = rw length-standing_from_lane low in
     let e = standing_rank road l p x v d here in
     (r, ((x, v), get_or-map_in car_cell (standing road) r d None within ∙ ap car_cell e, ap (λ (car : Car). car.number) e)))
     (λ x z y h g. sym h ∙ g) in
     let a = full n in
     let b = all_taken (standing road) in
-    let e = length-standing_lanes 0 road.lanes in
+    let e = length-standing_from_lane 0 road.lanes in
     omega (arith, k, a, b, e)
 
 module _ (lanes cells limit n : ℕ) (road : Cells) (fits : CanSpread lanes cells limit n) (e : IsEvenlySpaced lanes cells limit n road) where

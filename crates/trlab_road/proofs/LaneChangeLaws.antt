@@ -7,14 +7,14 @@ use Rattle.std.proofs.lemmas.List.{ext_get_or, take_all}
 use Rattle.std.proofs.lemmas.List.FromFn.{length-map-range_with_len, get_or-map-range_with_len}
 use Rattle.std.proofs.lemmas.List.Sums.{sum_by-cons}
 use Rattle.trlab_road.specs.Cells.{Cell, Lane, Cells, at, cell, lane_of, cars, lane_car_count, AgreeAtCars}
-use Rattle.trlab_road.specs.LaneChange.{other_lane, cell_after_change, Crosses, lane_after_change, road_after_change, CrossesToEmpty, StaysOrCrosses, IsCleanLaneChange}
+use Rattle.trlab_road.specs.LaneChange.{other_lane, cell_after_change, ChangesLanes, lane_after_change, road_after_change, CrossesToEmpty, StaysOrCrosses, IsCleanLaneChange}
 use Rattle.trlab_road.specs.Legal.{IsLegal, LanesFit, LengthFits, LimitFits}
 use Rattle.trlab_road.specs.LaneChange.StaysOrCrosses.{on_own_lane, on_other_lane}
 use Rattle.trlab_road.proofs.Ring.{inside, car_in}
 use Rattle.trlab_road.proofs.MotionLaws.{on_lane}
 
 -- `road_after_change` is the lane change
-pub road_after_change_is : (crosses : ℕ → ℕ → Bool) (road : Cells) → Crosses crosses road (road_after_change crosses road)
+pub road_after_change_is : (crosses : ℕ → ℕ → Bool) (road : Cells) → ChangesLanes crosses road (road_after_change crosses road)
 road_after_change_is crosses road = record {
   same_limit = refl;
   same_lanes = length-map-range_with_len (lane_after_change crosses road) 0 (length road.lanes);
@@ -31,8 +31,8 @@ abbrev made : ℕ → List Lane → Cells
 made limit lanes = record { limit = limit; lanes = lanes }
 
 -- the lane change leaves one road only
-pub one_road_after_change : (crosses : ℕ → ℕ → Bool) (old new other : Cells) → Crosses crosses old new
-    → Crosses crosses old other → new ≡ other
+pub one_road_after_change : (crosses : ℕ → ℕ → Bool) (old new other : Cells) → ChangesLanes crosses old new
+    → ChangesLanes crosses old other → new ≡ other
 one_road_after_change crosses old new other m n =
     let lanes : new.lanes ≡ other.lanes =
     ext_get_or [] new.lanes other.lanes (m.same_lanes ∙ sym n.same_lanes)
@@ -122,7 +122,7 @@ none_of : (c : Cell) → is_none c ≡ true → c ≡ None
 none_of None h = refl
 none_of (Some car) h = absurd cc
 
-module _ (crosses : ℕ → ℕ → Bool) (old new : Cells) (legal : IsLegal old) (m : Crosses crosses old new) where
+module _ (crosses : ℕ → ℕ → Bool) (old new : Cells) (legal : IsLegal old) (m : ChangesLanes crosses old new) where
   -- the car of a cell came from where its answer sent it
   pub came_from : (l x : ℕ) (car : ℕ × ℕ) → cell new l x ≡ Some car
       → (from : ℕ) × ((cell old from x ≡ Some car) × (l ≡ cond (crosses from x) (other_lane from) from))
@@ -261,7 +261,7 @@ same_cell_after p q r s None None f g = none_first p r (cond q None None) ∙ ap
 
 pub crosses_by : (crosses others : ℕ → ℕ → Bool) (old new : Cells)
     → AgreeAtCars crosses others old
-    → Crosses crosses old new → Crosses others old new
+    → ChangesLanes crosses old new → ChangesLanes others old new
 crosses_by crosses others old new same m = record {
   same_limit = m.same_limit;
   same_lanes = m.same_lanes;

@@ -12,9 +12,9 @@ use Rattle.trlab_road.specs.Standing.{standing, standing_from, rank}
 use Rattle.trlab_road.specs.Motion.{in_order, MayMove, LaneFits, LaneMoves, Moves}
 use Rattle.trlab_road.proofs.MotionInOrder.{answer_at, allowed_fits}
 use Rattle.trlab_road.proofs.RoadCars.{in_order_kth, cars_more, cars_within}
-use Rattle.trlab_road.specs.LaneChange.{LaneCrosses, Crosses, crosses_at}
+use Rattle.trlab_road.specs.LaneChange.{LaneCrosses, ChangesLanes, crosses_at}
 use Rattle.trlab_road.specs.Stored.{lists_of, cells_of, IsSortedFrom, no_car, place_of, car_on, lanes_from, list_at, AreSorted, IsListedRoad, IsFoundAt, ListsFit, ListsMove, lane_answer, lane_crosses_at}
-use Rattle.trlab_road.proofs.StandingOrder.{car_of, standing_rank, rank_below_cars, length-standing_lanes}
+use Rattle.trlab_road.proofs.StandingOrder.{car_of, standing_rank, rank_below_cars, length-standing_from_lane}
 use Rattle.trlab_road.proofs.Lists.{length_cells, at_kth, cars_of_list, rises_high, standing_list}
 use Rattle.trlab_road.proofs.ListMotion.{rank_kth}
 use Rattle.trlab_road.proofs.Ring.{car_in}
@@ -88,7 +88,7 @@ module _ (n : ℕ) (lists : List (Vec LaneCar Global)) (limit k l i : ℕ) (s : 
   unfolding car_of
   found_standing =
       let below : k < cars road = subst (λ m. m < cars road) found_rank (rank_below_cars road l car.place (car.number, car.speed) found_cell) in
-      slice_get-get_or (standing road) k (car_on 0 no_car) (rw length-standing_lanes below)
+      slice_get-get_or (standing road) k (car_on 0 no_car) (rw length-standing_from_lane below)
       ∙ ap Some (ap (λ m. get_or (standing road) m (car_on 0 no_car)) (sym found_rank) ∙ standing_rank road l car.place car.number car.speed (car_on 0 no_car) found_cell)
 
 -- the list that an index of the lists reads
@@ -220,7 +220,7 @@ two_lanes P a b (suc (suc l)) h = absurd (omega arith)
 pub crosses_two : (n limit : ℕ) (lists : List (Vec LaneCar Global)) (a b : Vec LaneCar Global) (answers : List Bool) → length lists ≡ 2
     → LaneCrosses (lane_crosses_at (cells_of n (list_at lists 0)) answers (sum_by lane_car_count (take 0 (lanes_from n lists)))) (lane_crosses_at (cells_of n (list_at lists 1)) answers (sum_by lane_car_count (take 1 (lanes_from n lists)))) (cells_of n (list_at lists 0)) (cells_of n (list_at lists 1)) (cells_of n a.items)
     → LaneCrosses (lane_crosses_at (cells_of n (list_at lists 1)) answers (sum_by lane_car_count (take 1 (lanes_from n lists)))) (lane_crosses_at (cells_of n (list_at lists 0)) answers (sum_by lane_car_count (take 0 (lanes_from n lists)))) (cells_of n (list_at lists 1)) (cells_of n (list_at lists 0)) (cells_of n b.items)
-    → Crosses (crosses_at (record { limit = limit; lanes = lanes_from n lists }) answers) (record { limit = limit; lanes = lanes_from n lists }) (record { limit = limit; lanes = lanes_from n (a ∷ b ∷ []) })
+    → ChangesLanes (crosses_at (record { limit = limit; lanes = lanes_from n lists }) answers) (record { limit = limit; lanes = lanes_from n lists }) (record { limit = limit; lanes = lanes_from n (a ∷ b ∷ []) })
 crosses_two n limit [] a b answers two first second = absurd (omega arith)
 crosses_two n limit (v ∷ []) a b answers two first second = absurd (omega arith)
 crosses_two n limit (v ∷ w ∷ []) a b answers two first second = record { same_limit = refl; same_lanes = refl; each_lane = two_lanes _ first second }

@@ -7,7 +7,7 @@ use Rattle.trlab_road.specs.declared.fault.RoadFault.TheVariants.{Lanes, Length,
 use Rattle.trlab_bounds.specs.declared.roads.TheConstants.{MAX_LENGTH, MAX_LIMIT, MAX_LANES}
 use Rattle.trlab_road.specs.Cells.{Cells}
 use Rattle.trlab_road.specs.Legal.{IsLegal, LanesFit, LengthFits, LimitFits}
-use Rattle.trlab_road.specs.Pictures.{HaveEqualLengths, IsFirstBadCharacter, IsFirstPictureFault, AreGoodPictures, AreNumberedInOrder, PicturesShow, ShowsCell, character_at, dot, picture, picture_at}
+use Rattle.trlab_road.specs.Pictures.{HaveEqualLengths, IsFirstBadCharacter, IsFirstPictureFault, AreValidPictures, AreNumberedInOrder, PicturesShow, ShowsCell, character_at, dot, picture, picture_at}
 use Rattle.trlab_road.specs.Laws.{PicturesMean}
 use Rattle.trlab_road.proofs.Characters.{shows_speed_or_not}
 use Rattle.trlab_road.proofs.PictureLaws.{draws, no_fault, one_fault, one_shown, pictures_good, shown_legal}
@@ -20,8 +20,8 @@ Answer = Result Cells RoadFault
 pub no_fault_shown : (limit : ℕ) (ps : List (List ℕ)) (fault : RoadFault) → IsFirstPictureFault limit ps fault
     → (road : Cells) → IsLegal road → PicturesShow limit ps road → fault ≡ Memory
 no_fault_shown limit ps fault h road legal s =
-    let good = subst (λ (qs : List (List ℕ)). AreGoodPictures road.limit qs) s.drawn (pictures_good road legal) in
-    no_fault limit ps fault (subst (λ (k : ℕ). AreGoodPictures k ps) s.same_limit good) h
+    let good = subst (λ (qs : List (List ℕ)). AreValidPictures road.limit qs) s.drawn (pictures_good road legal) in
+    no_fault limit ps fault (subst (λ (k : ℕ). AreValidPictures k ps) s.same_limit good) h
 
 -- whether a fault is that memory runs out
 pub cases_memory : (f : RoadFault) → (f ≡ Memory) ⊎ (f ≢ Memory)
@@ -158,7 +158,7 @@ lanes_or_bad limit ps (suc l) h =
       ]
     ]
 
-good_says : (limit : ℕ) (ps : List (List ℕ)) → AreGoodPictures limit ps → (said : Answer) × PicturesMean limit ps said
+good_says : (limit : ℕ) (ps : List (List ℕ)) → AreValidPictures limit ps → (said : Answer) × PicturesMean limit ps said
 good_says limit ps good =
     let road : Cells = record { limit = limit; lanes = lanes_of_pictures 0 ps } in
     (Ok road, (draws limit ps good, shown_legal limit ps road good (draws limit ps good)))

@@ -13,12 +13,12 @@ use Rattle.trlab_bounds.specs.declared.roads.TheConstants.{MAX_LIMIT}
 use Rattle.trlab_road.specs.declared.car.Car.{Car}
 use Rattle.trlab_road.specs.Cells.{Cell, Lane, Cells, cell, lane_of, cars, lane_car_count}
 use Rattle.trlab_road.specs.Legal.{IsLegal, LanesFit, LengthFits, LimitFits}
-use Rattle.trlab_road.specs.Pictures.{ShowsSpeed, dot, speed_character, character, picture, PicturesShow, picture_at, character_at, ShowsCell, AreGoodPictures, IsFirstBadCharacter, IsFirstPictureFault}
-use Rattle.trlab_road.specs.Standing.{standing_from, standing_lanes, standing, rank}
+use Rattle.trlab_road.specs.Pictures.{ShowsSpeed, dot, speed_character, character, picture, PicturesShow, picture_at, character_at, ShowsCell, AreValidPictures, IsFirstBadCharacter, IsFirstPictureFault}
+use Rattle.trlab_road.specs.Standing.{standing_from, standing_from_lane, standing, rank}
 use Rattle.trlab_road.proofs.Characters.{character_back, no_point, one_speed, speed_back}
 use Rattle.trlab_road.proofs.Ring.{inside, car_in}
 use Rattle.trlab_road.proofs.MotionLaws.{on_lane}
-use Rattle.trlab_road.proofs.StandingOrder.{get_or-map_in, standing_rank, rank_below_cars, length-standing_from, length-standing_lanes, lane_car_count-some, car_of}
+use Rattle.trlab_road.proofs.StandingOrder.{get_or-map_in, standing_rank, rank_below_cars, length-standing_from, length-standing_from_lane, lane_car_count-some, car_of}
 use Rattle.trlab_road.specs.Stored.{speed_of_character, lane_of_picture, lanes_of_pictures}
 
 -- the picture at an index of a list of pictures
@@ -85,15 +85,15 @@ range_append n (suc c) d =
     cons_path refl (ap (λ k. range_with_len (n + 1) c ++ range_with_len k d) e ∙ range_append (n + 1) c d) ∙ ap (range_with_len n) f
 
 numbers_lanes : (l n : ℕ) (ps : List (List ℕ))
-    → map number_of (standing_lanes l (lanes_of_pictures n ps)) ≡ range_with_len n (sum_by lane_car_count (lanes_of_pictures n ps))
+    → map number_of (standing_from_lane l (lanes_of_pictures n ps)) ≡ range_with_len n (sum_by lane_car_count (lanes_of_pictures n ps))
 numbers_lanes l n [] = refl
 numbers_lanes l n (bytes ∷ ps) =
     let lane = lane_of_picture n bytes in
     let c = lane_car_count lane in
     let rest = lanes_of_pictures (n + c) ps in
     let e = sum_by-cons lane_car_count lane rest in
-    map-append number_of (standing_from l 0 lane) (standing_lanes (suc l) rest)
-    ∙ ap (λ xs. xs ++ map number_of (standing_lanes (suc l) rest)) (numbers_from l 0 n bytes)
+    map-append number_of (standing_from l 0 lane) (standing_from_lane (suc l) rest)
+    ∙ ap (λ xs. xs ++ map number_of (standing_from_lane (suc l) rest)) (numbers_from l 0 n bytes)
     ∙ ap (λ xs. range_with_len n c ++ xs) (numbers_lanes (suc l) (n + c) ps)
     ∙ range_append n c (sum_by lane_car_count rest) ∙ ap (range_with_len n) (sym e)
 
@@ -106,7 +106,7 @@ picture_lanes limit n (bytes ∷ ps) h =
     (picture_lanes limit (n + lane_car_count (lane_of_picture n bytes)) ps (λ l x low k. h (suc l) x (omega arith) k))
 
 -- good pictures show what they draw
-pub draws : (limit : ℕ) (ps : List (List ℕ)) → AreGoodPictures limit ps → PicturesShow limit ps (record { limit = limit; lanes = lanes_of_pictures 0 ps })
+pub draws : (limit : ℕ) (ps : List (List ℕ)) → AreValidPictures limit ps → PicturesShow limit ps (record { limit = limit; lanes = lanes_of_pictures 0 ps })
 draws limit ps good = record {
   same_limit = refl;
   drawn = picture_lanes limit 0 ps good.cells;
@@ -131,16 +131,16 @@ lane_back l x n (Some car ∷ lane) h =
     ∙ cons_path (same_some (sym first) (speed_back car.1)) (lane_back l (suc x) (suc n) lane (rest ∙ ap (λ k. range_with_len k (lane_car_count lane)) one))
 
 lanes_back : (l n : ℕ) (lanes : List Lane)
-    → map number_of (standing_lanes l lanes) ≡ range_with_len n (sum_by lane_car_count lanes)
+    → map number_of (standing_from_lane l lanes) ≡ range_with_len n (sum_by lane_car_count lanes)
     → lanes_of_pictures n (map picture lanes) ≡ lanes
 lanes_back l n [] h = refl
 lanes_back l n (lane ∷ lanes) h =
     let c = lane_car_count lane in
     let mine = map number_of (standing_from l 0 lane) in
-    let others = map number_of (standing_lanes (suc l) lanes) in
+    let others = map number_of (standing_from_lane (suc l) lanes) in
     let e : sum_by lane_car_count (lane ∷ lanes) ≡ c + sum_by lane_car_count lanes = sum_by-cons lane_car_count lane lanes in
     let whole : mine ++ others ≡ range_with_len n c ++ range_with_len (n + c) (sum_by lane_car_count lanes) =
-    sym (map-append number_of (standing_from l 0 lane) (standing_lanes (suc l) lanes)) ∙ h ∙ ap (range_with_len n) e ∙ sym (range_append n c (sum_by lane_car_count lanes)) in
+    sym (map-append number_of (standing_from l 0 lane) (standing_from_lane (suc l) lanes)) ∙ h ∙ ap (range_with_len n) e ∙ sym (range_append n c (sum_by lane_car_count lanes)) in
     let size : length mine ≡ c = length-map (standing_from l 0 lane) number_of ∙ length-standing_from l 0 lane in
     let size_range : length (range_with_len n c) ≡ c = length-range_with_len n c in
     let first : mine ≡ range_with_len n c = sym (take_at mine others c size) ∙ ap (take c) whole ∙ take_at (range_with_len n c) (range_with_len (n + c) (sum_by lane_car_count lanes)) c size_range in
@@ -172,7 +172,7 @@ within_speed : (limit v byte : ℕ) → byte ≡ speed_character v → ShowsCell
 within_speed limit v byte e (inl p) = absurd (no_point v (sym e ∙ p))
 within_speed limit v byte e (inr d) = let same = one_speed v d.speed (sym e ∙ d.shown) in let most = d.within in omega (arith, same, most)
 
-module _ (limit : ℕ) (ps : List (List ℕ)) (road : Cells) (good : AreGoodPictures limit ps) (s : PicturesShow limit ps road) where
+module _ (limit : ℕ) (ps : List (List ℕ)) (road : Cells) (good : AreValidPictures limit ps) (s : PicturesShow limit ps road) where
   shown_lanes : length road.lanes ≡ length ps
   shown_lanes = sym (length-map road.lanes picture) ∙ ap length s.drawn
 
@@ -194,7 +194,7 @@ module _ (limit : ℕ) (ps : List (List ℕ)) (road : Cells) (good : AreGoodPict
       let d : Car = record { number = 0; lane = 0; place = 0; speed = 0 } in
       let r = rank road l x in
       let low = rank_below_cars road l x (number, speed) h in
-      let size : r < length (standing road) = rw length-standing_lanes low in
+      let size : r < length (standing road) = rw length-standing_from_lane low in
       let here = ap number_of (standing_rank road l x number speed d h) in
       let e : 0 + r ≡ r = omega arith in
       sym here ∙ sym (get_or-map_in number_of (standing road) r d 0 size) ∙ ap (λ (xs : List ℕ). get_or xs r 0) s.numbered.numbers ∙ get_or-range_with_len 0 (cars road) r 0 low ∙ e
@@ -236,7 +236,7 @@ cell_shows limit None h = inl refl
 cell_shows limit (Some car) h = inr (record { speed = car.1; within = h car refl; shown = refl })
 
 -- the pictures of a legal road are good
-pub pictures_good : (road : Cells) → IsLegal road → AreGoodPictures road.limit (map picture road.lanes)
+pub pictures_good : (road : Cells) → IsLegal road → AreValidPictures road.limit (map picture road.lanes)
 pictures_good road legal =
     let count = length-map road.lanes picture in
     let size : (l : ℕ) → length (picture_at (map picture road.lanes) l) ≡ length (lane_of road l) = λ l. ap length (picture_of_at road.lanes l) ∙ length-map (lane_of road l) character in
@@ -255,7 +255,7 @@ pictures_good road legal =
     }
 
 -- good pictures have no fault, unless an allocation fails
-pub no_fault : (limit : ℕ) (ps : List (List ℕ)) (fault : RoadFault) → AreGoodPictures limit ps
+pub no_fault : (limit : ℕ) (ps : List (List ℕ)) (fault : RoadFault) → AreValidPictures limit ps
     → IsFirstPictureFault limit ps fault → fault ≡ Memory
 no_fault limit ps Lanes good h = absurd (h good.shape.lanes)
 no_fault limit ps Length good h = absurd (h.1 good.shape.lengths)

@@ -7,7 +7,7 @@ use Rattle.std.proofs.lemmas.List.Sums.{sum_by-cons}
 use Rattle.trlab_road.specs.declared.car.Car.{Car}
 use Rattle.trlab_road.specs.Cells.{Cell, Lane, Cells, at, cell, cars, lane_car_count}
 use Rattle.trlab_road.specs.Motion.{in_order}
-use Rattle.trlab_road.specs.Standing.{standing_from, standing_lanes, standing, rank}
+use Rattle.trlab_road.specs.Standing.{standing_from, standing_from_lane, standing, rank}
 
 one_if : Cell → ℕ
 one_if c = cond (is_some c) 1 0
@@ -21,13 +21,13 @@ length-standing_from l s [] = refl
 length-standing_from l s (None ∷ cells) = length-standing_from l (suc s) cells
 length-standing_from l s (Some car ∷ cells) = ap suc (length-standing_from l (suc s) cells) ∙ sym (lane_car_count-some car cells)
 
-pub length-standing_lanes : (l : ℕ) (lanes : List Lane)
-    → length (standing_lanes l lanes) ≡ sum_by lane_car_count lanes
-length-standing_lanes l [] = refl
-length-standing_lanes l (lane ∷ lanes) =
-    let a = length-append (standing_from l 0 lane) (standing_lanes (suc l) lanes) in
+pub length-standing_from_lane : (l : ℕ) (lanes : List Lane)
+    → length (standing_from_lane l lanes) ≡ sum_by lane_car_count lanes
+length-standing_from_lane l [] = refl
+length-standing_from_lane l (lane ∷ lanes) =
+    let a = length-append (standing_from l 0 lane) (standing_from_lane (suc l) lanes) in
     let b = length-standing_from l 0 lane in
-    let d = length-standing_lanes (suc l) lanes in
+    let d = length-standing_from_lane (suc l) lanes in
     let e = sum_by-cons lane_car_count lane lanes in
     omega arith
 
@@ -68,14 +68,14 @@ rank_below (Some here ∷ cells) (suc x) car h =
 
 pub standing_lanes_at : (base : ℕ) (lanes : List Lane) (l x number speed : ℕ) (d : Car)
     → at (get_or lanes l []) x ≡ Some (number, speed)
-    → get_or (standing_lanes base lanes) (sum_by lane_car_count (take l lanes) + lane_car_count (take x (get_or lanes l []))) d ≡ car_of number (base + l) x speed
+    → get_or (standing_from_lane base lanes) (sum_by lane_car_count (take l lanes) + lane_car_count (take x (get_or lanes l []))) d ≡ car_of number (base + l) x speed
 standing_lanes_at base [] l x number speed d h = absurd cc
 standing_lanes_at base (lane ∷ lanes) zero x number speed d h =
     let k = rank_below lane x (number, speed) h in
     let within : lane_car_count (take x lane) < length (standing_from base 0 lane) = rw length-standing_from k in
     let e : 0 + lane_car_count (take x lane) ≡ lane_car_count (take x lane) = omega arith in
     let b : base ≡ base + 0 = omega arith in
-    rw e (get_or_append_left (standing_from base 0 lane) (standing_lanes (suc base) lanes) d (lane_car_count (take x lane)) within
+    rw e (get_or_append_left (standing_from base 0 lane) (standing_from_lane (suc base) lanes) d (lane_car_count (take x lane)) within
     ∙ standing_at base 0 lane x number speed d h ∙ ap (λ p. car_of number base p speed) (let z : 0 + x ≡ x = omega arith in z) ∙ ap (λ p. car_of number p x speed) b)
 standing_lanes_at base (lane ∷ lanes) (suc l) x number speed d h =
     let rest = sum_by lane_car_count (take l lanes) + lane_car_count (take x (get_or lanes l [])) in
@@ -83,8 +83,8 @@ standing_lanes_at base (lane ∷ lanes) (suc l) x number speed d h =
     let n = length-standing_from base 0 lane in
     let at_rest : sum_by lane_car_count (lane ∷ take l lanes) + lane_car_count (take x (get_or lanes l [])) ≡ length (standing_from base 0 lane) + rest = omega arith in
     let b : suc base + l ≡ base + suc l = omega arith in
-    ap (λ i. get_or (standing_from base 0 lane ++ standing_lanes (suc base) lanes) i d) at_rest
-    ∙ get_or-append-add (standing_from base 0 lane) (standing_lanes (suc base) lanes) rest d
+    ap (λ i. get_or (standing_from base 0 lane ++ standing_from_lane (suc base) lanes) i d) at_rest
+    ∙ get_or-append-add (standing_from base 0 lane) (standing_from_lane (suc base) lanes) rest d
     ∙ standing_lanes_at (suc base) lanes l x number speed d h ∙ ap (λ p. car_of number p x speed) b
 
 -- the place of a car in the order of the whole road is below the number of cars
@@ -140,21 +140,21 @@ next_lane base lane lanes car on =
     record { from = omega arith; here = rw e on.here }
 
 pub standing_on_lanes : (base : ℕ) (lanes : List Lane) (k : ℕ) (d : Car)
-    → k < length (standing_lanes base lanes)
-    → OnRoad base lanes (get_or (standing_lanes base lanes) k d)
+    → k < length (standing_from_lane base lanes)
+    → OnRoad base lanes (get_or (standing_from_lane base lanes) k d)
 standing_on_lanes base [] k d h = absurd (omega arith)
 standing_on_lanes base (lane ∷ lanes) k d h =
     let n = length (standing_from base 0 lane) in
     elim (cases_lt k n) [
       | inl below ↦
           let on = standing_on base 0 lane k d below in
-          rw (get_or_append_left (standing_from base 0 lane) (standing_lanes (suc base) lanes) d k below)
+          rw (get_or_append_left (standing_from base 0 lane) (standing_from_lane (suc base) lanes) d k below)
           (first_lane base lane lanes (get_or (standing_from base 0 lane) k d) on)
       | inr past ↦
-          let total = length-append (standing_from base 0 lane) (standing_lanes (suc base) lanes) in
+          let total = length-append (standing_from base 0 lane) (standing_from_lane (suc base) lanes) in
           let on = standing_on_lanes (suc base) lanes (k - n) d (omega arith) in
-          rw (get_or-append_right (standing_from base 0 lane) (standing_lanes (suc base) lanes) n k d refl past)
-          (next_lane base lane lanes (get_or (standing_lanes (suc base) lanes) (k - n) d) on)
+          rw (get_or-append_right (standing_from base 0 lane) (standing_from_lane (suc base) lanes) n k d refl past)
+          (next_lane base lane lanes (get_or (standing_from_lane (suc base) lanes) (k - n) d) on)
     ]
 
 -- what a map has at an index
@@ -168,7 +168,7 @@ get_or-map_in g (x ∷ xs) (suc k) d e h = get_or-map_in g xs k d e (omega arith
 pub standing_cell : (road : Cells) (k : ℕ) (d : Car) → k < cars road → let car = get_or (standing road) k d in cell road car.lane car.place ≡ Some (car.number, car.speed)
 standing_cell road k d h =
     let car = get_or (standing road) k d in
-    let on = standing_on_lanes 0 road.lanes k d (rw length-standing_lanes h) in
+    let on = standing_on_lanes 0 road.lanes k d (rw length-standing_from_lane h) in
     let e : car.lane - 0 ≡ car.lane = omega arith in
     rw e at on.here
 
@@ -190,7 +190,7 @@ unfolding car_of
 in_order_at {X = X} f e road l x number speed h =
     let d : Car = record { number = 0; lane = 0; place = 0; speed = 0 } in
     let r = rank_below_cars road l x (number, speed) h in
-    let size : rank road l x < length (standing road) = rw length-standing_lanes r in
+    let size : rank road l x < length (standing road) = rw length-standing_from_lane r in
     let g : Car → X = λ car. f car.lane car.place in
     get_or-map_in g (standing road) (rank road l x) d e size ∙ ap g (standing_rank road l x number speed d h)
 

@@ -29,7 +29,7 @@ pub record LaneCrosses (own_crosses beside_crosses : ℕ → Bool) (own beside n
 
 -- road `new` is road `old` after the lane change: the car on lane l at place x crosses if `crosses l x`;
 -- for example, if only the car at place 2 crosses, `1.0.` and `....` become `1...` and `..0.`
-pub record Crosses (crosses : ℕ → ℕ → Bool) (old new : Cells) : Type 0 where
+pub record ChangesLanes (crosses : ℕ → ℕ → Bool) (old new : Cells) : Type 0 where
   pub same_limit : new.limit ≡ old.limit
   pub same_lanes : length new.lanes ≡ length old.lanes
   pub each_lane : (l : ℕ) → l < length old.lanes

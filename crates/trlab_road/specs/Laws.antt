@@ -6,8 +6,8 @@ use Rattle.trlab_road.specs.declared.fault.RoadFault.TheVariants.{Memory}
 use Rattle.trlab_road.specs.Cells.{Lane, Cells, AgreeAtCars, HasNumber, at, cars}
 use Rattle.trlab_road.specs.Gaps.{ahead, headspeed}
 use Rattle.trlab_road.specs.Legal.{IsLegal}
-use Rattle.trlab_road.specs.Pictures.{IsFirstPictureFault, AreGoodPictures, AreNumberedInOrder, PicturesShow, picture}
-use Rattle.trlab_road.specs.LaneChange.{Crosses, CrossesToEmpty, IsCleanLaneChange, road_after_change}
+use Rattle.trlab_road.specs.Pictures.{IsFirstPictureFault, AreValidPictures, AreNumberedInOrder, PicturesShow, picture}
+use Rattle.trlab_road.specs.LaneChange.{ChangesLanes, CrossesToEmpty, IsCleanLaneChange, road_after_change}
 use Rattle.trlab_road.specs.Spreading.{CanSpread, IsEvenlySpaced, IsEvenSpacingFault}
 use Rattle.trlab_road.specs.Motion.{IsCleanMotion, Fits, IsClearAhead, Moves}
 
@@ -19,7 +19,7 @@ PicturesShowOneRoad = (limit : ℕ) (pictures : List (List ℕ)) (road other : C
 -- every road that good pictures show is legal
 abbrev pub GoodPicturesShowLegalRoads : Type 0
 GoodPicturesShowLegalRoads = (limit : ℕ) (pictures : List (List ℕ)) (road : Cells)
-    → AreGoodPictures limit pictures → PicturesShow limit pictures road → IsLegal road
+    → AreValidPictures limit pictures → PicturesShow limit pictures road → IsLegal road
 
 -- a limit and pictures have at most one first fault, apart from `Memory` (a failed allocation)
 abbrev pub OneFirstFault : Type 0
@@ -30,7 +30,7 @@ OneFirstFault = (limit : ℕ) (pictures : List (List ℕ)) (fault other : RoadFa
 -- a limit and good pictures have no fault, apart from `Memory` (a failed allocation)
 abbrev pub GoodPicturesHaveNoFault : Type 0
 GoodPicturesHaveNoFault = (limit : ℕ) (pictures : List (List ℕ)) (fault : RoadFault)
-    → AreGoodPictures limit pictures → IsFirstPictureFault limit pictures fault → fault ≡ Memory
+    → AreValidPictures limit pictures → IsFirstPictureFault limit pictures fault → fault ≡ Memory
 
 -- the meaning of a limit and pictures: the legal road that they show, or their first fault; never `Memory`, a
 -- failed allocation
@@ -50,7 +50,7 @@ PicturesHaveOneMeaning = (limit : ℕ) (pictures : List (List ℕ)) (meaning oth
 
 -- the pictures of a legal road are good under its limit
 abbrev pub PicturesOfLegalRoads : Type 0
-PicturesOfLegalRoads = (road : Cells) → IsLegal road → AreGoodPictures road.limit (map picture road.lanes)
+PicturesOfLegalRoads = (road : Cells) → IsLegal road → AreValidPictures road.limit (map picture road.lanes)
 
 -- if the cars of a legal road are numbered in standing order, its limit and its pictures mean this road, and
 -- nothing else
@@ -110,23 +110,23 @@ LegalRoadHasAllNumbers = (road : Cells)
 -- there is exactly one road after the lane change of a road: `road_after_change`
 abbrev pub OneRoadAfterLaneChange : Type 0
 OneRoadAfterLaneChange = (crosses : ℕ → ℕ → Bool) (old new : Cells)
-    → Crosses crosses old new ↔ (new ≡ road_after_change crosses old)
+    → ChangesLanes crosses old new ↔ (new ≡ road_after_change crosses old)
 
 -- the lane change depends only on the answers at cars: if the functions `crosses` and `others` agree at the
 -- cars of a road, its lane change is the same with both
 abbrev pub LaneChangeDependsOnlyOnCars : Type 0
 LaneChangeDependsOnlyOnCars = (crosses others : ℕ → ℕ → Bool) (old new : Cells)
-    → AgreeAtCars crosses others old → Crosses crosses old new → Crosses others old new
+    → AgreeAtCars crosses others old → ChangesLanes crosses old new → ChangesLanes others old new
 
 -- the lane change of a legal road with two lanes is clean if cars cross only to empty side cells
 abbrev pub LaneChangeIsClean : Type 0
 LaneChangeIsClean = (crosses : ℕ → ℕ → Bool) (old new : Cells)
-    → IsLegal old → CrossesToEmpty crosses old → Crosses crosses old new → IsCleanLaneChange old new
+    → IsLegal old → CrossesToEmpty crosses old → ChangesLanes crosses old new → IsCleanLaneChange old new
 
 -- a legal road with two lanes is legal after the lane change if cars cross only to empty side cells
 abbrev pub LaneChangeKeepsRoadLegal : Type 0
 LaneChangeKeepsRoadLegal = (crosses : ℕ → ℕ → Bool) (old new : Cells)
-    → IsLegal old → CrossesToEmpty crosses old → Crosses crosses old new → IsLegal new
+    → IsLegal old → CrossesToEmpty crosses old → ChangesLanes crosses old new → IsLegal new
 
 -- the meaning of n evenly spaced cars on `lanes` lanes of `cells` cells with a limit: the legal road with
 -- these cars, or the first fault; never `Memory`, a failed allocation

@@ -76,7 +76,7 @@ ShowsCell limit character = (character ≡ dot) ⊎ ShowsSpeed limit character
 
 -- the limit, the number of pictures and their common length are in range, and each character shows a cell:
 -- these are the pictures of some legal road
-pub record AreGoodPictures (limit : ℕ) (pictures : List (List ℕ)) : Type 0 where
+pub record AreValidPictures (limit : ℕ) (pictures : List (List ℕ)) : Type 0 where
   pub shape : HaveValidShape limit pictures
   pub cells : (l x : ℕ) → l < length pictures → x < length (picture_at pictures l)
       → ShowsCell limit (character_at pictures l x)

@@ -11,13 +11,13 @@ standing_from l x (Some car ∷ cells) =
     record { number = car.0; lane = l; place = x; speed = car.1 } ∷ standing_from l (suc x) cells
 
 -- the cars on a list of lanes, which are the lanes of a road from lane l on, in standing order
-abbrev pub standing_lanes : ℕ → List Lane → List Car
-standing_lanes l [] = []
-standing_lanes l (lane ∷ lanes) = standing_from l 0 lane ++ standing_lanes (suc l) lanes
+abbrev pub standing_from_lane : ℕ → List Lane → List Car
+standing_from_lane l [] = []
+standing_from_lane l (lane ∷ lanes) = standing_from l 0 lane ++ standing_from_lane (suc l) lanes
 
 -- the cars of a road in standing order: lane by lane, and on each lane by increasing place
 abbrev pub standing : Cells → List Car
-standing road = standing_lanes 0 road.lanes
+standing road = standing_from_lane 0 road.lanes
 
 -- the car is the k-th of the road in standing order, counted from 0
 abbrev pub IsNthCar : Cells → ℕ → Car → Type 0

@@ -4,7 +4,7 @@
 ghost use Rattle.std.specs.Prelude.{◌≡◌, ◌<◌, ◌≤◌, ◌↔◌, ℕ, ◌++◌, OnErr, OnOk, IfSome, IsNone, IsTrue, length, slice_index_or, ◌*◌, IfOk, MatchResult, slice_index, EachIndex};
 ghost use Rattle.trlab_bounds.specs.declared.roads.TheConstants.{MAX_LIMIT, MAX_LENGTH, MAX_LANES};
 ghost use Rattle.trlab_road.specs.Stored.{IsSortedFrom, cells_of, no_car, AreSorted, lanes_from, lane_of_picture, lanes_of_pictures};
-ghost use Rattle.trlab_road.specs.Pictures.{ShowsCell, ShowsSpeed, picture, speed_character, HaveEqualLengths, IsFirstPictureFault, AreGoodPictures, picture_at, pictures_of};
+ghost use Rattle.trlab_road.specs.Pictures.{ShowsCell, ShowsSpeed, picture, speed_character, HaveEqualLengths, IsFirstPictureFault, AreValidPictures, picture_at, pictures_of};
 ghost use Rattle.trlab_road.specs.Legal.{LanesFit};
 
 use crate::car::{LaneCar, place_at, speed_at};
@@ -107,7 +107,7 @@ fn has_equal_lanes(pictures: &[&[u8]]) -> bool
 /// Checks a limit and pictures, and returns their first fault.
 pub fn check_pictures(limit: u32, pictures: &[&[u8]]) -> Result<(), RoadFault>
     ensures { MatchResult result
-        (λ _. AreGoodPictures limit (pictures_of pictures.now))
+        (λ _. AreValidPictures limit (pictures_of pictures.now))
         (λ fault. IsFirstPictureFault limit (pictures_of pictures.now) fault) }
 {
     if pictures.is_empty() || pictures.len() > MAX_LANES as usize {
@@ -162,7 +162,7 @@ pub fn draw_lanes(
     pictures: &[&[u8]],
     cells: usize,
 ) -> Result<Vec<Vec<LaneCar>>, AllocError>
-    requires good { AreGoodPictures MAX_LIMIT (pictures_of pictures.now) }
+    requires good { AreValidPictures MAX_LIMIT (pictures_of pictures.now) }
     requires first { cells ≡ length (picture_at (pictures_of pictures.now) 0) }
     ensures sorted { IfOk result (λ lanes. AreSorted cells lanes.items) }
     ensures drawn { IfOk result (λ lanes.

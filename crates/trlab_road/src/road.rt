@@ -12,7 +12,7 @@ ghost use Rattle.trlab_road.specs.Gaps.{gap, headspeed, side, sideback, sidegap}
 ghost use Rattle.trlab_road.specs.InLine.{IsFollowed, IsLineFrom, IsLineOf};
 ghost use Rattle.trlab_road.specs.Standing.{IsNthCar};
 ghost use Rattle.trlab_road.specs.Stored.{no_car};
-ghost use Rattle.trlab_road.specs.LaneChange.{IsValueOnOtherLane, IsGapOnOtherLane, sides, IsCleanLaneChange, Crosses, MayCross};
+ghost use Rattle.trlab_road.specs.LaneChange.{IsValueOnOtherLane, IsGapOnOtherLane, sides, IsCleanLaneChange, ChangesLanes, MayCross};
 ghost use Rattle.trlab_road.specs.Motion.{IsValueOnOwnLane, gaps, MayMove, IsCleanMotion, Moves, in_order};
 
 use crate::car::{Car, LaneCar, place_at};
@@ -393,7 +393,7 @@ impl Road {
     ) -> Result<Road, AllocError>
         requires { MayCross self.now crosses.now }
         ensures crosses { IfOk result (λ next. (answer : ℕ → ℕ → Bool)
-            → crosses.now ≡ in_order answer self.now → Crosses answer self.now next) }
+            → crosses.now ≡ in_order answer self.now → ChangesLanes answer self.now next) }
         ensures clean { IfOk result (λ next. IsCleanLaneChange self.now next) }
         ensures legal { IfOk result (λ next. IsLegal next) }
     {

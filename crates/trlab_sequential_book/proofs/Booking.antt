@@ -7,14 +7,14 @@ use Rattle.std.specs.Prelude.{if◌then◌else◌}
 use Rattle.std.specs.List.{position}
 use Rattle.trlab_road.specs.Cells.{Cells}
 use Rattle.trlab_step.specs.declared.tally.StepTally.{StepTally}
-use Rattle.trlab_step.specs.Progress.{IsUnderway, Progress}
+use Rattle.trlab_step.specs.Progress.{IsReachedByRun, Progress}
 use Rattle.trlab_sequential_book.specs.declared.event.Call.{Call}
 use Rattle.trlab_sequential_book.specs.declared.event.Offered.{Offered}
 use Rattle.trlab_sequential_book.specs.Answers.{give_back_reply, done_reply, number_reply, order_reply, read_reply}
 use Rattle.trlab_sequential_book.specs.declared.lease.ExecutedStep.{ExecutedStep}
 use Rattle.trlab_step.proofs.RunLaws.{road_at_is_one}
-use Rattle.trlab_sequential_book.specs.Jobs.{run_of, run_start}
-use Rattle.trlab_sequential_book.specs.Sheets.{AreInForce}
+use Rattle.trlab_sequential_book.specs.Jobs.{progress_of, run_start}
+use Rattle.trlab_sequential_book.specs.Sheets.{RanUnderSheet}
 use Rattle.trlab_sequential_book.specs.Leases.{LeaseState}
 use Rattle.trlab_sequential_book.specs.declared.fault.BookFault.{BookFault}
 use Rattle.trlab_sequential_book.specs.declared.fault.BookFault.TheVariants.{HistoryFull, NoSuchJob, StrangerLease}
@@ -140,11 +140,11 @@ own_parts lease job h =
     not_true false h = refl
 
 -- the run of a job, seen from inside
-of_job : (job now : JobState) (road : Cells) (sum : StepTally) → job ≡ now → IsUnderway (run_of now.seed now.sheet now.done road sum) → IsUnderway (run_of job.seed job.sheet job.done road sum)
-of_job job now road sum view run = subst (λ (s : JobState). IsUnderway (run_of s.seed s.sheet s.done road sum)) (sym view) run
+of_job : (job now : JobState) (road : Cells) (sum : StepTally) → job ≡ now → IsReachedByRun (progress_of now.seed now.sheet now.done road sum) → IsReachedByRun (progress_of job.seed job.sheet job.done road sum)
+of_job job now road sum view run = subst (λ (s : JobState). IsReachedByRun (progress_of s.seed s.sheet s.done road sum)) (sym view) run
 
 -- a lease that has just gone out runs the road of its job
-pub fresh_run : (job : JobState) (lease : LeaseState) (road : Cells) (sum : StepTally) → IsUnderway (run_of job.seed job.sheet job.done road sum)
+pub fresh_run : (job : JobState) (lease : LeaseState) (road : Cells) (sum : StepTally) → IsReachedByRun (progress_of job.seed job.sheet job.done road sum)
     → lease.key ≡ job.seed.key → lease.road_number ≡ job.seed.number → lease.base.road ≡ road → lease.applied ≡ [] → RunsRoadOfJob job lease
 fresh_run job lease road sum run key number base none = record {
   key = key;
@@ -157,7 +157,7 @@ fresh_run job lease road sum run key number base none = record {
     no_run k ran at = cc
 
 -- a lease that goes out is fresh
-pub lent : (job now : JobState) (number : ℕ) (lease : LeaseState) (road : Cells) (sum : StepTally) → job ≡ now → IsUnderway (run_of now.seed now.sheet now.done road sum)
+pub lent : (job now : JobState) (number : ℕ) (lease : LeaseState) (road : Cells) (sum : StepTally) → job ≡ now → IsReachedByRun (progress_of now.seed now.sheet now.done road sum)
     → lease.key ≡ job.seed.key → lease.road_number ≡ job.seed.number → lease.base.road ≡ road → lease.applied ≡ []
     → lease.number ≡ number → lease.steps ≡ job.steps → lease.base.step ≡ job.done → lease.step ≡ job.done → IsFresh now number lease
 lent job now number lease road sum view run key own base none number_is steps base_step step =
@@ -170,9 +170,9 @@ lent job now number lease road sum view run key own base none number_is steps ba
     })
 
 -- a lease that began at the job's road, under its key and number, runs the road if its rules are in force
-pub runs_where : (job now : JobState) (lease : LeaseState) (road : Cells) (sum : StepTally) (b : Bool) → job ≡ now → IsUnderway (run_of now.seed now.sheet now.done road sum)
+pub runs_where : (job now : JobState) (lease : LeaseState) (road : Cells) (sum : StepTally) (b : Bool) → job ≡ now → IsReachedByRun (progress_of now.seed now.sheet now.done road sum)
     → lease.key ≡ job.seed.key → lease.road_number ≡ job.seed.number → lease.base.road ≡ road
-    → IsTrue b ↔ AreInForce job.sheet lease.base.step lease.applied → IsTrue b ↔ RunsRoadOfJob now lease
+    → IsTrue b ↔ RanUnderSheet job.sheet lease.base.step lease.applied → IsTrue b ↔ RunsRoadOfJob now lease
 runs_where job now lease road sum b view run key number base same =
     let B : Cells → Type 0 = λ r. IsRoadAt (run_start job.seed) job.sheet job.done r in
     let mine = of_job job now road sum view run in
@@ -180,7 +180,7 @@ runs_where job now lease road sum b view run key number base same =
     (λ h. record { key = key; number = number; base = subst B (sym base) (sum, mine.comes); rules = same.0 h }, λ own. same.1 own.rules)
 
 -- one that began at another road does not run the job's
-pub runs_not : (job now : JobState) (lease : LeaseState) (road : Cells) (sum : StepTally) → job ≡ now → IsUnderway (run_of now.seed now.sheet now.done road sum)
+pub runs_not : (job now : JobState) (lease : LeaseState) (road : Cells) (sum : StepTally) → job ≡ now → IsReachedByRun (progress_of now.seed now.sheet now.done road sum)
     → (lease.base.road ≡ road → ⊥) → RunsRoadOfJob now lease → ⊥
 runs_not job now lease road sum view run other own =
     other (road_at_is_one (run_start now.seed) now.sheet now.done lease.base.road road own.base (sum, run.comes))

@@ -8,8 +8,8 @@ use Rattle.trlab_road.specs.Cells.{Cells}
 use Rattle.trlab_step.specs.declared.tally.StepTally.{StepTally}
 use Rattle.trlab_step.specs.Run.{Seed, Sheet, IsSheet, StepsIncreaseFrom, in_force, ComesTo}
 use Rattle.trlab_step.specs.Laws.{IsRuleFor}
-use Rattle.trlab_step.specs.Progress.{IsUnderway}
-use Rattle.trlab_sequential_book.specs.Sheets.{BeginBy, IsBookSheet, entered}
+use Rattle.trlab_step.specs.Progress.{IsReachedByRun}
+use Rattle.trlab_sequential_book.specs.Sheets.{BeginBy, IsBookSheet, with_rule_from}
 use Rattle.trlab_sequential_book.specs.Leases.{suits}
 use Rattle.trlab_sequential_book.specs.Machine.{JobState, JobOutcome, refused, replacing}
 use Rattle.trlab_sequential_book.specs.declared.event.Reply.TheVariants.{Number}
@@ -36,14 +36,14 @@ all_below low (x ∷ xs) last from rises by =
     cond-true (ltb x.0 from) (x ∷ rest) rest one ∙ ap (λ v. x ∷ v) (all_below (x.0 + 1) xs last from rises.1 by)
 
 -- a sheet whose last entry begins there
-pub entered_at : (xs : Sheet) (last : ℕ × Programs) (from : ℕ) (rule : Programs) → IsSheet (xs ++ last ∷ []) → last.0 ≡ from → entered (xs ++ last ∷ []) from rule ≡ xs ++ (from, rule) ∷ []
+pub entered_at : (xs : Sheet) (last : ℕ × Programs) (from : ℕ) (rule : Programs) → IsSheet (xs ++ last ∷ []) → last.0 ≡ from → with_rule_from (xs ++ last ∷ []) from rule ≡ xs ++ (from, rule) ∷ []
 entered_at xs last from rule is e =
     let before : ℕ × Programs → Bool = λ (entry : ℕ × Programs). ltb entry.0 from in
     let none : filter before (last ∷ []) ≡ [] = cond-false (ltb last.0 from) (last ∷ []) [] (le-ltb last.0 from (omega arith)) in
     ap (λ v. v ++ (from, rule) ∷ []) (filter-append before xs (last ∷ []) ∙ ap (λ v. v ++ filter before (last ∷ [])) (all_below 0 xs last from (rises_from_0 (xs ++ last ∷ []) is) (omega arith)) ∙ ap (λ v. xs ++ v) none ∙ append-nil xs)
 
 -- a sheet whose last entry begins before
-pub entered_after : (xs : Sheet) (last : ℕ × Programs) (from : ℕ) (rule : Programs) → IsSheet (xs ++ last ∷ []) → last.0 < from → entered (xs ++ last ∷ []) from rule ≡ (xs ++ last ∷ []) ++ (from, rule) ∷ []
+pub entered_after : (xs : Sheet) (last : ℕ × Programs) (from : ℕ) (rule : Programs) → IsSheet (xs ++ last ∷ []) → last.0 < from → with_rule_from (xs ++ last ∷ []) from rule ≡ (xs ++ last ∷ []) ++ (from, rule) ∷ []
 entered_after xs last from rule is e =
     let before : ℕ × Programs → Bool = λ (entry : ℕ × Programs). ltb entry.0 from in
     let one : filter before (last ∷ []) ≡ last ∷ [] = cond-true (ltb last.0 from) (last ∷ []) [] (lt-ltb last.0 from e) in
@@ -83,7 +83,7 @@ begin_before from xs last begin other =
     omega arith
 
 -- after a rule has entered, all entries begin at its step or before
-pub begin_entered : (from : ℕ) (rule : Programs) (sheet : Sheet) → BeginBy from (entered sheet from rule)
+pub begin_entered : (from : ℕ) (rule : Programs) (sheet : Sheet) → BeginBy from (with_rule_from sheet from rule)
 begin_entered from rule [] = (omega arith, tt)
 begin_entered from rule (x ∷ sheet) =
     let rest = filter (λ (entry : ℕ × Programs). ltb entry.0 from) sheet in
@@ -97,7 +97,7 @@ begin_more a b [] h begin = tt
 begin_more a b (x ∷ sheet) h begin = let here = begin.0 in (omega arith, begin_more a b sheet h begin.1)
 
 -- below its step a rule that was entered changes nothing
-in_force_entered : (sheet : Sheet) (least from step : ℕ) (rule : Programs) → StepsIncreaseFrom least sheet → step < from → in_force (entered sheet from rule) step ≡ in_force sheet step
+in_force_entered : (sheet : Sheet) (least from step : ℕ) (rule : Programs) → StepsIncreaseFrom least sheet → step < from → in_force (with_rule_from sheet from rule) step ≡ in_force sheet step
 in_force_entered [] least from step rule rises h = rw (lt-leb from step h) refl
 in_force_entered (x ∷ sheet) least from step rule rises h =
     let rest = filter (λ (entry : ℕ × Programs). ltb entry.0 from) sheet in
@@ -108,8 +108,8 @@ in_force_entered (x ∷ sheet) least from step rule rises h =
     (λ late. let high = ltb-false x.0 from late in
     same ∙ none_in_force sheet (x.0 + 1) step rises.1 (omega arith) ∙ sym (rw (lt-leb x.0 step (omega arith)) refl))
 
-comes_entered : (seed : Seed) (sheet : Sheet) (from : ℕ) (rule : Programs) (step : ℕ) (road : Cells) (sum : StepTally) → step ≤ from → StepsIncreaseFrom 0 sheet → IsSheet (entered sheet from rule)
-    → ComesTo seed sheet step road sum → ComesTo seed (entered sheet from rule) step road sum
+comes_entered : (seed : Seed) (sheet : Sheet) (from : ℕ) (rule : Programs) (step : ℕ) (road : Cells) (sum : StepTally) → step ≤ from → StepsIncreaseFrom 0 sheet → IsSheet (with_rule_from sheet from rule)
+    → ComesTo seed sheet step road sum → ComesTo seed (with_rule_from sheet from rule) step road sum
 comes_entered seed sheet from rule zero road sum h rises is comes = (is, comes.1, comes.2)
 comes_entered seed sheet from rule (suc step) road sum h rises is comes = (
   comes.0,
@@ -125,9 +125,9 @@ comes_entered seed sheet from rule (suc step) road sum h rises is comes = (
 )
 
 -- a rule for the lanes that enters at the steps done or later does not change the run
-pub underway_entered : (seed : Seed) (sheet : Sheet) (from : ℕ) (rule : Programs) (step : ℕ) (road : Cells) (sum : StepTally) → step ≤ from → IsRuleFor (length seed.road.lanes) rule → IsSheet (entered sheet from rule)
-    → IsUnderway (record { seed = seed; sheet = sheet; step = step; road = road; sum = sum })
-    → IsUnderway (record { seed = seed; sheet = entered sheet from rule; step = step; road = road; sum = sum })
+pub underway_entered : (seed : Seed) (sheet : Sheet) (from : ℕ) (rule : Programs) (step : ℕ) (road : Cells) (sum : StepTally) → step ≤ from → IsRuleFor (length seed.road.lanes) rule → IsSheet (with_rule_from sheet from rule)
+    → IsReachedByRun (record { seed = seed; sheet = sheet; step = step; road = road; sum = sum })
+    → IsReachedByRun (record { seed = seed; sheet = with_rule_from sheet from rule; step = step; road = road; sum = sum })
 underway_entered seed sheet from rule step road sum h suits is on =
     let before : ℕ × Programs → Bool = λ (entry : ℕ × Programs). ltb entry.0 from in
     let P : ℕ × Programs → Type 0 = λ (entry : ℕ × Programs). IsRuleFor (length seed.road.lanes) entry.1 in
@@ -142,7 +142,7 @@ underway_entered seed sheet from rule step road sum h suits is on =
     }
 
 -- the reply to a replacement, and the job after it
-pub rule_taken : (job now : JobState) (rule : Programs) (sheet : Sheet) → job ≡ now → (now.cancelled || (now.high == now.steps)) ≡ false → suits rule now.seed.road ≡ true → sheet ≡ entered job.sheet job.high rule → length sheet ≤ 1024
+pub rule_taken : (job now : JobState) (rule : Programs) (sheet : Sheet) → job ≡ now → (now.cancelled || (now.high == now.steps)) ≡ false → suits rule now.seed.road ≡ true → sheet ≡ with_rule_from job.sheet job.high rule → length sheet ≤ 1024
     → record { reply = Number job.high; job = record job { sheet = sheet } } ≡ replacing rule now
 rule_taken job now rule sheet view under suit put few =
     let P : JobState → Type 0 = λ s. (s.cancelled || (s.high == s.steps)) ≡ false → suits rule s.seed.road ≡ true → record { reply = Number job.high; job = record job { sheet = sheet } } ≡ replacing rule s in
@@ -151,10 +151,10 @@ rule_taken job now rule sheet view under suit put few =
     taken : (job.cancelled || (job.high == job.steps)) ≡ false → suits rule job.seed.road ≡ true → record { reply = Number job.high; job = record job { sheet = sheet } } ≡ replacing rule job
     taken a b =
         let most = ap length put in
-        let made : JobOutcome = record { reply = Number job.high; job = record job { sheet = entered job.sheet job.high rule } } in
-        let full : JobOutcome = if ltb 1024 (length (entered job.sheet job.high rule)) then refused SheetFull job else made in
+        let made : JobOutcome = record { reply = Number job.high; job = record job { sheet = with_rule_from job.sheet job.high rule } } in
+        let full : JobOutcome = if ltb 1024 (length (with_rule_from job.sheet job.high rule)) then refused SheetFull job else made in
         let lanes : JobOutcome = if not (suits rule job.seed.road) then refused LanesMismatch job else full in
         ap (λ (v : Sheet). (record { reply = Number job.high; job = record job { sheet = v } })) put
         ∙ sym (cond-false (job.cancelled || (job.high == job.steps)) (refused Ended job) lanes a
         ∙ cond-false (not (suits rule job.seed.road)) (refused LanesMismatch job) full (ap not b)
-        ∙ cond-false (ltb 1024 (length (entered job.sheet job.high rule))) (refused SheetFull job) made (le-ltb 1024 (length (entered job.sheet job.high rule)) (omega (arith, most, few))))
+        ∙ cond-false (ltb 1024 (length (with_rule_from job.sheet job.high rule))) (refused SheetFull job) made (le-ltb 1024 (length (with_rule_from job.sheet job.high rule)) (omega (arith, most, few))))

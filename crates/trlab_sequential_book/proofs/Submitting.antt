@@ -19,7 +19,7 @@ use Rattle.trlab_sequential_book.specs.Comparison.{IsSnapshotOf}
 use Rattle.trlab_sequential_book.specs.Leases.{suits}
 use Rattle.trlab_sequential_book.specs.Machine.{JobState, JobOutcome, JobsOutcome, BookState, after, cancelling, giving_back, is_free, is_full, accepts_lease, leasing, new_job, next_after, on_free, on_job, ordering, reading, replacing, reply_of, revoking, outcome_of_call, empty_book}
 use Rattle.trlab_sequential_book.specs.Replay.{Replays, call_of, event, replies_from, state_from, reply_of_event}
-use Rattle.trlab_sequential_book.specs.Sheets.{entered}
+use Rattle.trlab_sequential_book.specs.Sheets.{with_rule_from}
 use Rattle.trlab_sequential_book.specs.Submits.{IsSubmitted, JobsAreSubmitted, SnapshotsAreOfSubmits, SubmitNumbersAreUnique}
 use Rattle.trlab_sequential_book.proofs.Booking.{on_found}
 
@@ -46,7 +46,7 @@ replacing_keeps : (rule : Programs) → Leaves (replacing rule)
 replacing_keeps rule job =
     let P : JobOutcome → Type 0 = λ (o : JobOutcome). Keeps job o.job in
     let same = same_job job in
-    by_if P (job.cancelled || (job.high == job.steps)) _ _ same (by_if P (not (suits rule job.seed.road)) _ _ same (by_if P (ltb 1024 (length (entered job.sheet job.high rule))) _ _ same (record { seed = refl; steps = refl })))
+    by_if P (job.cancelled || (job.high == job.steps)) _ _ same (by_if P (not (suits rule job.seed.road)) _ _ same (by_if P (ltb 1024 (length (with_rule_from job.sheet job.high rule))) _ _ same (record { seed = refl; steps = refl })))
 
 ordering_keeps : (lease : Offered) → Leaves (ordering lease)
 ordering_keeps lease job =

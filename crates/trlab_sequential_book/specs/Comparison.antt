@@ -9,7 +9,7 @@ use Rattle.trlab_sequential_book.specs.declared.order.Order.{Order}
 use Rattle.trlab_sequential_book.specs.Leases.{LeaseState}
 use Rattle.trlab_sequential_book.specs.Machine.{JobState}
 use Rattle.trlab_sequential_book.specs.Jobs.{run_start}
-use Rattle.trlab_sequential_book.specs.Sheets.{AreInForce}
+use Rattle.trlab_sequential_book.specs.Sheets.{RanUnderSheet}
 
 -- the summary of a lease in a call: its job, its number, the step of its base, its next step, and `same`,
 -- whether it runs the road of its job
@@ -28,7 +28,7 @@ pub record RunsRoadOfJob (job : JobState) (lease : LeaseState) : Type 0 where
   pub key : lease.key ≡ job.seed.key
   pub number : lease.road_number ≡ job.seed.number
   pub base : IsRoadAt (run_start job.seed) job.sheet job.done lease.base.road
-  pub rules : AreInForce job.sheet lease.base.step lease.applied
+  pub rules : RanUnderSheet job.sheet lease.base.step lease.applied
 
 -- the job of the lease exists, and the lease runs this job's road: the meaning of `same` in an offered lease
 abbrev pub RunsRoadOfItsJob : List JobState → LeaseState → Type 0

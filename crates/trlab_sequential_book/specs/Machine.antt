@@ -13,7 +13,7 @@ use Rattle.trlab_sequential_book.specs.declared.event.Call.TheVariants as call
 use Rattle.trlab_sequential_book.specs.declared.event.Reply.{Reply}
 use Rattle.trlab_sequential_book.specs.declared.event.Reply.TheVariants as reply
 use Rattle.trlab_sequential_book.specs.Leases.{suits}
-use Rattle.trlab_sequential_book.specs.Sheets.{begin_in_force, entered}
+use Rattle.trlab_sequential_book.specs.Sheets.{begin_in_force, with_rule_from}
 
 -- a job: its seed and its sheet, how many steps it has, how many were ever ordered (`high`) and how many are
 -- done, whether it was cancelled, and the number of the lease that is out, if one is. For example, with
@@ -71,10 +71,10 @@ abbrev pub replacing : Programs → JobState → JobOutcome
 replacing rule job =
     if job.cancelled || (job.high == job.steps) then refused fault.Ended job
     else if not (suits rule job.seed.road) then refused fault.LanesMismatch job
-    else if ltb 1024 (length (entered job.sheet job.high rule)) then refused fault.SheetFull job
+    else if ltb 1024 (length (with_rule_from job.sheet job.high rule)) then refused fault.SheetFull job
     else record {
       reply = reply.Number job.high;
-      job = record job { sheet = entered job.sheet job.high rule };
+      job = record job { sheet = with_rule_from job.sheet job.high rule };
     }
 
 -- is a lease out, and does it have this number?
@@ -128,11 +128,13 @@ reading job = record { reply = reply.Seen job.done (length job.sheet); job = job
 abbrev pub is_free : JobState → Bool
 is_free job = not (is_some job.out) && (not job.cancelled && ltb job.done job.steps)
 
--- the job with number `index` is leased, and the lease with number `number` is out. The reply has both
--- numbers, the steps done, which is the lease's next step, and the number of all steps
+-- the job is leased: it is job number `job_number`, and lease number `lease_number` is out. The reply has
+-- both numbers, the steps done, which is the lease's next step, and the number of all steps
 abbrev pub leasing : ℕ → ℕ → JobState → JobOutcome
-leasing index number job =
-    record { reply = reply.Leased index number job.done job.steps; job = record job { out = Some number } }
+leasing job_number lease_number job = record {
+  reply = reply.Leased job_number lease_number job.done job.steps;
+  job = record job { out = Some lease_number };
+}
 
 -- the outcome of a call on the jobs of a book: the reply, and the jobs after the call
 pub record JobsOutcome : Type 0 where

@@ -18,10 +18,12 @@ entry_in_force (entry ∷ sheet) step =
 abbrev pub begin_in_force : Sheet → ℕ → ℕ
 begin_in_force sheet step = elim (entry_in_force sheet step) [ None ↦ 0 | Some entry ↦ entry.0 ]
 
--- the sheet with `rule` in force from step `from` on; the entry replaces those that begin at this step or
--- later. For example, c from step 5 on makes [(0, a), (5, b)] into [(0, a), (5, c)]
-abbrev pub entered : Sheet → ℕ → Programs → Sheet
-entered sheet from rule = filter (λ (entry : ℕ × Programs). ltb entry.0 from) sheet ++ (from, rule) ∷ []
+-- the sheet with `rule` in force from step `from` on; the new entry replaces those that begin at this step or
+-- later. For example, c from step 5 on makes [(0, a), (5, b)] into [(0, a), (5, c)], and from step 3 on into
+-- [(0, a), (3, c)]
+abbrev pub with_rule_from : Sheet → ℕ → Programs → Sheet
+with_rule_from sheet from rule =
+    filter (λ (entry : ℕ × Programs). ltb entry.0 from) sheet ++ (from, rule) ∷ []
 
 -- each entry of the sheet begins at step `step` or before
 abbrev pub BeginBy : ℕ → Sheet → Type 0
@@ -33,10 +35,10 @@ pub record IsBookSheet (sheet : Sheet) : Type 0 where
   pub is_sheet : IsSheet sheet
   pub at_most_max : length sheet ≤ 1024
 
--- the steps `applied`, the first of them step `first`, were each run under the rule that the sheet has in
--- force at its step
-abbrev pub AreInForce : Sheet → ℕ → List ExecutedStep → Type 0
-AreInForce sheet first applied =
+-- `applied` are the steps `first`, `first + 1` and so on; each was run under the rule that the sheet has in
+-- force then
+abbrev pub RanUnderSheet : Sheet → ℕ → List ExecutedStep → Type 0
+RanUnderSheet sheet first applied =
     (k : ℕ) (ran : ExecutedStep) → slice_get applied k ≡ Some ran → in_force sheet (first + k) ≡ Some ran.rule
 
 -- a new rule, with which the sheet would be this one, may be refused with this fault: `Memory` is always

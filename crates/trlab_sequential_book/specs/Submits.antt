@@ -2,7 +2,7 @@
 use Rattle.std.specs.Prelude.{◌≡◌, ℕ, List, Some, slice_get}
 use Rattle.trlab_road.specs.Cells.{Cells}
 use Rattle.trlab_rules.specs.Rules.{Programs}
-use Rattle.trlab_step.specs.Progress.{Progress, IsUnderway}
+use Rattle.trlab_step.specs.Progress.{Progress, IsReachedByRun}
 use Rattle.trlab_step.specs.Driven.{IsDriven}
 use Rattle.trlab_sequential_book.specs.declared.seed.Seed.{Seed}
 use Rattle.trlab_sequential_book.specs.declared.event.Event.{Event}
@@ -63,4 +63,4 @@ pub record IsDrivenRead (history : List Event) (number : ℕ) (seen : Progress) 
 abbrev pub ReadsAreDriven : Type 0
 ReadsAreDriven =
     (history : List Event) (book : BookState) (number : ℕ) (seen : Progress) → Replays history book
-    → ShowsJob book.jobs number seen → IsUnderway seen → IsDrivenRead history number seen
+    → ShowsJob book.jobs number seen → IsReachedByRun seen → IsDrivenRead history number seen

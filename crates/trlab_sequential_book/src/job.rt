@@ -2,12 +2,12 @@
 
 ghost use Rattle.std.specs.Prelude.{◌≡◌, ◌==◌, ◌||◌, true, false, IsTrue, IfOk, IfErr, OnErr, Some, length, ◌↔◌, MatchBool};
 ghost use Rattle.trlab_road.specs.Legal.{IsLegal};
-ghost use Rattle.trlab_step.specs.Progress.{IsUnderway};
+ghost use Rattle.trlab_step.specs.Progress.{IsReachedByRun};
 ghost use Rattle.trlab_step.specs.Laws.{IsRuleFor};
 ghost use Rattle.trlab_step.specs.Run.{in_force};
 ghost use Rattle.trlab_sequential_book.specs.Answers.{give_back_reply, done_reply, is_memory, number_reply, order_reply};
 ghost use Rattle.trlab_sequential_book.specs.Comparison.{IsFresh, RunsRoadOfJob, IsSnapshotOf, offered};
-ghost use Rattle.trlab_sequential_book.specs.Jobs.{run_of};
+ghost use Rattle.trlab_sequential_book.specs.Jobs.{progress_of};
 ghost use Rattle.trlab_sequential_book.specs.Leases.{suits};
 ghost use Rattle.trlab_sequential_book.specs.Machine.{cancelling, giving_back, is_free, accepts_lease, leasing, new_job, ordering, refused, replacing, revoking};
 
@@ -251,7 +251,7 @@ impl JobRecord {
     fn tally_with(&self, lease: &Lease) -> StepTally
         requires base { lease.now.base.step ≡ self.now.done }
         requires own { RunsRoadOfJob self.now lease.now }
-        ensures { IsUnderway (run_of self.now.seed self.now.sheet lease.now.step lease.now.road result) }
+        ensures { IsReachedByRun (progress_of self.now.seed self.now.sheet lease.now.step lease.now.road result) }
     {
         // For the proof: the lease's step is a `u32`, so no step up to it overflows.
         let _end = lease.step();

@@ -7,7 +7,7 @@ use Rattle.trlab_road.specs.declared.car.Car.{Car}
 use Rattle.trlab_road.specs.Cells.{Cells, Lane, cars, lane_car_count}
 use Rattle.trlab_road.specs.Legal.{IsLegal}
 use Rattle.trlab_road.specs.Standing.{standing}
-use Rattle.trlab_road.proofs.StandingOrder.{standing_cell, length-standing_lanes}
+use Rattle.trlab_road.proofs.StandingOrder.{standing_cell, length-standing_from_lane}
 use Rattle.trlab_rules.specs.Rules.{Programs}
 use Rattle.trlab_verify.specs.CheckedProgram.{CheckedProgram}
 use Rattle.trlab_machine.specs.declared.dice.Dice.{Dice}
@@ -60,7 +60,7 @@ pub few_cars : (road : Cells) → IsLegal road → cars road ≤ 200000
 few_cars road legal = few_on_lanes road.limit road.lanes legal
 
 all_in_order : (road : Cells) → length (standing road) ≡ cars road
-all_in_order road = length-standing_lanes 0 road.lanes
+all_in_order road = length-standing_from_lane 0 road.lanes
 
 -- a tally that is that of one step at most
 pub record IsSmall (tally : StepTally) : Type 0 where

@@ -15,7 +15,7 @@ use Rattle.trlab_road.proofs.MotionLaws.{moves_clean, moves_same_count, moved_le
 use Rattle.trlab_road.proofs.MotionExists.{road_moves_somewhere}
 use Rattle.trlab_road.proofs.MotionInOrder.{moves_by}
 use Rattle.trlab_road.proofs.LaneChangeLaws.{crosses_by, road_after_change_is, lane_change_clean, lane_change_legal, lane_change_same_count, one_road_after_change}
-use Rattle.trlab_road.proofs.StandingOrder.{standing_cell, length-standing_lanes}
+use Rattle.trlab_road.proofs.StandingOrder.{standing_cell, length-standing_from_lane}
 use Rattle.trlab_step.specs.declared.tally.StepTally.{StepTally}
 use Rattle.trlab_machine.specs.declared.dice.Dice.{Dice}
 use Rattle.trlab_step.specs.Answers.{AnswersSpeeds, AnswersCrossings}
@@ -152,7 +152,7 @@ crossing_cars_same : (road : Cells) (crosses others : ℕ → ℕ → Bool) → 
 crossing_cars_same road crosses others same =
     count_same (λ car. crosses car.lane car.place) (λ car. others car.lane car.place) (standing road) no_one
     (λ k h. let car = get_or (standing road) k no_one in
-    same car (standing_cell road k no_one (rw length-standing_lanes at h)))
+    same car (standing_cell road k no_one (rw length-standing_from_lane at h)))
 
 -- the lane change leads to one road only, and one count of crossing cars
 pub lane_change_is_one : (change : Option CheckedProgram) (dice : Dice) (road middle other : Cells) (m n : ℕ) → IsLaneChangePhase change dice road middle m → IsLaneChangePhase change dice road other n → (middle ≡ other) × (m ≡ n)

@@ -12,7 +12,7 @@ use Rattle.trlab_verify.specs.CheckedProgram.{CheckedProgram}
 use Rattle.trlab_road.specs.declared.car.Car.{Car}
 use Rattle.trlab_road.specs.Cells.{Cells, cars}
 use Rattle.trlab_road.specs.Standing.{IsNthCar, rank, standing}
-use Rattle.trlab_road.proofs.StandingOrder.{car_of, length-standing_lanes, rank_below_cars, standing_rank}
+use Rattle.trlab_road.proofs.StandingOrder.{car_of, length-standing_from_lane, rank_below_cars, standing_rank}
 use Rattle.trlab_machine.specs.declared.dice.Dice.{Dice}
 use Rattle.trlab_machine.specs.Blocks.{words_of}
 use Rattle.trlab_step.specs.Answers.{motion_view_of, change_view_of, AnswersSpeed, AnswersCrossing, AreAnswers, AreAnswersPart}
@@ -50,7 +50,7 @@ module _ {X : Type 0} (none : X) (IsAnswer : Car → X → Type 0) (road : Cells
   pub part_is_one : (from to : ℕ) (answers others : List X) → ((car : Car) (a b : X) → IsAnswer car a → IsAnswer car b → a ≡ b)
       → to ≤ cars road → AreAnswersPart IsAnswer road from to answers → AreAnswersPart IsAnswer road from to others → answers ≡ others
   part_is_one from to answers others one within a b =
-      let all = length-standing_lanes 0 road.lanes in
+      let all = length-standing_from_lane 0 road.lanes in
       let size = a.one_each in
       let count = b.one_each in
       ext_get_or none answers others (omega (arith, size, count))
@@ -107,7 +107,7 @@ module _ {X : Type 0} (none : X) (IsAnswer : Car → X → Type 0) (road : Cells
         let k = rank road car.lane car.place in
         let low = rank_below_cars road car.lane car.place (car.number, car.speed) here in
         let size = part.one_each in
-        let count = length-standing_lanes 0 road.lanes in
+        let count = length-standing_from_lane 0 road.lanes in
         let first : k ≡ 0 + k = omega arith in
         let there = slice_get-get_or (standing road) k no_one (omega (arith, low, count)) ∙ ap Some (standing_rank road car.lane car.place car.number car.speed no_one here) in
         part_at 0 (cars road) answers part k car (omega (arith, low, size)) (subst (λ i. IsNthCar road i car) first there);

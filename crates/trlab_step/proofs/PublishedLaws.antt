@@ -10,7 +10,7 @@ use Rattle.trlab_code.specs.Machine.{Answer, Crosses as EndsAcross, Stays, EndsW
 use Rattle.trlab_machine.specs.Crossings.{crossing_answer}
 use Rattle.trlab_verify.specs.CheckedProgram.{CheckedProgram}
 use Rattle.trlab_road.specs.Cells.{Cell, Cells, cell, lane_of, IsAt}
-use Rattle.trlab_road.specs.LaneChange.{Crosses, CrossesToEmpty, other_lane, car_after_crossing}
+use Rattle.trlab_road.specs.LaneChange.{ChangesLanes, CrossesToEmpty, other_lane, car_after_crossing}
 use Rattle.trlab_road.specs.LaneChange.StaysOrCrosses.{on_own_lane, on_other_lane}
 use Rattle.trlab_road.specs.Gaps.{gap, side, sidegap, sideback}
 use Rattle.trlab_road.specs.Legal.{IsLegal}
@@ -25,7 +25,7 @@ use Rattle.trlab_machine.specs.declared.dice.Dice.{Dice}
 use Rattle.trlab_machine.specs.Blocks.{words_of}
 use Rattle.trlab_step.specs.Answers.{AnswersCrossings, change_view_of, motion_view_of}
 use Rattle.trlab_step.specs.Next.{IsMotionPhase, IsLaneChangePhase}
-use Rattle.trlab_step.specs.Published.{AllCross, AllMoveAhead, NaschOnCells, RickertOnCells, VdrOnCells, nasch_car_speed, rickert_car_crosses, vdr_car_speed, car_after_motion}
+use Rattle.trlab_step.specs.Published.{CarsCrossIf, AllMoveAhead, NaschOnCells, RickertOnCells, VdrOnCells, nasch_car_speed, rickert_car_crosses, vdr_car_speed, car_after_motion}
 use Rattle.trlab_step.proofs.AnswersExist.{change_view_is_view, motion_view_is_view}
 use Rattle.trlab_step.proofs.PartLaws.{one_answer_each, one_crossing_each}
 use Rattle.trlab_road.specs.declared.car.Car.{Car}
@@ -81,7 +81,7 @@ vdr_on_cells p p0 rule dice old new tally is legal next =
     (motion_alone rule dice old next.0 new tally.changes is.change next.1.lane_change next.1.motion)
 
 -- where the cars stand after a lane change
-change_by : (crosses : ℕ → ℕ → Bool) (old new : Cells) → IsLegal old → Crosses crosses old new → CrossesToEmpty crosses old → AllCross (λ car. crosses car.lane car.place) old new
+change_by : (crosses : ℕ → ℕ → Bool) (old new : Cells) → IsLegal old → ChangesLanes crosses old new → CrossesToEmpty crosses old → CarsCrossIf (λ car. crosses car.lane car.place) old new
 change_by crosses old new legal phase free car here =
     let l = car.lane in
     let x = car.place in
@@ -128,7 +128,7 @@ none_of (Some car) h = absurd cc
 -- a phase in which cars change lanes
 record Changed (c : ℕ) (dice : Dice) (old middle : Cells) : Type 0 where
   legal : IsLegal middle
-  changed : AllCross (rickert_car_crosses c dice old) old middle
+  changed : CarsCrossIf (rickert_car_crosses c dice old) old middle
 
 rickert_phase : (c : ℕ) (change : CheckedProgram) (dice : Dice) (old middle : Cells) (changes : ℕ) → ComputesCrossing (rickert_crosses c) change.program → IsLegal old → IsLaneChangePhase (Some change) dice old middle changes
     → Changed c dice old middle

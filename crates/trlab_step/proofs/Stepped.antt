@@ -3,7 +3,7 @@ use Rattle.std.proofs.Common.{◌≡◌, ℕ, Some, None, List, refl, sym, ◌�
 use Rattle.std.specs.Prelude.{Bool, Option, false, length, count_by, nat_eq, sum}
 use Rattle.trlab_verify.specs.CheckedProgram.{CheckedProgram}
 use Rattle.trlab_road.specs.Cells.{Cells, cars}
-use Rattle.trlab_road.specs.LaneChange.{Crosses, crosses_at}
+use Rattle.trlab_road.specs.LaneChange.{ChangesLanes, crosses_at}
 use Rattle.trlab_road.specs.Motion.{Moves, in_order}
 use Rattle.trlab_machine.specs.declared.dice.Dice.{Dice}
 use Rattle.trlab_step.specs.Answers.{AnswersSpeedsPart, AnswersCrossingsPart, AnswersSpeed, AnswersCrossing, IsSpeedsPart}
@@ -16,7 +16,7 @@ use Rattle.trlab_step.proofs.PartLaws.{by_place}
 
 -- where all cars are asked on the road as it stands, and cross by their answers, the lane change is done
 pub lane_change_is_done : (change : CheckedProgram) (dice : Dice) (road middle : Cells) (crosses : List Bool) (changes : ℕ) → length road.lanes ≡ 2 → AnswersCrossingsPart change dice road 0 (cars road) crosses
-    → ((answer : ℕ → ℕ → Bool) → crosses ≡ in_order answer road → Crosses answer road middle)
+    → ((answer : ℕ → ℕ → Bool) → crosses ≡ in_order answer road → ChangesLanes answer road middle)
     → changes ≡ count_by (λ c. c) crosses → IsLaneChangePhase (Some change) dice road middle changes
 lane_change_is_done change dice road middle crosses changes two part phase counted =
     let one_each = part.one_each in

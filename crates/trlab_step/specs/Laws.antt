@@ -8,7 +8,7 @@ use Rattle.trlab_verify.specs.CheckedProgram.{CheckedProgram, IsChecked}
 use Rattle.trlab_road.specs.declared.car.Car.{Car}
 use Rattle.trlab_road.specs.Cells.{Cells, IsAt, cars}
 use Rattle.trlab_road.specs.Legal.{IsLegal}
-use Rattle.trlab_road.specs.LaneChange.{Crosses}
+use Rattle.trlab_road.specs.LaneChange.{ChangesLanes}
 use Rattle.trlab_road.specs.Motion.{Moves, in_order}
 use Rattle.trlab_rules.specs.Rules.{Programs}
 use Rattle.trlab_step.specs.declared.tally.StepTally.{StepTally}
@@ -77,7 +77,7 @@ abbrev pub IsLaneChangeByAnswers : Option CheckedProgram → Dice → Cells → 
 IsLaneChangeByAnswers None dice road middle crosses = (middle ≡ road) × (crosses ≡ [])
 IsLaneChangeByAnswers (Some change) dice road middle crosses =
     (length road.lanes ≡ 2) × AnswersCrossingsPart change dice road 0 (cars road) crosses
-    × ((answer : ℕ → ℕ → Bool) → crosses ≡ in_order answer road → Crosses answer road middle)
+    × ((answer : ℕ → ℕ → Bool) → crosses ≡ in_order answer road → ChangesLanes answer road middle)
 
 -- the motion from `road` to `next` by the list `speeds`: it has the motion program's answers for all cars in
 -- standing order, each at most the limit and the car's gap, and all cars move by these speeds at once

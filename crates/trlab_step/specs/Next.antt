@@ -4,7 +4,7 @@ use Rattle.trlab_road.specs.declared.car.Car.{Car}
 use Rattle.trlab_road.specs.Cells.{Cells}
 use Rattle.trlab_road.specs.Legal.{IsLegal}
 use Rattle.trlab_road.specs.Standing.{standing}
-use Rattle.trlab_road.specs.LaneChange.{Crosses, IsCleanLaneChange}
+use Rattle.trlab_road.specs.LaneChange.{ChangesLanes, IsCleanLaneChange}
 use Rattle.trlab_road.specs.Motion.{Moves, IsCleanMotion}
 use Rattle.trlab_verify.specs.CheckedProgram.{CheckedProgram}
 use Rattle.trlab_rules.specs.Rules.{Programs}
@@ -33,7 +33,7 @@ abbrev pub IsLaneChangePhase : Option CheckedProgram → Dice → Cells → Cell
 IsLaneChangePhase None dice road middle changes = (middle ≡ road) × (changes ≡ 0)
 IsLaneChangePhase (Some change) dice road middle changes =
     (length road.lanes ≡ 2) × (crosses : ℕ → ℕ → Bool) × AnswersCrossings change dice road crosses
-    × Crosses crosses road middle × (changes ≡ crossing_cars crosses road)
+    × ChangesLanes crosses road middle × (changes ≡ crossing_cars crosses road)
 
 -- the motion from `road` to `next`: each car moves by the speed that the motion program answers for it
 abbrev pub IsMotionPhase : CheckedProgram → Dice → Cells → Cells → Type 0

@@ -19,9 +19,9 @@ pub record Progress : Type 0 where
 abbrev pub at_start : Seed → Sheet → Progress
 at_start seed sheet = record { seed = seed; sheet = sheet; step = 0; road = seed.road; sum = no_tally }
 
--- the run started from a legal road, its sheet has rules for the lanes of this road, and by `ComesTo` its
--- road and its sum are those after its steps so far
-pub record IsUnderway (run : Progress) : Type 0 where
+-- a run reaches this progress: it starts on a legal road, under a sheet with rules for its lanes, and after
+-- `step` steps it is at `road` with the sum `sum`
+pub record IsReachedByRun (run : Progress) : Type 0 where
   pub legal : IsLegal run.seed.road
   pub suits : IsSheetFor (length run.seed.road.lanes) run.sheet
   pub comes : ComesTo run.seed run.sheet run.step run.road run.sum

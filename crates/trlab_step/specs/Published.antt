@@ -54,10 +54,10 @@ abbrev pub AllMoveAhead : (Car → ℕ) → Cells → Cells → Type 0
 AllMoveAhead new_speed old new =
     (car : Car) → IsAt old car → IsAt new (car_after_motion old car (new_speed car))
 
--- each car of road `old` for which `crosses` is true is in its side cell on road `new`, and each other car is
--- still in its cell
-abbrev pub AllCross : (Car → Bool) → Cells → Cells → Type 0
-AllCross crosses old new =
+-- each car of road `old` for which `crosses` is true is in its side cell on road `new`, with its number and
+-- speed, and each other car is unchanged
+abbrev pub CarsCrossIf : (Car → Bool) → Cells → Cells → Type 0
+CarsCrossIf crosses old new =
     (car : Car) → IsAt old car → IsAt new (if crosses car then car_after_crossing car else car)
 
 -- in a step of a legal road under the rule of 1992, with probability p / 2 ^ 31 of braking, each car moves by
@@ -79,5 +79,5 @@ VdrOnCells = (p p0 : ℕ) (rule : Programs) (dice : Dice) (old new : Cells) (tal
 abbrev pub RickertOnCells : Type 0
 RickertOnCells = (p c : ℕ) (rule : Programs) (dice : Dice) (old new : Cells) (tally : StepTally)
     → IsRickert p c rule → IsLegal old → IsNext rule dice old new tally
-    → (middle : Cells) × IsLegal middle × AllCross (rickert_car_crosses c dice old) old middle
+    → (middle : Cells) × IsLegal middle × CarsCrossIf (rickert_car_crosses c dice old) old middle
     × AllMoveAhead (nasch_car_speed p dice middle) middle new

@@ -13,7 +13,7 @@ use Rattle.atomic_table.proofs.Lists.{at_set, set_again, set_else}
 use Rattle.trlab_strands.proofs.Seats.{total_set, each_set, each_snoc, alone, times_push, times_append}
 use Rattle.trlab_strands.specs.declared.knowledge.Noted.{Noted}
 use Rattle.trlab_strands.specs.declared.knowledge.StrandKnowledge.{StrandKnowledge}
-use Rattle.trlab_strands.specs.Knowledge.{noted, event_number, count_with_number, once_below, IsInList, AreInList, strand_knowledge, nothing, without_list, list_seat, less_a_part, one_part, both_seats, up_to_date, with_event}
+use Rattle.trlab_strands.specs.Knowledge.{noted, event_number, count_with_number, once_below, IsInList, AreInList, strand_knowledge, spent_seat, without_list, list_seat, less_a_part, one_part, both_seats, up_to_date, with_event}
 use Rattle.trlab_strands.specs.Rule.{IsSoundStrand, AreSoundStrands, ObeysStrandRule, NotesEvent, AgreesWithList, AuditsList, SeesWholeList}
 
 off : false ≡ true → ⊥
@@ -35,10 +35,10 @@ kept b e = ap (λ (x : Bool). cond {A = ℕ} x 1 0) e
 
 module _ {E : Type 0} where
   -- two seats have at most the whole sum
-  two_le : (f : StrandKnowledge E → ℕ) → f nothing ≡ 0 → (views : List (StrandKnowledge E)) (i j : ℕ) (v u : StrandKnowledge E) → j ≢ i → get_elem? views i ≡ some v → get_elem? views j ≡ some u → f v + f u ≤ sum_by f views
+  two_le : (f : StrandKnowledge E → ℕ) → f spent_seat ≡ 0 → (views : List (StrandKnowledge E)) (i j : ℕ) (v u : StrandKnowledge E) → j ≢ i → get_elem? views i ≡ some v → get_elem? views j ≡ some u → f v + f u ≤ sum_by f views
   two_le f none_left views i j v u apart at there =
-      let a = total_set f views i v nothing at in
-      let b = total_set f (set views i nothing) j u nothing (set_else views i j nothing apart ∙ there) in
+      let a = total_set f views i v spent_seat at in
+      let b = total_set f (set views i spent_seat) j u spent_seat (set_else views i j spent_seat apart ∙ there) in
       omega arith
 
   -- of two seats at most one keeps the list
@@ -55,7 +55,7 @@ module _ {E : Type 0} where
   later events e u another r = record {
     idle = r.idle;
     least_within = let l = length-append events (e ∷ []) in let p = r.least_within in omega arith;
-    stand = All-weaker (IsInList events) (IsInList (events ++ e ∷ [])) (stands_on events (e ∷ [])) u.own r.stand;
+    in_list = All-weaker (IsInList events) (IsInList (events ++ e ∷ [])) (stands_on events (e ∷ [])) u.own r.in_list;
     list = λ has. absurd (another has);
   }
 
@@ -83,8 +83,8 @@ module _ {E : Type 0} where
             (record {
               idle = λ z. absurd (omega arith);
               least_within = omega arith;
-              stand = All-push (IsInList (events ++ e ∷ [])) v.own (noted v.all e)
-                  (All-weaker (IsInList events) (IsInList (events ++ e ∷ [])) (stands_on events (e ∷ [])) v.own mine.stand)
+              in_list = All-push (IsInList (events ++ e ∷ [])) v.own (noted v.all e)
+                  (All-weaker (IsInList events) (IsInList (events ++ e ∷ [])) (stands_on events (e ∷ [])) v.own mine.in_list)
                   ([], ap (λ (l : List E). l ++ e ∷ []) (sym known));
               list = λ _. ap (λ (l : List E). l ++ e ∷ []) known;
             })
@@ -103,7 +103,7 @@ module _ {E : Type 0} where
         keepers = let t = total_set (λ u. cond u.keeps 1 0) views id v w at in let p = r.keepers in omega arith;
         count = let t = total_set (λ u. length u.own) views id v w at in let p = r.count in omega arith;
         once = λ k. let t = total_set (λ u. count_with_number k u.own) views id v w at in let p = r.once k in omega arith;
-        each = each_set (IsSoundStrand events) views id w (record { idle = mine.idle; least_within = omega arith; stand = mine.stand; list = mine.list }) (λ j u _ there. r.each j u there);
+        each = each_set (IsSoundStrand events) views id w (record { idle = mine.idle; least_within = omega arith; in_list = mine.in_list; list = mine.list }) (λ j u _ there. r.each j u there);
       }
 
   -- the list leaves a strand
@@ -122,8 +122,8 @@ module _ {E : Type 0} where
           count = let t = total_set (λ u. length u.own) s.views id v l at in let n = sum_by_push (λ (u : StrandKnowledge E). length u.own) views o in let p = k.count in omega arith;
           once = λ x. let t = total_set (λ u. count_with_number x u.own) s.views id v l at in let n = sum_by_push (λ (u : StrandKnowledge E). count_with_number x u.own) views o in let p = k.once x in omega arith;
           each = each_snoc (IsSoundStrand events) views o
-              (record { idle = λ _. refl; least_within = zero-le; stand = All-nil _; list = mine.list })
-              (each_set (IsSoundStrand events) s.views id l (record { idle = mine.idle; least_within = mine.least_within; stand = mine.stand; list = λ e. absurd (off e) }) (λ j u _ there. k.each j u there));
+              (record { idle = λ _. refl; least_within = zero-le; in_list = All-nil _; list = mine.list })
+              (each_set (IsSoundStrand events) s.views id l (record { idle = mine.idle; least_within = mine.least_within; in_list = mine.in_list; list = λ e. absurd (off e) }) (λ j u _ there. k.each j u there));
         },
       )
 
@@ -143,13 +143,13 @@ module _ {E : Type 0} where
           count = let t = total_set (λ u. length u.own) s.views id v l at in let n = sum_by_push (λ (u : StrandKnowledge E). length u.own) views o in let p = k.count in omega arith;
           once = λ x. let t = total_set (λ u. count_with_number x u.own) s.views id v l at in let n = sum_by_push (λ (u : StrandKnowledge E). count_with_number x u.own) views o in let p = k.once x in omega arith;
           each = each_snoc (IsSoundStrand events) views o
-              (record { idle = λ _. refl; least_within = mine.least_within; stand = All-nil _; list = λ e. absurd (off e) })
-              (each_set (IsSoundStrand events) s.views id l (record { idle = λ z. absurd (omega arith); least_within = mine.least_within; stand = mine.stand; list = mine.list }) (λ j u _ there. k.each j u there));
+              (record { idle = λ _. refl; least_within = mine.least_within; in_list = All-nil _; list = λ e. absurd (off e) })
+              (each_set (IsSoundStrand events) s.views id l (record { idle = λ z. absurd (omega arith); least_within = mine.least_within; in_list = mine.in_list; list = mine.list }) (λ j u _ there. k.each j u there));
         },
       )
 
   -- a strand without the list takes in the knowledge of another seat
-  pub joins : (id : ℕ) (v : StrandKnowledge E) (other : ℕ) (w : StrandKnowledge E) → 0 < v.parts → v.keeps ≡ false → Joins ObeysStrandRule id v other w (both_seats v w) nothing
+  pub joins : (id : ℕ) (v : StrandKnowledge E) (other : ℕ) (w : StrandKnowledge E) → 0 < v.parts → v.keeps ≡ false → Joins ObeysStrandRule id v other w (both_seats v w) spent_seat
   joins id v other w some_part unkept s r at apart_ there =
       let b = both_seats v w in
       let events = r.0 in
@@ -163,13 +163,13 @@ module _ {E : Type 0} where
       let none_kept : ◌≡◌ {A = ℕ} (cond v.keeps 1 0) 0 = ap (λ (x : Bool). cond {A = ℕ} x 1 0) unkept in (
         events,
         record {
-          parts = let t = total_set (λ u. u.parts) s.views id v b at in let n = total_set (λ u. u.parts) views other w nothing there in let p = k.parts in omega arith;
-          keepers = let t = total_set (λ u. cond u.keeps 1 0) s.views id v b at in let n = total_set (λ u. cond u.keeps 1 0) views other w nothing there in let p = k.keepers in omega arith;
-          count = let t = total_set (λ u. length u.own) s.views id v b at in let n = total_set (λ u. length u.own) views other w nothing there in let p = k.count in let q = length-append v.own w.own in omega arith;
-          once = λ x. let t = total_set (λ u. count_with_number x u.own) s.views id v b at in let n = total_set (λ u. count_with_number x u.own) views other w nothing there in let p = k.once x in let q = times_append event_number x v.own w.own in omega arith;
-          each = each_set (IsSoundStrand events) views other nothing (record { idle = λ _. refl; least_within = zero-le; stand = All-nil _; list = λ e. absurd (off e) })
+          parts = let t = total_set (λ u. u.parts) s.views id v b at in let n = total_set (λ u. u.parts) views other w spent_seat there in let p = k.parts in omega arith;
+          keepers = let t = total_set (λ u. cond u.keeps 1 0) s.views id v b at in let n = total_set (λ u. cond u.keeps 1 0) views other w spent_seat there in let p = k.keepers in omega arith;
+          count = let t = total_set (λ u. length u.own) s.views id v b at in let n = total_set (λ u. length u.own) views other w spent_seat there in let p = k.count in let q = length-append v.own w.own in omega arith;
+          once = λ x. let t = total_set (λ u. count_with_number x u.own) s.views id v b at in let n = total_set (λ u. count_with_number x u.own) views other w spent_seat there in let p = k.once x in let q = times_append event_number x v.own w.own in omega arith;
+          each = each_set (IsSoundStrand events) views other spent_seat (record { idle = λ _. refl; least_within = zero-le; in_list = All-nil _; list = λ e. absurd (off e) })
               (λ j u _ here. each_set (IsSoundStrand events) s.views id b
-              (record { idle = λ z. absurd (omega arith); least_within = let p = mine.least_within in let q = theirs.least_within in omega arith; stand = All-append (IsInList events) v.own w.own mine.stand theirs.stand; list = theirs.list })
+              (record { idle = λ z. absurd (omega arith); least_within = let p = mine.least_within in let q = theirs.least_within in omega arith; in_list = All-append (IsInList events) v.own w.own mine.in_list theirs.in_list; list = theirs.list })
               (λ i y _ was. k.each i y was) j u here);
         },
       )
@@ -180,21 +180,21 @@ module _ {E : Type 0} where
       let k = r.1 in
       let mine = k.each id v at in
       record {
-        few = let t = total_set (λ u. u.parts) s.views id v nothing at in let p = k.parts in omega arith;
-        stand = λ has. subst (λ (l : List E). AreInList l v.own) (sym (mine.list has)) mine.stand;
+        few = let t = total_set (λ u. u.parts) s.views id v spent_seat at in let p = k.parts in omega arith;
+        in_list = λ has. subst (λ (l : List E). AreInList l v.own) (sym (mine.list has)) mine.in_list;
         most = λ has.
-            let t = total_set (λ u. length u.own) s.views id v nothing at in
+            let t = total_set (λ u. length u.own) s.views id v spent_seat at in
             let p = k.count in
             let long = ap length (mine.list has) in
             omega arith;
         whole = λ has every.
-            let a = alone (λ u. u.parts) (λ u. length u.own) nothing refl refl s.views id v at (λ j u e z. ap length ((k.each j u e).idle z)) (k.parts ∙ sym every) in
+            let a = alone (λ u. u.parts) (λ u. length u.own) spent_seat refl refl s.views id v at (λ j u e z. ap length ((k.each j u e).idle z)) (k.parts ∙ sym every) in
             let p = k.count in
             let long = ap length (mine.list has) in
             omega arith;
         once = λ has every x.
             let long = ap length (mine.list has) in
-            let a = alone (λ u. length u.own) (λ u. count_with_number x u.own) nothing refl refl s.views id v at (λ j u e z. ap (count_with_number x) (empty u.own z)) (k.count ∙ sym long ∙ sym every) in
+            let a = alone (λ u. length u.own) (λ u. count_with_number x u.own) spent_seat refl refl s.views id v at (λ j u e z. ap (count_with_number x) (empty u.own z)) (k.count ∙ sym long ∙ sym every) in
             sym a ∙ k.once x ∙ ap (once_below x) (sym long);
       }
 

@@ -37,7 +37,7 @@ AreInList events own = All (IsInList events) own
 -- events, in the order of their numbers. For example, [a, b] is one of the events b after [a] and a after []
 pub record IsLinearization {E : Type 0} (events : List E) (own : List (Noted E)) : Type 0 where
   pub count : length own ≡ length events
-  pub stand : AreInList events own
+  pub in_list : AreInList events own
   pub once : (k : ℕ) → count_with_number k own ≡ once_below k (length events)
 
 -- the knowledge of a seat: how many parts it has, its own events, its clock, which is the smallest number
@@ -47,8 +47,8 @@ strand_knowledge parts own clock keeps events =
     record { parts = parts; own = own; least = clock; keeps = keeps; all = events }
 
 -- the knowledge that is left at a seat after it was joined to another seat: no part, no event and no list
-abbrev pub nothing : {E : Type 0} → StrandKnowledge E
-nothing = strand_knowledge 0 [] 0 false []
+abbrev pub spent_seat : {E : Type 0} → StrandKnowledge E
+spent_seat = strand_knowledge 0 [] 0 false []
 
 -- the knowledge of the first seat: it has all parts, no event, and keeps the empty list
 abbrev pub first_seat : {E : Type 0} → StrandKnowledge E

@@ -8,17 +8,17 @@ use Rattle.trlab_strands.specs.declared.knowledge.TheConstants.{ALL_PARTS}
 use Rattle.trlab_strands.specs.declared.knowledge.StrandKnowledge.{StrandKnowledge}
 use Rattle.trlab_strands.specs.Knowledge.{count_with_number, once_below, AreInList, up_to_date, with_event}
 
--- the knowledge of a seat is true if the list is `events`: a seat without parts has no events, its clock is
--- at most the list's length, its own events are in the list, and if it keeps a list, it is this one
+-- a strand is sound for the list `events`: without parts it has no events, its clock is at most the list's
+-- length, its own events are in the list, and if it keeps a list, it is this one
 pub record IsSoundStrand {E : Type 0} (events : List E) (strand : StrandKnowledge E) : Type 0 where
   pub idle : strand.parts ≡ 0 → strand.own ≡ []
   pub least_within : strand.least ≤ length events
-  pub stand : AreInList events strand.own
+  pub in_list : AreInList events strand.own
   pub list : strand.keeps ≡ true → strand.all ≡ events
 
--- the knowledge of all seats is true if the list is `events`: the seats have all parts together, exactly one
--- of them keeps the list, each event of the list is an event of exactly one seat, once, and the knowledge of
--- each seat is true
+-- the strands are sound for the list `events`: together they have all parts; exactly one keeps the list;
+-- their own events are as many as the list has, and each number below its length occurs once; and each strand
+-- is sound
 pub record AreSoundStrands {E : Type 0} (events : List E) (known : List (StrandKnowledge E)) : Type 0 where
   pub parts : sum_by (λ strand. strand.parts) known ≡ ALL_PARTS
   pub keepers : sum_by (λ strand. cond strand.keeps 1 0) known ≡ 1
@@ -28,7 +28,7 @@ pub record AreSoundStrands {E : Type 0} (events : List E) (known : List (StrandK
       → get_elem? known seat ≡ some strand → IsSoundStrand events strand
 
 -- the rule of strands, which holds before and after each atomic step: there is a list of events for which the
--- knowledge of all seats is true
+-- strands are sound
 abbrev pub ObeysStrandRule : {E : Type 0} → State E (StrandKnowledge E) → Type 0
 ObeysStrandRule {E} state = (events : List E) × AreSoundStrands events state.views
 
@@ -46,7 +46,7 @@ NotesEvent {E} step old found new =
 -- of the list is one of them, once
 pub record AgreesWithList {E : Type 0} (strand : StrandKnowledge E) : Type 0 where
   pub few : strand.parts ≤ ALL_PARTS
-  pub stand : strand.keeps ≡ true → AreInList strand.all strand.own
+  pub in_list : strand.keeps ≡ true → AreInList strand.all strand.own
   pub most : strand.keeps ≡ true → length strand.own ≤ length strand.all
   pub whole : strand.keeps ≡ true → strand.parts ≡ ALL_PARTS → length strand.own ≡ length strand.all
   pub once : strand.keeps ≡ true → length strand.own ≡ length strand.all

@@ -113,9 +113,9 @@ impl<E> Split<StrandKnowledge<E>> for OnePart {
 pub struct JoinStrands;
 
 impl<E> Join<StrandKnowledge<E>> for JoinStrands {
-    ghost use Rattle.trlab_strands.specs.Knowledge.{both_seats, nothing};
+    ghost use Rattle.trlab_strands.specs.Knowledge.{both_seats, spent_seat};
 
     ghost both = { both_seats };
 
-    ghost spent = { nothing };
+    ghost spent = { spent_seat };
 }

@@ -125,7 +125,7 @@ impl<L: Ledger, E: Drop> Keeper<L, E> {
     pub fn audit(&mut self, strands: &Strands<L, E>, strand: &mut Strand<L, E>)
         ensures same { (keeper_list self.new ≡ keeper_list self.old) × IsSameStrand strand.old strand.new }
         ensures few { strand_parts strand.old ≤ ALL_PARTS }
-        ensures stand { AreInList (keeper_list self.old) (strand_events strand.old) }
+        ensures in_list { AreInList (keeper_list self.old) (strand_events strand.old) }
         ensures most { length (strand_events strand.old) ≤ length (keeper_list self.old) }
         ensures whole { strand_parts strand.old ≡ ALL_PARTS
             → length (strand_events strand.old) ≡ length (keeper_list self.old) }

@@ -80,13 +80,13 @@ abbrev pub TextParsesTo : {A : Type 0} → (List ℕ → Result A Fault → Type
     → Result A Fault → Type 0
 TextParsesTo IsResult text result = SizedTextParsesTo IsResult (nat_lt TEXT_LIMIT (length text)) text result
 
--- a function that reads a text returns a result that `IsResult` allows, or reports that an allocation failed
+-- the result of reading a text is one that `IsResult` allows, or `Memory`: an allocation may always fail
 abbrev pub Reports : {A : Type 0} → (Result A Fault → Type 0) → Result A TextFault → Type 0
 Reports IsResult (Ok x) = IsResult (Ok x)
 Reports IsResult (Err (At line cause)) = IsResult (Err (record { line = line; cause = cause }))
 Reports IsResult (Err Memory) = Unit {0}
 
--- a function that reads a line returns a result that `IsResult` allows, or reports that an allocation failed
+-- the result of reading a line is one that `IsResult` allows, or `Memory`: an allocation may always fail
 abbrev pub ReportsLine : {A : Type 0} → (Result A Cause → Type 0) → Result A LineFault → Type 0
 ReportsLine IsResult (Ok x) = IsResult (Ok x)
 ReportsLine IsResult (Err (Wrong cause)) = IsResult (Err cause)

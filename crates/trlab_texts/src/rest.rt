@@ -30,6 +30,7 @@ impl<'a> Model for Rest<'a> {
 
     ghost view = { λ rest. record { number = rest.number; left = lines_of rest.left.now } };
 
+    // Each line that is left has at least one byte, so no line number overflows.
     ghost invariant = { λ rest. rest.number + length rest.left.now < 2 ^ 32 };
 }
 

@@ -9,9 +9,9 @@ use Rattle.trlab_road.specs.declared.car.Car.{Car}
 use Rattle.trlab_road.specs.Cells.{Cell, Cells, Lane, at, cars, cell, lane_of}
 use Rattle.trlab_road.specs.LaneChange.{CrossesToEmpty, other_lane}
 use Rattle.trlab_road.specs.Legal.{IsLegal}
-use Rattle.trlab_road.specs.Standing.{standing, standing_from, standing_lanes}
+use Rattle.trlab_road.specs.Standing.{standing, standing_from, standing_from_lane}
 use Rattle.trlab_road.proofs.Ring.{car_in}
-use Rattle.trlab_road.proofs.StandingOrder.{length-standing_lanes}
+use Rattle.trlab_road.proofs.StandingOrder.{length-standing_from_lane}
 use Rattle.trlab_step.specs.declared.tally.StepTally.{StepTally}
 use Rattle.trlab_step.specs.Next.{IsLaneChangePhase}
 use Rattle.trlab_step.specs.Run.{ComesTo, Seed, Sheet, dice_at, tally_sum}
@@ -34,11 +34,11 @@ two_sum g (a ∷ b ∷ []) two =
     omega (arith, first, second)
 two_sum g (a ∷ b ∷ c ∷ lanes) two = absurd (omega (arith, two))
 
-two_standing : (f : Car → ℕ) (lanes : List Lane) → length lanes ≡ 2 → sum_by f (standing_lanes 0 lanes) ≡ sum_by f (standing_from 0 0 (get_or lanes 0 [])) + sum_by f (standing_from 1 0 (get_or lanes 1 []))
+two_standing : (f : Car → ℕ) (lanes : List Lane) → length lanes ≡ 2 → sum_by f (standing_from_lane 0 lanes) ≡ sum_by f (standing_from 0 0 (get_or lanes 0 [])) + sum_by f (standing_from 1 0 (get_or lanes 1 []))
 two_standing f [] two = absurd (omega (arith, two))
 two_standing f (a ∷ []) two = absurd (omega (arith, two))
 two_standing f (a ∷ b ∷ []) two =
-    let first = sum_by-append f (standing_from 0 0 a) (standing_lanes 1 (b ∷ [])) in
+    let first = sum_by-append f (standing_from 0 0 a) (standing_from_lane 1 (b ∷ [])) in
     let second = sum_by-append f (standing_from 1 0 b) [] in
     omega (arith, first, second)
 two_standing f (a ∷ b ∷ c ∷ lanes) two = absurd (omega (arith, two))
@@ -92,7 +92,7 @@ few_changes (Some change) dice road middle changes legal phase =
     let count = phase.4 in
     let f : Car → ℕ = λ car. cond (crosses car.lane car.place) 1 0 in
     let all = sum_by-le f 1 (standing road) (λ k d below. at_most_one (crosses (get_or (standing road) k d).lane (get_or (standing road) k d).place)) in
-    let size = length-standing_lanes 0 road.lanes in
+    let size = length-standing_from_lane 0 road.lanes in
     let equal : length (lane_of road 1) ≡ length (lane_of road 0) = legal.shape.equal 1 (omega (arith, two)) in
     let split = two_standing f road.lanes two in
     let first = lane_crossing crosses road free 0 equal in

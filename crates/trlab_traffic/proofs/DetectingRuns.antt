@@ -13,8 +13,8 @@ use Rattle.trlab_step.specs.Next.{IsNext}
 use Rattle.trlab_step.specs.Run.{ComesTo, Seed, Sheet, dice_at, IsRoadAt}
 use Rattle.trlab_step.proofs.RunLaws.{force_all, road_at_is_one}
 use Rattle.trlab_traffic.specs.Capacity.{lane_empty_cells}
-use Rattle.trlab_traffic.specs.Detector.{all_passages, cars_ahead_of, passages, way}
-use Rattle.trlab_traffic.specs.DetectorRuns.{DifferByAtMost, CountExists, Counts, DetectorMeasuresFlow, DetectorsAgree, DetectorsAgreeByCars, DetectorsCountRun, RunIsContinuous, min_of_cars_and_empty_cells}
+use Rattle.trlab_traffic.specs.Detector.{all_passages, cars_ahead_of, passages, cells_ahead_to}
+use Rattle.trlab_traffic.specs.DetectorRuns.{DifferByAtMost, CountExists, Counts, DetectorMeasuresFlow, DetectorsAgree, DetectorsAgreeByCars, DetectorsCountRun, RunSatisfiesContinuity, min_of_cars_and_empty_cells}
 use Rattle.trlab_traffic.specs.Rule184.{is_taken}
 use Rattle.trlab_traffic.specs.Runs.{EachRule, StaysInLane}
 use Rattle.trlab_traffic.proofs.Capacities.{distance_counted, distance_uncounted}
@@ -78,7 +78,7 @@ run_length seed sheet (suc step) road sum l nobody comes =
     let none = force_all StaysInLane sheet step comes.2 nobody on.under in
     change_length comes.2 (dice_at seed step) comes.0 road comes.3 l none on.next ∙ run_length seed sheet step comes.0 comes.1 l nobody comes.4
 
-pub run_is_continuous : RunIsContinuous
+pub run_is_continuous : RunSatisfiesContinuity
 run_is_continuous seed sheet zero start road l x k first second nobody late begins here both =
     let one = both.here in
     let two = both.there in
@@ -250,8 +250,8 @@ detector_measures_flow seed sheet step road sum x count nobody one comes low cou
     let counts : (y : ℕ) → (c : ℕ) × Counts seed sheet 0 y step c = λ y. count_exists seed sheet step road sum 0 y comes in
     let all = detectors_count_run seed sheet step road sum (λ y. (counts y).0) one comes (λ y. (counts y).1) in
     let near : (y : ℕ) → y < n → DifferByAtMost (min_of_cars_and_empty_cells (lane_of seed.road 0)) count (counts y).0 = λ y high.
-    let short : way n x y < n = ahead_below n y (n - x) (omega (arith, low)) in
-    detectors_agree_by_cars seed sheet step road sum 0 x (way n x y) count (counts y).0 nobody comes (let k : way n x y ≤ n = omega (arith, short) in k) (record {
+    let short : cells_ahead_to n x y < n = ahead_below n y (n - x) (omega (arith, low)) in
+    detectors_agree_by_cars seed sheet step road sum 0 x (cells_ahead_to n x y) count (counts y).0 nobody comes (let k : cells_ahead_to n x y ≤ n = omega (arith, short) in k) (record {
       is_cell = low;
       here = counted;
       there = subst (λ z. Counts seed sheet 0 z step (counts y).0) (sym (way_reaches n x y low high)) (counts y).1;

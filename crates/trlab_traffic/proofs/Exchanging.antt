@@ -15,7 +15,7 @@ use Rattle.trlab_road.specs.declared.car.Car.{Car}
 use Rattle.trlab_road.specs.Cells.{Cells, IsAt, Lane, at, lane_of}
 use Rattle.trlab_road.specs.Gaps.{gap, headspeed, side, sideback, sidegap}
 use Rattle.trlab_road.specs.LaneChange.{car_after_crossing, other_lane}
-use Rattle.trlab_road.specs.Standing.{standing_from, standing_lanes}
+use Rattle.trlab_road.specs.Standing.{standing_from, standing_from_lane}
 use Rattle.trlab_road.proofs.MotionLaws.{on_lane}
 use Rattle.trlab_road.proofs.Ring.{car_in}
 use Rattle.trlab_rules.specs.Published.{rickert_crosses}
@@ -101,15 +101,15 @@ lane_sum g f l m s (Some car ∷ cells) same =
 sum_exchanged : (g f : Car → ℕ) (lanes : List Lane) → length lanes ≡ 2
     → ((x number speed : ℕ) → g (car_in 0 x number speed) ≡ f (car_in 1 x number speed))
     → ((x number speed : ℕ) → g (car_in 1 x number speed) ≡ f (car_in 0 x number speed))
-    → sum_by g (standing_lanes 0 (get_or lanes 1 [] ∷ get_or lanes 0 [] ∷ [])) ≡ sum_by f (standing_lanes 0 lanes)
+    → sum_by g (standing_from_lane 0 (get_or lanes 1 [] ∷ get_or lanes 0 [] ∷ [])) ≡ sum_by f (standing_from_lane 0 lanes)
 sum_exchanged g f [] both up down = absurd (omega (arith, both))
 sum_exchanged g f (lane ∷ []) both up down = absurd (omega (arith, both))
 sum_exchanged g f (lane ∷ beside ∷ []) both up down =
     let one = lane_sum g f 0 1 0 beside up in
     let two = lane_sum g f 1 0 0 lane down in
-    let a = sum_by-append g (standing_from 0 0 beside) (standing_lanes 1 (lane ∷ [])) in
+    let a = sum_by-append g (standing_from 0 0 beside) (standing_from_lane 1 (lane ∷ [])) in
     let b = sum_by-append g (standing_from 1 0 lane) [] in
-    let c = sum_by-append f (standing_from 0 0 lane) (standing_lanes 1 (beside ∷ [])) in
+    let c = sum_by-append f (standing_from 0 0 lane) (standing_from_lane 1 (beside ∷ [])) in
     let d = sum_by-append f (standing_from 1 0 beside) [] in
     omega (arith, one, two, a, b, c, d)
 sum_exchanged g f (lane ∷ beside ∷ more ∷ lanes) both up down = absurd (omega (arith, both))

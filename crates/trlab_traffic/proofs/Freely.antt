@@ -13,7 +13,7 @@ use Rattle.trlab_road.specs.Motion.{LaneMoves, Moves}
 use Rattle.trlab_road.specs.Standing.{standing}
 use Rattle.trlab_road.proofs.MotionLaws.{on_lane}
 use Rattle.trlab_road.proofs.Ring.{car_in, clear_within_gap, inside}
-use Rattle.trlab_road.proofs.StandingOrder.{length-standing_lanes, standing_cell}
+use Rattle.trlab_road.proofs.StandingOrder.{length-standing_from_lane, standing_cell}
 use Rattle.trlab_rules.specs.Rules.{Programs}
 use Rattle.trlab_rules.specs.StandardRules.{IsNasch}
 use Rattle.trlab_rules.specs.Published.{safe_speed}
@@ -179,7 +179,7 @@ sum_by-same f v (x ∷ xs) all =
 
 pub free_total : (road : Cells) → IsInFreeFlow road → total_speed road ≡ road.limit * cars road
 free_total road free =
-    let count = length-standing_lanes 0 road.lanes in
+    let count = length-standing_from_lane 0 road.lanes in
     sum_by-same (λ (car : Car). car.speed) road.limit (standing road)
     (λ k d below. free.at_limit (get_or (standing road) k d) (standing_cell road k d (omega (arith, below, count))))
     ∙ ap (λ k. k * road.limit) count ∙ mul_comm (cars road) road.limit

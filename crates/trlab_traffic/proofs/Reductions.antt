@@ -10,12 +10,12 @@ use Rattle.trlab_machine.specs.declared.dice.Dice.{Dice}
 use Rattle.trlab_machine.specs.Blocks.{words_of}
 use Rattle.trlab_road.specs.declared.car.Car.{Car}
 use Rattle.trlab_road.specs.Cells.{AgreeAtCars, Cell, Cells, IsAt, cell}
-use Rattle.trlab_road.specs.LaneChange.{Crosses, cell_after_change, other_lane}
+use Rattle.trlab_road.specs.LaneChange.{ChangesLanes, cell_after_change, other_lane}
 use Rattle.trlab_road.specs.Legal.{IsLegal}
 use Rattle.trlab_road.specs.Standing.{standing}
 use Rattle.trlab_road.proofs.LaneChangeLaws.{crosses_by, one_road_after_change}
 use Rattle.trlab_road.proofs.Numbers.{no_one}
-use Rattle.trlab_road.proofs.StandingOrder.{length-standing_lanes, standing_cell}
+use Rattle.trlab_road.proofs.StandingOrder.{length-standing_from_lane, standing_cell}
 use Rattle.trlab_rules.specs.Laws.{ComputesCrossing, ComputesSpeed}
 use Rattle.trlab_rules.specs.Published.{nasch_speed, rickert_crosses, vdr_speed}
 use Rattle.trlab_rules.specs.Rules.{Programs}
@@ -113,7 +113,7 @@ kept None beside = refl
 kept (Some car) beside = refl
 
 -- where nobody crosses, the road stays as it is
-pub nobody_crosses : (road : Cells) → Crosses nobody road road
+pub nobody_crosses : (road : Cells) → ChangesLanes nobody road road
 nobody_crosses road = record {
   same_limit = refl;
   same_lanes = refl;
@@ -134,7 +134,7 @@ count_none p (x ∷ xs) d none =
 
 none_counted : (crosses : ℕ → ℕ → Bool) (road : Cells) → AgreeAtCars crosses nobody road → crossing_cars crosses road ≡ 0
 none_counted crosses road none =
-    let count = length-standing_lanes 0 road.lanes in
+    let count = length-standing_from_lane 0 road.lanes in
     count_none (λ car. crosses car.lane car.place) (standing road) no_one
     (λ k below. none (get_or (standing road) k no_one) (standing_cell road k no_one (omega (arith, below, count))))
 
@@ -159,7 +159,7 @@ module _ (change : CheckedProgram) (by : ComputesCrossing (rickert_crosses 0) ch
     two,
     nobody,
     record { each = stays },
-    subst (Crosses nobody road) (sym phase.0) (nobody_crosses road),
+    subst (ChangesLanes nobody road) (sym phase.0) (nobody_crosses road),
     phase.1 ∙ sym (none_counted nobody road (λ car here. refl)),
   )
 

@@ -8,7 +8,7 @@ use Rattle.trlab_road.specs.declared.car.Car.{Car}
 use Rattle.trlab_road.specs.Cells.{Cell, Lane, at, lane_car_count}
 use Rattle.trlab_road.specs.Gaps.{ahead}
 use Rattle.trlab_road.specs.Motion.{IsClearAhead}
-use Rattle.trlab_road.specs.Standing.{standing_from, standing_lanes}
+use Rattle.trlab_road.specs.Standing.{standing_from, standing_from_lane}
 use Rattle.trlab_road.proofs.Ring.{blocked, car_in, inside}
 use Rattle.trlab_road.proofs.StandingOrder.{lane_car_count-some}
 use Rattle.trlab_traffic.specs.Capacity.{CellsAreTakenOrEmpty, lane_cells, lane_empty_cells}
@@ -223,7 +223,7 @@ lane_room f l lane clear =
 -- the cars of several lanes
 pub lanes_room : (f : Car → ℕ) (base : ℕ) (lanes : List Lane)
     → ((l : ℕ) → l < length lanes → (x number speed : ℕ) → at (get_or lanes l []) x ≡ Some (number, speed) → IsClearAhead (get_or lanes l []) x (f (car_in (base + l) x number speed)))
-    → sum_by f (standing_lanes base lanes) ≤ sum_by lane_empty_cells lanes
+    → sum_by f (standing_from_lane base lanes) ≤ sum_by lane_empty_cells lanes
 lanes_room f base [] clear = omega arith
 lanes_room f base (lane ∷ lanes) clear =
     let zeroth : base + 0 ≡ base = omega arith in
@@ -231,6 +231,6 @@ lanes_room f base (lane ∷ lanes) clear =
     let rest = lanes_room f (suc base) lanes
     (λ l h x number speed here. let e : base + suc l ≡ suc base + l = omega arith in
     subst (λ k. IsClearAhead (get_or lanes l []) x (f (car_in k x number speed))) e (clear (suc l) (omega arith) x number speed here)) in
-    let a = sum_by-append f (standing_from base 0 lane) (standing_lanes (suc base) lanes) in
+    let a = sum_by-append f (standing_from base 0 lane) (standing_from_lane (suc base) lanes) in
     let b = sum_by-cons lane_empty_cells lane lanes in
     omega (arith, first, rest, a, b)

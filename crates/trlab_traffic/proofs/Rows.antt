@@ -27,9 +27,9 @@ use Rattle.trlab_traffic.proofs.RoomAhead.{taken_or_empty}
 use Rattle.trlab_traffic.proofs.RunLanes.{run_lanes, middle_lanes}
 use Rattle.trlab_traffic.proofs.Sums.{by_lane, sum_range, total, total_add, total_none, total_same, total_swap}
 use Rattle.trlab_traffic.specs.Capacity.{empty_cells, lane_empty_cells}
-use Rattle.trlab_traffic.specs.Detector.{cars_ahead_of, passages, all_passages, way}
+use Rattle.trlab_traffic.specs.Detector.{cars_ahead_of, passages, all_passages, cells_ahead_to}
 use Rattle.trlab_traffic.specs.DetectorRuns.{DifferByAtMost, Counts}
-use Rattle.trlab_traffic.specs.Rows.{RowMeasuresFlow, RowsAgree, RunIsContinuousByRows, StepIsContinuousByRows, cars_ahead_of_row, row_passages}
+use Rattle.trlab_traffic.specs.Rows.{RowMeasuresFlow, RowsAgree, RunSatisfiesContinuityByRows, StepIsContinuousByRows, cars_ahead_of_row, row_passages}
 use Rattle.trlab_traffic.specs.Rule184.{digit, is_taken}
 use Rattle.trlab_verify.specs.CheckedProgram.{CheckedProgram}
 
@@ -184,7 +184,7 @@ module _ (seed : Seed) (sheet : Sheet) (legal : IsLegal seed.road) (x k : ℕ) (
             omega (arith, so_far, now, place, a, b)
       ]
 
-pub run_is_continuous_by_rows : RunIsContinuousByRows
+pub run_is_continuous_by_rows : RunSatisfiesContinuityByRows
 run_is_continuous_by_rows seed sheet step start road x k first second legal low late begins here firsts seconds =
     let all = by_rows seed sheet legal x k low step start road first second late begins here firsts seconds in
     let a = by_range first (length seed.road.lanes) in
@@ -338,8 +338,8 @@ row_measures_flow seed sheet step road sum x count legal comes low counts =
     let each : (y l : ℕ) → (c : ℕ) × Counts seed sheet l y step c = λ y l. count_exists seed sheet step road sum l y comes in
     let all = all_count seed sheet legal step road sum (λ y l. (each y l).0) comes (λ y l. (each y l).1) in
     let near = total_near (λ y. total (λ l. (each y l).0) m) (total count m) (min (cars seed.road) (empty_cells seed.road)) n (λ y high.
-    let short : way n x y < n = ahead_below n y (n - x) (omega (arith, low)) in
-    rows_agree_totals seed sheet legal step road sum x (way n x y) count (λ l. (each y l).0) comes low (let k : way n x y ≤ n = omega (arith, short) in k) counts
+    let short : cells_ahead_to n x y < n = ahead_below n y (n - x) (omega (arith, low)) in
+    rows_agree_totals seed sheet legal step road sum x (cells_ahead_to n x y) count (λ l. (each y l).0) comes low (let k : cells_ahead_to n x y ≤ n = omega (arith, short) in k) counts
     (λ l. subst (λ z. Counts seed sheet l z step (each y l).0) (sym (way_reaches n x y low high)) (each y l).1)) in
     let here = ap (λ k. n * k) (by_range count m) in
     let less = near.no_less in

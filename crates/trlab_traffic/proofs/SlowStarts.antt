@@ -16,7 +16,7 @@ use Rattle.trlab_road.specs.Standing.{standing}
 use Rattle.trlab_road.proofs.MotionInOrder.{moves_by}
 use Rattle.trlab_road.proofs.MotionLaws.{one_road_only}
 use Rattle.trlab_road.proofs.Ring.{car_in, inside}
-use Rattle.trlab_road.proofs.StandingOrder.{length-standing_lanes, standing_cell}
+use Rattle.trlab_road.proofs.StandingOrder.{length-standing_from_lane, standing_cell}
 use Rattle.trlab_rules.specs.Published.{brake, safe_speed, vdr_chance, vdr_speed}
 use Rattle.trlab_rules.specs.Rules.{Programs}
 use Rattle.trlab_rules.specs.StandardRules.{IsVdr}
@@ -112,7 +112,7 @@ step_stays_stopped p rule dice old new tally is legal still next =
 
 no_speed : (road : Cells) → IsStopped road → total_speed road ≡ 0
 no_speed road still =
-    let count = length-standing_lanes 0 road.lanes in
+    let count = length-standing_from_lane 0 road.lanes in
     sum_by-same (λ (car : Car). car.speed) 0 (standing road) (λ k d below. still.stopped (get_or (standing road) k d) (standing_cell road k d (omega (arith, below, count))))
     ∙ mul-zero (length (standing road))
 

@@ -15,7 +15,7 @@ use Rattle.trlab_machine.specs.Blocks.{words_of}
 use Rattle.trlab_road.specs.declared.car.Car.{Car}
 use Rattle.trlab_road.specs.Cells.{IsAt, AgreeAtCars, Cells}
 use Rattle.trlab_road.specs.Standing.{standing}
-use Rattle.trlab_road.proofs.StandingOrder.{length-standing_lanes, standing_cell, in_order_at}
+use Rattle.trlab_road.proofs.StandingOrder.{length-standing_from_lane, standing_cell, in_order_at}
 use Rattle.trlab_rules.specs.Published.{brake, nasch_speed, safe_speed, vdr_chance, vdr_speed}
 use Rattle.trlab_step.specs.Answers.{motion_view_of, AnswersSpeeds}
 use Rattle.trlab_traffic.specs.Randomization.{RandomizationSlowsSteps, IsNoFasterStep, SlowStartsSlowSteps}
@@ -124,7 +124,7 @@ slower light heavy dice road next other fast slow none no_change is also each_ca
     let total_slow = also.1.distance ∙ speeds_total b.0 road other fits_slow b.2 in
     let stop = is.1.stopped ∙ stopped_total a.0 road next fits a.2 in
     let stop_slow = also.1.stopped ∙ stopped_total b.0 road other fits_slow b.2 in
-    let count = length-standing_lanes 0 road.lanes in
+    let count = length-standing_from_lane 0 road.lanes in
     let each : All (Below f g) (standing road) = λ k d below. each_car a.0 b.0 a.1 b.1 (get_or (standing road) k d) (standing_cell road k d (omega (arith, below, count))) in
     let sums = sums_below f g (standing road) each in
     let least = sums.least in

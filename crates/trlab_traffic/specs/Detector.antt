@@ -15,8 +15,8 @@ use Rattle.trlab_traffic.specs.Runs.{StaysInLane}
 
 -- the number of cells from place `from` ahead to place `to` on a ring of n cells, 0 to n - 1; for example, on
 -- a ring of 10 cells it is 3 from place 8 to place 1
-abbrev pub way : ℕ → ℕ → ℕ → ℕ
-way n from to = ahead n to (n - from)
+abbrev pub cells_ahead_to : ℕ → ℕ → ℕ → ℕ
+cells_ahead_to n from to = ahead n to (n - from)
 
 -- the place of a car before the last motion, on a ring of n cells: behind its place by as many cells as its
 -- speed
@@ -27,7 +27,7 @@ place_before_motion n car = behind n car.place car.speed
 -- speed ahead of its old place. For example, on a ring of 10 cells a car that moved from cell 8 to cell 1
 -- passed the ends of cells 8, 9 and 0
 abbrev pub passes : ℕ → ℕ → Car → Bool
-passes n x car = nat_lt (way n (place_before_motion n car) x) car.speed
+passes n x car = nat_lt (cells_ahead_to n (place_before_motion n car) x) car.speed
 
 -- the count of the detector at the end of cell x of a lane: the number of cars that passed it in the step
 -- that led to this lane
@@ -58,18 +58,18 @@ abbrev pub cars_ahead_of : Lane → ℕ → ℕ → ℕ
 cars_ahead_of lane x k = count_by (λ j. is_taken lane (ahead (length lane) x j)) (range_with_len 1 k)
 
 -- the continuity equation for the k cells ahead of cell x: from the lane `old` to the lane `new` their number
--- of cars grows by `first`, the cars that came in past the end of cell x, and shrinks by `second`, the cars
+-- of cars grows by `entered`, the cars that came in past the end of cell x, and shrinks by `left`, the cars
 -- that left past the end of the cell k cells ahead
-abbrev pub IsContinuous : Lane → Lane → ℕ → ℕ → ℕ → ℕ → Type 0
-IsContinuous old new x k first second =
-    cars_ahead_of new x k + second ≡ cars_ahead_of old x k + first
+abbrev pub ContinuityHolds : Lane → Lane → ℕ → ℕ → ℕ → ℕ → Type 0
+ContinuityHolds old new x k entered left =
+    cars_ahead_of new x k + left ≡ cars_ahead_of old x k + entered
 
 -- under any rule without lane changes the continuity equation holds in a step, for any two detectors of a
 -- lane, the first at the end of cell x and the second k cells ahead
-abbrev pub StepIsContinuous : Type 0
-StepIsContinuous =
+abbrev pub StepSatisfiesContinuity : Type 0
+StepSatisfiesContinuity =
     (rule : Programs) (dice : Dice) (old new : Cells) (tally : StepTally) (l x k : ℕ)
     → StaysInLane rule → IsNext rule dice old new tally → x < length (lane_of old l)
     → let passed = passages (lane_of new l) in
     let end = ahead (length (lane_of old l)) x k in
-    IsContinuous (lane_of old l) (lane_of new l) x k (passed x) (passed end)
+    ContinuityHolds (lane_of old l) (lane_of new l) x k (passed x) (passed end)

@@ -7,7 +7,7 @@ use Rattle.trlab_road.specs.Legal.{IsLegal}
 use Rattle.trlab_step.specs.declared.tally.StepTally.{StepTally}
 use Rattle.trlab_step.specs.Run.{Seed, Sheet, ComesTo, IsRoadAt}
 use Rattle.trlab_traffic.specs.Capacity.{lane_empty_cells}
-use Rattle.trlab_traffic.specs.Detector.{IsContinuous, passages}
+use Rattle.trlab_traffic.specs.Detector.{ContinuityHolds, passages}
 use Rattle.trlab_traffic.specs.Runs.{EachRule, StaysInLane}
 
 -- the detector at the end of cell x on lane l has counted `count` cars after `step` steps of a run: none
@@ -33,12 +33,12 @@ pub record CountBoth (seed : Seed) (sheet : Sheet) (step l x k first second : �
 
 -- under any sheet of rules without lane changes the continuity equation holds for any two detectors of a
 -- lane, from the road at step `warm`, at which they begin to count, to the road at each step from there on
-abbrev pub RunIsContinuous : Type 0
-RunIsContinuous =
+abbrev pub RunSatisfiesContinuity : Type 0
+RunSatisfiesContinuity =
     (seed : Seed) (sheet : Sheet) (step : ℕ) (start road : Cells) (l x k first second : ℕ)
     → EachRule StaysInLane sheet → seed.warm ≤ step → IsRoadAt seed sheet seed.warm start
     → IsRoadAt seed sheet step road → CountBoth seed sheet step l x k first second
-    → IsContinuous (lane_of start l) (lane_of road l) x k first second
+    → ContinuityHolds (lane_of start l) (lane_of road l) x k first second
 
 -- the numbers `first` and `second` differ by at most k
 pub record DifferByAtMost (k first second : ℕ) : Type 0 where

@@ -18,8 +18,8 @@ pub record IsPeriodic (seed : Seed) (sheet : Sheet) (first period : ℕ) : Type 
 
 -- the number of ways to give each car of a road one of all cells and a speed from 0 to the limit, even if
 -- cars share a cell: a bound on the number of roads that its cars can form
-abbrev pub states : Cells → ℕ
-states road = (all_cells road * (road.limit + 1)) ^ cars road
+abbrev pub state_count : Cells → ℕ
+state_count road = (all_cells road * (road.limit + 1)) ^ cars road
 
 -- under a deterministic rule for its number of lanes a run from a legal road becomes periodic; `first` plus
 -- `period` is at most the number of states
@@ -28,4 +28,4 @@ DeterministicRunsBecomePeriodic =
     (rule : Programs) (seed : Seed)
     → IsDeterministic rule → IsRuleFor (length seed.road.lanes) rule → IsLegal seed.road
     → (first : ℕ) × (period : ℕ) × IsPeriodic seed (always rule) first period
-    × (first + period ≤ states seed.road)
+    × (first + period ≤ state_count seed.road)

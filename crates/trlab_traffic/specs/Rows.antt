@@ -35,8 +35,8 @@ StepIsContinuousByRows =
 -- in a run from a legal road, under any sheet of rules, the number of cars in the k cells ahead of place x
 -- grows, from step `warm` on, by the count of the row at x, and shrinks by the count of the row k cells
 -- ahead; `first l` and `second l` are the counts on lane l
-abbrev pub RunIsContinuousByRows : Type 0
-RunIsContinuousByRows =
+abbrev pub RunSatisfiesContinuityByRows : Type 0
+RunSatisfiesContinuityByRows =
     (seed : Seed) (sheet : Sheet) (step : ℕ) (start road : Cells) (x k : ℕ) (first second : ℕ → ℕ)
     → IsLegal seed.road → x < length (lane_of seed.road 0) → seed.warm ≤ step
     → IsRoadAt seed sheet seed.warm start → IsRoadAt seed sheet step road

@@ -7,10 +7,10 @@ ghost use Rattle.trlab_traffic.specs.Capacity.{CellsAreTakenOrEmpty, RunKeepsToC
 ghost use Rattle.trlab_traffic.specs.Capacity.{RunKeepsBelowPeak};
 ghost use Rattle.trlab_traffic.specs.Certainty.{NaschWithoutRandomizationIsDeterministic, RunIsDeterministic, StepIsDeterministic};
 ghost use Rattle.trlab_traffic.specs.Changing.{RunBoundsLaneChanges, StepBoundsLaneChanges};
-ghost use Rattle.trlab_traffic.specs.Detector.{DetectorCountsAtMostOne, DetectorsCountDistance, StepIsContinuous};
+ghost use Rattle.trlab_traffic.specs.Detector.{DetectorCountsAtMostOne, DetectorsCountDistance, StepSatisfiesContinuity};
 ghost use Rattle.trlab_traffic.specs.DetectorRuns.{CountExists, DetectorMeasuresFlow, DetectorsAgree};
 ghost use Rattle.trlab_traffic.specs.DetectorRuns.{DetectorCountsBelowPeak, DetectorsAgreeByCars};
-ghost use Rattle.trlab_traffic.specs.DetectorRuns.{DetectorsCountRun, RunIsContinuous};
+ghost use Rattle.trlab_traffic.specs.DetectorRuns.{DetectorsCountRun, RunSatisfiesContinuity};
 ghost use Rattle.trlab_traffic.specs.Diagram.{EvenCarsFlowAtCapacity, NaschComesToCapacity};
 ghost use Rattle.trlab_traffic.specs.Diagram.{NaschComesToCapacityByLane, Rule184ComesToCapacity};
 ghost use Rattle.trlab_traffic.specs.Fastest.{GapProgramReachesSpeedAtOnce, NaschAcceleratesByAtMostOne, NobodyBeatsGap};
@@ -31,19 +31,18 @@ ghost use Rattle.trlab_traffic.specs.Queues.{QueueStarts, QueueWaits};
 ghost use Rattle.trlab_traffic.specs.Randomization.{RandomizationSlowsSteps, SlowStartsSlowSteps};
 ghost use Rattle.trlab_traffic.specs.Reduction.{RickertReducesToNasch, SameStepsGiveSameRuns, VdrReducesToNasch};
 ghost use Rattle.trlab_traffic.specs.Rows.{RowMeasuresFlow, RowsAgree};
-ghost use Rattle.trlab_traffic.specs.Rows.{RunIsContinuousByRows, StepIsContinuousByRows};
+ghost use Rattle.trlab_traffic.specs.Rows.{RunSatisfiesContinuityByRows, StepIsContinuousByRows};
 ghost use Rattle.trlab_traffic.specs.Rule184.{EmptyCellsGoBack, NaschIsRule184};
 ghost use Rattle.trlab_traffic.specs.Symmetry.{RickertIgnoresLane, RunIsSymmetric, StepIsSymmetric};
 
-/// In a step under any rule the cars of a legal road together move at most as many cells as are empty, and at most as
-/// many as the limit times the number of cars.
+/// The distance of a step is at most the number of empty cells, and at most the limit times the number of cars: the
+/// capacity. This holds for every rule and every legal road.
 pub fn step_keeps_to_capacity()
     ensures { StepKeepsToCapacity }
 {}
 
-/// Per counted step of a run, under any schedule of rules, the cars of a legal road together move at most as many cells
-/// as are empty, and at most as many as the limit times the number of cars. The number of cells of a road is that of
-/// its cars plus that of its empty cells.
+/// The distance of a run is at most the capacity per counted step, under any schedule of rules. The number of cells of
+/// a road is that of its cars plus that of its empty cells.
 pub fn run_keeps_to_capacity()
     ensures cells { CellsAreTakenOrEmpty }
     ensures run { RunKeepsToCapacity }
@@ -242,7 +241,7 @@ pub fn even_cars_flow_at_capacity()
 pub fn detectors_count_flow()
     ensures distance { DetectorsCountDistance }
     ensures one { DetectorCountsAtMostOne }
-    ensures step { StepIsContinuous }
+    ensures step { StepSatisfiesContinuity }
 {}
 
 /// If nobody changes lanes, continuity also holds for the counted steps of a run. The counts of two detectors then
@@ -250,7 +249,7 @@ pub fn detectors_count_flow()
 /// cells. On one lane all detectors together count the distance, and each by itself measures the flow.
 pub fn detectors_count_runs()
     ensures exists { CountExists }
-    ensures run { RunIsContinuous }
+    ensures run { RunSatisfiesContinuity }
     ensures agree { DetectorsAgree }
     ensures by_cars { DetectorsAgreeByCars }
     ensures distance { DetectorsCountRun }
@@ -268,7 +267,7 @@ pub fn detector_counts_below_peak()
 /// itself measures the flow.
 pub fn rows_of_detectors_count()
     ensures step { StepIsContinuousByRows }
-    ensures run { RunIsContinuousByRows }
+    ensures run { RunSatisfiesContinuityByRows }
     ensures agree { RowsAgree }
     ensures flow { RowMeasuresFlow }
 {}

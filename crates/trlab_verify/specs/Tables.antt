@@ -39,7 +39,7 @@ pub record Checks (kind : Kind) (program : Program) (table : List Note) : Type 0
   pub each : (pc : ℕ) (i : Instr) → slice_get program.instrs pc ≡ Some i
       → ChecksAt kind program (note_in table) pc i
 
--- some table of notes checks for the program as one of this kind
+-- the program has a certificate: some table of notes checks for it as one of this kind
 abbrev pub SomeTableChecks : Kind → Program → Type 0
 SomeTableChecks kind program = (table : List Note) × Checks kind program table
 

@@ -19,9 +19,9 @@ pub record IsAcceptedAs (kind : Kind) (code : Program) (program : CheckedProgram
   pub safe : IsSafe kind code.instrs program.budget
   pub some_table : SomeTableChecks kind code
 
--- a code that is not accepted and is returned with its fault: a rejection, for which no table of notes
--- checks, or a failed allocation
-pub record IsRefusedAs (kind : Kind) (code : Program) (back : Program × VerifyFault) : Type 0 where
-  pub same : back.0 ≡ code
-  pub refused : IsFaultOf kind code back.1
-  pub no_table : NoTableChecks kind code back.1
+-- the error of verifying a code as a program of this kind: the same code, and either the verdict's reason to
+-- reject it, with which no table of notes checks, or a failed allocation
+pub record IsVerifyErrorAs (kind : Kind) (code : Program) (error : Program × VerifyFault) : Type 0 where
+  pub same : error.0 ≡ code
+  pub refused : IsFaultOf kind code error.1
+  pub no_table : NoTableChecks kind code error.1

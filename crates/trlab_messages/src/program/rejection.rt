@@ -36,8 +36,8 @@ fn push_largest(known: &mut Draft, largest: u64) {
     writeln!(known, "The result may be as large as {largest}.");
 }
 
-/// Adds the fact that is missing for an instruction to be accepted, if it can be named.
-fn push_missing(known: &mut Draft, reason: Reason, note: &Note, instr: Instr) {
+/// Adds by how much the known facts fall short for an instruction to be accepted, if that can be said.
+fn push_obstacle(known: &mut Draft, reason: Reason, note: &Note, instr: Instr) {
     match (reason, instr) {
         (Reason::MaybeTooLarge, Instr::Add(_, a, b)) => {
             push_largest(
@@ -123,7 +123,7 @@ fn add_reason(body: &mut Body, program: Listing<'_>, notes: &[Note], at: u32, re
     let instr = program.code.instrs().get(at as usize);
     if let (Some(note), Some(instr)) = (notes.get(at as usize), instr) {
         push_operands(&mut body.known, note, *instr);
-        push_missing(&mut body.known, reason, note, *instr);
+        push_obstacle(&mut body.known, reason, note, *instr);
     }
     push_paths(&mut body.facts, program, at);
 }

@@ -1,7 +1,7 @@
 use Rattle.std.proofs.Common.{◌≡◌, true, ap, refl, subst, sym, ◌∙◌}
-use Rattle.trlab_step.specs.Progress.{IsUnderway}
+use Rattle.trlab_step.specs.Progress.{IsReachedByRun}
 use Rattle.trlab_sequential_book.specs.Comparison.{offered}
-use Rattle.trlab_sequential_book.specs.Jobs.{run_of}
+use Rattle.trlab_sequential_book.specs.Jobs.{progress_of}
 use Rattle.trlab_sequential_book.specs.Machine.{JobState, JobOutcome, accepts_lease, job_state}
 use Rattle.trlab_sequential_book.proofs.Booking.{back_made, back_refused, back_taken, own_parts}
 use Rattle.trlab_sequential_book.proofs.job.JobRecord.give_back.Goals as goal
@@ -36,7 +36,7 @@ invariant_of-self c =
       ordered = parts.1;
       within = c.self.invariant.within;
       begin = c.self.invariant.begin;
-      run = subst (λ (s : JobState). IsUnderway (run_of s.seed s.sheet lease.step lease.road c.tally_with-self-inside.result)) (sym c.self.view_is) c.tally_with-self-inside.ensures;
+      run = subst (λ (s : JobState). IsReachedByRun (progress_of s.seed s.sheet lease.step lease.road c.tally_with-self-inside.result)) (sym c.self.view_is) c.tally_with-self-inside.ensures;
     })
 
 pub returns-clause-reply : goal.returns-clause-reply
