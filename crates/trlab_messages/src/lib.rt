@@ -4,7 +4,7 @@
 //! Sentences are drafts and may quote any bytes of the input; `page_of` makes pages of plain text from them.
 //!
 //! ```text
-//! push_text(&mut text, body); // for example "This is a valid job: `trlab run` runs it." and more lines
+//! push_text(&mut text, &explanation.body); // for example "This is a valid job: `trlab run` runs it."
 //! ```
 #![tactic(auto)]
 
