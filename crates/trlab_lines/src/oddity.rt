@@ -6,12 +6,17 @@ ghost use Rattle.trlab_lines.specs.Oddities.{HasOddity};
 /// A character that is not allowed in any line outside programs, or an empty line.
 #[derive(Clone, Copy)]
 pub enum Oddity {
+    /// The line begins with the bytes EF BB BF.
     ByteOrderMark,
     CarriageReturn,
+    /// The line has no bytes.
     Empty,
     Tab,
+    /// The line begins with a space.
     FirstSpace,
+    /// The line ends with a space.
     FinalSpace,
+    /// The line has a `;` or a `#`.
     Comment,
 }
 

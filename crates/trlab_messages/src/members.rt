@@ -1,12 +1,9 @@
 //! The JSON form of explanations: the members that describe the input, its error and its work.
 
-mod value;
-
 use crate::body::{Body, Known, Number, Problem, Rejection};
 use crate::causes::cause_meaning;
-pub use crate::members::value::ObjectWriter;
-use crate::members::value::{
-    add_amount, add_count, add_lines, add_string, add_words, begin_member,
+use crate::object_writer::{
+    ObjectWriter, add_amount, add_count, add_lines, add_string, add_words, begin_member,
 };
 use crate::repairs::{Change, RepairInWords, command_of};
 use crate::sentence::{Draft, Shown};
