@@ -8,7 +8,7 @@ ghost use Rattle.trlab_lines.specs.Plain.{IsPlain};
 ghost use Rattle.trlab_verify.specs.Faults.{IsFaultOf};
 ghost use Rattle.trlab_jobs.specs.Check.{Check as CheckSaid};
 ghost use Rattle.trlab_explain.specs.Quotes.{quote_line};
-ghost use Rattle.trlab_explain.specs.Explanations.{Explains, HasHead, IsBlankHead, IsReadAs, IsRefusedWith, IsHeadAs, IsFaultHead, IsProgramHead, accepted_line};
+ghost use Rattle.trlab_explain.specs.Explanations.{Explains, HasHead, IsBlankHead, IsRefusedWith, IsHeadAs, IsFaultHead, IsProgramHead, accepted_line};
 
 use crate::explanation::{Explanation, json_form, text_form};
 use crate::meant::subject_of;
