@@ -24,7 +24,7 @@ NO_DEFINITION = {"mod", "use", "record", "data"}
 # Stand-ins per 1000 words of comments; pages may have MAX_STAND_INS.
 MAX_IN_COMMENTS = 10
 # Names that still mean two things. Rename one and take it out; add none.
-TWICE = {"IsFirstFault", "Rejection", "Says", "Shows"}
+TWICE = {"Rejection"}
 
 
 def crate_of(path):

@@ -4,18 +4,18 @@ use Rattle.std.specs.Prelude.{false, ◌==◌, Result, Ok, Err}
 use Rattle.std.proofs.Math.ListN.{drop_of_length-le}
 use Rattle.trlab_code.specs.declared.instruction.Instr.{Instr}
 use Rattle.trlab_asm.specs.Results.{◌>>=◌}
-use Rattle.trlab_asm.specs.Reading.{Labels, Line, line_says}
+use Rattle.trlab_asm.specs.Reading.{Labels, Line, line_content}
 use Rattle.trlab_asm.specs.Assembly.{Parts, LineDraft, in_line, with_line, first_pass, resolve, second_pass, instrs_of}
 use Rattle.trlab_asm.specs.declared.fault.AsmFault.{AsmFault}
 
 -- a line that says something
-pub first_next : (parts : Parts) (number : ℕ) (line : List ℕ) (left : List (List ℕ)) (said : Line) → Ok said ≡ in_line number (line_says parts.labels (length parts.reads) line)
+pub first_next : (parts : Parts) (number : ℕ) (line : List ℕ) (left : List (List ℕ)) (said : Line) → Ok said ≡ in_line number (line_content parts.labels (length parts.reads) line)
     → first_pass parts number (line ∷ left) ≡ first_pass (with_line parts number said) (number + 1) left
 unfolding first_pass
 first_next parts number line left said e = rw (← e) refl
 
 -- a line that has a fault
-pub first_fault : (parts : Parts) (number : ℕ) (line : List ℕ) (left : List (List ℕ)) (fault : AsmFault) → Err fault ≡ in_line number (line_says parts.labels (length parts.reads) line)
+pub first_fault : (parts : Parts) (number : ℕ) (line : List ℕ) (left : List (List ℕ)) (fault : AsmFault) → Err fault ≡ in_line number (line_content parts.labels (length parts.reads) line)
     → first_pass parts number (line ∷ left) ≡ Err fault
 unfolding first_pass
 first_fault parts number line left fault e = rw (← e) refl

@@ -7,10 +7,10 @@ use Rattle.trlab_code.specs.declared.instruction.Register.{Register}
 use Rattle.trlab_code.specs.declared.instruction.Instr.{Instr}
 use Rattle.trlab_code.specs.declared.instruction.Instr.TheVariants.{Num, Get, Side, Draw, Copy, Add, Sub, Mul, Div, Min, Max, Not, And, Or, Jump, JumpLess, JumpAtMost, JumpTrue, JumpFalse, Go, Cross, Stay}
 use Rattle.trlab_bounds.specs.declared.programs.TheConstants.{MAX_INSTRUCTIONS, WORDS, CERTAIN}
-use Rattle.trlab_lines.specs.Lines.{HasNoEnd}
+use Rattle.trlab_lines.specs.Lines.{HasNoLineFeed}
 use Rattle.trlab_lines.specs.Cutting.{without_indent}
 use Rattle.trlab_asm.specs.Names.{register_text, input_text, mnemonic_text}
-use Rattle.trlab_asm.specs.Reading.{Labels, line_says}
+use Rattle.trlab_asm.specs.Reading.{Labels, line_content}
 use Rattle.trlab_asm.specs.Canonical.{label_text, target_text, ◌comma◌, row_text, instr_text, instr_line}
 use Rattle.trlab_asm.specs.declared.names.Mnemonic.{Mnemonic}
 use Rattle.trlab_asm.specs.declared.names.Mnemonic.TheVariants as name
@@ -140,14 +140,14 @@ line_none count pc false i room fits = instr_none (λ b. b == 10) count i end_as
 is_no_end : (c : ℕ) → (c == 10) ≡ false → c ≡ 10 → ⊥
 is_no_end c other same = let both : true ≡ false = sym (eq-eqb c 10 same) ∙ other in cc
 
-none_is_end : (line : List ℕ) → none_of (λ b. b == 10) line ≡ true → HasNoEnd line
+none_is_end : (line : List ℕ) → none_of (λ b. b == 10) line ≡ true → HasNoLineFeed line
 none_is_end [] none = λ k d inside. absurd (omega arith)
 none_is_end (c ∷ line) none =
     let both = and_parts (not (c == 10)) (none_of (λ b. b == 10) line) none in
     All-cons (λ byte. byte ≡ 10 → ⊥) c line (is_no_end c (not_true (c == 10) both.0)) (none_is_end line both.1)
 
 -- no line that is printed has an LF
-pub line_has_no_end : (count pc : ℕ) (marked : Bool) (i : Instr) → pc < MAX_INSTRUCTIONS → Fits i → HasNoEnd (instr_line count marked pc i)
+pub line_has_no_end : (count pc : ℕ) (marked : Bool) (i : Instr) → pc < MAX_INSTRUCTIONS → Fits i → HasNoLineFeed (instr_line count marked pc i)
 line_has_no_end count pc marked i room fits = none_is_end (instr_line count marked pc i) (line_none count pc marked i room fits)
 
 -- the label of a line that is marked
@@ -156,7 +156,7 @@ mark marked pc = cond marked (Some (label_text pc)) None
 
 -- a line that is printed says its instruction and its label
 pub line_again : (labels : Labels) (count pc : ℕ) (marked : Bool) (i : Instr) → pc < MAX_INSTRUCTIONS → Fits i → labels (label_text pc) ≡ None
-    → line_says labels pc (instr_line count marked pc i) ≡ Ok (record { label = mark marked pc; draft = Some (draft_again count i) })
+    → line_content labels pc (instr_line count marked pc i) ≡ Ok (record { label = mark marked pc; draft = Some (draft_again count i) })
 line_again labels count pc true i room fits free =
     rw (
       cut_nowhere 59 (label_text pc ++ (58 ∷ 32 ∷ instr_text count i)) (marked_none (λ b. b == 59) count pc i semicolon_aside refl room fits),

@@ -8,13 +8,13 @@ use Rattle.std.proofs.lemmas.Fmt.{decimal_injective}
 use Rattle.std.proofs.lemmas.List.Elements.{All-head, All-tail}
 use Rattle.std.proofs.lemmas.List.{take_all}
 use Rattle.trlab_code.specs.Flow.{target}
-use Rattle.trlab_code.specs.Program.{Program, IsInRange, IsProgram}
+use Rattle.trlab_code.specs.Program.{Program, IsInRange, IsValidProgram}
 use Rattle.trlab_code.specs.declared.instruction.Instr.{Instr}
 use Rattle.trlab_code.specs.declared.instruction.Instr.TheVariants.{Num, Get, Side, Draw, Copy, Add, Sub, Mul, Div, Min, Max, Not, And, Or, Jump, JumpLess, JumpAtMost, JumpTrue, JumpFalse, Go, Cross, Stay}
 use Rattle.trlab_bounds.specs.declared.programs.TheConstants.{MAX_INSTRUCTIONS}
 use Rattle.trlab_lines.specs.Lines.{lines_of}
 use Rattle.trlab_asm.specs.Operands.{Target}
-use Rattle.trlab_asm.specs.Reading.{Labels, line_says}
+use Rattle.trlab_asm.specs.Reading.{Labels, line_content}
 use Rattle.trlab_asm.specs.Assembly.{LineDraft, with_label, first_pass, with_target, resolve_label, resolve, second_pass, code_of}
 use Rattle.trlab_asm.specs.Canonical.{label_text, instr_line, is_pc, is_jumped_to, text_from, text_of}
 use Rattle.trlab_code.specs.Laws.{FitsIn32Bits}
@@ -79,8 +79,8 @@ found instrs (suc n) t below small marked =
     (λ differ. found instrs n t (omega arith) (omega arith) marked)
 
 says_at : (labels : Labels) (count pc here : ℕ) (marked : Bool) (i : Instr) → here ≡ pc → pc < MAX_INSTRUCTIONS → Fits i → labels (label_text pc) ≡ None
-    → line_says labels here (instr_line count marked pc i) ≡ Ok (record { label = mark marked pc; draft = Some (draft_again count i) })
-says_at labels count pc here marked i same room fits none = subst (λ n. line_says labels n (instr_line count marked pc i) ≡ Ok (record { label = mark marked pc; draft = Some (draft_again count i) })) (sym same) (line_again labels count pc marked i room fits none)
+    → line_content labels here (instr_line count marked pc i) ≡ Ok (record { label = mark marked pc; draft = Some (draft_again count i) })
+says_at labels count pc here marked i same room fits none = subst (λ n. line_content labels n (instr_line count marked pc i) ≡ Ok (record { label = mark marked pc; draft = Some (draft_again count i) })) (sym same) (line_again labels count pc marked i room fits none)
 
 -- the first pass over the canonical text
 first_again : (instrs : List Instr) (pc number : ℕ) (before : List LineDraft) (left : List Instr) → length before ≡ pc → pc + length left ≤ MAX_INSTRUCTIONS → AllByRecursion Fits left
@@ -180,7 +180,7 @@ one_program first second stored stored_too kinds texts =
     cc
 
 -- the same where a machine has seen all the words
-pub reread : (program : Program) (instrs : List Instr) (text : List ℕ) (n : ℕ) → instrs ≡ program.instrs → IsProgram program → length instrs ≤ n → All FitsIn32Bits (take n instrs) → text ≡ text_of instrs
+pub reread : (program : Program) (instrs : List Instr) (text : List ℕ) (n : ℕ) → instrs ≡ program.instrs → IsValidProgram program → length instrs ≤ n → All FitsIn32Bits (take n instrs) → text ≡ text_of instrs
     → code_of program.kind (lines_of text) ≡ Ok program
 reread program instrs text n same stored all words canonical =
     let whole : take n program.instrs ≡ program.instrs = take_all n program.instrs (rw same at all) in

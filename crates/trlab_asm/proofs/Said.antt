@@ -8,13 +8,13 @@ use Rattle.trlab_code.specs.declared.program.Kind.{Kind}
 use Rattle.trlab_code.specs.declared.instruction.Instr.{Instr}
 use Rattle.trlab_code.specs.declared.instruction.Instr.TheVariants.{Num, Get, Side, Draw, Copy, Add, Sub, Mul, Div, Min, Max, Not, And, Or, Jump, JumpLess, JumpAtMost, JumpTrue, JumpFalse, Go, Cross, Stay}
 use Rattle.trlab_bounds.specs.declared.programs.TheConstants.{MAX_INSTRUCTIONS, WORDS, CERTAIN}
-use Rattle.trlab_code.specs.Program.{IsInRange, IsProgram}
+use Rattle.trlab_code.specs.Program.{IsInRange, IsValidProgram}
 use Rattle.trlab_lines.specs.Cutting.{without_prefix, cut, label_and_rest, only_word, without_comment, without_indent, up_to_blank}
 use Rattle.trlab_asm.specs.Names.{register_named, input_named, mnemonic_named}
 use Rattle.trlab_lines.specs.Numbers.{is_numeral}
 use Rattle.trlab_asm.specs.Operands.{◌then◌, digits_of, input, is_label, no_operand, number, numeral, pc_named, value_within, register, register_input, register_and_number, register_target, register_word_chance, jump_target, target_named, three_registers, two_registers, two_registers_number, two_registers_target, word, word_chance}
 use Rattle.trlab_asm.specs.Results.{◌>>=◌}
-use Rattle.trlab_asm.specs.Reading.{InstrDraft, Labels, Line, body, draft_of, if_free, instruction, label_of, line_says, new_label}
+use Rattle.trlab_asm.specs.Reading.{InstrDraft, Labels, Line, body, draft_of, if_free, instruction, label_of, line_content, new_label}
 use Rattle.trlab_asm.specs.Assembly.{Parts, LineDraft, with_target, jump_to, code_of, resolve, first_pass, in_line, instrs_of, no_parts, resolve_label, second_pass, with_line, with_draft}
 use Rattle.trlab_asm.specs.Laws.{TextsHaveMeaning}
 use Rattle.trlab_lines.specs.Lines.{lines_of}
@@ -199,7 +199,7 @@ label_gives : (labels : Labels) (o : Option (List ℕ)) → Gives Anything (labe
 label_gives labels None = tt
 label_gives labels (Some text) = then_gives Anything Anything (ok_or (only_word text) Word) (new_label labels) (known_gives (only_word text)) (λ name h. if_gives Anything (is_label name) (if_free name (labels name)) _ (free_gives name (labels name)) (λ e. cc))
 
-line_gives : (labels : Labels) (pc : ℕ) (line : List ℕ) → Gives (λ (said : Line). MayStand pc said.draft) (line_says labels pc line)
+line_gives : (labels : Labels) (pc : ℕ) (line : List ℕ) → Gives (λ (said : Line). MayStand pc said.draft) (line_content labels pc line)
 line_gives labels pc line =
     let parts = label_and_rest (without_comment line) in
     then_gives Anything (λ (said : Line). MayStand pc said.draft) (label_of labels parts.0) _ (label_gives labels parts.0) (λ label h.
@@ -239,8 +239,8 @@ first_tells : (parts : Parts) (number : ℕ) (lines : List (List ℕ)) → Kept 
 unfolding first_pass
 first_tells parts number [] kept = kept
 first_tells parts number (line ∷ left) kept =
-    then_tells (λ (said : Line). MayStand (length parts.reads) said.draft) (λ (all : Parts). Kept all.reads) (in_line number (line_says parts.labels (length parts.reads) line)) _
-    (in_line_tells (λ (said : Line). MayStand (length parts.reads) said.draft) number (line_says parts.labels (length parts.reads) line) (line_gives parts.labels (length parts.reads) line))
+    then_tells (λ (said : Line). MayStand (length parts.reads) said.draft) (λ (all : Parts). Kept all.reads) (in_line number (line_content parts.labels (length parts.reads) line)) _
+    (in_line_tells (λ (said : Line). MayStand (length parts.reads) said.draft) number (line_content parts.labels (length parts.reads) line) (line_gives parts.labels (length parts.reads) line))
     (λ said may. first_tells (with_line parts number said) (number + 1) left (kept_more parts.reads number said.draft kept may))
 
 target_fits : (pc : ℕ) (i : Instr) → IsInRange i → IsInRange (with_target pc i)
@@ -305,11 +305,11 @@ instrs_tell parts false e kept =
     rw e (whole_of (length parts.reads) (second_pass parts.labels parts.reads) (omega (arith, eqb-false (length parts.reads) 0 e)) kept.few (second_tells parts.labels parts.reads kept.fit))
 
 -- any lines say something
-pub lines_say : (kind : Kind) (lines : List (List ℕ)) → MatchResult (code_of kind lines) IsProgram (λ fault. fault.why ≢ Memory)
+pub lines_say : (kind : Kind) (lines : List (List ℕ)) → MatchResult (code_of kind lines) IsValidProgram (λ fault. fault.why ≢ Memory)
 lines_say kind lines =
-    then_tells (λ (all : Parts). Kept all.reads) IsProgram (first_pass no_parts 1 lines) _
+    then_tells (λ (all : Parts). Kept all.reads) IsValidProgram (first_pass no_parts 1 lines) _
     (first_tells no_parts 1 lines (record { few = omega arith; fit = λ k d h. absurd (omega arith) })) (λ parts kept.
-    then_tells Whole IsProgram (instrs_of parts) _ (instrs_tell parts (length parts.reads == 0) refl kept) (λ instrs h.
+    then_tells Whole IsValidProgram (instrs_of parts) _ (instrs_tell parts (length parts.reads == 0) refl kept) (λ instrs h.
     record { some = h.some; few = h.few; in_range = h.fit }))
 
 pub something : TextsHaveMeaning

@@ -1,5 +1,5 @@
--- The program of a text. The first pass reads its lines in order, the second gives jumps the pcs of their
--- labels.
+-- Assembly: from the lines of a text to a program. The first pass reads the lines in order, the second gives
+-- jumps the pcs of their labels.
 use Rattle.std.specs.Prelude.{◌≡◌, ℕ, ◌+◌, ◌==◌, List, [], ◌∷◌, ◌++◌, length, map, bytes_eq, Option, None, Some, Result, Ok, Err, if◌then◌else◌}
 use Rattle.std.specs.Map.{update}
 use Rattle.trlab_code.specs.Program.{Program}
@@ -7,12 +7,12 @@ use Rattle.trlab_code.specs.declared.program.Kind.{Kind}
 use Rattle.trlab_code.specs.declared.instruction.Instr.{Instr}
 use Rattle.trlab_code.specs.declared.instruction.Instr.TheVariants.{Jump, JumpLess, JumpAtMost, JumpTrue, JumpFalse}
 use Rattle.trlab_asm.specs.Results.{◌>>=◌}
-use Rattle.trlab_asm.specs.Reading.{InstrDraft, Labels, Line, line_says}
+use Rattle.trlab_asm.specs.Reading.{InstrDraft, Labels, Line, line_content}
 use Rattle.trlab_asm.specs.declared.fault.Why.{Why}
 use Rattle.trlab_asm.specs.declared.fault.Why.TheVariants.{Empty, NoLabel, Memory}
 use Rattle.trlab_asm.specs.declared.fault.AsmFault.{AsmFault}
 
--- the result for a line; a fault gets the number of the line
+-- the result of reading a line; a fault gets the line's number
 abbrev pub in_line : {A : Type 0} → ℕ → Result A Why → Result A AsmFault
 in_line number (Ok x) = Ok x
 in_line number (Err why) = Err (record { line = number; why = why })
@@ -22,7 +22,7 @@ pub record LineDraft : Type 0 where
   pub line : ℕ
   pub draft : InstrDraft
 
--- the labels of a text, and its instructions in order, as they were read
+-- the labels of a text, each with its pc, and its instructions in order, as they were read
 pub record Parts : Type 0 where
   pub labels : Labels
   pub reads : List LineDraft
@@ -35,33 +35,33 @@ line_numbers parts = map (λ read. read.line) parts.reads
 abbrev pub no_parts : Parts
 no_parts = record { labels = λ name. None; reads = [] }
 
--- the labels, with the line's label, if it has one, at this pc
+-- the labels with one more, `name`, at this pc; unchanged if there is no name
 abbrev pub with_label : Labels → ℕ → Option (List ℕ) → Labels
 with_label labels pc None = labels
 with_label labels pc (Some name) = update bytes_eq labels name (Some pc)
 
--- the instructions read so far, and the instruction of line `number`, if it has one
+-- the instructions read so far, and one more, of line `number`; unchanged if there is no draft
 abbrev pub with_draft : List LineDraft → ℕ → Option InstrDraft → List LineDraft
 with_draft reads number None = reads
 with_draft reads number (Some draft) = reads ++ (record { line = number; draft = draft } ∷ [])
 
--- the parts read so far with one more line: its label, if it has one, gets the pc of its instruction, or of
--- the next instruction if the line has none
+-- the parts read so far, and those of one more line: a label gets the pc of the instruction on its line, or
+-- of the next instruction if the line has none
 abbrev pub with_line : Parts → ℕ → Line → Parts
 with_line parts number line = record {
   labels = with_label parts.labels (length parts.reads) line.label;
   reads = with_draft parts.reads number line.draft;
 }
 
--- the first pass: the parts read so far with the lines added, which are numbered from `number` on, or the
+-- the first pass: the parts read so far, and those of more lines, which are numbered from `number` on; or the
 -- first fault
 unfoldable pub first_pass : Parts → ℕ → List (List ℕ) → Result Parts AsmFault
 first_pass parts number [] = Ok parts
-first_pass parts number (line ∷ left) =
-    in_line number (line_says parts.labels (length parts.reads) line)
-    >>= λ said. first_pass (with_line parts number said) (number + 1) left
+first_pass parts number (line ∷ lines) =
+    in_line number (line_content parts.labels (length parts.reads) line)
+    >>= λ said. first_pass (with_line parts number said) (number + 1) lines
 
--- a jump with the target pc; other instructions stay as they are
+-- the same jump with this pc as its target; other instructions stay as they are
 abbrev pub with_target : ℕ → Instr → Instr
 with_target pc (Jump t) = Jump pc
 with_target pc (JumpLess a b t) = JumpLess a b pc
@@ -70,41 +70,43 @@ with_target pc (JumpTrue a t) = JumpTrue a pc
 with_target pc (JumpFalse a t) = JumpFalse a pc
 with_target pc instr = instr
 
--- a jump with the pc of its label as target; the fault `NoLabel` in its line if there is no pc
+-- the jump of a line with the pc of its label as target; the fault `NoLabel` if the label has no pc, because
+-- no line has it
 abbrev pub jump_to : ℕ → Instr → Option ℕ → Result Instr AsmFault
 jump_to line instr None = Err (record { line = line; why = NoLabel })
 jump_to line instr (Some pc) = Ok (with_target pc instr)
 
--- an instruction with the pc of its label as target, if it names a label; the fault `NoLabel` in its line if
--- no line has the label
+-- the instruction of a line with the pc of its label as target, if it names a label; the fault `NoLabel` if
+-- no line has this label
 abbrev pub resolve_label : Labels → ℕ → Instr → Option (List ℕ) → Result Instr AsmFault
 resolve_label labels line instr None = Ok instr
 resolve_label labels line instr (Some name) = jump_to line instr (labels name)
 
--- an instruction that was read, with the pc of its label as target, if it names a label, or the fault of its
--- line
+-- an instruction that was read, with the pc of its label as target, if it names a label; the fault `NoLabel`
+-- if no line has this label
 abbrev pub resolve : Labels → LineDraft → Result Instr AsmFault
 resolve labels read = resolve_label labels read.line read.draft.instr read.draft.label
 
--- the second pass: the instructions with the pcs of their labels as targets, or the first fault
+-- the second pass: the instructions that were read, with the pcs of their labels as targets; or the first
+-- fault
 unfoldable pub second_pass : Labels → List LineDraft → Result (List Instr) AsmFault
 second_pass labels [] = Ok []
 second_pass labels (read ∷ reads) =
     resolve labels read >>= λ instr. second_pass labels reads >>= λ instrs. Ok (instr ∷ instrs)
 
--- the instructions of a text after the second pass; the fault `Empty` without a line if it has none
+-- the instructions of a text, by the second pass; the fault `Empty`, with line 0, if the text has none
 abbrev pub instrs_of : Parts → Result (List Instr) AsmFault
 instrs_of parts =
     if length parts.reads == 0 then Err (record { line = 0; why = Empty })
     else second_pass parts.labels parts.reads
 
--- the program of a kind that lines give, numbered from 1, or the first fault
+-- the program of this kind whose text these lines are, or their first fault; lines are numbered from 1
 abbrev pub code_of : Kind → List (List ℕ) → Result Program AsmFault
 code_of kind lines = do
   parts ← first_pass no_parts 1 lines
   instrs ← instrs_of parts
   Ok (record { kind = kind; instrs = instrs })
 
--- the fault of a failed allocation, which has line 0: it says nothing about the text
+-- the fault of a failed allocation; it has line 0, because no line of the text caused it
 abbrev pub IsOutOfMemory : AsmFault → Type 0
 IsOutOfMemory fault = fault ≡ record { line = 0; why = Memory }

@@ -20,7 +20,7 @@ register_text R5 = codes "r5"
 register_text R6 = codes "r6"
 register_text R7 = codes "r7"
 
--- the name of an input
+-- the name of an input, in small letters
 abbrev pub input_text : Input → List ℕ
 input_text Speed = codes "speed"
 input_text Limit = codes "limit"
@@ -30,7 +30,7 @@ input_text SideBack = codes "sideback"
 input_text Lane = codes "lane"
 input_text Headspeed = codes "headspeed"
 
--- the name of an instruction
+-- the name of an instruction: `add` for `Add`, but `jlt`, `jle`, `jtrue` and `jfalse` for conditional jumps
 abbrev pub mnemonic_text : Mnemonic → List ℕ
 mnemonic_text Num = codes "num"
 mnemonic_text Get = codes "get"

@@ -1,4 +1,4 @@
--- The operand kinds of each instruction, with their ranges and forms.
+-- The kinds of operands of each instruction, and the ranges and the forms of these kinds.
 use Rattle.std.specs.Prelude.{ℕ, ◌-◌, Bool, List, [], ◌∷◌, codes, Option, None, Some, is_some}
 use Rattle.trlab_bounds.specs.declared.programs.TheConstants.{CERTAIN, MAX_NUMBER, WORDS}
 use Rattle.trlab_lines.specs.Cutting.{without_prefix}
@@ -35,7 +35,7 @@ kinds_of name.Go = Register ∷ []
 kinds_of name.Cross = []
 kinds_of name.Stay = []
 
--- the smallest and the largest number of an operand kind; `None` for operands that are not numbers
+-- the smallest and the largest number that an operand of this kind may be; `None` if it is not a number
 abbrev pub range_of : OperandKind → Option (ℕ × ℕ)
 range_of Number = Some (0, MAX_NUMBER)
 range_of Divisor = Some (1, MAX_NUMBER)
@@ -43,12 +43,13 @@ range_of Word = Some (0, WORDS - 1)
 range_of Chance = Some (0, CERTAIN)
 range_of other = None
 
--- does a word have the form of a jump's target: digits after `@`, or a label if there is no `@`?
+-- does a word have the form of a jump's target? `digits` is the word after `@`, if it begins with `@`: it
+-- must be a number; otherwise the word must be a label
 abbrev pub is_target_after : List ℕ → Option (List ℕ) → Bool
 is_target_after word None = is_label word
 is_target_after word (Some digits) = is_numeral digits
 
--- does a word have the form of an operand of this kind, even if a number is outside its range?
+-- does a word have the form of an operand of this kind? A number may be outside the range of the kind
 abbrev pub has_form : OperandKind → List ℕ → Bool
 has_form Register word = is_some (register_named word)
 has_form Result word = is_some (register_named word)

@@ -1,4 +1,4 @@
--- The label and the instruction of a line of a program's text.
+-- Reading a line of a program's text: its label and its instruction.
 use Rattle.std.specs.Prelude.{ℕ, ◌==◌, List, length, nat_lt, Option, None, Some, ok_or, Result, Ok, Err, if◌then◌else◌}
 use Rattle.trlab_code.specs.declared.instruction.Instr.{Instr}
 use Rattle.trlab_code.specs.declared.instruction.Instr.TheVariants.{Num, Get, Side, Draw, Copy, Add, Sub, Mul, Div, Min, Max, Not, And, Or, Jump, JumpLess, JumpAtMost, JumpTrue, JumpFalse, Go, Cross, Stay}
@@ -13,35 +13,37 @@ use Rattle.trlab_asm.specs.declared.fault.Why.TheVariants.{Word, LabelTwice, Too
 use Rattle.trlab_asm.specs.declared.names.Mnemonic.{Mnemonic}
 use Rattle.trlab_asm.specs.declared.names.Mnemonic.TheVariants as name
 
--- an instruction as it was read, and the label of its target, if it names one; the target is then still 0
+-- an instruction as it was read. If its target is a label, this is `label`, and the target is still 0
 pub record InstrDraft : Type 0 where
   pub instr : Instr
   pub label : Option (List ℕ)
 
--- an instruction without a label, so that nothing is left to resolve
-abbrev pub whole_draft : Instr → Result InstrDraft Why
-whole_draft instr = Ok (record { instr = instr; label = None })
+-- an instruction that names no label, as it was read: no target is left to resolve
+abbrev pub draft_without_label : Instr → Result InstrDraft Why
+draft_without_label instr = Ok (record { instr = instr; label = None })
 
--- a jump to a target: `instr` gives the jump to the target's pc, and its label, if it has one, is kept
+-- a jump as it was read, from its target: `instr` gives the jump to the target's pc, and the target's label,
+-- if it has one, is kept to be resolved
 abbrev pub jump_draft : (ℕ → Instr) → Target → Result InstrDraft Why
 jump_draft instr to = Ok (record { instr = instr to.pc; label = to.label })
 
--- the instruction without operands: `cross`, or `stay` for any other name
+-- the instruction of this name without operands: `Cross` for `cross`, and `Stay` for all other names
 abbrev pub of_none : Mnemonic → Instr
 of_none name.Cross = Cross
 of_none other = Stay
 
--- the instruction of one register: `side`, or `go` for any other name
+-- the instruction of this name with one register: `Side` for `side`, and `Go` for all other names
 abbrev pub of_one : Mnemonic → Register → Instr
 of_one name.Side a = Side a
 of_one other a = Go a
 
--- the instruction of two registers: `copy`, or `not` for any other name
+-- the instruction of this name with two registers: `Copy` for `copy`, and `Not` for all other names
 abbrev pub of_two : Mnemonic → Register → Register → Instr
 of_two name.Copy d a = Copy d a
 of_two other d a = Not d a
 
--- the instruction of three registers: `add`, `sub`, `min`, `max` or `and`, or `or` for any other name
+-- the instruction of this name with three registers: `Add`, `Sub`, `Min`, `Max` or `And`, and `Or` for all
+-- other names
 abbrev pub of_three : Mnemonic → Register → Register → Register → Instr
 of_three name.Add d a b = Add d a b
 of_three name.Sub d a b = Sub d a b
@@ -50,82 +52,89 @@ of_three name.Max d a b = Max d a b
 of_three name.And d a b = And d a b
 of_three other d a b = Or d a b
 
--- the jump with one register and a target: `jtrue`, or `jfalse` for any other name
+-- the jump of this name with one register and the pc t: `JumpTrue` for `jtrue`, and `JumpFalse` for all other
+-- names
 abbrev pub of_one_target : Mnemonic → Register → ℕ → Instr
 of_one_target name.JumpTrue a t = JumpTrue a t
 of_one_target other a t = JumpFalse a t
 
--- the jump with two registers and a target: `jlt`, or `jle` for any other name
+-- the jump of this name with two registers and the pc t: `JumpLess` for `jlt`, and `JumpAtMost` for all other
+-- names
 abbrev pub of_two_target : Mnemonic → Register → Register → ℕ → Instr
 of_two_target name.JumpLess a b t = JumpLess a b t
 of_two_target other a b t = JumpAtMost a b t
 
--- the instruction of a name and the text of its operands, or the fault of the operands
+-- the instruction as it is read, of this name and with this text of its operands; or the fault of the
+-- operands
 abbrev pub draft_of : Mnemonic → List ℕ → Result InstrDraft Why
-draft_of name.Num text = register_and_number 0 text >>= λ x. whole_draft (Num x.0 x.1)
-draft_of name.Get text = register_input text >>= λ x. whole_draft (Get x.0 x.1)
-draft_of name.Side text = register text >>= λ d. whole_draft (Side d)
-draft_of name.Draw text = register_word_chance text >>= λ x. whole_draft (Draw x.0 x.1.0 x.1.1)
-draft_of name.Copy text = two_registers text >>= λ x. whole_draft (Copy x.0 x.1)
-draft_of name.Add text = three_registers text >>= λ x. whole_draft (Add x.0 x.1.0 x.1.1)
-draft_of name.Sub text = three_registers text >>= λ x. whole_draft (Sub x.0 x.1.0 x.1.1)
-draft_of name.Mul text = two_registers_number 0 text >>= λ x. whole_draft (Mul x.0 x.1.0 x.1.1)
-draft_of name.Div text = two_registers_number 1 text >>= λ x. whole_draft (Div x.0 x.1.0 x.1.1)
-draft_of name.Min text = three_registers text >>= λ x. whole_draft (Min x.0 x.1.0 x.1.1)
-draft_of name.Max text = three_registers text >>= λ x. whole_draft (Max x.0 x.1.0 x.1.1)
-draft_of name.Not text = two_registers text >>= λ x. whole_draft (Not x.0 x.1)
-draft_of name.And text = three_registers text >>= λ x. whole_draft (And x.0 x.1.0 x.1.1)
-draft_of name.Or text = three_registers text >>= λ x. whole_draft (Or x.0 x.1.0 x.1.1)
+draft_of name.Num text = register_and_number 0 text >>= λ x. draft_without_label (Num x.0 x.1)
+draft_of name.Get text = register_input text >>= λ x. draft_without_label (Get x.0 x.1)
+draft_of name.Side text = register text >>= λ d. draft_without_label (Side d)
+draft_of name.Draw text = register_word_chance text >>= λ x. draft_without_label (Draw x.0 x.1.0 x.1.1)
+draft_of name.Copy text = two_registers text >>= λ x. draft_without_label (Copy x.0 x.1)
+draft_of name.Add text = three_registers text >>= λ x. draft_without_label (Add x.0 x.1.0 x.1.1)
+draft_of name.Sub text = three_registers text >>= λ x. draft_without_label (Sub x.0 x.1.0 x.1.1)
+draft_of name.Mul text = two_registers_number 0 text >>= λ x. draft_without_label (Mul x.0 x.1.0 x.1.1)
+draft_of name.Div text = two_registers_number 1 text >>= λ x. draft_without_label (Div x.0 x.1.0 x.1.1)
+draft_of name.Min text = three_registers text >>= λ x. draft_without_label (Min x.0 x.1.0 x.1.1)
+draft_of name.Max text = three_registers text >>= λ x. draft_without_label (Max x.0 x.1.0 x.1.1)
+draft_of name.Not text = two_registers text >>= λ x. draft_without_label (Not x.0 x.1)
+draft_of name.And text = three_registers text >>= λ x. draft_without_label (And x.0 x.1.0 x.1.1)
+draft_of name.Or text = three_registers text >>= λ x. draft_without_label (Or x.0 x.1.0 x.1.1)
 draft_of name.Jump text = jump_target text >>= jump_draft Jump
 draft_of name.JumpLess text = two_registers_target text >>= λ x. jump_draft (JumpLess x.0 x.1.0) x.1.1
 draft_of name.JumpAtMost text = two_registers_target text >>= λ x. jump_draft (JumpAtMost x.0 x.1.0) x.1.1
 draft_of name.JumpTrue text = register_target text >>= λ x. jump_draft (JumpTrue x.0) x.1
 draft_of name.JumpFalse text = register_target text >>= λ x. jump_draft (JumpFalse x.0) x.1
-draft_of name.Go text = register text >>= λ a. whole_draft (Go a)
-draft_of name.Cross text = no_operand text >>= λ none. whole_draft Cross
-draft_of name.Stay text = no_operand text >>= λ none. whole_draft Stay
+draft_of name.Go text = register text >>= λ a. draft_without_label (Go a)
+draft_of name.Cross text = no_operand text >>= λ none. draft_without_label Cross
+draft_of name.Stay text = no_operand text >>= λ none. draft_without_label Stay
 
--- the instruction at pc, from its name and the text after it: the name is checked first, then that pc is
--- below MAX_INSTRUCTIONS, then the operands
+-- the instruction at pc as it is read, from its name and the text after the name: the name is checked first,
+-- then that pc is below MAX_INSTRUCTIONS, then the operands
 abbrev pub instruction : ℕ → List ℕ × List ℕ → Result (Option InstrDraft) Why
 instruction pc parts = do
   name ← ok_or (mnemonic_named parts.0) Word
   if nat_lt pc MAX_INSTRUCTIONS then (draft_of name parts.1 >>= λ draft. Ok (Some draft)) else Err TooLong
 
--- the instruction at pc of a text without leading blanks; `None` if the text is empty
+-- the instruction at pc as it is read, from a text without leading blanks; `None` if the text is empty
 abbrev pub body : ℕ → List ℕ → Result (Option InstrDraft) Why
 body pc text = if length text == 0 then Ok None else instruction pc (up_to_blank text)
 
--- the pc of each text that is a label; `None` for other texts
+-- the labels of a text: the pc of each text that is a label, and `None` for other texts
 abbrev pub Labels : Type 0
 Labels = List ℕ → Option ℕ
 
--- the label of a line, if no earlier line gave it a pc; otherwise the fault `LabelTwice`
+-- a label as the label of a line, if it has no pc yet; the fault `LabelTwice` if an earlier line gave it one
 abbrev pub if_free : List ℕ → Option ℕ → Result (Option (List ℕ)) Why
 if_free text None = Ok (Some text)
 if_free text (Some pc) = Err LabelTwice
 
--- the label, if it is valid and no earlier line has it; otherwise the fault `Word` or `LabelTwice`
+-- a word as the label of a line: the fault `Word` if it is not a label, and `LabelTwice` if an earlier line
+-- has it
 abbrev pub new_label : Labels → List ℕ → Result (Option (List ℕ)) Why
 new_label labels text = if is_label text then if_free text (labels text) else Err Word
 
--- the label of a line, if it has one: its only word, which must be valid and new
+-- the label of a line, if it has one: the only word of the text before `:`, which must be a label that no
+-- earlier line has
 abbrev pub label_of : Labels → Option (List ℕ) → Result (Option (List ℕ)) Why
 label_of labels None = Ok None
 label_of labels (Some text) = ok_or (only_word text) Word >>= new_label labels
 
--- the content of a line: a label, an instruction, both or neither
+-- the content of a line: a label, an instruction as it was read, both or neither
 pub record Line : Type 0 where
   pub label : Option (List ℕ)
   pub draft : Option InstrDraft
 
--- the content of a line from its label and the text after the label; the label is checked first
-abbrev pub parts_say : Labels → ℕ → Option (List ℕ) × List ℕ → Result Line Why
-parts_say labels pc parts = do
+-- the content of a line, from the text before its `:`, if it has one, and the text after it: the label is
+-- checked before the instruction
+abbrev pub content_of_parts : Labels → ℕ → Option (List ℕ) × List ℕ → Result Line Why
+content_of_parts labels pc parts = do
   label ← label_of labels parts.0
   draft ← body pc (without_indent parts.1)
   Ok (record { label = label; draft = draft })
 
--- the content of a line, whose instruction, if it has one, is at pc; `labels` are those of earlier lines
-abbrev pub line_says : Labels → ℕ → List ℕ → Result Line Why
-line_says labels pc line = parts_say labels pc (label_and_rest (without_comment line))
+-- the content of a line: its label, if it has one, and its instruction, if it has one, which is then at pc;
+-- `labels` are those of earlier lines
+abbrev pub line_content : Labels → ℕ → List ℕ → Result Line Why
+line_content labels pc line = content_of_parts labels pc (label_and_rest (without_comment line))

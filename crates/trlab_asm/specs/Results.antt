@@ -2,12 +2,13 @@
 use Rattle.std.specs.Prelude.{Result, Ok, Err}
 
 infixl 10 ◌>>=◌
--- the result of f for the value of a result, or the fault of the result
+-- the function f applied to the value of a result, which gives a new result; a fault stays (Rust's
+-- `and_then`)
 abbrev pub ◌>>=◌ : {A B E : Type 0} → Result A E → (A → Result B E) → Result B E
 (Ok x) >>= f = f x
 (Err e) >>= f = Err e
 
--- a result with `view` applied to its value; a fault stays as it is
+-- a result with `convert` applied to its value; a fault stays (Rust's `map`)
 abbrev pub map_ok : {A B E : Type 0} → (A → B) → Result A E → Result B E
-map_ok view (Ok x) = Ok (view x)
-map_ok view (Err e) = Err e
+map_ok convert (Ok x) = Ok (convert x)
+map_ok convert (Err e) = Err e

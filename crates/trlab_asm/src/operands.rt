@@ -170,7 +170,7 @@ fn all_label_bytes(text: &[u8]) -> bool
         .all(|byte| byte.is_ascii_alphanumeric() || *byte == b'_')
 }
 
-/// Whether a word can be a label: at most `LONGEST_LABEL` letters, digits and `_`, and the first is not a digit.
+/// Whether a text can be a label: 1 to `LONGEST_LABEL` letters, digits and `_`, and the first is not a digit.
 pub fn is_label(text: &[u8]) -> bool
     ensures { result ≡ is_label text.now }
 {

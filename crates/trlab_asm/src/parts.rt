@@ -47,7 +47,7 @@ pub(crate) struct Parts<'a> {
 
 impl<'a> Parts<'a> {
     ghost use Rattle.std.specs.Prelude.{◌<◌, IfOk, OnOk, OnSome, length};
-    ghost use Rattle.trlab_asm.specs.Reading.{line_says};
+    ghost use Rattle.trlab_asm.specs.Reading.{line_content};
     ghost use Rattle.trlab_asm.specs.Assembly.{no_parts, in_line, with_line};
     ghost use Rattle.trlab_asm.specs.Stored.{pcs, stored_parts};
 
@@ -77,7 +77,7 @@ impl<'a> Parts<'a> {
     /// Reads the next line; a fault gets `number` as its line number.
     pub(crate) fn says(&self, number: usize, line: &'a [u8]) -> Result<Line<'a>, AsmFault>
         ensures value { result ≡ in_line number
-            (line_says (stored_parts self.now).labels (length (stored_parts self.now).reads) line.now) }
+            (line_content (stored_parts self.now).labels (length (stored_parts self.now).reads) line.now) }
         ensures room { IfOk result (λ said.
             OnSome said.draft (length (stored_parts self.now).reads < MAX_INSTRUCTIONS)) }
     {

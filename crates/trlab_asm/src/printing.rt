@@ -2,7 +2,7 @@
 
 ghost use Rattle.std.specs.Prelude.{◌≡◌, ◌++◌, decimal, OnOk, Ok, IfOk};
 ghost use Rattle.trlab_code.specs.Laws.{FitsIn32Bits};
-ghost use Rattle.trlab_asm.specs.Canonical.{operand_text, target_text, ◌comma◌, row_text, row_says, instr_text, instr_line, is_pc, is_jumped_to, text_of};
+ghost use Rattle.trlab_asm.specs.Canonical.{operand_text, target_text, ◌comma◌, row_text, operation_text, instr_text, instr_line, is_pc, is_jumped_to, text_of};
 ghost use Rattle.trlab_code.specs.Flow.{target};
 ghost use Rattle.trlab_lines.specs.Lines.{lines_of};
 ghost use Rattle.trlab_asm.specs.Assembly.{code_of};
@@ -90,7 +90,7 @@ fn push_two(
 
 /// The name and the operands of an instruction, in a program of `count` instructions.
 fn row_of(count: usize, instr: Instr) -> Operation
-    ensures value { row_says result ≡ instr_text count instr }
+    ensures value { operation_text result ≡ instr_text count instr }
 
     // Holds for each `u32`.
     ensures word { FitsIn32Bits instr }
@@ -128,7 +128,7 @@ fn row_of(count: usize, instr: Instr) -> Operation
 }
 
 fn push_row(alloc: Global, out: &mut Vec<u8>, row: Operation) -> Result<(), AllocError>
-    ensures { OnOk result (out.new.items ≡ out.old.items ++ row_says row) }
+    ensures { OnOk result (out.new.items ≡ out.old.items ++ operation_text row) }
 {
     match row {
         Bare(name) => out.extend_from_slice(mnemonic_text(name)),

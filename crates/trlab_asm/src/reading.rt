@@ -4,7 +4,7 @@ ghost use Rattle.std.specs.Map.{update};
 ghost use Rattle.std.specs.Prelude.{◌≡◌, ◌<◌, None, Some, bytes_eq, option_map, IfOk, OnOk, OnSome};
 ghost use Rattle.trlab_code.specs.Program.{IsInRange};
 ghost use Rattle.trlab_asm.specs.Operands.{no_operand, register, two_registers, three_registers, register_target, two_registers_target};
-ghost use Rattle.trlab_asm.specs.Reading.{InstrDraft as ReadDraft, whole_draft, jump_draft, draft_of, of_none, of_one, of_two, of_three, of_one_target, of_two_target, Line as AbstractLine, instruction, body, new_label, label_of, line_says};
+ghost use Rattle.trlab_asm.specs.Reading.{InstrDraft as ReadDraft, draft_without_label, jump_draft, draft_of, of_none, of_one, of_two, of_three, of_one_target, of_two_target, Line as AbstractLine, instruction, body, new_label, label_of, line_content};
 ghost use Rattle.trlab_asm.specs.Results.{◌>>=◌ as ◌followed◌, map_ok};
 ghost use Rattle.trlab_asm.specs.declared.names.Mnemonic.TheVariants.{Draw, Div};
 ghost use Rattle.trlab_bounds.specs.declared.programs.TheConstants.{MAX_INSTRUCTIONS};
@@ -63,7 +63,7 @@ impl<'a> Model for InstrDraft<'a> {
     ghost invariant = { λ draft. IsInRange draft.instr };
 }
 
-fn whole_draft<'a>(instr: Instr) -> InstrDraft<'a>
+fn draft_without_label<'a>(instr: Instr) -> InstrDraft<'a>
     requires { IsInRange instr }
     ensures { result ≡ record { instr = instr; label = None } }
 {
@@ -85,22 +85,22 @@ fn read_draw(text: &[u8]) -> Result<InstrDraft<'_>, Why>
     ensures { result ≡ draft_of Draw text.now }
 {
     let (d, (k, t)) = register_word_chance(text)?;
-    Ok(whole_draft(Instr::Draw(d, k as u8, t)))
+    Ok(draft_without_label(Instr::Draw(d, k as u8, t)))
 }
 
 fn read_div(text: &[u8]) -> Result<InstrDraft<'_>, Why>
     ensures { result ≡ draft_of Div text.now }
 {
     let (d, (a, n)) = two_registers_number(1, text)?;
-    Ok(whole_draft(Instr::Div(d, a, n)))
+    Ok(draft_without_label(Instr::Div(d, a, n)))
 }
 
 /// The instruction without operands: `cross`, or `stay` for any other name.
 fn read_none(name: Mnemonic, text: &[u8]) -> Result<InstrDraft<'_>, Why>
-    ensures { result ≡ no_operand text.now followed λ none. whole_draft (of_none name) }
+    ensures { result ≡ no_operand text.now followed λ none. draft_without_label (of_none name) }
 {
     no_operand(text)?;
-    Ok(whole_draft(match name {
+    Ok(draft_without_label(match name {
         Mnemonic::Cross => Instr::Cross,
         _ => Instr::Stay,
     }))
@@ -108,10 +108,10 @@ fn read_none(name: Mnemonic, text: &[u8]) -> Result<InstrDraft<'_>, Why>
 
 /// The instruction of one register: `side`, or `go` for any other name.
 fn read_one(name: Mnemonic, text: &[u8]) -> Result<InstrDraft<'_>, Why>
-    ensures { result ≡ register text.now followed λ a. whole_draft (of_one name a) }
+    ensures { result ≡ register text.now followed λ a. draft_without_label (of_one name a) }
 {
     let a = register(text)?;
-    Ok(whole_draft(match name {
+    Ok(draft_without_label(match name {
         Mnemonic::Side => Instr::Side(a),
         _ => Instr::Go(a),
     }))
@@ -119,10 +119,10 @@ fn read_one(name: Mnemonic, text: &[u8]) -> Result<InstrDraft<'_>, Why>
 
 /// The instruction of two registers: `copy`, or `not` for any other name.
 fn read_two(name: Mnemonic, text: &[u8]) -> Result<InstrDraft<'_>, Why>
-    ensures { result ≡ two_registers text.now followed λ x. whole_draft (of_two name x.0 x.1) }
+    ensures { result ≡ two_registers text.now followed λ x. draft_without_label (of_two name x.0 x.1) }
 {
     let (d, a) = two_registers(text)?;
-    Ok(whole_draft(match name {
+    Ok(draft_without_label(match name {
         Mnemonic::Copy => Instr::Copy(d, a),
         _ => Instr::Not(d, a),
     }))
@@ -130,10 +130,10 @@ fn read_two(name: Mnemonic, text: &[u8]) -> Result<InstrDraft<'_>, Why>
 
 /// The instruction of three registers: `add`, `sub`, `min`, `max` or `and`, or `or` for any other name.
 fn read_three(name: Mnemonic, text: &[u8]) -> Result<InstrDraft<'_>, Why>
-    ensures { result ≡ three_registers text.now followed λ x. whole_draft (of_three name x.0 x.1.0 x.1.1) }
+    ensures { result ≡ three_registers text.now followed λ x. draft_without_label (of_three name x.0 x.1.0 x.1.1) }
 {
     let (d, (a, b)) = three_registers(text)?;
-    Ok(whole_draft(match name {
+    Ok(draft_without_label(match name {
         Mnemonic::Add => Instr::Add(d, a, b),
         Mnemonic::Sub => Instr::Sub(d, a, b),
         Mnemonic::Min => Instr::Min(d, a, b),
@@ -172,12 +172,14 @@ pub(crate) fn read_draft(name: Mnemonic, text: &[u8]) -> Result<InstrDraft<'_>, 
     ensures { result ≡ draft_of name text.now }
 {
     match name {
-        Mnemonic::Num => register_and_number(0, text).map(|(d, n)| whole_draft(Instr::Num(d, n))),
-        Mnemonic::Get => register_input(text).map(|(d, k)| whole_draft(Instr::Get(d, k))),
-        Mnemonic::Draw => read_draw(text),
-        Mnemonic::Mul => two_registers_number(0, text).map(|(d, (a, n))| whole_draft(Instr::Mul(
-            d, a, n,
+        Mnemonic::Num => register_and_number(0, text).map(|(d, n)| draft_without_label(Instr::Num(
+            d, n,
         ))),
+        Mnemonic::Get => register_input(text).map(|(d, k)| draft_without_label(Instr::Get(d, k))),
+        Mnemonic::Draw => read_draw(text),
+        Mnemonic::Mul => two_registers_number(0, text).map(|(d, (a, n))| draft_without_label(
+            Instr::Mul(d, a, n),
+        )),
         Mnemonic::Div => read_div(text),
         Mnemonic::Jump => jump_target(text).map(|to| jump_draft(Instr::Jump(to.pc), to)),
         Mnemonic::JumpLess | Mnemonic::JumpAtMost => read_jump_by_two(name, text),
@@ -252,6 +254,7 @@ fn new_label<'a>(labels: &Labels<'a>, text: &'a [u8]) -> Result<Option<&'a [u8]>
     }
 }
 
+/// The label in the text before a colon; `None` without a colon. `Why::Word` unless it is one word that can be a label.
 fn label_of<'a>(labels: &Labels<'a>, text: Option<&'a [u8]>) -> Result<Option<&'a [u8]>, Why>
     ensures { map_ok (λ label. option_map (λ label. label.now) label) result
         ≡ label_of (pcs labels.now) (option_map (λ text. text.now) text.entry) }
@@ -267,7 +270,7 @@ fn label_of<'a>(labels: &Labels<'a>, text: Option<&'a [u8]>) -> Result<Option<&'
 
 /// Reads a line, given the labels of earlier lines; its instruction, if it has one, is at `pc`.
 pub(crate) fn read_line<'a>(labels: &Labels<'a>, pc: usize, line: &'a [u8]) -> Result<Line<'a>, Why>
-    ensures value { result ≡ line_says (pcs labels.now) pc line.now }
+    ensures value { result ≡ line_content (pcs labels.now) pc line.now }
     ensures room { IfOk result (λ said. OnSome said.draft (pc < MAX_INSTRUCTIONS)) }
 {
     let (label, text) = label_and_rest(without_comment(line));

@@ -21,21 +21,21 @@ use Rattle.trlab_strands.specs.declared.knowledge.Noted.{Noted}
 use Rattle.trlab_strands.specs.Knowledge.{noted, event_number}
 use Rattle.trlab_strands.specs.Tokens.{IsSameStrand}
 use Rattle.trlab_book.specs.declared.desk.Desk.{Desk}
-use Rattle.trlab_book.specs.Desks.{AreOfRunners, AddsRunnerCalls, HasEnded, HasSeen, IsNoEvent, IsOneEvent, MakesOf, subhistory_of, is_of_runner, finds_no_job, clock_of, no_job_count, parts_of}
+use Rattle.trlab_book.specs.Desks.{AreRunnerCalls, AddsRunnerCalls, HasEnded, HasSeen, MakesNoEvent, MakesEvent, MakesCallOn, subhistory_of, is_runner_call, finds_no_job, clock_of, no_job_count, parts_of}
 use Rattle.trlab_sequential_book.specs.declared.book.TheConstants.{MAX_EVENTS}
 
 -- calls within a span are within a wider one
-wider : (from to below above : ℕ) (numbered : List (Noted Event)) → below ≤ from → to ≤ above → AreOfRunners from to numbered → AreOfRunners below above numbered
+wider : (from to below above : ℕ) (numbered : List (Noted Event)) → below ≤ from → to ≤ above → AreRunnerCalls from to numbered → AreRunnerCalls below above numbered
 wider from to below above numbered low high are = All-weaker
-    (λ (x : Noted Event). (from ≤ event_number x) × (event_number x < to) × (is_of_runner x.event.call ≡ true))
-    (λ (x : Noted Event). (below ≤ event_number x) × (event_number x < above) × (is_of_runner x.event.call ≡ true))
+    (λ (x : Noted Event). (from ≤ event_number x) × (event_number x < to) × (is_runner_call x.event.call ≡ true))
+    (λ (x : Noted Event). (below ≤ event_number x) × (event_number x < above) × (is_runner_call x.event.call ≡ true))
     (λ x is. (omega (arith, is.0), omega (arith, is.1), is.2))
     numbered are
 
 -- the calls of two lists within one span
-both : (from to : ℕ) (xs ys : List (Noted Event)) → AreOfRunners from to xs → AreOfRunners from to ys → AreOfRunners from to (xs ++ ys)
+both : (from to : ℕ) (xs ys : List (Noted Event)) → AreRunnerCalls from to xs → AreRunnerCalls from to ys → AreRunnerCalls from to (xs ++ ys)
 both from to xs ys first second =
-    All-append (λ (x : Noted Event). (from ≤ event_number x) × (event_number x < to) × (is_of_runner x.event.call ≡ true)) xs ys first second
+    All-append (λ (x : Noted Event). (from ≤ event_number x) × (event_number x < to) × (is_runner_call x.event.call ≡ true)) xs ys first second
 
 module _ {L : Type 0} {ledger : Ghosts L} where
   pub goes_on : (a b c : Desk L ledger) → AddsRunnerCalls a b → AddsRunnerCalls b c → AddsRunnerCalls a c
@@ -50,7 +50,7 @@ module _ {L : Type 0} {ledger : Ghosts L} where
   }
 
   -- a call that is not an event adds nothing to the desk's calls, and the clock does not go back
-  is_none : (a b : Desk L ledger) (told : Reply) → IsNoEvent a told b → (subhistory_of b ≡ subhistory_of a) × (clock_of a ≤ clock_of b)
+  is_none : (a b : Desk L ledger) (told : Reply) → MakesNoEvent a told b → (subhistory_of b ≡ subhistory_of a) × (clock_of a ≤ clock_of b)
   is_none a b told none = by_full (is_history_full told) none
     where
       by_full : (whole : Bool) → MatchBool whole (HasSeen a MAX_EVENTS b) (IsSameStrand a.strand b.strand) → (subhistory_of b ≡ subhistory_of a) × (clock_of a ≤ clock_of b)
@@ -68,11 +68,11 @@ module _ {L : Type 0} {ledger : Ghosts L} where
   }
 
   -- a call of a runner is added
-  pub makes_goes : (Holds : BookState → Type 0) (a b : Desk L ledger) (call : Call) (told : Reply) → MakesOf Holds a call told b → is_of_runner call ≡ true → AddsRunnerCalls a b
+  pub makes_goes : (Holds : BookState → Type 0) (a b : Desk L ledger) (call : Call) (told : Reply) → MakesCallOn Holds a call told b → is_runner_call call ≡ true → AddsRunnerCalls a b
   makes_goes Holds a b call told made of_runner = by_event (is_event told) made.0 made.1
     where
       by_event : (one : Bool) → parts_of b ≡ parts_of a
-          → MatchBool one ((book : BookState) × IsOneEvent a call told b book × Holds book) (IsNoEvent a told b) → AddsRunnerCalls a b
+          → MatchBool one ((book : BookState) × MakesEvent a call told b book × Holds book) (MakesNoEvent a told b) → AddsRunnerCalls a b
       by_event true same one =
           let before = one.1.before in
           let adds = one.1.noted in
@@ -81,14 +81,14 @@ module _ {L : Type 0} {ledger : Ghosts L} where
             least = let p = adds.1 in let q = adds.3 in omega arith;
             more = noted before (event call told) ∷ [];
             subhistory = adds.2;
-            runners = All-push (λ (x : Noted Event). (clock_of a ≤ event_number x) × (event_number x < clock_of b) × (is_of_runner x.event.call ≡ true)) [] (noted before (event call told)) (All-nil _)
+            runners = All-push (λ (x : Noted Event). (clock_of a ≤ event_number x) × (event_number x < clock_of b) × (is_runner_call x.event.call ≡ true)) [] (noted before (event call told)) (All-nil _)
                 (adds.1, omega (arith, adds.3), of_runner);
           }
       by_event false same none = stays a b same (is_none a b told none)
 
   -- so is an order, for any value of `same`
   pub orders_on : (Holds : Bool → BookState → Type 0) (a b c : Desk L ledger) (lease : LeaseState) (told : Reply) → AddsRunnerCalls a b
-      → (same : Bool) × MakesOf (Holds same) b (OrderCall (offered lease same)) told c → AddsRunnerCalls a c
+      → (same : Bool) × MakesCallOn (Holds same) b (OrderCall (offered lease same)) told c → AddsRunnerCalls a c
   orders_on Holds a b c lease told on made = goes_on a b c on (makes_goes (Holds made.0) b c (OrderCall (offered lease made.0)) told made.1 refl)
 
   -- runners have called through both parts of a desk that was split, and the parts are gathered again
@@ -137,7 +137,7 @@ module _ {L : Type 0} {ledger : Ghosts L} where
   ended_none a b on = let rises = none_rises a b on in record { on = on; no_job = omega arith; full = λ e. absurd (cc e) }
 
   -- after a call that answers HistoryFull its desk has seen the whole history
-  pub full_seen : (Holds : BookState → Type 0) (a b : Desk L ledger) (call : Call) (fault : BookFault) → MakesOf Holds a call (Refused fault) b → fault ≡ HistoryFull → MAX_EVENTS ≤ clock_of b
+  pub full_seen : (Holds : BookState → Type 0) (a b : Desk L ledger) (call : Call) (fault : BookFault) → MakesCallOn Holds a call (Refused fault) b → fault ≡ HistoryFull → MAX_EVENTS ≤ clock_of b
   full_seen Holds a b call HistoryFull made is = made.1.3
   full_seen Holds a b call Memory made is = absurd (cc is)
   full_seen Holds a b call Ended made is = absurd (cc is)

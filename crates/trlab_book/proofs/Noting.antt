@@ -16,7 +16,7 @@ use Rattle.trlab_strands.specs.declared.knowledge.Ledger.{Ghosts}
 use Rattle.trlab_strands.specs.Tokens.{Adds, CatchesUp, IsSameStrand, strand_events}
 use Rattle.trlab_book.specs.declared.desk.Desk.{Desk}
 use Rattle.trlab_book.specs.declared.kept.Kept.{Kept}
-use Rattle.trlab_book.specs.Desks.{IsNoEvent, IsOneEvent, MakesOf, NotesCall, clock_of, parts_of}
+use Rattle.trlab_book.specs.Desks.{MakesNoEvent, MakesEvent, MakesCallOn, NotesCall, clock_of, parts_of}
 use Rattle.trlab_book.specs.Events.{Appends, WasMadeAfter, IsUnchanged, Records, RefusesIfFull}
 
 appended : (old new : Kept) (call : Call) (told : Reply) (one : Bool) → MatchBool one (Appends old call told new) (IsUnchanged old new)
@@ -59,7 +59,7 @@ full_after old new call told made full none =
 module _ {L : Type 0} {ledger : Ghosts L} where
   -- a call that is not an event
   pub is_none : (old : Kept) (told : Reply) (list : List Event) (from to : Desk L ledger) → parts_of to ≡ parts_of from → old.history.items ≡ list → RefusesIfFull old told
-      → MatchBool (is_history_full told) (CatchesUp from.strand (length list) to.strand) (IsSameStrand from.strand to.strand) → IsNoEvent from told to
+      → MatchBool (is_history_full told) (CatchesUp from.strand (length list) to.strand) (IsSameStrand from.strand to.strand) → MakesNoEvent from told to
   is_none old told list from to parts was full down = by_full (is_history_full told) refl down
     where
       by_full : (whole : Bool) → is_history_full told ≡ whole → MatchBool whole (CatchesUp from.strand (length list) to.strand) (IsSameStrand from.strand to.strand)
@@ -73,13 +73,13 @@ module _ {L : Type 0} {ledger : Ghosts L} where
   -- a call that is made under the lock, and put down at a desk, is one of this desk
   pub is_made : (Holds : BookState → Type 0) (old new : Kept) (call : Call) (told : Reply) (list : List Event) (from to : Desk L ledger)
       → Records old call told new → old.history.items ≡ list → (is_event told ≡ true → Holds old.book) → RefusesIfFull old told
-      → NotesCall from list call told to → MakesOf Holds from call told to
+      → NotesCall from list call told to → MakesCallOn Holds from call told to
   is_made Holds old new call told list from to made was holds full noted =
       (noted.0, by_event (is_event told) refl made noted.1)
     where
       by_event : (one : Bool) → is_event told ≡ one → MatchBool one (Appends old call told new) (IsUnchanged old new)
           → MatchBool one (Adds from.strand list (event call told) to.strand) (MatchBool (is_history_full told) (CatchesUp from.strand (length list) to.strand) (IsSameStrand from.strand to.strand))
-          → MatchBool one ((book : BookState) × IsOneEvent from call told to book × Holds book) (IsNoEvent from told to)
+          → MatchBool one ((book : BookState) × MakesEvent from call told to book × Holds book) (MakesNoEvent from told to)
       by_event true is appends adds = (
         old.book,
         record {

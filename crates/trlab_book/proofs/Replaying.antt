@@ -15,10 +15,10 @@ use Rattle.trlab_sequential_book.specs.declared.event.Reply.TheVariants.{Done, N
 use Rattle.trlab_sequential_book.specs.declared.fault.BookFault.{BookFault}
 use Rattle.trlab_sequential_book.specs.declared.fault.BookFault.TheVariants.{Ended, Full, HistoryFull, LanesMismatch, Memory, NoSuchJob, SheetFull, StrangerLease}
 use Rattle.trlab_sequential_book.specs.Answers.{LeadsAs, RepliesAs, is_event, is_memory}
-use Rattle.trlab_sequential_book.specs.Comparison.{IsSame, LeaseCall, OrderCall, offered}
+use Rattle.trlab_sequential_book.specs.Comparison.{RunsRoadOfItsJob, LeaseCall, OrderCall, offered}
 use Rattle.trlab_sequential_book.specs.Leases.{LeaseState, suits}
-use Rattle.trlab_sequential_book.specs.Machine.{JobState, Outcome, Served, BookState, after, cancelling, giving_back, is_free, is_full, is_own, leasing, new_job, next_after, on_free, on_job, ordering, reading, refused, replacing, reply_of, revoking, served, empty_book, submitting}
-use Rattle.trlab_sequential_book.specs.Sheets.{begin_in_force, entered}
+use Rattle.trlab_sequential_book.specs.Machine.{JobState, JobOutcome, JobsOutcome, BookState, after, cancelling, giving_back, is_free, is_full, accepts_lease, leasing, new_job, next_after, on_free, on_job, ordering, reading, refused, replacing, reply_of, revoking, outcome_of_call, empty_book, submitting}
+use Rattle.trlab_sequential_book.specs.Sheets.{begin_in_force, with_rule_from}
 use Rattle.trlab_sequential_book.specs.declared.seed.Seed.{Seed}
 use Rattle.trlab_rules.specs.Rules.{Programs}
 use Rattle.trlab_sequential_book.specs.Replay.{Replays, call_of, event, replies_from, state_from, reply_of_event}
@@ -40,7 +40,7 @@ replays_more history s c r room =
     let calls : map call_of (history ++ event c (reply_of s c) ∷ []) ≡ map call_of history ++ c ∷ [] =
     map-append call_of history (event c (reply_of s c) ∷ []) in
     let made : BookState =
-    record { count = s.count + 1; next = next_after s.next (served s c).reply; jobs = (served s c).jobs } in
+    record { count = s.count + 1; next = next_after s.next (outcome_of_call s c).reply; jobs = (outcome_of_call s c).jobs } in
     let count : (after s c).count ≡ s.count + 1 = ap (λ t. t.count) (cond-false (is_full s) s made room) in
     let len = length-append history (event c (reply_of s c) ∷ []) in
     record {
@@ -66,10 +66,10 @@ replays_on history items s t c told replays room items_are answered state_is =
     rw (items_are, answered, state_is) (∥∥₁_map replays (λ r. replays_more history s c r room))
 
 -- the reply to a call is that of an event, if the book is not full and the reply of its job is
-job_is_event : (jobs : List JobState) (i : ℕ) (made : JobState → Outcome) → ((job : JobState) → is_event (made job).reply ≡ true) → is_event (on_job jobs i made).reply ≡ true
+job_is_event : (jobs : List JobState) (i : ℕ) (made : JobState → JobOutcome) → ((job : JobState) → is_event (made job).reply ≡ true) → is_event (on_job jobs i made).reply ≡ true
 job_is_event jobs i made each = of_job (slice_get jobs i)
   where
-    by_job : Option JobState → Served
+    by_job : Option JobState → JobsOutcome
     by_job found = elim found [
       | None ↦ record { reply = Refused NoSuchJob; jobs = jobs }
       | Some job ↦ record { reply = (made job).reply; jobs = slice_set jobs i (made job).job }
@@ -79,17 +79,17 @@ job_is_event jobs i made each = of_job (slice_get jobs i)
     of_job None = refl
     of_job (Some job) = each job
 
-reply_is_event : (s : BookState) (call : Call) → is_full s ≡ false → is_event (served s call).reply ≡ true → is_event (reply_of s call) ≡ true
+reply_is_event : (s : BookState) (call : Call) → is_full s ≡ false → is_event (outcome_of_call s call).reply ≡ true → is_event (reply_of s call) ≡ true
 reply_is_event s call free is_one =
-    ap is_event (cond-false (is_full s) (Refused HistoryFull) (served s call).reply free) ∙ is_one
+    ap is_event (cond-false (is_full s) (Refused HistoryFull) (outcome_of_call s call).reply free) ∙ is_one
 
 back_is_event : (s : BookState) (lease : Offered) → is_full s ≡ false → is_event (reply_of s (GiveBack lease)) ≡ true
 back_is_event s lease free = reply_is_event s (GiveBack lease) free (job_is_event s.jobs lease.job (giving_back lease) taken)
   where
     taken : (job : JobState) → is_event (giving_back lease job).reply ≡ true
     taken job =
-        let done : Outcome = record { reply = Done; job = record job { done = lease.step; out = None } } in
-        cond_both (is_own lease job) done (refused StrangerLease job) (λ (o : Outcome). is_event o.reply ≡ true) (λ _. refl) (λ _. refl)
+        let done : JobOutcome = record { reply = Done; job = record job { done = lease.step; out = None } } in
+        cond_both (accepts_lease lease job) done (refused StrangerLease job) (λ (o : JobOutcome). is_event o.reply ≡ true) (λ _. refl) (λ _. refl)
 
 order_is_event : (s : BookState) (lease : Offered) → is_full s ≡ false → is_event (reply_of s (OrderCall lease)) ≡ true
 order_is_event s lease free = reply_is_event s (OrderCall lease) free (job_is_event s.jobs lease.job (ordering lease) taken)
@@ -97,33 +97,33 @@ order_is_event s lease free = reply_is_event s (OrderCall lease) free (job_is_ev
     taken : (job : JobState) → is_event (ordering lease job).reply ≡ true
     taken job =
         let refusal = refused StrangerLease job in
-        let told : Outcome = record {
+        let told : JobOutcome = record {
           reply = Ordered lease.job lease.number lease.step (begin_in_force job.sheet lease.step);
           job = record job { high = max job.high (lease.step + 1) };
         } in
-        let going : Outcome = if is_own lease job then told else refusal in
-        let P : Outcome → Type 0 = λ (o : Outcome). is_event o.reply ≡ true in
+        let going : JobOutcome = if accepts_lease lease job then told else refusal in
+        let P : JobOutcome → Type 0 = λ (o : JobOutcome). is_event o.reply ≡ true in
         cond_both (job.cancelled || (lease.step == job.steps)) (refused Ended job) going P (λ _. refl)
-        (λ _. cond_both (is_own lease job) told refusal P (λ _. refl) (λ _. refl))
+        (λ _. cond_both (accepts_lease lease job) told refusal P (λ _. refl) (λ _. refl))
 
 revoke_is_event : (s : BookState) (i : ℕ) → is_full s ≡ false → is_event (reply_of s (Revoke i)) ≡ true
 revoke_is_event s i free = reply_is_event s (Revoke i) free (job_is_event s.jobs i revoking taken)
   where
     taken : (job : JobState) → is_event (revoking job).reply ≡ true
     taken job =
-        let done : Outcome = record { reply = Done; job = record job { out = None } } in
-        cond_both (is_some job.out) done (refused StrangerLease job) (λ (o : Outcome). is_event o.reply ≡ true) (λ _. refl) (λ _. refl)
+        let done : JobOutcome = record { reply = Done; job = record job { out = None } } in
+        cond_both (is_some job.out) done (refused StrangerLease job) (λ (o : JobOutcome). is_event o.reply ≡ true) (λ _. refl) (λ _. refl)
 
 replace_is_event : (s : BookState) (i : ℕ) (rule : Programs) → is_full s ≡ false → is_event (reply_of s (Replace i rule)) ≡ true
 replace_is_event s i rule free = reply_is_event s (Replace i rule) free (job_is_event s.jobs i (replacing rule) taken)
   where
     taken : (job : JobState) → is_event (replacing rule job).reply ≡ true
     taken job =
-        let sheet = entered job.sheet job.high rule in
-        let made : Outcome = record { reply = Number job.high; job = record job { sheet = sheet } } in
-        let full : Outcome = if ltb 1024 (length sheet) then refused SheetFull job else made in
-        let lanes : Outcome = if not (suits rule job.seed.road) then refused LanesMismatch job else full in
-        let P : Outcome → Type 0 = λ (o : Outcome). is_event o.reply ≡ true in
+        let sheet = with_rule_from job.sheet job.high rule in
+        let made : JobOutcome = record { reply = Number job.high; job = record job { sheet = sheet } } in
+        let full : JobOutcome = if ltb 1024 (length sheet) then refused SheetFull job else made in
+        let lanes : JobOutcome = if not (suits rule job.seed.road) then refused LanesMismatch job else full in
+        let P : JobOutcome → Type 0 = λ (o : JobOutcome). is_event o.reply ≡ true in
         cond_both (job.cancelled || (job.high == job.steps)) (refused Ended job) lanes P (λ _. refl)
         (λ _. cond_both (not (suits rule job.seed.road)) (refused LanesMismatch job) full P (λ _. refl)
         (λ _. cond_both (ltb 1024 (length sheet)) (refused SheetFull job) made P (λ _. refl) (λ _. refl)))
@@ -133,11 +133,11 @@ submit_is_event s seed rule steps free = reply_is_event s (Submit seed rule step
   where
     taken : is_event (submitting s.jobs seed rule steps).reply ≡ true
     taken =
-        let lanes : Served = record { reply = Refused LanesMismatch; jobs = s.jobs } in
-        let made : Served = record { reply = Number (length s.jobs); jobs = s.jobs ++ new_job seed rule steps ∷ [] } in
-        let full : Served = record { reply = Refused Full; jobs = s.jobs } in
-        let some : Served = if ltb (length s.jobs) 256 then made else full in
-        let P : Served → Type 0 = λ (o : Served). is_event o.reply ≡ true in
+        let lanes : JobsOutcome = record { reply = Refused LanesMismatch; jobs = s.jobs } in
+        let made : JobsOutcome = record { reply = Number (length s.jobs); jobs = s.jobs ++ new_job seed rule steps ∷ [] } in
+        let full : JobsOutcome = record { reply = Refused Full; jobs = s.jobs } in
+        let some : JobsOutcome = if ltb (length s.jobs) 256 then made else full in
+        let P : JobsOutcome → Type 0 = λ (o : JobsOutcome). is_event o.reply ≡ true in
         cond_both (not (suits rule seed.road)) lanes some P (λ _. refl)
         (λ _. cond_both (ltb (length s.jobs) 256) made full P (λ _. refl) (λ _. refl))
 
@@ -156,8 +156,8 @@ cancel_is_event s i free = reply_is_event s (Cancel i) free (job_is_event s.jobs
   where
     taken : (job : JobState) → is_event (cancelling job).reply ≡ true
     taken job =
-        let done : Outcome = record { reply = Done; job = record job { cancelled = true; out = None } } in
-        cond_both (job.cancelled || (job.done == job.steps)) (refused Ended job) done (λ (o : Outcome). is_event o.reply ≡ true) (λ _. refl) (λ _. refl)
+        let done : JobOutcome = record { reply = Done; job = record job { cancelled = true; out = None } } in
+        cond_both (job.cancelled || (job.done == job.steps)) (refused Ended job) done (λ (o : JobOutcome). is_event o.reply ≡ true) (λ _. refl) (λ _. refl)
 
 call_is_event : (s : BookState) (call : Call) → is_full s ≡ false → is_event (reply_of s call) ≡ true
 call_is_event s (Submit seed rule steps) free = submit_is_event s seed rule steps free
@@ -239,9 +239,9 @@ settled {s} {t} {call} {said} {history} {items} p = by p.ran_out p.free p.memory
         → Stays s t said history items ⊎ Grows s t call said history items
     judged replies leads true is =
         let made : BookState =
-        record { count = s.count + 1; next = next_after s.next (served s call).reply; jobs = (served s call).jobs } in
+        record { count = s.count + 1; next = next_after s.next (outcome_of_call s call).reply; jobs = (outcome_of_call s call).jobs } in
         let refusal : said ≡ Refused HistoryFull =
-        replies ∙ cond-true (is_full s) (Refused HistoryFull) (served s call).reply is in
+        replies ∙ cond-true (is_full s) (Refused HistoryFull) (outcome_of_call s call).reply is in
         let none : is_event said ≡ false = ap is_event refusal in
         inl (record {
           none = none;
@@ -317,9 +317,9 @@ one_answer false true P x y = absurd (false≢true (x.1 (y.0 refl)))
 
 -- a call that offers a lease, with any value of `same` that is right
 pub makes_offered : (call : Offered → Call) (old ready new : Kept) (lease : LeaseState) (same other : Bool) (said : Reply) → IsUnchanged old ready
-    → IsTrue same ↔ IsSame ready.book.jobs lease → IsTrue other ↔ IsSame old.book.jobs lease
+    → IsTrue same ↔ RunsRoadOfItsJob ready.book.jobs lease → IsTrue other ↔ RunsRoadOfItsJob old.book.jobs lease
     → IsPut ready.book new.book (call (offered lease same)) said ready.history.items new.history.items → Records old (call (offered lease other)) said new
 makes_offered call old ready new lease same other said unchanged is is_other p =
-    let mine = subst (λ (b : BookState). IsTrue other ↔ IsSame b.jobs lease) (sym unchanged.book) is_other in
-    let one = one_answer same other (IsSame ready.book.jobs lease) is mine in
+    let mine = subst (λ (b : BookState). IsTrue other ↔ RunsRoadOfItsJob b.jobs lease) (sym unchanged.book) is_other in
+    let one = one_answer same other (RunsRoadOfItsJob ready.book.jobs lease) is mine in
     subst (λ (s : Bool). Records old (call (offered lease s)) said new) one (makes_put old ready new (call (offered lease same)) said unchanged p)

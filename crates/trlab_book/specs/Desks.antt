@@ -5,7 +5,7 @@ use Rattle.trlab_sequential_book.specs.declared.fault.BookFault.{BookFault}
 use Rattle.trlab_sequential_book.specs.declared.book.TheConstants.{MAX_EVENTS}
 use Rattle.trlab_sequential_book.specs.declared.order.Order.{Order}
 use Rattle.trlab_sequential_book.specs.Leases.{LeaseState}
-use Rattle.trlab_sequential_book.specs.Comparison.{IsLent, IsRuleAt, IsSeen}
+use Rattle.trlab_sequential_book.specs.Comparison.{IsFreshIfLent, HasRuleInForce, ShowsJob}
 use Rattle.trlab_sequential_book.specs.Comparison as comparison
 use Rattle.trlab_sequential_book.specs.declared.event.Call.{Call}
 use Rattle.trlab_sequential_book.specs.declared.event.Call.TheVariants as call
@@ -24,141 +24,143 @@ use Rattle.trlab_book.specs.declared.desk.SharedBook.{SharedBook}
 use Rattle.trlab_book.specs.declared.running.RunFault.{RunFault}
 use Rattle.trlab_book.specs.declared.running.RunFault.TheVariants as run
 
--- both are the same shared book, with the same list of events; no other book shares this list
+-- both are the same shared book: their events are in one list, which no other book has
 abbrev pub IsSameBook : {L : Type 0} {ledger : Ghosts L} → SharedBook L ledger → SharedBook L ledger → Type 0
 IsSameBook old new = new.strands.table.shared.table_id ≡ old.strands.table.shared.table_id
 
--- the number of parts of a desk, which are its right to call
+-- the number of parts of a desk, from 1 to 1024; a desk with two or more can be split
 abbrev pub parts_of : {L : Type 0} {ledger : Ghosts L} → Desk L ledger → ℕ
-parts_of d = d.parts
+parts_of desk = desk.parts
 
--- the subhistory of a desk: the events made through it, each with all earlier events of the history
+-- the subhistory of a desk: the events made through it, each with all earlier events of the history. For
+-- example, if the history is [a, b] and a was made through another desk, it is only b after [a]
 abbrev pub subhistory_of : {L : Type 0} {ledger : Ghosts L} → Desk L ledger → List (Noted Event)
-subhistory_of d = strand_events d.strand
+subhistory_of desk = strand_events desk.strand
 
--- the clock of a desk: each event made through it from now on has at least this number
+-- the clock of a desk, which is the number of events that it has seen: each event made through it from now on
+-- has at least this number
 abbrev pub clock_of : {L : Type 0} {ledger : Ghosts L} → Desk L ledger → ℕ
-clock_of d = strand_clock d.strand
+clock_of desk = strand_clock desk.strand
 
--- the desk has now seen at least `count` events, and no fewer than before; its parts and its subhistory are
+-- the desk has now seen at least `count` events, and no fewer than before. Its parts and its subhistory are
 -- unchanged
 abbrev pub HasSeen : {L : Type 0} {ledger : Ghosts L} → Desk L ledger → ℕ → Desk L ledger → Type 0
 HasSeen old count new =
     (parts_of new ≡ parts_of old) × (subhistory_of new ≡ subhistory_of old)
     × (clock_of old ≤ clock_of new) × (count ≤ clock_of new)
 
--- the desk has now seen more events than its own, so its subhistory lacks one; its parts and its subhistory
--- are unchanged
-abbrev pub LacksSome : {L : Type 0} {ledger : Ghosts L} → Desk L ledger → Desk L ledger → Type 0
-LacksSome old new = HasSeen old (length (subhistory_of old) + 1) new
+-- the desk has now seen more events than are in its subhistory, so at least one was made through another
+-- desk. Its parts and its subhistory are unchanged
+abbrev pub LacksEvents : {L : Type 0} {ledger : Ghosts L} → Desk L ledger → Desk L ledger → Type 0
+LacksEvents old new = HasSeen old (length (subhistory_of old) + 1) new
 
--- the effect on a desk of a call that is not an event: if its reply says that the history is full, the desk
--- has now seen a full history; otherwise the desk is unchanged
-abbrev pub IsNoEvent : {L : Type 0} {ledger : Ghosts L} → Desk L ledger → Reply → Desk L ledger → Type 0
-IsNoEvent old told new =
-    MatchBool (is_history_full told) (HasSeen old MAX_EVENTS new) (IsSameStrand old.strand new.strand)
+-- the effect on a desk of a call that is not an event: if the reply is that the history is full, the desk has
+-- now seen a full history, that is MAX_EVENTS events; otherwise the desk is unchanged
+abbrev pub MakesNoEvent : {L : Type 0} {ledger : Ghosts L} → Desk L ledger → Reply → Desk L ledger → Type 0
+MakesNoEvent old reply new =
+    MatchBool (is_history_full reply) (HasSeen old MAX_EVENTS new) (IsSameStrand old.strand new.strand)
 
--- a call is one event: the events before it replay to `book`, the reply is that of this book, and the desk
--- adds the event
-pub record IsOneEvent {L : Type 0} {ledger : Ghosts L} (old : Desk L ledger) (call : Call) (told : Reply)
+-- a call with the reply `answer` is one event: the events before it replay to `book`, the answer is the reply
+-- of this book, and the desk adds the event to its subhistory
+pub record MakesEvent {L : Type 0} {ledger : Ghosts L} (old : Desk L ledger) (call : Call) (answer : Reply)
     (new : Desk L ledger) (book : BookState) : Type 0 where
   pub before : List Event
   pub replays : ∥ Replays before book ∥₁
-  pub reply : told ≡ reply_of book call
-  pub noted : Adds old.strand before (event call told) new.strand
+  pub reply : answer ≡ reply_of book call
+  pub noted : Adds old.strand before (event call answer) new.strand
 
 -- the effect of a call on its desk, which keeps its parts. If the reply makes the call an event, the desk
--- adds this event, and `Holds` is true of the book on which it was made. Otherwise the desk is unchanged,
--- except that it has seen a full history if the reply says that the history is full
-abbrev pub MakesOf : {L : Type 0} {ledger : Ghosts L} → (BookState → Type 0)
+-- adds this event, and `Holds` is true of the book before the call; otherwise `MakesNoEvent` holds
+abbrev pub MakesCallOn : {L : Type 0} {ledger : Ghosts L} → (BookState → Type 0)
     → Desk L ledger → Call → Reply → Desk L ledger → Type 0
-MakesOf Holds old call told new =
+MakesCallOn Holds old call reply new =
     (parts_of new ≡ parts_of old)
-    × MatchBool (is_event told)
-    ((book : BookState) × IsOneEvent old call told new book × Holds book)
-    (IsNoEvent old told new)
+    × MatchBool (is_event reply)
+    ((book : BookState) × MakesEvent old call reply new book × Holds book)
+    (MakesNoEvent old reply new)
 
--- the effect of a call on its desk, on whichever book it was made
+-- the effect of a call on its desk, whatever the book before the call
 abbrev pub Makes : {L : Type 0} {ledger : Ghosts L}
     → Desk L ledger → Call → Reply → Desk L ledger → Type 0
-Makes old call told new = MakesOf (λ book. Unit {0}) old call told new
+Makes old call reply new = MakesCallOn (λ book. Unit {0}) old call reply new
 
--- a desk notes a call that was made after the events `before`, and keeps its parts. If the reply makes the
--- call an event, the desk adds it. If the reply says that the history is full, the desk has now seen all of
--- `before`. Otherwise the desk is unchanged
+-- a desk notes a call that was made after the events `before`. If the reply makes the call an event, the desk
+-- adds it. If the reply is that the history is full, the desk has now seen all of `before`. Otherwise the
+-- desk is unchanged. It always keeps its parts
 abbrev pub NotesCall : {L : Type 0} {ledger : Ghosts L} → Desk L ledger → List Event → Call → Reply
     → Desk L ledger → Type 0
-NotesCall old before call told new =
+NotesCall old before call reply new =
     (parts_of new ≡ parts_of old)
-    × MatchBool (is_event told)
-    (Adds old.strand before (event call told) new.strand)
-    (MatchBool (is_history_full told)
+    × MatchBool (is_event reply)
+    (Adds old.strand before (event call reply) new.strand)
+    (MatchBool (is_history_full reply)
     (CatchesUp old.strand (length before) new.strand)
     (IsSameStrand old.strand new.strand))
 
--- `same` says whether the lease runs the road of its job in the book
+-- `same` is true if and only if the lease runs the road of its job in the book
 abbrev pub SameIsCorrect : LeaseState → Bool → BookState → Type 0
-SameIsCorrect lease same book = IsTrue same ↔ comparison.IsSame book.jobs lease
+SameIsCorrect lease same book = IsTrue same ↔ comparison.RunsRoadOfItsJob book.jobs lease
 
 -- if the call `lease` succeeded and a lease went out, it is a fresh lease of a job of the book, with the
 -- book's next number
 abbrev pub LeaseIsFresh : Result (Option LeaseState) BookFault → BookState → Type 0
-LeaseIsFresh answer book = IfOk answer (λ lent. IsLent book.jobs book.next lent)
+LeaseIsFresh answer book = IfOk answer (λ lent. IsFreshIfLent book.jobs book.next lent)
 
--- `same` says whether the lease runs the road of its job in the book; and if the call `order` succeeded, the
--- order has the rule that is in force at its step in its job's sheet
+-- `same` is true if and only if the lease runs the road of its job in the book; and if the call `order`
+-- succeeded, the order has the rule that is in force at its step in its job's sheet
 abbrev pub OrderMatchesJob : LeaseState → Bool → Result Order BookFault → BookState → Type 0
 OrderMatchesJob lease same answer book =
-    SameIsCorrect lease same book × IfOk answer (λ order. IsRuleAt book.jobs order)
+    SameIsCorrect lease same book × IfOk answer (λ order. HasRuleInForce book.jobs order)
 
--- if the call `read` succeeded, the snapshot is one of the job of the book with number `job`
+-- if the call `read` succeeded, the snapshot is one of the book's job with this number
 abbrev pub ReadShowsJob : ℕ → Result Progress BookFault → BookState → Type 0
-ReadShowsJob job answer book = IfOk answer (λ seen. IsSeen book.jobs job seen)
+ReadShowsJob number answer book = IfOk answer (λ snapshot. ShowsJob book.jobs number snapshot)
 
 -- is this one of the calls that runners make: `lease`, `order`, `give_back` or `revoke`?
-abbrev pub is_of_runner : Call → Bool
-is_of_runner call.Lease = true
-is_of_runner (call.Order lease) = true
-is_of_runner (call.GiveBack lease) = true
-is_of_runner (call.Revoke job) = true
-is_of_runner _ = false
+abbrev pub is_runner_call : Call → Bool
+is_runner_call call.Lease = true
+is_runner_call (call.Order lease) = true
+is_runner_call (call.GiveBack lease) = true
+is_runner_call (call.Revoke job) = true
+is_runner_call _ = false
 
--- all these events are calls that runners make, with numbers from `from` to below `to`
-abbrev pub AreOfRunners : ℕ → ℕ → List (Noted Event) → Type 0
-AreOfRunners from to calls =
-    All (λ n. (from ≤ event_number n) × (event_number n < to) × (is_of_runner n.event.call ≡ true)) calls
+-- all these events are calls that runners make, with numbers from `from` up to, but not including, `to`
+abbrev pub AreRunnerCalls : ℕ → ℕ → List (Noted Event) → Type 0
+AreRunnerCalls from to events =
+    All (λ made. (from ≤ event_number made) × (event_number made < to)
+    × (is_runner_call made.event.call ≡ true)) events
 
--- a desk through which runners have called: it keeps its parts, and its subhistory is the old one, followed
--- by the calls of the runners. In the history these come after all events that the desk had seen, and before
--- all that are made through it from now on
+-- the desk `old` is `new` after runners have called through it: it keeps its parts, and its subhistory is the
+-- old one, followed by the calls of the runners (`more`). In the history these come after all events that the
+-- desk had seen, and before all that are made through it from now on
 pub record AddsRunnerCalls {L : Type 0} {ledger : Ghosts L} (old new : Desk L ledger) : Type 0 where
   pub parts : parts_of new ≡ parts_of old
   pub least : clock_of old ≤ clock_of new
   pub more : List (Noted Event)
   pub subhistory : subhistory_of new ≡ subhistory_of old ++ more
-  pub runners : AreOfRunners (clock_of old) (clock_of new) more
+  pub runners : AreRunnerCalls (clock_of old) (clock_of new) more
 
 -- is this the call `lease`?
 abbrev pub is_lease : Call → Bool
 is_lease call.Lease = true
 is_lease _ = false
 
--- does a reply say that no job is free?
+-- is this the reply that no job is free?
 abbrev pub is_no_lease : Reply → Bool
 is_no_lease NoLease = true
 is_no_lease _ = false
 
--- is an event a lease call that found no free job?
+-- is this event a call of `lease` that found no free job?
 abbrev pub finds_no_job : Event → Bool
-finds_no_job e = is_lease e.call && is_no_lease e.reply
+finds_no_job made = is_lease made.call && is_no_lease made.reply
 
--- the number of lease calls among these events that found no free job
+-- how many of these events are calls of `lease` that found no free job
 abbrev pub no_job_count : List (Noted Event) → ℕ
-no_job_count events = count_by (λ n. finds_no_job n.event) events
+no_job_count events = count_by (λ made. finds_no_job made.event) events
 
--- runners have called through a desk, and have ended. If they succeeded, at least one lease call per runner
--- found no free job; if they ended because the history was full, the desk has seen all of it; if an
--- allocation failed, nothing more is known
+-- the desk `old` is `new` after `runners` runners have called through it and have ended. If all succeeded, at
+-- least one call of `lease` per runner found no free job; if one ended because the history was full, the desk
+-- has seen all of it; if an allocation failed, nothing more is known
 pub record HasEnded {L : Type 0} {ledger : Ghosts L} (runners : ℕ) (ended : Result (Unit {0}) RunFault)
     (old new : Desk L ledger) : Type 0 where
   pub on : AddsRunnerCalls old new

@@ -1,4 +1,4 @@
--- The effect of a call on a book with its history.
+-- The effect of a call on a book with its history. `reply` is always the reply to the caller.
 use Rattle.std.specs.Prelude.{◌≡◌, ◌↔◌, true, List, ◌++◌, ◌∷◌, [], MatchBool}
 use Rattle.trlab_sequential_book.specs.declared.fault.BookFault.TheVariants.{HistoryFull}
 use Rattle.trlab_sequential_book.specs.declared.event.Call.{Call}
@@ -10,28 +10,28 @@ use Rattle.trlab_sequential_book.specs.Machine.{after, is_full, reply_of}
 use Rattle.trlab_sequential_book.specs.Answers.{is_event}
 use Rattle.trlab_sequential_book.specs.Replay.{event}
 
--- the call `c` is appended to the history, with the machine's reply, which is also the reply `told` to the
--- caller; the book is the machine's after the call
-pub record Appends (old : Kept) (c : Call) (told : Reply) (new : Kept) : Type 0 where
-  pub history : new.history.items ≡ old.history.items ++ event c (reply_of old.book c) ∷ []
-  pub book : new.book ≡ after old.book c
-  pub answered : told ≡ reply_of old.book c
+-- the call is appended to the history as one event, with the reply of the machine, which is also the reply to
+-- the caller; and the book is the machine's after the call
+pub record Appends (old : Kept) (call : Call) (reply : Reply) (new : Kept) : Type 0 where
+  pub history : new.history.items ≡ old.history.items ++ event call (reply_of old.book call) ∷ []
+  pub book : new.book ≡ after old.book call
+  pub answered : reply ≡ reply_of old.book call
 
 -- the book and its history are as before
 pub record IsUnchanged (old new : Kept) : Type 0 where
   pub history : new.history.items ≡ old.history.items
   pub book : new.book ≡ old.book
 
--- a call with the reply `told` is appended to the history if it is an event; any other call changes nothing
+-- a call with this reply is appended to the history if it is an event; any other call changes nothing
 abbrev pub Records : Kept → Call → Reply → Kept → Type 0
-Records old c told new = MatchBool (is_event told) (Appends old c told new) (IsUnchanged old new)
+Records old call reply new = MatchBool (is_event reply) (Appends old call reply new) (IsUnchanged old new)
 
--- a call with the reply `told` was made after the events `before`: if it is an event, the history is now
--- `before` followed by it; if not, the history is `before`
+-- a call with this reply was made after the events `before`: if it is an event, the history is now `before`
+-- and then this event; otherwise the history is still `before`
 abbrev pub WasMadeAfter : List Event → Call → Reply → Kept → Type 0
-WasMadeAfter before c told kept = MatchBool (is_event told)
-    (kept.history.items ≡ before ++ event c told ∷ []) (kept.history.items ≡ before)
+WasMadeAfter before call reply kept = MatchBool (is_event reply)
+    (kept.history.items ≡ before ++ event call reply ∷ []) (kept.history.items ≡ before)
 
--- the call is refused as `HistoryFull` exactly if the history was full
+-- a call is refused as `HistoryFull` if and only if the history was full before it
 abbrev pub RefusesIfFull : Kept → Reply → Type 0
-RefusesIfFull old told = (told ≡ Refused HistoryFull) ↔ (is_full old.book ≡ true)
+RefusesIfFull old reply = (reply ≡ Refused HistoryFull) ↔ (is_full old.book ≡ true)

@@ -2,7 +2,7 @@
 
 ghost use Rattle.std.specs.Prelude.{◌≡◌, ◌+◌, ◌-◌, ◌<◌, ◌≤◌, ◌^◌, ◌++◌, [], Bool, false, max, min, length, IfOk, IfErr, IsOk};
 ghost use Rattle.trlab_strands.specs.Knowledge.{IsLinearization};
-ghost use Rattle.trlab_strands.specs.Tokens.{list_of, name_of, strand_events, strand_parts};
+ghost use Rattle.trlab_strands.specs.Tokens.{keeper_list, name_of, strand_events, strand_parts};
 ghost use Rattle.trlab_strands.specs.declared.knowledge.TheConstants.{ALL_PARTS};
 ghost use Rattle.trlab_sequential_book.specs.declared.event.Reply.TheVariants.{Refused};
 
@@ -19,7 +19,7 @@ use trlab_strands::{ALL_PARTS, Blank, Keeper, Ledger, Strand, Strands};
 struct Locked<L: Ledger> {
     kept: Kept,
     keeper: Keeper<L, Event>,
-    ghost noted: { kept.history.items ≡ list_of keeper },
+    ghost noted: { kept.history.items ≡ keeper_list keeper },
 }
 
 /// A book that threads share. Each call takes the lock once. It becomes one event of the history and of the desk's
@@ -79,11 +79,11 @@ impl<L: Ledger> Desk<L> {
         kept: &Kept,
         before: usize,
     )
-        requires { before ≡ length (list_of keeper.old) }
-        ensures { (call : Call) (told : Reply) → WasMadeAfter (list_of keeper.old) call told kept.now
+        requires { before ≡ length (keeper_list keeper.old) }
+        ensures { (call : Call) (told : Reply) → WasMadeAfter (keeper_list keeper.old) call told kept.now
             → (is_event told ≡ false → is_history_full told ≡ is_full kept.now.book)
-            → (kept.now.history.items ≡ list_of keeper.new)
-            × NotesCall self.old (list_of keeper.old) call told self.new }
+            → (kept.now.history.items ≡ keeper_list keeper.new)
+            × NotesCall self.old (keeper_list keeper.old) call told self.new }
     {
         if let Some(event) = kept.history.get(before) {
             keeper.note(strands, &mut self.strand, event);
@@ -95,14 +95,14 @@ impl<L: Ledger> Desk<L> {
 }
 
 impl<L: Ledger> SharedBook<L> {
-    ghost use Rattle.trlab_sequential_book.specs.Answers.{back_reply, done_reply, is_event, lease_reply};
-    ghost use Rattle.trlab_sequential_book.specs.Answers.{number_reply, order_reply, seen_reply};
+    ghost use Rattle.trlab_sequential_book.specs.Answers.{give_back_reply, done_reply, is_event, lease_reply};
+    ghost use Rattle.trlab_sequential_book.specs.Answers.{number_reply, order_reply, read_reply};
     ghost use Rattle.trlab_sequential_book.specs.Comparison.{LeaseCall, OrderCall, offered};
     ghost use Rattle.trlab_sequential_book.specs.Replay.{Replays};
     ghost use Rattle.trlab_sequential_book.specs.declared.event.Call.TheVariants.{Cancel, GiveBack, Read};
     ghost use Rattle.trlab_sequential_book.specs.declared.event.Call.TheVariants.{Replace, Revoke, Submit};
-    ghost use Rattle.trlab_book.specs.Desks.{IsNoEvent, LeaseIsFresh, OrderMatchesJob, ReadShowsJob, IsSameBook, LacksSome};
-    ghost use Rattle.trlab_book.specs.Desks.{Makes, MakesOf, SameIsCorrect, clock_of, parts_of, subhistory_of};
+    ghost use Rattle.trlab_book.specs.Desks.{MakesNoEvent, LeaseIsFresh, OrderMatchesJob, ReadShowsJob, IsSameBook, LacksEvents};
+    ghost use Rattle.trlab_book.specs.Desks.{Makes, MakesCallOn, SameIsCorrect, clock_of, parts_of, subhistory_of};
 
     /// An empty book, and the desk with all 1024 parts. Only the blank takes memory.
     pub fn start(alloc: Global, blank: Blank<Event>) -> (SharedBook<L>, Desk<L>)
@@ -132,7 +132,7 @@ impl<L: Ledger> SharedBook<L> {
     pub fn close(self, desk: Desk<L>) -> Result<(Book, Vec<Event>), (SharedBook<L>, Desk<L>)>
         ensures order { IfOk result (λ r. IsLinearization r.1.items (subhistory_of desk)) }
         ensures replays { IfOk result (λ r. ∥ Replays r.1.items r.0 ∥₁) }
-        ensures err { IfErr result (λ r. LacksSome desk r.1) }
+        ensures err { IfErr result (λ r. LacksEvents desk r.1) }
         ensures book { IfErr result (λ r. IsSameBook self r.0) }
         ensures whole { parts_of desk ≡ ALL_PARTS → IsOk result }
     {
@@ -221,7 +221,7 @@ impl<L: Ledger> SharedBook<L> {
     /// Refuses a call that was not made because an allocation failed.
     fn refuse_without_memory<R: Wait>(&self, rt: &R, desk: &mut Desk<L>) -> BookFault
         ensures none { is_event (Refused result) ≡ false }
-        ensures desk { (parts_of desk.new ≡ parts_of desk.old) × IsNoEvent desk.old (Refused result) desk.new }
+        ensures desk { (parts_of desk.new ≡ parts_of desk.old) × MakesNoEvent desk.old (Refused result) desk.new }
     {
         let mut guard = self.lock.lock(rt);
         let Locked { kept, keeper } = &mut *guard;
@@ -270,7 +270,7 @@ impl<L: Ledger> SharedBook<L> {
         alloc: Global,
         desk: &mut Desk<L>,
     ) -> Result<Option<Lease>, BookFault>
-        ensures { MakesOf (LeaseIsFresh result) desk.old LeaseCall (lease_reply result) desk.new }
+        ensures { MakesCallOn (LeaseIsFresh result) desk.old LeaseCall (lease_reply result) desk.new }
     {
         let mut guard = self.lock.lock(rt);
         let Locked { kept, keeper } = &mut *guard;
@@ -293,7 +293,7 @@ impl<L: Ledger> SharedBook<L> {
         lease: &Lease,
     ) -> Result<Order, BookFault>
         ensures { (same : Bool)
-            × MakesOf (OrderMatchesJob lease.now same result) desk.old
+            × MakesCallOn (OrderMatchesJob lease.now same result) desk.old
             (OrderCall (offered lease.now same)) (order_reply result) desk.new }
     {
         let mut guard = self.lock.lock(rt);
@@ -316,8 +316,8 @@ impl<L: Ledger> SharedBook<L> {
         lease: Lease,
     ) -> Result<(), (Lease, BookFault)>
         ensures made { (same : Bool)
-            × MakesOf (SameIsCorrect lease same) desk.old
-            (GiveBack (offered lease same)) (back_reply result) desk.new }
+            × MakesCallOn (SameIsCorrect lease same) desk.old
+            (GiveBack (offered lease same)) (give_back_reply result) desk.new }
         ensures err { IfErr result (λ e. e.0 ≡ lease) }
     {
         let mut guard = self.lock.lock(rt);
@@ -372,7 +372,7 @@ impl<L: Ledger> SharedBook<L> {
         desk: &mut Desk<L>,
         job: u32,
     ) -> Result<Snapshot, BookFault>
-        ensures { MakesOf (ReadShowsJob job result) desk.old (Read job) (seen_reply result) desk.new }
+        ensures { MakesCallOn (ReadShowsJob job result) desk.old (Read job) (read_reply result) desk.new }
     {
         let mut guard = self.lock.lock(rt);
         let Locked { kept, keeper } = &mut *guard;

@@ -4,9 +4,9 @@ ghost use Rattle.std.specs.Prelude.{◌≡◌, ◌↔◌, ◌<◌, ◌++◌, ◌
 ghost use Rattle.std.specs.Prelude.{IfOk, IfErr, OnOk, vec_len};
 ghost use Rattle.std.specs.Bool.{OnTrue};
 ghost use Rattle.std.specs.Vec.{vec_capacity};
-ghost use Rattle.trlab_sequential_book.specs.Answers.{back_reply, done_reply, is_event, lease_reply};
-ghost use Rattle.trlab_sequential_book.specs.Answers.{number_reply, order_reply, seen_reply};
-ghost use Rattle.trlab_sequential_book.specs.Comparison.{IsLent, IsRuleAt, IsSame, IsSeen};
+ghost use Rattle.trlab_sequential_book.specs.Answers.{give_back_reply, done_reply, is_event, lease_reply};
+ghost use Rattle.trlab_sequential_book.specs.Answers.{number_reply, order_reply, read_reply};
+ghost use Rattle.trlab_sequential_book.specs.Comparison.{IsFreshIfLent, HasRuleInForce, RunsRoadOfItsJob, ShowsJob};
 ghost use Rattle.trlab_sequential_book.specs.Comparison.{LeaseCall, OrderCall, offered};
 ghost use Rattle.trlab_sequential_book.specs.Machine.{is_full, empty_book};
 ghost use Rattle.trlab_sequential_book.specs.Replay.{Replays, event};
@@ -110,10 +110,10 @@ impl Kept {
     ///
     /// # Errors
     ///
-    /// Those of `Book::lease`; `Memory` also if the history cannot grow.
+    /// The errors of `Book::lease`; also `Memory` if there is no memory for one more event.
     pub fn lease(&mut self, alloc: Global) -> Result<Option<Lease>, BookFault>
         ensures made { Records self.old LeaseCall (lease_reply result) self.new }
-        ensures lent { IfOk result (λ o. IsLent self.old.book.jobs self.old.book.next o) }
+        ensures lent { IfOk result (λ o. IsFreshIfLent self.old.book.jobs self.old.book.next o) }
         ensures full { RefusesIfFull self.old (lease_reply result) }
     {
         self.make_room()?;
@@ -129,12 +129,12 @@ impl Kept {
     ///
     /// Those of `Book::order`; `Memory` also if the history cannot grow.
     pub fn order(&mut self, _: Global, lease: &Lease) -> Result<Order, BookFault>
-        ensures made { (same : Bool) → (IsTrue same ↔ IsSame self.old.book.jobs lease.now)
+        ensures made { (same : Bool) → (IsTrue same ↔ RunsRoadOfItsJob self.old.book.jobs lease.now)
             → Records self.old (OrderCall (offered lease.now same)) (order_reply result) self.new }
-        ensures rule { IfOk result (λ o. IsRuleAt self.old.book.jobs o) }
+        ensures rule { IfOk result (λ o. HasRuleInForce self.old.book.jobs o) }
         ensures full { RefusesIfFull self.old (order_reply result) }
         ensures noted { (same : Bool)
-            × OnTrue (is_event (order_reply result)) (IsTrue same ↔ IsSame self.old.book.jobs lease.now)
+            × OnTrue (is_event (order_reply result)) (IsTrue same ↔ RunsRoadOfItsJob self.old.book.jobs lease.now)
             × Records self.old (OrderCall (offered lease.now same)) (order_reply result) self.new }
     {
         self.make_room()?;
@@ -152,13 +152,13 @@ impl Kept {
     ///
     /// Those of `Book::give_back`, or `Memory` if the history cannot grow, with the lease.
     pub fn give_back(&mut self, lease: Lease) -> Result<(), (Lease, BookFault)>
-        ensures made { (same : Bool) → (IsTrue same ↔ IsSame self.old.book.jobs lease)
-            → Records self.old (GiveBack (offered lease same)) (back_reply result) self.new }
+        ensures made { (same : Bool) → (IsTrue same ↔ RunsRoadOfItsJob self.old.book.jobs lease)
+            → Records self.old (GiveBack (offered lease same)) (give_back_reply result) self.new }
         ensures err { IfErr result (λ e. e.0 ≡ lease) }
-        ensures full { RefusesIfFull self.old (back_reply result) }
+        ensures full { RefusesIfFull self.old (give_back_reply result) }
         ensures noted { (same : Bool)
-            × OnTrue (is_event (back_reply result)) (IsTrue same ↔ IsSame self.old.book.jobs lease)
-            × Records self.old (GiveBack (offered lease same)) (back_reply result) self.new }
+            × OnTrue (is_event (give_back_reply result)) (IsTrue same ↔ RunsRoadOfItsJob self.old.book.jobs lease)
+            × Records self.old (GiveBack (offered lease same)) (give_back_reply result) self.new }
     {
         if let Err(fault) = self.make_room() {
             return Err((lease, fault));
@@ -209,9 +209,9 @@ impl Kept {
     ///
     /// Those of `Book::read`; `Memory` also if the history cannot grow.
     pub fn read(&mut self, alloc: Global, job: u32) -> Result<Snapshot, BookFault>
-        ensures made { Records self.old (Read job) (seen_reply result) self.new }
-        ensures seen { IfOk result (λ s. IsSeen self.old.book.jobs job s) }
-        ensures full { RefusesIfFull self.old (seen_reply result) }
+        ensures made { Records self.old (Read job) (read_reply result) self.new }
+        ensures seen { IfOk result (λ s. ShowsJob self.old.book.jobs job s) }
+        ensures full { RefusesIfFull self.old (read_reply result) }
     {
         self.make_room()?;
         let answer = self.book.read(alloc, job);
@@ -329,7 +329,7 @@ fn reply_to_order(answer: &Result<Order, BookFault>) -> Reply
 }
 
 fn reply_to_back(answer: &Result<(), (Lease, BookFault)>) -> Reply
-    ensures { result ≡ back_reply answer.now }
+    ensures { result ≡ give_back_reply answer.now }
 {
     match answer {
         Ok(()) => Reply::Done,
@@ -338,7 +338,7 @@ fn reply_to_back(answer: &Result<(), (Lease, BookFault)>) -> Reply
 }
 
 fn reply_to_read(answer: &Result<Snapshot, BookFault>) -> Reply
-    ensures { result ≡ seen_reply answer.now }
+    ensures { result ≡ read_reply answer.now }
 {
     match answer {
         Ok(seen) => Reply::Seen {

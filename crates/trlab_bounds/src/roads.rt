@@ -1,6 +1,6 @@
 //! The limits of roads, and of the numbers that cars see.
 
-/// The maximum speed limit of a road, in cells per step.
+/// The maximum speed limit of a road, in cells per step: the highest speed that one character can show, `z`.
 pub const MAX_LIMIT: u32 = 35;
 
 /// The maximum number of cells of a lane.

@@ -5,13 +5,13 @@ use Rattle.std.proofs.Math.Nat.{mul-div-mul_right}
 use Rattle.std.proofs.lemmas.List.Sums.{sum_by-cons}
 use Rattle.trlab_diagram.specs.declared.point.Point.{Point}
 use Rattle.trlab_road.specs.Cells.{Cells, Lane, cars}
-use Rattle.trlab_road.specs.Spreading.{CanSpread, IsEven}
+use Rattle.trlab_road.specs.Spreading.{CanSpread, IsEvenlySpaced}
 use Rattle.trlab_road.proofs.EvenRoads.{even_count, even_legal}
 use Rattle.trlab_texts.specs.Reading.{Fault}
 use Rattle.trlab_jobs.specs.declared.sweep.Shape.{Shape}
 use Rattle.trlab_jobs.specs.Shapes.{all_steps}
-use Rattle.trlab_jobs.specs.Stored.{IsStoredSweep, Spreads}
-use Rattle.trlab_jobs.specs.Sweep.{Setup, Sweep, SweepText}
+use Rattle.trlab_jobs.specs.Stored.{IsStoredSweep, CanSpreadOn}
+use Rattle.trlab_jobs.specs.Sweep.{Setup, Sweep, ParsesAsSweep}
 use Rattle.trlab_jobs.proofs.OneSweep.{one_thing, says_stored}
 use Rattle.trlab_traffic.specs.Capacity.{all_cells as cells_of_road, capacity, empty_cells, lane_cells}
 use Rattle.trlab_traffic.proofs.Capacities.{run_keeps_to_capacity}
@@ -34,7 +34,7 @@ equal_lanes (lane ∷ lanes) n equal =
     let split = sum_by-cons lane_cells lane lanes in
     omega (arith, first, rest, split)
 
-even_cells : (lanes cells limit n : ℕ) (road : Cells) → IsEven lanes cells limit n road → cells_of_road road ≡ lanes * cells
+even_cells : (lanes cells limit n : ℕ) (road : Cells) → IsEvenlySpaced lanes cells limit n road → cells_of_road road ≡ lanes * cells
 even_cells lanes cells limit n road even =
     equal_lanes road.lanes cells (λ l h. (even.each_lane l (subst (λ k. l < k) even.same_lanes h)).same_length) ∙ ap (λ k. k * cells) even.same_lanes
 
@@ -61,7 +61,7 @@ flow_below_peak distance cells steps limit some_cell some_step low =
     subst (λ k. k ≤ limit * 1000000 / (limit + 1)) e within
 
 -- the road of a point at the start: what its cars can go, by the counts of cells and cars
-module _ (shape : Shape) (count : ℕ) (start : Cells) (fits : Spreads shape count) (even : IsEven shape.lanes shape.cells shape.limit count start) where
+module _ (shape : Shape) (count : ℕ) (start : Cells) (fits : CanSpreadOn shape count) (even : IsEvenlySpaced shape.lanes shape.cells shape.limit count start) where
   all_cars : cars start ≡ count
   all_cars = even_count shape.lanes shape.cells shape.limit count start fits even
 
@@ -77,7 +77,7 @@ module _ (shape : Shape) (count : ℕ) (start : Cells) (fits : Spreads shape cou
 
 module _ (common : Setup) (counted : 1 ≤ common.span.measure) where
   -- what is told of one point
-  told_within : (number cars : ℕ) (point : Point) → Spreads common.shape cars → IsPoint common number cars point → IsUnderTriangle common.shape.limit point
+  told_within : (number cars : ℕ) (point : Point) → CanSpreadOn common.shape cars → IsPoint common number cars point → IsUnderTriangle common.shape.limit point
   told_within number count point fits is =
       let shape = common.shape in
       let span = common.span in
@@ -99,7 +99,7 @@ module _ (common : Setup) (counted : 1 ≤ common.span.measure) where
       })
 
   -- and that it is below the peak
-  told_below_peak : (number cars : ℕ) (point : Point) → Spreads common.shape cars → IsPoint common number cars point → IsNotAbovePeak common.shape.limit point
+  told_below_peak : (number cars : ℕ) (point : Point) → CanSpreadOn common.shape cars → IsPoint common number cars point → IsNotAbovePeak common.shape.limit point
   told_below_peak number count point fits is =
       let shape = common.shape in
       let span = common.span in
@@ -116,7 +116,7 @@ module _ (common : Setup) (counted : 1 ≤ common.span.measure) where
       })
 
   -- and how far its moving cars went
-  told_by_moving_cars : (number cars : ℕ) (point : Point) → Spreads common.shape cars → IsPoint common number cars point → HasBoundedMovingSpeed common.shape.limit point
+  told_by_moving_cars : (number cars : ℕ) (point : Point) → CanSpreadOn common.shape cars → IsPoint common number cars point → HasBoundedMovingSpeed common.shape.limit point
   told_by_moving_cars number count point fits is =
       let shape = common.shape in
       let span = common.span in
@@ -132,8 +132,8 @@ module _ (common : Setup) (counted : 1 ≤ common.span.measure) where
       subst (HasBoundedMovingSpeed shape.limit) (sym is.told) (record { cell_each = cell_each; limit_each = limit_each })
 
 -- what is so of each point of a sweep, once it is told of any
-module _ (IsSo : ℕ → Point → Type 0) (told : (common : Setup) → 1 ≤ common.span.measure → (number cars : ℕ) (point : Point) → Spreads common.shape cars → IsPoint common number cars point → IsSo common.shape.limit point) where
-  each_point : (text : List ℕ) (sweep : Sweep) (points : List Point) → SweepText text (Ok sweep) → ArePoints sweep points → All (IsSo sweep.setup.shape.limit) points
+module _ (IsSo : ℕ → Point → Type 0) (told : (common : Setup) → 1 ≤ common.span.measure → (number cars : ℕ) (point : Point) → CanSpreadOn common.shape cars → IsPoint common number cars point → IsSo common.shape.limit point) where
+  each_point : (text : List ℕ) (sweep : Sweep) (points : List Point) → ParsesAsSweep text (Ok sweep) → ArePoints sweep points → All (IsSo sweep.setup.shape.limit) points
   each_point text sweep points says are =
       let found = says_stored text in
       let same = one_thing text found.0 (Ok sweep) found.1.0 says in
@@ -158,13 +158,13 @@ flow_is distance cells steps each some far =
     ap (λ k. k * 1000000 / (cells * steps)) far ∙ ap (λ k. k / (cells * steps)) e ∙ mul-div-mul_right (each * 1000000) cells some
 
 module _ (text : List ℕ) (common : Setup) (counted : 1 ≤ common.span.measure) (is_nasch : IsNasch 0 common.rule) (without : AsksForTriangle text common) where
-  on_triangle : (number cars : ℕ) (point : Point) → Spreads common.shape cars → IsPoint common number cars point → IsOnTriangle common.shape.limit point
+  on_triangle : (number cars : ℕ) (point : Point) → CanSpreadOn common.shape cars → IsPoint common number cars point → IsOnTriangle common.shape.limit point
   on_triangle number count point fits is =
       let shape = common.shape in
       let span = common.span in
       let one = without.lanes in
       let alone = subst (λ lanes. CanSpread lanes shape.cells shape.limit count) one fits in
-      let even = subst (λ lanes. IsEven lanes shape.cells shape.limit count is.start) one is.even in
+      let even = subst (λ lanes. IsEvenlySpaced lanes shape.cells shape.limit count is.start) one is.even in
       let gone = even_cars_flow_at_capacity shape.cells shape.limit count common.rule (point_seed common number is.start) (all_steps span) is.counted.0 is.tally is_nasch alone even without.warm is.counted.1 in
       let steps : span.warm + span.measure - span.warm ≡ span.measure = omega arith in
       let empty = empty_at_start shape count is.start fits is.even in

@@ -16,9 +16,9 @@ use Rattle.trlab_step.specs.Next.{IsNext}
 use Rattle.trlab_step.specs.Run.{Seed, Sheet, ComesTo, IsRoadAt, IsTallyAt, dice_at, tally_sum}
 use Rattle.trlab_step.proofs.NextLaws.{next_road_is_one}
 use Rattle.trlab_step.proofs.RunLaws.{run_comes_to_road, road_is_one, road_at_is_one}
-use Rattle.trlab_step.specs.Progress.{Progress, IsUnderway}
-use Rattle.trlab_campaign.specs.Counting.{IsBoundedCount, IsStepsLater}
-use Rattle.trlab_campaign.specs.SeriesOutput.{AreRoads, IsCourse, IsStepAt, cars_on, lane_count, roads_after, speed_on, stopped_on, tallies_from, window_of}
+use Rattle.trlab_step.specs.Progress.{Progress, IsReachedByRun}
+use Rattle.trlab_campaign.specs.Counting.{IsBoundedCount, IsLaterBy}
+use Rattle.trlab_campaign.specs.SeriesOutput.{AreRoads, IsCourse, IsStepAt, cars_on, lane_count, roads_after, total_speed_on, stopped_on, tallies_from, window_of}
 
 -- a run that has come to a step came there by one more step
 last_step : (seed : Seed) (sheet : Sheet) (step : ℕ) (before after : Cells) (sum : StepTally) (comes : ComesTo seed sheet (suc step) after sum) → comes.0 ≡ before
@@ -96,16 +96,16 @@ module _ (seed : Seed) (sheet : Sheet) (roads : ℕ → Cells) (tallies : ℕ �
 
 -- what stands on a lane after one step more
 pub lane_more : (lane : ℕ) (roads : ℕ → Cells) (first done : ℕ) (road : Cells) (old now new : LaneCount) → old ≡ lane_count lane (roads_after roads first done)
-    → roads (first + 1 + done) ≡ road → now.cars ≡ cars_on lane road → now.distance ≡ speed_on lane road → now.stopped ≡ stopped_on lane road
+    → roads (first + 1 + done) ≡ road → now.cars ≡ cars_on lane road → now.distance ≡ total_speed_on lane road → now.stopped ≡ stopped_on lane road
     → new.cars ≡ old.cars + now.cars → new.distance ≡ old.distance + now.distance → new.stopped ≡ old.stopped + now.stopped
     → new ≡ lane_count lane (roads_after roads first (done + 1))
 lane_more lane roads first done road old now new is here cars distance stopped a b c =
     let p = sum_by-map-range_with_len_more (cars_on lane) roads (first + 1) done (first + 1 + done) refl in
-    let q = sum_by-map-range_with_len_more (speed_on lane) roads (first + 1) done (first + 1 + done) refl in
+    let q = sum_by-map-range_with_len_more (total_speed_on lane) roads (first + 1) done (first + 1 + done) refl in
     let r = sum_by-map-range_with_len_more (stopped_on lane) roads (first + 1) done (first + 1 + done) refl in
     counts_are new (lane_count lane (roads_after roads first (done + 1)))
     (a ∙ ap (λ n. n + now.cars) (ap (λ (l : LaneCount). l.cars) is) ∙ ap (λ n. (lane_count lane (roads_after roads first done)).cars + n) (cars ∙ ap (cars_on lane) (sym here)) ∙ sym p)
-    (b ∙ ap (λ n. n + now.distance) (ap (λ (l : LaneCount). l.distance) is) ∙ ap (λ n. (lane_count lane (roads_after roads first done)).distance + n) (distance ∙ ap (speed_on lane) (sym here)) ∙ sym q)
+    (b ∙ ap (λ n. n + now.distance) (ap (λ (l : LaneCount). l.distance) is) ∙ ap (λ n. (lane_count lane (roads_after roads first done)).distance + n) (distance ∙ ap (total_speed_on lane) (sym here)) ∙ sym q)
     (c ∙ ap (λ n. n + now.stopped) (ap (λ (l : LaneCount). l.stopped) is) ∙ ap (λ n. (lane_count lane (roads_after roads first done)).stopped + n) (stopped ∙ ap (stopped_on lane) (sym here)) ∙ sym r)
   where
     counts_are : (x y : LaneCount) → x.cars ≡ y.cars → x.distance ≡ y.distance → x.stopped ≡ y.stopped → x ≡ y
@@ -187,8 +187,8 @@ few_more steps old now new few more a b c =
     record { cars = omega (arith, a, d, g); distance = omega (arith, b, e, h); stopped = omega (arith, c, f, i) }
 
 -- a run that went on for some steps, by its sums of tallies
-module _ (old new : Progress) (count : ℕ) (before : StepTally) (on : IsStepsLater count old new) (counts : old.seed.warm ≡ 0)
-    (tally : IsTallyAt old.seed old.sheet old.step before) (under : IsUnderway new) where
+module _ (old new : Progress) (count : ℕ) (before : StepTally) (on : IsLaterBy count old new) (counts : old.seed.warm ≡ 0)
+    (tally : IsTallyAt old.seed old.sheet old.step before) (under : IsReachedByRun new) where
   pub run_since : (roads : ℕ → Cells) (tallies : ℕ → StepTally) → IsCourse old.seed old.sheet roads tallies → IsSumSince (tallies_from tallies old.step count) before new.sum
   run_since roads tallies course =
       let comes : ComesTo old.seed old.sheet new.step new.road new.sum = rw (← on.same_seed, ← on.same_sheet) under.comes in

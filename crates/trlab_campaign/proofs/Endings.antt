@@ -4,9 +4,9 @@ use Rattle.std.specs.Prelude.{Option, None, Some, IfSome, Result, Ok, Err}
 use Rattle.trlab_campaign.specs.declared.end.End.{End}
 use Rattle.trlab_campaign.specs.declared.end.End.TheVariants.{Done, Refused, Memory, DeviceFault}
 use Rattle.trlab_bounds.specs.declared.texts.TheConstants.{TEXT_LIMIT}
-use Rattle.trlab_texts.specs.Reading.{Fault, TextSays}
+use Rattle.trlab_texts.specs.Reading.{Fault, TextParsesTo}
 use Rattle.trlab_campaign.specs.Device.{IsInputOrTooLong}
-use Rattle.trlab_campaign.specs.Refusal.{OutputOfText, Outputs, fault_line}
+use Rattle.trlab_campaign.specs.Refusal.{IsOutputForText, Outputs, fault_line}
 use Rattle.std.proofs.lemmas.Bool.{false≢true, lt-ltb}
 use Rattle.std.proofs.lemmas.Option.{IfSome_then}
 use Rattle.trlab_campaign.specs.declared.device.Sink as Sink
@@ -53,19 +53,19 @@ engine_ends_among source sink own whole e before after old new among ends = reco
 
 -- what is written for what a text says, where it has no fault
 pub said_ends : {A : Type 0} (Says : List ℕ → Result A Fault → Type 0) (Output : A → Outputs) (e : End) (text : List ℕ) (x : A) (old new : SinkBytes)
-    → Says text (Ok x) → WroteAtEnd (Output x) e old new → WroteAtEnd (OutputOfText Says Output text) e old new
-said_ends Says Output e text x old new says ends = ends_among (Output x) (OutputOfText Says Output text) e old new (λ refused out is. (Ok x, (says, is))) ends
+    → Says text (Ok x) → WroteAtEnd (Output x) e old new → WroteAtEnd (IsOutputForText Says Output text) e old new
+said_ends Says Output e text x old new says ends = ends_among (Output x) (IsOutputForText Says Output text) e old new (λ refused out is. (Ok x, (says, is))) ends
 
 -- the refusal of a text with a fault
 pub refusal_ends : {A : Type 0} (Says : List ℕ → Result A Fault → Type 0) (Output : A → Outputs) (e : End) (text : List ℕ) (fault : Fault) (old new : SinkBytes)
-    → Says text (Err fault) → WroteOutputAtEnd true (fault_line fault) e old new → WroteAtEnd (OutputOfText Says Output text) e old new
+    → Says text (Err fault) → WroteOutputAtEnd true (fault_line fault) e old new → WroteAtEnd (IsOutputForText Says Output text) e old new
 refusal_ends Says Output e text fault old new says ends =
-    output_ends (OutputOfText Says Output text) true (fault_line fault) e old new (Err fault, (says, (refl, refl))) ends
+    output_ends (IsOutputForText Says Output text) true (fault_line fault) e old new (Err fault, (says, (refl, refl))) ends
 
 -- an input says what was read of it says
 pub read_says : {A : Type 0} (Says : List ℕ → Result A Fault → Type 0) (text input : List ℕ) (says : Result A Fault)
-    → IsInputOrTooLong text input → TextSays Says text says → TextSays Says input says
-read_says Says text input says (inl same) is = subst (λ (t : List ℕ). TextSays Says t says) same is
+    → IsInputOrTooLong text input → TextParsesTo Says text says → TextParsesTo Says input says
+read_says Says text input says (inl same) is = subst (λ (t : List ℕ). TextParsesTo Says t says) same is
 read_says Says text input says (inr long) is =
     rw (lt-ltb TEXT_LIMIT (length input) long.1) (rw (lt-ltb TEXT_LIMIT (length text) long.0) at is)
 

@@ -4,55 +4,55 @@ use Rattle.std.specs.Prelude.{Result, Ok, Err, IfOk}
 use Rattle.trlab_diagram.specs.declared.point.Point.{Point}
 use Rattle.trlab_road.specs.Cells.{Cells}
 use Rattle.trlab_road.specs.Legal.{IsLegal}
-use Rattle.trlab_road.specs.Spreading.{IsEven}
+use Rattle.trlab_road.specs.Spreading.{IsEvenlySpaced}
 use Rattle.trlab_road.proofs.EvenRoads.{one_even}
 use Rattle.trlab_step.specs.Laws.{IsRuleFor}
 use Rattle.trlab_step.proofs.Driving.{runs_are_driven}
 use Rattle.trlab_step.proofs.RunLaws.{run_comes_to_road}
 use Rattle.trlab_texts.specs.Reading.{Fault}
-use Rattle.trlab_jobs.specs.Job.{Job, JobText, seed_of, sheet_of}
+use Rattle.trlab_jobs.specs.Job.{Job, ParsesAsJob, seed_of, sheet_of}
 use Rattle.trlab_jobs.specs.Shapes.{all_steps}
-use Rattle.trlab_jobs.specs.Stored.{IsStoredJob, IsStoredSweep, Spreads}
-use Rattle.trlab_jobs.specs.Sweep.{Setup, Sweep, SweepText}
+use Rattle.trlab_jobs.specs.Stored.{IsStoredJob, IsStoredSweep, CanSpreadOn}
+use Rattle.trlab_jobs.specs.Sweep.{Setup, Sweep, ParsesAsSweep}
 use Rattle.trlab_jobs.proofs.OneText as jobs
 use Rattle.trlab_jobs.proofs.OneSweep as sweeps
 use Rattle.trlab_jobs.proofs.OneSweep.{says_stored}
 use Rattle.trlab_jobs.proofs.OneText.{says_plain}
 use Rattle.trlab_campaign.specs.Headline.{IsDrivenJob, IsDrivenPoint, IsDrivenSweep, JobTextsAreDriven, SweepTextsAreDriven}
 use Rattle.trlab_campaign.specs.Output.{JobOutput}
-use Rattle.trlab_campaign.specs.Refusal.{OutputFor}
+use Rattle.trlab_campaign.specs.Refusal.{IsOutputForResult}
 use Rattle.trlab_campaign.specs.SweepOutput.{IsPoint, SweepOutput}
 use Rattle.trlab_campaign.specs.SweepOutput as sweep
 use Rattle.trlab_campaign.proofs.Points.{suits}
 use Rattle.trlab_campaign.proofs.Sheets.{plain_sheet}
 use Rattle.trlab_campaign.proofs.SomePoints.{even_some}
 
-drives_job : (shown : ℕ → Bool) (text out : List ℕ) (says : Result Job Fault) → JobText text says → IfOk says IsStoredJob → OutputFor (JobOutput shown) says false out → IsDrivenJob shown text out
-drives_job shown text out (Ok job) says stored output =
+drives_job : (shown : ℕ → Bool) (text out : List ℕ) (parsed_as : Result Job Fault) → ParsesAsJob text parsed_as → IfOk parsed_as IsStoredJob → IsOutputForResult (JobOutput shown) parsed_as false out → IsDrivenJob shown text out
+drives_job shown text out (Ok job) parsed_as stored output =
     let roads = output.1.0 in
     let is = output.1.1 in
     record {
       job = job;
-      says = says;
+      parsed_as = parsed_as;
       roads = roads;
       driven = runs_are_driven (seed_of job) (sheet_of job) job.steps roads stored.legal (plain_sheet job stored) is.road_at;
       pictures = is.pictures;
     }
-drives_job shown text out (Err fault) says stored output = absurd (true≢false (sym output.0))
+drives_job shown text out (Err fault) parsed_as stored output = absurd (true≢false (sym output.0))
 
 pub job_texts_are_driven : JobTextsAreDriven
 job_texts_are_driven shown text out is =
     let found = says_plain text in
     let same = jobs.one_thing text is.0 found.0 is.1.0 found.1.0 in
-    drives_job shown text out found.0 found.1.0 found.1.1 (subst (λ (says : Result Job Fault). OutputFor (JobOutput shown) says false out) same is.1.1)
+    drives_job shown text out found.0 found.1.0 found.1.1 (subst (λ (parsed_as : Result Job Fault). IsOutputForResult (JobOutput shown) parsed_as false out) same is.1.1)
 
 -- the road on which cars are evenly spread is legal
-even_is_legal : (setup : Setup) (cars : ℕ) (road : Cells) → Spreads setup.shape cars → IsEven setup.shape.lanes setup.shape.cells setup.shape.limit cars road → IsLegal road
+even_is_legal : (setup : Setup) (cars : ℕ) (road : Cells) → CanSpreadOn setup.shape cars → IsEvenlySpaced setup.shape.lanes setup.shape.cells setup.shape.limit cars road → IsLegal road
 even_is_legal setup cars road fits even =
     let found = even_some setup.shape.lanes setup.shape.cells setup.shape.limit cars fits in
     subst IsLegal (one_even setup.shape.lanes setup.shape.cells setup.shape.limit cars found.0 road found.1.0 even) found.1.1
 
-drives_point : (setup : Setup) (number cars : ℕ) (point : Point) → IsRuleFor setup.shape.lanes setup.rule → Spreads setup.shape cars
+drives_point : (setup : Setup) (number cars : ℕ) (point : Point) → IsRuleFor setup.shape.lanes setup.rule → CanSpreadOn setup.shape cars
     → IsPoint setup number cars point → IsDrivenPoint setup number cars point
 drives_point setup number cars point rule fits is =
     let seed = sweep.point_seed setup number is.start in
@@ -70,22 +70,22 @@ drives_point setup number cars point rule fits is =
       told = is.told;
     }
 
-drives_sweep : (text out : List ℕ) (says : Result Sweep Fault) → SweepText text says → IfOk says IsStoredSweep → OutputFor SweepOutput says false out → IsDrivenSweep text out
-drives_sweep text out (Ok said) says stored output =
+drives_sweep : (text out : List ℕ) (parsed_as : Result Sweep Fault) → ParsesAsSweep text parsed_as → IfOk parsed_as IsStoredSweep → IsOutputForResult SweepOutput parsed_as false out → IsDrivenSweep text out
+drives_sweep text out (Ok parsed_sweep) parsed_as stored output =
     let points = output.1.0 in
     let are = output.1.1.0 in
     record {
-      said = said;
-      says = says;
+      parsed_sweep = parsed_sweep;
+      parsed_as = parsed_as;
       points = points;
       one_each = are.one_each;
-      each = λ i cars point inside. drives_point said.setup i _ _ stored.rule (stored.spreads i cars inside) (are.each i cars point inside);
+      each = λ i cars point inside. drives_point parsed_sweep.setup i _ _ stored.rule (stored.spreads i cars inside) (are.each i cars point inside);
       table = output.1.1.1;
     }
-drives_sweep text out (Err fault) says stored output = absurd (true≢false (sym output.0))
+drives_sweep text out (Err fault) parsed_as stored output = absurd (true≢false (sym output.0))
 
 pub sweep_texts_are_driven : SweepTextsAreDriven
 sweep_texts_are_driven text out is =
     let found = says_stored text in
     let same = sweeps.one_thing text is.0 found.0 is.1.0 found.1.0 in
-    drives_sweep text out found.0 found.1.0 found.1.1 (subst (λ (says : Result Sweep Fault). OutputFor SweepOutput says false out) same is.1.1)
+    drives_sweep text out found.0 found.1.0 found.1.1 (subst (λ (parsed_as : Result Sweep Fault). IsOutputForResult SweepOutput parsed_as false out) same is.1.1)

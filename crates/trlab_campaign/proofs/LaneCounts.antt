@@ -7,9 +7,9 @@ use Rattle.trlab_road.specs.declared.car.Car.{Car}
 use Rattle.trlab_road.specs.LaneCars.{LaneCar}
 use Rattle.trlab_road.specs.Cells.{Lane, Cells}
 use Rattle.trlab_road.specs.InLine.{IsLineOf}
-use Rattle.trlab_road.specs.Standing.{standing, standing_from, standing_lanes}
+use Rattle.trlab_road.specs.Standing.{standing, standing_from, standing_from_lane}
 use Rattle.trlab_road.specs.Stored.{car_on}
-use Rattle.trlab_campaign.specs.SeriesOutput.{cars_on, is_on, speed_on, stopped_on}
+use Rattle.trlab_campaign.specs.SeriesOutput.{cars_on, is_on, total_speed_on, stopped_on}
 
 -- a number of each car on a lane, 0 for the others
 abbrev pub on : ℕ → (Car → ℕ) → Car → ℕ
@@ -65,26 +65,26 @@ none_on lane other s f (Some car ∷ cells) apart =
     let rest = none_on lane other (suc s) f cells apart in
     omega (arith, a, one, rest)
 
-none_later : (lane base : ℕ) (f : Car → ℕ) (lanes : List Lane) → lane < base → sum_by (on lane f) (standing_lanes base lanes) ≡ 0
+none_later : (lane base : ℕ) (f : Car → ℕ) (lanes : List Lane) → lane < base → sum_by (on lane f) (standing_from_lane base lanes) ≡ 0
 none_later lane base f [] low = refl
 none_later lane base f (cells ∷ lanes) low =
-    let a = sum_by-append (on lane f) (standing_from base 0 cells) (standing_lanes (suc base) lanes) in
+    let a = sum_by-append (on lane f) (standing_from base 0 cells) (standing_from_lane (suc base) lanes) in
     let b = none_on lane base 0 f cells (λ e. omega (arith, low, e)) in
     let rest = none_later lane (suc base) f lanes (omega (arith, low)) in
     omega (arith, a, b, rest)
 
 -- what is counted on a lane of some lanes, of which the first has a number
-lane_alone : (lane l base : ℕ) (f : Car → ℕ) (lanes : List Lane) → lane ≡ base + l → sum_by (on lane f) (standing_lanes base lanes) ≡ sum_by f (standing_from lane 0 (get_or lanes l []))
+lane_alone : (lane l base : ℕ) (f : Car → ℕ) (lanes : List Lane) → lane ≡ base + l → sum_by (on lane f) (standing_from_lane base lanes) ≡ sum_by f (standing_from lane 0 (get_or lanes l []))
 lane_alone lane l base f [] is = refl
 lane_alone lane zero base f (cells ∷ lanes) is =
     let same : lane ≡ base = omega (arith, is) in
-    let a = sum_by-append (on lane f) (standing_from base 0 cells) (standing_lanes (suc base) lanes) in
+    let a = sum_by-append (on lane f) (standing_from base 0 cells) (standing_from_lane (suc base) lanes) in
     let here : sum_by (on lane f) (standing_from base 0 cells) ≡ sum_by f (standing_from lane 0 cells)
     = subst (λ (m : ℕ). sum_by (on lane f) (standing_from m 0 cells) ≡ sum_by f (standing_from lane 0 cells)) same (all_on lane 0 f cells) in
     let rest = none_later lane (suc base) f lanes (omega (arith, same)) in
     omega (arith, a, here, rest)
 lane_alone lane (suc l) base f (cells ∷ lanes) is =
-    let a = sum_by-append (on lane f) (standing_from base 0 cells) (standing_lanes (suc base) lanes) in
+    let a = sum_by-append (on lane f) (standing_from base 0 cells) (standing_from_lane (suc base) lanes) in
     let none = none_on lane base 0 f cells (λ e. omega (arith, is, e)) in
     let rest = lane_alone lane l (suc base) f lanes (omega (arith, is)) in
     omega (arith, a, none, rest)
@@ -102,7 +102,7 @@ module _ (road : Cells) (lane : ℕ) (past : length road.lanes ≤ lane) where
   pub no_cars_on : cars_on lane road ≡ 0
   no_cars_on = none (λ (car : Car). 1)
 
-  pub no_speed_on : speed_on lane road ≡ 0
+  pub no_speed_on : total_speed_on lane road ≡ 0
   no_speed_on = none (λ (car : Car). car.speed)
 
   pub none_stopped_on : stopped_on lane road ≡ 0
@@ -127,7 +127,7 @@ module _ (road : Cells) (lane : ℕ) (line : List LaneCar) (is : IsLineOf road l
   pub line_cars : length line ≡ cars_on lane road
   line_cars = sym (ones line) ∙ of_line (λ (car : Car). 1)
 
-  pub line_speed : sum_by (λ (car : LaneCar). car.speed) line ≡ speed_on lane road
+  pub line_speed : sum_by (λ (car : LaneCar). car.speed) line ≡ total_speed_on lane road
   line_speed = of_line (λ (car : Car). car.speed)
 
   pub line_stopped : count_by (λ (car : LaneCar). nat_eq car.speed 0) line ≡ stopped_on lane road

@@ -9,7 +9,7 @@ use Rattle.trlab_road.specs.Cells.{Cells, cars}
 use Rattle.trlab_road.specs.Legal.{IsLegal}
 use Rattle.trlab_road.specs.Standing.{standing}
 use Rattle.trlab_road.proofs.MotionLaws.{on_lane}
-use Rattle.trlab_road.proofs.StandingOrder.{length-standing_lanes, standing_cell}
+use Rattle.trlab_road.proofs.StandingOrder.{length-standing_from_lane, standing_cell}
 use Rattle.trlab_step.specs.declared.tally.StepTally.{StepTally}
 use Rattle.trlab_step.specs.Laws.{IsLegalLike}
 use Rattle.trlab_step.specs.Next.{stopped_cars, total_speed}
@@ -19,7 +19,7 @@ use Rattle.trlab_jobs.specs.Job.{Job, seed_of, sheet_of}
 use Rattle.trlab_jobs.specs.Stored.{IsStoredJob}
 use Rattle.trlab_jobs.proofs.OneText.{one_thing, says_plain}
 use Rattle.trlab_campaign.specs.SeriesLaws.{LanesAddUp, LanesOfSeriesAddUp}
-use Rattle.trlab_campaign.specs.SeriesOutput.{AreRoads, IsCourse, IsSeries, cars_on, first_windows, is_on, lane_count, nth_window, roads_after, speed_on, stopped_on, tallies_from, window_of}
+use Rattle.trlab_campaign.specs.SeriesOutput.{AreRoads, IsCourse, IsSeries, cars_on, first_windows, is_on, lane_count, nth_window, roads_after, total_speed_on, stopped_on, tallies_from, window_of}
 use Rattle.trlab_campaign.proofs.LaneCounts.{both_tests, ones, same_sum}
 use Rattle.trlab_campaign.proofs.Sheets.{plain_sheet}
 
@@ -44,7 +44,7 @@ split_sum f (x ∷ xs) low =
 -- each car of a legal road stands on lane 0 or on lane 1
 on_two : (road : Cells) → IsLegal road → (k : ℕ) (d : Car) → k < length (standing road) → (get_or (standing road) k d).lane < 2
 on_two road legal k d inside =
-    let count = length-standing_lanes 0 road.lanes in
+    let count = length-standing_from_lane 0 road.lanes in
     let car = get_or (standing road) k d in
     let on = on_lane road car.lane car.place (car.number, car.speed) (standing_cell road k d (omega (arith, inside, count))) in
     let few = legal.shape.lanes.few_lanes in
@@ -52,9 +52,9 @@ on_two road legal k d inside =
 
 -- what stands on both lanes of a legal road
 both_cars : (road : Cells) → IsLegal road → cars_on 0 road + cars_on 1 road ≡ cars road
-both_cars road legal = split_sum (λ (car : Car). 1) (standing road) (on_two road legal) ∙ ones (standing road) ∙ length-standing_lanes 0 road.lanes
+both_cars road legal = split_sum (λ (car : Car). 1) (standing road) (on_two road legal) ∙ ones (standing road) ∙ length-standing_from_lane 0 road.lanes
 
-both_speeds : (road : Cells) → IsLegal road → speed_on 0 road + speed_on 1 road ≡ total_speed road
+both_speeds : (road : Cells) → IsLegal road → total_speed_on 0 road + total_speed_on 1 road ≡ total_speed road
 both_speeds road legal = split_sum (λ (car : Car). car.speed) (standing road) (on_two road legal)
 
 both_stopped : (road : Cells) → IsLegal road → stopped_on 0 road + stopped_on 1 road ≡ stopped_cars road
@@ -80,8 +80,8 @@ module _ (seed : Seed) (sheet : Sheet) (roads : ℕ → Cells) (tallies : ℕ �
       → (lane_count 0 (roads_after roads first count)).distance + (lane_count 1 (roads_after roads first count)).distance ≡ sum_by (λ (tally : StepTally). tally.distance) (tallies_from tallies first count)
   all_speeds first zero = refl
   all_speeds first (suc count) =
-      let a = sum_by-cons (speed_on 0) (roads (first + 1)) (roads_after roads (first + 1) count) in
-      let b = sum_by-cons (speed_on 1) (roads (first + 1)) (roads_after roads (first + 1) count) in
+      let a = sum_by-cons (total_speed_on 0) (roads (first + 1)) (roads_after roads (first + 1) count) in
+      let b = sum_by-cons (total_speed_on 1) (roads (first + 1)) (roads_after roads (first + 1) count) in
       let c = sum_by-cons (λ (tally : StepTally). tally.distance) (tallies first) (tallies_from tallies (first + 1) count) in
       let here = both_speeds (roads (first + 1)) (legal (first + 1)) in
       let told = (course.step_at first).next.1.distance in

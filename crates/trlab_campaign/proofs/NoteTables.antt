@@ -10,20 +10,20 @@ use Rattle.trlab_code.specs.Program.{Program}
 use Rattle.trlab_notes.specs.Notes.{with_side}
 use Rattle.trlab_verify.specs.declared.note.Mark.TheVariants.{Unset}
 use Rattle.trlab_verify.specs.declared.note.Note.{Note as Form}
-use Rattle.trlab_verify.specs.TableForm.{empty_form, meaning, meaning_at, said_of, table_of}
+use Rattle.trlab_verify.specs.TableForm.{empty_form, meaning, meaning_at, mark_value, table_of}
 use Rattle.trlab_verify.specs.Incoming.{note_at}
-use Rattle.trlab_verify.specs.Tables.{AreVerdictNotes, blank}
-use Rattle.trlab_campaign.specs.NoteLines.{maybe_note_line, note_line, notes_text, said_text}
+use Rattle.trlab_verify.specs.Tables.{AreVerdictNotes, empty_note}
+use Rattle.trlab_campaign.specs.NoteLines.{maybe_note_line, note_line, notes_text, abstract_value_text}
 use Rattle.trlab_asm.specs.declared.names.TheConstants.{REGISTERS}
 use Rattle.trlab_campaign.proofs.Lines.{next_whole, pieces_agree}
 
 -- what a form says of a register
 abbrev pub marked_text : Form → Register → List ℕ
-marked_text form register = said_text register (with_side form.side (said_of (slice_index_or form.regs (register_number register) Unset)))
+marked_text form register = abstract_value_text register (with_side form.side (mark_value (slice_index_or form.regs (register_number register) Unset)))
 
 -- of what a form says of the registers the next was put after a text
 pub next_marked : (form : Form) (i number : ℕ) (d : Register) (old new : List ℕ) → i < length REGISTERS → number ≡ register_number (get_or REGISTERS i d)
-    → new ≡ old ++ said_text (get_or REGISTERS i d) (with_side form.side (said_of (slice_index_or form.regs number Unset)))
+    → new ≡ old ++ abstract_value_text (get_or REGISTERS i d) (with_side form.side (mark_value (slice_index_or form.regs number Unset)))
     → new ++ flat_map (marked_text form) (drop (i + 1) REGISTERS) ≡ old ++ flat_map (marked_text form) (drop i REGISTERS)
 next_marked form i number d old new inside is added =
     next_whole (marked_text form) REGISTERS i d old new _ inside (rw is refl) added
@@ -34,7 +34,7 @@ pub table_lines : (program : Program) (forms : List Form) → AreVerdictNotes pr
 table_lines program forms are =
     let count : length forms ≡ length program.instrs = sym (length-map forms (meaning program.kind)) ∙ are.one_each in
     let agree = pieces_agree (λ pc. note_line pc (meaning_at program.kind forms pc)) (λ pc. maybe_note_line pc (note_at program.kind program.instrs pc)) 0 (length forms)
-    (λ pc below. sym (ap (maybe_note_line pc) (are.each pc (omega (arith, count)) ∙ ap Some (get_or-map (meaning program.kind) forms pc empty_form blank (omega arith))))) in
+    (λ pc below. sym (ap (maybe_note_line pc) (are.each pc (omega (arith, count)) ∙ ap Some (get_or-map (meaning program.kind) forms pc empty_form empty_note (omega arith))))) in
     agree ∙ ap (λ n. flat_map (λ pc. maybe_note_line pc (note_at program.kind program.instrs pc)) (range_with_len 0 n)) count
 
 -- the parts of a note's line were put after a text

@@ -3,13 +3,13 @@ use Rattle.std.proofs.Common.{ℕ, zero, suc, ◌+◌, ◌∷◌, [], arith}
 use Rattle.std.specs.Prelude.{All, length}
 use Rattle.trlab_rules.specs.Rules.{Programs}
 use Rattle.trlab_step.specs.Laws.{IsRuleFor, IsSheetFor}
-use Rattle.trlab_step.specs.Run.{Sheet, Rises}
+use Rattle.trlab_step.specs.Run.{Sheet, StepsIncreaseFrom}
 use Rattle.trlab_step.proofs.Sheets.{with_is_sheet, with_all}
 use Rattle.trlab_jobs.specs.Job.{Job, sheet_of}
 use Rattle.trlab_jobs.specs.Stored.{AreLaterRules, IsStoredJob}
 
 -- the steps of later rules rise
-pub later_rise : (lanes steps least : ℕ) (later : Sheet) → AreLaterRules lanes steps least later → Rises least later
+pub later_rise : (lanes steps least : ℕ) (later : Sheet) → AreLaterRules lanes steps least later → StepsIncreaseFrom least later
 later_rise lanes steps least [] kept = tt
 later_rise lanes steps least (entry ∷ later) kept = (kept.0, later_rise lanes steps (entry.0 + 1) later kept.1.1.1)
 

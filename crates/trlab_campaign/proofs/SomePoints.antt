@@ -6,7 +6,7 @@ use Rattle.trlab_diagram.specs.Table.{points_text}
 use Rattle.trlab_road.specs.Cells.{Cells}
 use Rattle.trlab_road.specs.Legal.{IsLegal}
 use Rattle.trlab_road.specs.Laws.{EvenCarsMean}
-use Rattle.trlab_road.specs.Spreading.{CanSpread, IsEven}
+use Rattle.trlab_road.specs.Spreading.{CanSpread, IsEvenlySpaced}
 use Rattle.trlab_road.specs.declared.fault.RoadFault.{RoadFault}
 use Rattle.trlab_road.proofs.EvenRoads.{no_fault}
 use Rattle.trlab_road.proofs.EvenExists.{something}
@@ -15,23 +15,23 @@ use Rattle.trlab_step.proofs.RunLaws.{run_comes_to_road}
 use Rattle.trlab_texts.specs.Reading.{Fault}
 use Rattle.trlab_jobs.specs.Shapes.{all_steps}
 use Rattle.trlab_jobs.specs.Sweep.{Setup, Sweep}
-use Rattle.trlab_jobs.specs.Stored.{Spreads, IsStoredSweep}
+use Rattle.trlab_jobs.specs.Stored.{CanSpreadOn, IsStoredSweep}
 use Rattle.trlab_jobs.proofs.OneSweep.{says_stored}
-use Rattle.trlab_campaign.specs.Refusal.{OutputFor, fault_line}
+use Rattle.trlab_campaign.specs.Refusal.{IsOutputForResult, fault_line}
 use Rattle.trlab_campaign.specs.SweepOutput.{IsPoint, ArePoints, SweepOutput, point_of, point_seed, sweep_sheet, IsSweepOutput}
 use Rattle.trlab_campaign.specs.Laws.{HasSomeOutput}
 use Rattle.trlab_campaign.proofs.Points.{suits}
 
 -- a road on which cars that fit are evenly spread
-pub even_some : (lanes cells limit n : ℕ) → CanSpread lanes cells limit n → (road : Cells) × (IsEven lanes cells limit n road × IsLegal road)
+pub even_some : (lanes cells limit n : ℕ) → CanSpread lanes cells limit n → (road : Cells) × (IsEvenlySpaced lanes cells limit n road × IsLegal road)
 even_some lanes cells limit n fits = let said = something lanes cells limit n in of_said said.0 said.1
   where
-    of_said : (said : Result Cells RoadFault) → EvenCarsMean lanes cells limit n said → (road : Cells) × (IsEven lanes cells limit n road × IsLegal road)
+    of_said : (said : Result Cells RoadFault) → EvenCarsMean lanes cells limit n said → (road : Cells) × (IsEvenlySpaced lanes cells limit n road × IsLegal road)
     of_said (Ok road) says = (road, (says.1, says.2))
     of_said (Err fault) says = absurd (says.1 (no_fault lanes cells limit n fault fits says.0))
 
 -- a point of a sweep for any number and count of cars that fits
-point_some : (common : Setup) (number cars : ℕ) → IsRuleFor common.shape.lanes common.rule → Spreads common.shape cars → (point : Point) × IsPoint common number cars point
+point_some : (common : Setup) (number cars : ℕ) → IsRuleFor common.shape.lanes common.rule → CanSpreadOn common.shape cars → (point : Point) × IsPoint common number cars point
 point_some common number cars rule fits =
     let start = even_some common.shape.lanes common.shape.cells common.shape.limit cars fits in
     let sheet = suits (length start.0.lanes) common (rw start.1.0.same_lanes rule) in
@@ -51,7 +51,7 @@ in_front common number count point cars points one rest = record { one_each = om
     each_of zero c p inside = let same : number + 0 ≡ number = omega arith in rw same one
     each_of (suc i) c p inside = let same : number + suc i ≡ number + 1 + i = omega arith in rw same (rest.each i c p (omega arith))
 
-points_some : (common : Setup) (number : ℕ) (cars : List ℕ) → IsRuleFor common.shape.lanes common.rule → All (Spreads common.shape) cars
+points_some : (common : Setup) (number : ℕ) (cars : List ℕ) → IsRuleFor common.shape.lanes common.rule → All (CanSpreadOn common.shape) cars
     → (points : List Point) × PointsFrom common number cars points
 points_some common number [] rule fit = ([], record { one_each = refl; each = λ i c p inside. absurd (omega arith) })
 points_some common number (count ∷ cars) rule fit =
@@ -67,7 +67,7 @@ from_start sweep points from = record {
       subst (λ (n : ℕ). IsPoint sweep.setup n (get_or sweep.cars i cars) (get_or points i point)) same (from.each i cars point inside);
 }
 
-output_some : (says : Result Sweep Fault) → IfOk says IsStoredSweep → (refused : Bool) × (out : List ℕ) × OutputFor SweepOutput says refused out
+output_some : (says : Result Sweep Fault) → IfOk says IsStoredSweep → (refused : Bool) × (out : List ℕ) × IsOutputForResult SweepOutput says refused out
 output_some (Ok sweep) stored =
     let points = points_some sweep.setup 0 sweep.cars stored.rule stored.spreads in
     (false, points_text points.0, (refl, (points.0, (from_start sweep points.0 points.1, refl))))

@@ -10,15 +10,15 @@ use Rattle.trlab_rules.proofs.NaschRuns.{nasch_moves}
 use Rattle.trlab_bounds.specs.declared.texts.TheConstants.{TEXT_LIMIT}
 use Rattle.trlab_texts.specs.declared.fault.Cause.{Cause}
 use Rattle.trlab_texts.specs.Lines.{Rest, all_lines}
-use Rattle.trlab_texts.specs.Reading.{Fault, Continues, LineSays, Reading, SizedTextSays, at_line, before, exactly, line_with_rest, line, say, ◌>>=◌}
+use Rattle.trlab_texts.specs.Reading.{Fault, Continues, LineParsesTo, Reading, SizedTextParsesTo, at_line, before, exactly, line_with_rest, line, say, ◌>>=◌}
 use Rattle.trlab_jobs.specs.declared.rule_line.RuleLine.{RuleLine}
 use Rattle.trlab_jobs.specs.declared.rule_line.RuleLine.TheVariants.{Nasch}
 use Rattle.trlab_jobs.specs.Counts.{counts}
 use Rattle.trlab_jobs.specs.Job.{key_line, limit_line}
 use Rattle.trlab_jobs.specs.RuleLines.{rule_line}
-use Rattle.trlab_jobs.specs.RuleParts.{MotionSays, rule, rule_from}
+use Rattle.trlab_jobs.specs.RuleParts.{IsMotionRule, rule, rule_from}
 use Rattle.trlab_jobs.specs.Shapes.{cell_count, all_steps, lanes_line, length_line, shape, span}
-use Rattle.trlab_jobs.specs.Sweep.{Setup, Sweep, SweepLinesSay, SweepText, sweep_heading, setup, sweep_line, with_counts}
+use Rattle.trlab_jobs.specs.Sweep.{Setup, Sweep, SweepLinesParseTo, ParsesAsSweep, sweep_heading, setup, sweep_line, with_counts}
 use Rattle.trlab_jobs.proofs.SweepLines.{after_cells, after_key, after_limit, after_rule, after_shape}
 use Rattle.trlab_asm.specs.Results.{map_ok}
 use Rattle.trlab_campaign.specs.Capacity.{stated_rule}
@@ -47,7 +47,7 @@ record Line {A : Type 0} (says : List ℕ → Result A Cause) (left : List (List
   said : says (get_or left 0 []) ≡ Ok x
   behind : (k : ℕ) → get_or left (1 + k) [] ≡ get_or after.left k []
 
-one_line : {A : Type 0} (says : List ℕ → Result A Cause) (number : ℕ) (left : List (List ℕ)) (x : A) (after : Rest) → LineSays (exactly says) number left (Ok (x, after)) → Line says left x after
+one_line : {A : Type 0} (says : List ℕ → Result A Cause) (number : ℕ) (left : List (List ℕ)) (x : A) (after : Rest) → LineParsesTo (exactly says) number left (Ok (x, after)) → Line says left x after
 one_line says number [] x after told = absurd (cc told)
 one_line {A = A} says number (text ∷ left) x after told = of_said told.0 told.1.0 told.1.1
   where
@@ -93,7 +93,7 @@ shape_takes =
     (λ cells. then_takes (line (exactly lanes_line)) (λ lanes. say (record { limit = limit; cells = cells; lanes = lanes })) 1 0 (line_takes lanes_line) (λ lanes. say_takes _)))
 
 -- a line that states the rule of 1992 gives it
-is_nasch : (p : ℕ) (first : Programs) → MotionSays (nasch_program p) (Ok first) → IsNasch p first
+is_nasch : (p : ℕ) (first : Programs) → IsMotionRule (nasch_program p) (Ok first) → IsNasch p first
 is_nasch p first says = record {
   motion = record {
     same = says.0.0;
@@ -106,7 +106,7 @@ is_nasch p first says = record {
 nasch_from : (p number lanes : ℕ) (rest after : Rest) (first : Programs) → rule_from lanes number (Nasch p) rest (Ok (first, after)) → IsNasch p first
 nasch_from p number lanes rest after first told = of_said told.0 told.1.0 told.1.1
   where
-    of_said : (said : Result Programs Cause) → MotionSays (nasch_program p) said → Ok (first, after) ≡ before rest (at_line number said) → IsNasch p first
+    of_said : (said : Result Programs Cause) → IsMotionRule (nasch_program p) said → Ok (first, after) ≡ before rest (at_line number said) → IsNasch p first
     of_said (Ok other) says out = subst (IsNasch p) (sym (ok_parts first other after rest out).0) (is_nasch p other says)
     of_said (Err cause) says out = absurd (cc out)
 
@@ -130,7 +130,7 @@ setup_is p rest after common stated told =
     let same : first.x ≡ common.rule = sym (ap (λ (s : Setup). s.rule) (ok_parts common whole after steps.after steps.two).0) in
     subst (IsNasch p) same there
 
-lines_are : (p : ℕ) (text : List ℕ) (sweep : Sweep) → stated_rule text ≡ Ok (Nasch p) → SweepLinesSay text (Ok sweep) → IsNasch p sweep.setup.rule
+lines_are : (p : ℕ) (text : List ℕ) (sweep : Sweep) → stated_rule text ≡ Ok (Nasch p) → SweepLinesParseTo text (Ok sweep) → IsNasch p sweep.setup.rule
 lines_are p text sweep stated says = of_found says.0 says.1.0 says.1.1
   where
     of_counts : (common : Setup) (cars : Result (List ℕ) Fault) → IsNasch p common.rule → Ok sweep ≡ map_ok (λ cars. record { setup = common; cars = cars }) cars → IsNasch p sweep.setup.rule
@@ -142,9 +142,9 @@ lines_are p text sweep stated says = of_found says.0 says.1.0 says.1.1
         of_counts found.0 (counts (cell_count found.0.shape) (all_steps found.0.span) found.1.number found.1.left) (setup_is p (all_lines text) found.1 found.0 stated told) out
     of_found (Err fault) told out = absurd (cc out)
 
-pub stated_nasch : (p : ℕ) (text : List ℕ) (sweep : Sweep) → stated_rule text ≡ Ok (Nasch p) → SweepText text (Ok sweep) → IsNasch p sweep.setup.rule
+pub stated_nasch : (p : ℕ) (text : List ℕ) (sweep : Sweep) → stated_rule text ≡ Ok (Nasch p) → ParsesAsSweep text (Ok sweep) → IsNasch p sweep.setup.rule
 stated_nasch p text sweep stated says = of_size (nat_lt TEXT_LIMIT (length text)) says
   where
-    of_size : (big : Bool) → SizedTextSays SweepLinesSay big text (Ok sweep) → IsNasch p sweep.setup.rule
+    of_size : (big : Bool) → SizedTextParsesTo SweepLinesParseTo big text (Ok sweep) → IsNasch p sweep.setup.rule
     of_size true told = absurd (cc told)
     of_size false told = lines_are p text sweep stated told

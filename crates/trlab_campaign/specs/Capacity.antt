@@ -7,19 +7,20 @@ use Rattle.trlab_texts.specs.declared.fault.Cause.{Cause}
 use Rattle.trlab_jobs.specs.declared.rule_line.RuleLine.{RuleLine}
 use Rattle.trlab_jobs.specs.declared.rule_line.RuleLine.TheVariants.{Nasch}
 use Rattle.trlab_jobs.specs.RuleLines.{rule_line}
-use Rattle.trlab_jobs.specs.Sweep.{Setup, Sweep, SweepText}
+use Rattle.trlab_jobs.specs.Sweep.{Setup, Sweep, ParsesAsSweep}
 use Rattle.trlab_campaign.specs.SweepOutput.{ArePoints}
 
 -- the number of empty cells at a point
 abbrev pub empty_cells_at : Point → ℕ
 empty_cells_at point = point.cells - point.cars
 
--- the capacity at a point, a bound for the distance of a step: the limit times the number of cars, or the
--- number of empty cells, whichever is smaller
+-- the capacity at a point, an upper bound for the distance of all cars in a step: the limit times the number
+-- of cars, or the number of empty cells, whichever is smaller. For example, with the limit 5, 10 cars on 100
+-- cells have the capacity 50, and 30 cars 70
 abbrev pub capacity_at : ℕ → Point → ℕ
 capacity_at limit point = min (limit * point.cars) (empty_cells_at point)
 
--- the flow at a point if each step has this distance, in millionths, rounded down
+-- the flow at a point, in millionths, rounded down, if the distance is this in every step
 abbrev pub steady_flow : Point → ℕ → ℕ
 steady_flow point distance = distance * 1000000 / point.cells
 
@@ -33,60 +34,61 @@ pub record IsUnderTriangle (limit : ℕ) (point : Point) : Type 0 where
   pub flow_by_empty_cells : flow_of point ≤ steady_flow point (empty_cells_at point)
   pub flow_by_limit : flow_of point ≤ steady_flow point (limit * point.cars)
 
--- each point of a sweep text's table is under the triangle or on it, under any rule that the text may state
+-- every point of every sweep's table is under the triangle or on it, under any rule
 abbrev pub SweepsKeepToCapacity : Type 0
 SweepsKeepToCapacity =
     (text : List ℕ) (sweep : Sweep) (points : List Point)
-    → SweepText text (Ok sweep) → ArePoints sweep points
+    → ParsesAsSweep text (Ok sweep) → ArePoints sweep points
     → All (IsUnderTriangle sweep.setup.shape.limit) points
 
--- a point that is not above the peak of the triangle: its mean distance per cell and step, and so its flow,
--- is at most limit / (limit + 1)
+-- a point that is not above the peak of the triangle: its mean distance per cell and step is at most
+-- `limit / (limit + 1)`, and so is its flow; for the limit 5, this is 833333 millionths
 pub record IsNotAbovePeak (limit : ℕ) (point : Point) : Type 0 where
   pub distance : (limit + 1) * point.distance ≤ point.steps * (limit * point.cells)
   pub flow : flow_of point ≤ limit * 1000000 / (limit + 1)
 
--- no point of a sweep text's table is above the peak of the triangle, under any rule that the text may state
+-- no point of any sweep's table is above the peak of the triangle, under any rule
 abbrev pub SweepsDoNotExceedPeak : Type 0
 SweepsDoNotExceedPeak =
     (text : List ℕ) (sweep : Sweep) (points : List Point)
-    → SweepText text (Ok sweep) → ArePoints sweep points
+    → ParsesAsSweep text (Ok sweep) → ArePoints sweep points
     → All (IsNotAbovePeak sweep.setup.shape.limit) points
 
--- the moving cars of a point, each counted once per step, went on average at least one cell, and at most the
--- limit
+-- the mean speed of the moving cars at a point is from one cell per step to the limit; a car is counted as
+-- moving or stopped once per step
 pub record HasBoundedMovingSpeed (limit : ℕ) (point : Point) : Type 0 where
   pub cell_each : point.steps * point.cars ≤ point.distance + point.stopped
   pub limit_each : point.distance + limit * point.stopped ≤ point.steps * (limit * point.cars)
 
--- at each point of a sweep text's table, moving cars, each counted once per step, went on average at least
--- one cell, and at most the limit, under any rule that the text may state
+-- at every point of every sweep's table, the mean speed of the moving cars is from one cell per step to the
+-- limit, under any rule
 abbrev pub SweepsBoundMovingSpeed : Type 0
 SweepsBoundMovingSpeed =
     (text : List ℕ) (sweep : Sweep) (points : List Point)
-    → SweepText text (Ok sweep) → ArePoints sweep points
+    → ParsesAsSweep text (Ok sweep) → ArePoints sweep points
     → All (HasBoundedMovingSpeed sweep.setup.shape.limit) points
 
--- a point on the triangle: its distance is the capacity times its number of steps, and its flow is the flow
--- of the capacity
+-- a point on the triangle: its mean distance per step is the capacity, and its flow is the flow of the
+-- capacity
 pub record IsOnTriangle (limit : ℕ) (point : Point) : Type 0 where
   pub distance : point.distance ≡ point.steps * capacity_at limit point
   pub flow : flow_of point ≡ steady_flow point (capacity_at limit point)
 
--- the rule that the sixth line of a text states, or its cause; a missing line counts as empty
+-- the rule that the sixth line of a sweep text states, or its cause; a missing line counts as an empty one,
+-- with the cause `Line`
 abbrev pub stated_rule : List ℕ → Result (RuleLine ℕ) Cause
 stated_rule text = rule_line (slice_index_or (lines_of text) 5 [])
 
--- a sweep text with this common part asks for the triangle: it states the rule of 1992 without randomization,
--- by its sixth line, `rule nasch 0`, it has one lane, and it counts no step before cars could reach the limit
+-- a sweep text with this common part asks for the triangle: its sixth line is `rule nasch 0`, the rule of
+-- 1992 without randomization; it has one lane; and it counts no step before all cars could reach the limit
 pub record AsksForTriangle (text : List ℕ) (common : Setup) : Type 0 where
   pub rule : stated_rule text ≡ Ok (Nasch 0)
   pub lanes : common.shape.lanes ≡ 1
   pub warm : common.shape.limit ≤ common.span.warm + 1
 
--- each point of the table of a sweep text that asks for the triangle is on the triangle
+-- every point of the table of a sweep text that asks for the triangle is on the triangle
 abbrev pub DiagramIsTriangle : Type 0
 DiagramIsTriangle =
     (text : List ℕ) (sweep : Sweep) (points : List Point)
-    → SweepText text (Ok sweep) → ArePoints sweep points → AsksForTriangle text sweep.setup
+    → ParsesAsSweep text (Ok sweep) → ArePoints sweep points → AsksForTriangle text sweep.setup
     → All (IsOnTriangle sweep.setup.shape.limit) points

@@ -5,14 +5,14 @@ use Rattle.trlab_road.specs.LaneCars.{LaneCar}
 use Rattle.trlab_step.specs.Progress.{Progress}
 use Rattle.trlab_diagram.specs.declared.point.LaneCount.{LaneCount}
 
--- `new` is the run `old`, `count` steps later
-pub record IsStepsLater (count : ℕ) (old new : Progress) : Type 0 where
+-- `new` is the run `old` after `count` more steps
+pub record IsLaterBy (count : ℕ) (old new : Progress) : Type 0 where
   pub same_seed : new.seed ≡ old.seed
   pub same_sheet : new.sheet ≡ old.sheet
   pub later : new.step ≡ old.step + count
 
--- the counts of a lane, summed over the roads after `steps` steps, are at most those of full lanes:
--- MAX_LENGTH cars per step, a distance of MAX_LIMIT for each, and MAX_LENGTH stopped cars per step
+-- the counts of a lane, summed over the roads after `steps` steps, are possible: for each of these roads at
+-- most MAX_LENGTH cars, the distance MAX_LIMIT for each car, and MAX_LENGTH stopped cars
 pub record IsBoundedCount (steps : ℕ) (count : LaneCount) : Type 0 where
   pub cars : count.cars ≤ MAX_LENGTH * steps
   pub distance : count.distance ≤ MAX_LIMIT * MAX_LENGTH * steps
@@ -20,8 +20,8 @@ pub record IsBoundedCount (steps : ℕ) (count : LaneCount) : Type 0 where
 
 -- the counts of a lane, from its cars: their number, the sum of their speeds, and the number of stopped cars
 abbrev pub line_count : List LaneCar → LaneCount
-line_count line = record {
-  cars = length line;
-  distance = sum_by (λ (car : LaneCar). car.speed) line;
-  stopped = count_by (λ (car : LaneCar). nat_eq car.speed 0) line;
+line_count cars = record {
+  cars = length cars;
+  distance = sum_by (λ (car : LaneCar). car.speed) cars;
+  stopped = count_by (λ (car : LaneCar). nat_eq car.speed 0) cars;
 }

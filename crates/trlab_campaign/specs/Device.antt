@@ -3,20 +3,22 @@ use Rattle.std.specs.Prelude.{◌≡◌, ◌⊎◌, ℕ, ◌<◌, ◌≤◌, Lis
 use Rattle.std.specs.Io.KnownBytes.{Consumes}
 use Rattle.trlab_bounds.specs.declared.texts.TheConstants.{TEXT_LIMIT}
 
--- the bytes that a call transferred: the first `count` if it returns `count`, and none if it failed
+-- the bytes of a buffer that a call of a reader or writer transferred: the first `count` if it returned
+-- `count`, and none if it failed
 abbrev pub transferred_bytes : {E : Type 0} → Result ℕ E → List ℕ → List ℕ
 transferred_bytes (Ok count) bytes = take count bytes
 transferred_bytes (Err fault) bytes = []
 
--- the bytes that the calls of a reader gave between `before` and `after` have the property `Holds`
+-- all bytes that the calls of a reader have given, first `before` and then `after`, have grown by bytes with
+-- the property `Holds`
 abbrev pub GaveBytes : (List ℕ → Type 0) → List ℕ → List ℕ → Type 0
 GaveBytes Holds before after = (bytes : List ℕ) × ((after ≡ before ++ bytes) × Holds bytes)
 
--- between `old` and `new`, at most `most` of the bytes that were left to read were read, if the reader makes
--- them known
+-- of the bytes `old` that were left to read, the first were read, at most `most`, and `new` is left; always
+-- true if the reader does not make its bytes known
 abbrev pub ConsumesUpTo : ℕ → Option (List ℕ) → Option (List ℕ) → Type 0
 ConsumesUpTo most old new = (read : List ℕ) × (length read ≤ most) × Consumes old new read
 
--- `text` is the whole input, or both are longer than TEXT_LIMIT bytes and so too long
+-- `text` is the whole input, or both are too long: they have more than TEXT_LIMIT bytes
 abbrev pub IsInputOrTooLong : List ℕ → List ℕ → Type 0
 IsInputOrTooLong text input = (text ≡ input) ⊎ ((TEXT_LIMIT < length text) × (TEXT_LIMIT < length input))

@@ -14,41 +14,42 @@ use Rattle.trlab_campaign.specs.Flushes.{FlushedAtMostOnce, FlushedOnce}
 use Rattle.trlab_campaign.specs.Refusal.{Outputs}
 use Rattle.trlab_campaign.specs.Writers.{HasWritten, AddsNone, AddsPrefix, SinkBytes, bytes_of}
 
--- between `old` and `new`, a whole output was written, which is a refusal exactly if `refused` is true
+-- between `old` and `new`, a complete output was written, which is a refusal exactly if `refused` is true
 abbrev pub WroteAll : Outputs → Bool → SinkBytes → SinkBytes → Type 0
-WroteAll IsWhole refused old new = (out : List ℕ) × (IsWhole refused out × HasWritten old new out)
+WroteAll IsOutput refused old new = (out : List ℕ) × (IsOutput refused out × HasWritten old new out)
 
--- between `old` and `new`, nothing was written, or a prefix of a whole output
+-- between `old` and `new`, nothing was written, or a prefix of a complete output
 abbrev pub WrotePrefix : Outputs → SinkBytes → SinkBytes → Type 0
-WrotePrefix IsWhole old new =
+WrotePrefix IsOutput old new =
     AddsNone old new
-    ⊎ ((refused : Bool) × ((out : List ℕ) × (IsWhole refused out × AddsPrefix old new out)))
+    ⊎ ((refused : Bool) × ((out : List ℕ) × (IsOutput refused out × AddsPrefix old new out)))
 
--- between `old` and `new`, a successful call wrote a whole output that is not a refusal; a failed call wrote
--- nothing, or a prefix of a whole output
+-- between `old` and `new`, a successful call wrote a complete output that is not a refusal; a failed call
+-- wrote nothing, or a prefix of a complete output
 abbrev pub WroteByResult : {A E : Type 0} → Outputs → Result A E
     → SinkBytes → SinkBytes → Type 0
-WroteByResult IsWhole (Ok done) old new = WroteAll IsWhole false old new
-WroteByResult IsWhole (Err fault) old new = WrotePrefix IsWhole old new
+WroteByResult IsOutput (Ok done) old new = WroteAll IsOutput false old new
+WroteByResult IsOutput (Err fault) old new = WrotePrefix IsOutput old new
 
--- the bytes that an engine has written, by its end: a whole output at `Done`, a whole refusal at `Refused`,
--- and otherwise nothing or a prefix of a whole output
+-- the bytes that an engine has written, by its end: a complete output at `Done`, a complete refusal at
+-- `Refused`, and otherwise nothing or a prefix of a complete output
 abbrev pub WroteAtEnd : Outputs → End → SinkBytes → SinkBytes → Type 0
-WroteAtEnd IsWhole Done old new = WroteAll IsWhole false old new
-WroteAtEnd IsWhole Refused old new = WroteAll IsWhole true old new
-WroteAtEnd IsWhole Memory old new = WrotePrefix IsWhole old new
-WroteAtEnd IsWhole DeviceFault old new = WrotePrefix IsWhole old new
+WroteAtEnd IsOutput Done old new = WroteAll IsOutput false old new
+WroteAtEnd IsOutput Refused old new = WroteAll IsOutput true old new
+WroteAtEnd IsOutput Memory old new = WrotePrefix IsOutput old new
+WroteAtEnd IsOutput DeviceFault old new = WrotePrefix IsOutput old new
 
--- how an engine has flushed its writer, by its end: everything by one flush if it wrote a whole output, not
--- at all if an allocation failed, and at most once if a device failed
+-- the flushes of an engine's writer, by the end: one flush of everything at `Done` or `Refused`, none if an
+-- allocation failed, and at most one if a device failed
 abbrev pub FlushedAtEnd : End → Bool → Flushes → Flushes → Type 0
-FlushedAtEnd Done handed_on old new = FlushedOnce handed_on old new
-FlushedAtEnd Refused handed_on old new = FlushedOnce handed_on old new
-FlushedAtEnd Memory handed_on old new = new ≡ old
-FlushedAtEnd DeviceFault handed_on old new = FlushedAtMostOnce old new
+FlushedAtEnd Done all_flushed old new = FlushedOnce all_flushed old new
+FlushedAtEnd Refused all_flushed old new = FlushedOnce all_flushed old new
+FlushedAtEnd Memory all_flushed old new = new ≡ old
+FlushedAtEnd DeviceFault all_flushed old new = FlushedAtMostOnce old new
 
--- the bytes that were written of the whole output `out`, by the end: all of it at `Done` or `Refused`, which
--- must agree with `refused`, none if an allocation failed, and a prefix if a device failed
+-- the bytes that an engine has written of the one output `out`, which is a refusal exactly if `refused` is
+-- true, by its end: all of it at `Done` or `Refused`, which agrees with `refused`; none if an allocation
+-- failed; and a prefix if a device failed
 abbrev pub WroteOutputAtEnd : Bool → List ℕ → End → SinkBytes → SinkBytes → Type 0
 WroteOutputAtEnd refused out Done old new = (refused ≡ false) × HasWritten old new out
 WroteOutputAtEnd refused out Refused old new = (refused ≡ true) × HasWritten old new out
@@ -80,12 +81,13 @@ pub record EngineEnds {S K : Type 0} (source : Source.Ghosts S) (sink : Sink.Gho
   -- output if the end allows it
   pub exact : GaveBytes (λ text. WroteAtEnd (outputs text) end (bytes_of sink old) (bytes_of sink new))
       (source.given before) (source.given after)
-  -- the written output is also that of all bytes that were left to read, if the reader makes them known
+  -- the written output is also the output for all bytes that were left to read, if the reader makes them
+  -- known
   pub answer : IfSome (source.left before)
       (λ text. WroteAtEnd (outputs text) end (bytes_of sink old) (bytes_of sink new))
-  -- nothing was written if the input was not read
+  -- nothing was written if the reader has failed
   pub silent : source.failed after ≡ true → AddsNone (bytes_of sink old) (bytes_of sink new)
-  -- a whole output was flushed once; nothing was flushed if an allocation failed
+  -- a complete output was flushed once; nothing was flushed if an allocation failed
   pub handed : FlushedAtEnd end (sink.handed_on new) (sink.flushes old) (sink.flushes new)
   -- the end is `DeviceFault` exactly if the reader or the writer has failed
   pub device : (end ≡ DeviceFault) ↔ ((source.failed after || sink.failed new) ≡ true)

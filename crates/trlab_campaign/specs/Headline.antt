@@ -3,13 +3,13 @@ use Rattle.std.specs.Prelude.{◌≡◌, ◌+◌, ◌<◌, ℕ, Bool, false, Lis
 use Rattle.trlab_diagram.specs.declared.point.Point.{Point}
 use Rattle.trlab_diagram.specs.Table.{points_text}
 use Rattle.trlab_road.specs.Cells.{Cells}
-use Rattle.trlab_road.specs.Spreading.{IsEven}
+use Rattle.trlab_road.specs.Spreading.{IsEvenlySpaced}
 use Rattle.trlab_step.specs.declared.tally.StepTally.{StepTally}
 use Rattle.trlab_step.specs.Driven.{IsDriven}
 use Rattle.trlab_step.specs.Run.{IsTallyAt}
-use Rattle.trlab_jobs.specs.Job.{Job, JobText, seed_of, sheet_of}
+use Rattle.trlab_jobs.specs.Job.{Job, ParsesAsJob, seed_of, sheet_of}
 use Rattle.trlab_jobs.specs.Shapes.{all_steps}
-use Rattle.trlab_jobs.specs.Sweep.{Setup, Sweep, SweepText}
+use Rattle.trlab_jobs.specs.Sweep.{Setup, Sweep, ParsesAsSweep}
 use Rattle.trlab_campaign.specs.Output.{IsShownOutput, steps_text}
 use Rattle.trlab_campaign.specs.SweepOutput.{IsSweepOutput, point_of}
 use Rattle.trlab_campaign.specs.SweepOutput as sweep
@@ -18,13 +18,13 @@ use Rattle.trlab_campaign.specs.SweepOutput as sweep
 -- roads of this run at the steps that are shown
 pub record IsDrivenJob (shown : ℕ → Bool) (text out : List ℕ) : Type 0 where
   pub job : Job
-  pub says : JobText text (Ok job)
+  pub parsed_as : ParsesAsJob text (Ok job)
   pub roads : ℕ → Cells
   pub driven : IsDriven (seed_of job) (sheet_of job) job.steps roads
   pub pictures : out ≡ steps_text shown roads (job.steps + 1)
 
--- for any choice of shown steps, every output for a job text that is not a refusal is the output of a driven
--- job
+-- whichever steps are shown, every output of `run` for a job text that is not a refusal is the output of a
+-- driven job
 abbrev pub JobTextsAreDriven : Type 0
 JobTextsAreDriven =
     (shown : ℕ → Bool) (text out : List ℕ)
@@ -36,7 +36,7 @@ pub record IsDrivenPoint (setup : Setup) (number cars : ℕ) (point : Point) : T
   pub start : Cells
   pub tally : StepTally
   pub roads : ℕ → Cells
-  pub even : IsEven setup.shape.lanes setup.shape.cells setup.shape.limit cars start
+  pub even : IsEvenlySpaced setup.shape.lanes setup.shape.cells setup.shape.limit cars start
   pub driven : IsDriven (sweep.point_seed setup number start) (sweep.sweep_sheet setup)
       (all_steps setup.span) roads
   pub counted : IsTallyAt (sweep.point_seed setup number start) (sweep.sweep_sheet setup)
@@ -46,14 +46,15 @@ pub record IsDrivenPoint (setup : Setup) (number cars : ℕ) (point : Point) : T
 -- `out` is the output for the sweep text `text`: one worker drives the road of each point, and the table has
 -- the points in the order of the text
 pub record IsDrivenSweep (text out : List ℕ) : Type 0 where
-  pub said : Sweep
-  pub says : SweepText text (Ok said)
+  pub parsed_sweep : Sweep
+  pub parsed_as : ParsesAsSweep text (Ok parsed_sweep)
   pub points : List Point
-  pub one_each : length points ≡ length said.cars
-  pub each : (i cars : ℕ) (point : Point) → i < length said.cars
-      → IsDrivenPoint said.setup i (slice_index_or said.cars i cars) (slice_index_or points i point)
+  pub one_each : length points ≡ length parsed_sweep.cars
+  pub each : (i cars : ℕ) (point : Point) → i < length parsed_sweep.cars
+      → IsDrivenPoint parsed_sweep.setup i (slice_index_or parsed_sweep.cars i cars)
+      (slice_index_or points i point)
   pub table : out ≡ points_text points
 
--- every output for a sweep text that is not a refusal is the output of a driven sweep
+-- every output of `sweep` for a sweep text that is not a refusal is the output of a driven sweep
 abbrev pub SweepTextsAreDriven : Type 0
 SweepTextsAreDriven = (text out : List ℕ) → IsSweepOutput text false out → IsDrivenSweep text out

@@ -2,12 +2,12 @@
 use Rattle.std.specs.Prelude.{◌≡◌, ℕ, Bool, List}
 use Rattle.trlab_campaign.specs.Refusal.{Outputs}
 
--- each text has an output, which is a refusal or not
+-- every text has an output, which is a refusal or not
 abbrev pub HasSomeOutput : (List ℕ → Outputs) → Type 0
-HasSomeOutput Is = (text : List ℕ) → (refused : Bool) × (out : List ℕ) × Is text refused out
+HasSomeOutput IsOutput = (text : List ℕ) → (refused : Bool) × (out : List ℕ) × IsOutput text refused out
 
--- a text has at most one output: two outputs of the same text are the same, and both are refusals or both are
--- not
-abbrev pub HasOneOutput : (List ℕ → Outputs) → Type 0
-HasOneOutput Is = (text : List ℕ) (refused also : Bool) (out other : List ℕ)
-    → Is text refused out → Is text also other → (refused ≡ also) × (out ≡ other)
+-- every text has at most one output: two outputs for the same text are equal, and both are refusals or
+-- neither is
+abbrev pub HasAtMostOneOutput : (List ℕ → Outputs) → Type 0
+HasAtMostOneOutput IsOutput = (text : List ℕ) (refused also_refused : Bool) (out other : List ℕ)
+    → IsOutput text refused out → IsOutput text also_refused other → (refused ≡ also_refused) × (out ≡ other)

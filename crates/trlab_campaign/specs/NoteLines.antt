@@ -12,24 +12,24 @@ use Rattle.trlab_notes.specs.declared.note.AbstractValue.TheVariants.{Nothing, B
 use Rattle.trlab_notes.specs.Notes.{Note, with_side}
 use Rattle.trlab_verify.specs.Incoming.{note_at}
 
--- the name of a register and its content `held`, each after a space
+-- a register with the text of its value, in a note's line: a space, its name, a space and the text
 abbrev pub register_entry : Register → List ℕ → List ℕ
-register_entry register held = 32 ∷ (register_text register ++ (32 ∷ held))
+register_entry register value = 32 ∷ (register_text register ++ (32 ∷ value))
 
--- the text for the value of a register: nothing if it may be unset, the smallest and the largest number, or
--- `flag`, which is `side` if a true flag implies that the side cell is empty
-abbrev pub said_text : Register → AbstractValue → List ℕ
-said_text register Nothing = []
-said_text register (Between lo hi) = register_entry register (decimal lo ++ (32 ∷ decimal hi))
-said_text register (Implies true) = register_entry register (codes "side")
-said_text register (Implies false) = register_entry register (codes "flag")
+-- the text for a register with this abstract value: ` r0 0 35` for r0 from 0 to 35, ` r0 flag` for a flag,
+-- ` r0 side` for a flag that implies, if true, that the side cell is empty, and nothing if r0 may be unset
+abbrev pub abstract_value_text : Register → AbstractValue → List ℕ
+abstract_value_text register Nothing = []
+abstract_value_text register (Between lo hi) = register_entry register (decimal lo ++ (32 ∷ decimal hi))
+abstract_value_text register (Implies true) = register_entry register (codes "side")
+abstract_value_text register (Implies false) = register_entry register (codes "flag")
 
--- the text for a register of a note; if the side cell is known to be empty, each flag is `side`
+-- the text for a register of a note; if the side cell is known to be empty, every flag is `side`
 abbrev pub register_value_text : Note → Register → List ℕ
 register_value_text note register =
-    said_text register (with_side note.side (note.said (variable.Register register)))
+    abstract_value_text register (with_side note.side (note.said (variable.Register register)))
 
--- the text for the registers of a note, in their order
+-- the text for all registers of a note, in their order
 abbrev pub registers_text : Note → List ℕ
 registers_text note = flat_map (register_value_text note) REGISTERS
 
@@ -37,19 +37,19 @@ registers_text note = flat_map (register_value_text note) REGISTERS
 abbrev pub side_text : Bool → List ℕ
 side_text side = if side then codes " side" else []
 
--- the line of the note before the instruction at pc: the registers, and whether the side cell is known to be
--- empty
+-- the line of the note before the instruction at pc, for example `note 2 r0 0 35 r1 flag`; it ends with
+-- ` side` if the side cell is known to be empty
 abbrev pub note_line : ℕ → Note → List ℕ
 note_line pc note =
     codes "note " ++ (decimal pc ++ (registers_text note ++ (side_text note.side ++ (10 ∷ []))))
 
--- the line of the note at pc, if the instruction has a note; otherwise nothing
+-- the line of the note at pc; nothing if there is no note
 abbrev pub maybe_note_line : ℕ → Option Note → List ℕ
 maybe_note_line pc None = []
 maybe_note_line pc (Some note) = note_line pc note
 
--- the lines of the notes of a program, judged as one of its own kind; each instruction of an accepted program
--- has a note
+-- the lines of the notes of a program, judged as one of its own kind: one for each instruction if the program
+-- is accepted
 abbrev pub notes_text : Program → List ℕ
 notes_text program =
     flat_map (λ pc. maybe_note_line pc (note_at program.kind program.instrs pc))

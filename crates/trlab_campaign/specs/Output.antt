@@ -5,12 +5,12 @@ use Rattle.std.specs.List.{range_with_len}
 use Rattle.trlab_road.specs.Cells.{Cells}
 use Rattle.trlab_road.specs.Pictures.{picture}
 use Rattle.trlab_step.specs.Run.{IsRoadAt}
-use Rattle.trlab_campaign.specs.Refusal.{Outputs, OutputOfText}
-use Rattle.trlab_jobs.specs.Job.{Job, JobText, seed_of, sheet_of}
+use Rattle.trlab_campaign.specs.Refusal.{Outputs, IsOutputForText}
+use Rattle.trlab_jobs.specs.Job.{Job, ParsesAsJob, seed_of, sheet_of}
 
--- a picture, and the LF that ends its line
+-- the picture of a lane, and the LF that ends its line
 abbrev pub picture_line : List ℕ → List ℕ
-picture_line bytes = bytes ++ (10 ∷ [])
+picture_line characters = characters ++ (10 ∷ [])
 
 -- the text of a step: the line `step N`, and then the picture of each lane of the road on a line of its own
 abbrev pub step_text : ℕ → Cells → List ℕ
@@ -21,11 +21,12 @@ step_text step road =
 abbrev pub each_step : ℕ → Bool
 each_step step = true
 
--- whether a step is one of `from`, `from + every`, `from + 2 * every` and so on
+-- whether a step is one of `from`, `from + every`, `from + 2 * every` and so on: 3, 13, 23 and so on for
+-- every 10 from 3
 abbrev pub every_from : ℕ → ℕ → ℕ → Bool
 every_from every from step = nat_le from step && nat_eq ((step - from) % every) 0
 
--- the text of a step if it is shown, and otherwise no text
+-- the text of a step if it is shown, and otherwise nothing
 abbrev pub shown_text : (ℕ → Bool) → ℕ → Cells → List ℕ
 shown_text shown step road = if shown step then step_text step road else []
 
@@ -40,20 +41,20 @@ pub record IsRunText (job : Job) (shown : ℕ → Bool) (roads : ℕ → Cells) 
       → IsRoadAt (seed_of job) (sheet_of job) step (roads step)
   pub pictures : out ≡ steps_text shown roads (job.steps + 1)
 
--- a whole output for a job: the text of its run at the steps that are shown, which is not a refusal
+-- a complete output for a job: the text of its run at the steps that are shown, which is not a refusal
 abbrev pub JobOutput : (ℕ → Bool) → Job → Outputs
 JobOutput shown job refused out =
     (refused ≡ false) × ((roads : ℕ → Cells) × IsRunText job shown roads out)
 
--- a whole output for a job text, marked as a refusal or not: the output for its job, or the line of its first
--- fault
+-- a complete output for a job text, marked as a refusal or not: an output that `Output` allows for its job,
+-- or the line of its first fault
 abbrev pub IsOutputOf : (Job → Outputs) → List ℕ → Outputs
-IsOutputOf Output text refused out = OutputOfText JobText Output text refused out
+IsOutputOf Output text refused out = IsOutputForText ParsesAsJob Output text refused out
 
--- a whole output of `run` for a job text at the steps that are shown, marked as a refusal or not
+-- a complete output of `run` for a job text at the steps that are shown, marked as a refusal or not
 abbrev pub IsShownOutput : (ℕ → Bool) → List ℕ → Outputs
 IsShownOutput shown text refused out = IsOutputOf (JobOutput shown) text refused out
 
--- a whole output of `run` for a job text with each step shown, marked as a refusal or not
+-- a complete output of `run` for a job text with every step shown, marked as a refusal or not
 abbrev pub IsOutput : List ℕ → Outputs
 IsOutput text refused out = IsShownOutput each_step text refused out

@@ -17,7 +17,7 @@ use Rattle.trlab_jobs.specs.Job.{Job, seed_of, sheet_of}
 use Rattle.trlab_campaign.specs.Output.{IsOutputOf}
 use Rattle.trlab_campaign.specs.Refusal.{Outputs}
 
--- the step from `before` to `after` in a run, under the rule in force, with its tally
+-- step `step` of a run leads from `before` to `after` under the rule in force, with this tally
 pub record IsStepAt (seed : Seed) (sheet : Sheet) (step : ℕ) (before after : Cells)
     (tally : StepTally) : Type 0 where
   pub rule : Programs
@@ -44,18 +44,18 @@ abbrev pub cars_on : ℕ → Cells → ℕ
 cars_on lane road = count_by (is_on lane) (standing road)
 
 -- the sum of the speeds of the cars on a lane of a road
-abbrev pub speed_on : ℕ → Cells → ℕ
-speed_on lane road = sum_by (λ (car : Car). cond (is_on lane car) car.speed 0) (standing road)
+abbrev pub total_speed_on : ℕ → Cells → ℕ
+total_speed_on lane road = sum_by (λ (car : Car). cond (is_on lane car) car.speed 0) (standing road)
 
 -- the number of stopped cars on a lane of a road
 abbrev pub stopped_on : ℕ → Cells → ℕ
 stopped_on lane road = count_by (λ (car : Car). is_on lane car && nat_eq car.speed 0) (standing road)
 
--- the cars, speeds and stopped cars of a lane, each summed over these roads
+-- the counts of a lane, each summed over these roads: its cars, their speeds and the stopped cars
 abbrev pub lane_count : ℕ → List Cells → LaneCount
 lane_count lane roads = record {
   cars = sum_by (cars_on lane) roads;
-  distance = sum_by (speed_on lane) roads;
+  distance = sum_by (total_speed_on lane) roads;
   stopped = sum_by (stopped_on lane) roads;
 }
 
@@ -63,12 +63,12 @@ lane_count lane roads = record {
 abbrev pub tallies_from : (ℕ → StepTally) → ℕ → ℕ → List StepTally
 tallies_from tallies first count = map tallies (range_with_len first count)
 
--- the roads after `count` steps of a course, from the step `first` on: one after each step
+-- the roads after each of `count` steps of a course, from the step `first` on: for 3 steps from step 5 on,
+-- the roads at the steps 6, 7 and 8
 abbrev pub roads_after : (ℕ → Cells) → ℕ → ℕ → List Cells
 roads_after roads first count = map roads (range_with_len (first + 1) count)
 
--- the counts of a road in `steps` steps, whose tallies are given: its cars and cells, and the sums of the
--- tallies
+-- the counts of a road in `steps` steps with these tallies: its cars and cells, and the sums of the tallies
 abbrev pub point_of_tallies : Cells → ℕ → List StepTally → Point
 point_of_tallies road steps tallies = record {
   cars = cars road;
@@ -79,8 +79,8 @@ point_of_tallies road steps tallies = record {
   changes = sum_by (λ (tally : StepTally). tally.changes) tallies;
 }
 
--- the window of `count` steps of a course, from the step `first` on: the counts of the road in them, and the
--- counts of each lane, summed over the roads after each of them
+-- the window of `count` steps of a course, from the step `first` on: the counts of the road in these steps,
+-- and the counts of each lane, summed over the roads after each of them
 abbrev pub window_of : (ℕ → Cells) → (ℕ → StepTally) → ℕ → ℕ → Window
 window_of roads tallies first count = record {
   step = first + count;
@@ -89,21 +89,24 @@ window_of roads tallies first count = record {
   lane1 = lane_count 1 (roads_after roads first count);
 }
 
--- window k of a series, whose windows have `every` steps each, from the step `from` on; k counts from 0
+-- window k of a series, counted from 0; its windows have `every` steps each, and window 0 begins at the step
+-- `from`
 abbrev pub nth_window : (ℕ → Cells) → (ℕ → StepTally) → ℕ → ℕ → ℕ → Window
 nth_window roads tallies every from k = window_of roads tallies (from + k * every) every
 
--- the first `count` windows of a series, whose windows have `every` steps each, from the step `from` on
+-- the first `count` windows of a series; its windows have `every` steps each, and the first begins at the
+-- step `from`
 abbrev pub first_windows : (ℕ → Cells) → (ℕ → StepTally) → ℕ → ℕ → ℕ → List Window
 first_windows roads tallies every from count =
     map (nth_window roads tallies every from) (range_with_len 0 count)
 
--- a run of `steps` steps completes `count` windows of `every` steps each, from the step `from` on: exactly
--- the windows k with k below `count` end at or before the run's last step
+-- a run of `steps` steps completes exactly `count` windows of `every` steps each, from the step `from` on:
+-- window k ends at or before its last step exactly if k is below `count`. For example, 25 steps complete 2
+-- windows of 10 steps from step 0 on
 abbrev pub CompletesWindows : ℕ → ℕ → ℕ → ℕ → Type 0
 CompletesWindows every from steps count = (k : ℕ) → (k < count) ↔ (from + (k + 1) * every ≤ steps)
 
--- the series of a job: the windows of `every` steps each, from the step `from` on, that its run completes
+-- the series of a job: all windows of `every` steps each, from the step `from` on, that its run completes
 pub record IsSeries (job : Job) (every from : ℕ) (windows : List Window) : Type 0 where
   pub roads : ℕ → Cells
   pub tallies : ℕ → StepTally
@@ -112,13 +115,13 @@ pub record IsSeries (job : Job) (every from : ℕ) (windows : List Window) : Typ
   pub whole : CompletesWindows every from job.steps count
   pub told : windows ≡ first_windows roads tallies every from count
 
--- a whole output for a job: the table of its series, with windows of `every` steps from the step `from` on,
--- which is not a refusal
+-- a complete output for a job: the table of its series, with windows of `every` steps from the step `from`
+-- on, which is not a refusal
 abbrev pub SeriesOutput : ℕ → ℕ → Job → Outputs
 SeriesOutput every from job refused out =
     (refused ≡ false)
     × ((windows : List Window) × (IsSeries job every from windows × (out ≡ series_text windows)))
 
--- a whole output of `series` for a job text, marked as a refusal or not
+-- a complete output of `series` for a job text, marked as a refusal or not
 abbrev pub IsSeriesOutput : ℕ → ℕ → List ℕ → Outputs
 IsSeriesOutput every from text refused out = IsOutputOf (SeriesOutput every from) text refused out

@@ -6,23 +6,24 @@ use Rattle.trlab_diagram.specs.declared.point.Point.{Point}
 use Rattle.trlab_diagram.specs.Flow.{IsMeasured}
 use Rattle.trlab_diagram.specs.Table.{points_text}
 use Rattle.trlab_road.specs.Cells.{Cells}
-use Rattle.trlab_road.specs.Spreading.{IsEven}
+use Rattle.trlab_road.specs.Spreading.{IsEvenlySpaced}
 use Rattle.trlab_step.specs.declared.tally.StepTally.{StepTally}
 use Rattle.trlab_step.specs.Run.{Seed, Sheet, IsTallyAt}
 use Rattle.trlab_jobs.specs.Shapes.{cell_count, all_steps}
-use Rattle.trlab_jobs.specs.Sweep.{Setup, Sweep, SweepText}
-use Rattle.trlab_campaign.specs.Refusal.{Outputs, OutputOfText}
+use Rattle.trlab_jobs.specs.Sweep.{Setup, Sweep, ParsesAsSweep}
+use Rattle.trlab_campaign.specs.Refusal.{Outputs, IsOutputForText}
 
--- the seed of a point's run on this road, which has the number `number`; the warm steps are not counted
+-- the start of a point's run: this road, which has the number `number`, the key of the sweep, and its warm
+-- steps, which are not counted
 abbrev pub point_seed : Setup → ℕ → Cells → Seed
 point_seed setup number road =
     record { road = road; key = setup.key; number = number; warm = setup.span.warm }
 
--- the sheet of a sweep: one rule, in force from step 0 on
+-- the sheet of a sweep: its one rule, in force from step 0 on
 abbrev pub sweep_sheet : Setup → Sheet
 sweep_sheet setup = (0, setup.rule) ∷ []
 
--- the point of the diagram with `cars` cars, and this sum of tallies of the counted steps
+-- the point of the diagram for `cars` cars, with this sum of the tallies of the counted steps
 abbrev pub point_of : Setup → ℕ → StepTally → Point
 point_of setup cars tally = record {
   cars = cars;
@@ -38,7 +39,7 @@ point_of setup cars tally = record {
 pub record IsPoint (setup : Setup) (number cars : ℕ) (point : Point) : Type 0 where
   pub start : Cells
   pub tally : StepTally
-  pub even : IsEven setup.shape.lanes setup.shape.cells setup.shape.limit cars start
+  pub even : IsEvenlySpaced setup.shape.lanes setup.shape.cells setup.shape.limit cars start
   pub counted : IsTallyAt (point_seed setup number start) (sweep_sheet setup) (all_steps setup.span) tally
   pub told : point ≡ point_of setup cars tally
 
@@ -49,27 +50,28 @@ pub record ArePoints (sweep : Sweep) (points : List Point) : Type 0 where
   pub each : (i cars : ℕ) (point : Point) → i < length sweep.cars
       → IsPoint sweep.setup i (slice_index_or sweep.cars i cars) (slice_index_or points i point)
 
--- the first points of a sweep, in the order of its numbers of cars, each with at least one cell and one step
+-- the first points of a sweep, in the order of its numbers of cars; each has at least one cell and one
+-- counted step
 pub record AreFirstPoints (sweep : Sweep) (points : List Point) : Type 0 where
   pub few : length points ≤ length sweep.cars
   pub each : (i cars : ℕ) (point : Point) → i < length points
       → IsPoint sweep.setup i (slice_index_or sweep.cars i cars) (slice_index_or points i point)
   pub measured : All IsMeasured points
 
--- a whole output for a sweep: the table of its points, which is not a refusal
+-- a complete output for a sweep: the table of its points, which is not a refusal
 abbrev pub SweepOutput : Sweep → Outputs
 SweepOutput sweep refused out =
     (refused ≡ false) × ((points : List Point) × (ArePoints sweep points × (out ≡ points_text points)))
 
--- a whole output for a sweep text, marked as a refusal or not: the table of its points, or the line of its
--- first fault
+-- a complete output of `sweep` for a text, marked as a refusal or not: the table of the sweep's points, or
+-- the line of the text's first fault
 abbrev pub IsSweepOutput : List ℕ → Outputs
-IsSweepOutput text refused out = OutputOfText SweepText SweepOutput text refused out
+IsSweepOutput text refused out = IsOutputForText ParsesAsSweep SweepOutput text refused out
 
 -- a call with the contract `pre` and `post` can be made for any sweep, and returns the sweep's table unless
 -- it fails
 abbrev pub ReturnsTable : {A B E : Type 0} → (A → Bor Sweep → Type 0)
     → (A → Bor Sweep → Result (Vec ℕ B) E → Type 0) → Type 0
 ReturnsTable pre post = (alloc : _) (sweep : Bor Sweep) → pre alloc sweep
-    × ((told : _) → post alloc sweep told
-    → IfOk told (λ table. SweepOutput sweep.now false table.items))
+    × ((returned : _) → post alloc sweep returned
+    → IfOk returned (λ table. SweepOutput sweep.now false table.items))

@@ -3,7 +3,8 @@ use Rattle.std.specs.Prelude.{◌≡◌, ℕ, List, ◌++◌, take, Option, Resu
 use Rattle.std.specs.Io.KnownBytes.{Appends, Keeps}
 use Rattle.trlab_campaign.specs.declared.device.Sink as Sink
 
--- the bytes of a writer: all that its calls have taken, and the bytes that it makes known, if it does so
+-- the bytes of a writer: all that its calls have taken (`accepted`), and those that it holds, if it makes
+-- them known (`told`)
 pub record SinkBytes : Type 0 where
   pub accepted : List ℕ
   pub told : Option (List ℕ)
@@ -27,7 +28,7 @@ pub record AddsPrefix (old new : SinkBytes) (text : List ℕ) : Type 0 where
   pub count : ℕ
   pub prefix : HasWritten old new (take count text)
 
--- between `old` and `new`, a successful call wrote the text; a failed call wrote a prefix of it
+-- between `old` and `new`, a successful call wrote the whole text, and a failed call a prefix of it
 abbrev pub AddsByResult : {A E : Type 0} → Result A E → SinkBytes → SinkBytes → List ℕ → Type 0
 AddsByResult (Ok done) old new text = HasWritten old new text
 AddsByResult (Err fault) old new text = AddsPrefix old new text

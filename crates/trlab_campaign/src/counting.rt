@@ -7,9 +7,9 @@ ghost use Rattle.trlab_diagram.specs.Flow.{IsMeasured};
 ghost use Rattle.trlab_road.specs.Cells.{Cells, cars, lane_of};
 ghost use Rattle.trlab_road.specs.Stored.{no_car};
 ghost use Rattle.trlab_step.specs.declared.tally.StepTally.{StepTally};
-ghost use Rattle.trlab_campaign.specs.Counting.{IsBoundedCount, IsStepsLater, line_count};
+ghost use Rattle.trlab_campaign.specs.Counting.{IsBoundedCount, IsLaterBy, line_count};
 ghost use Rattle.trlab_campaign.specs.SeriesOutput.{AreRoads, IsCourse, cars_on, lane_count, roads_after};
-ghost use Rattle.trlab_campaign.specs.SeriesOutput.{speed_on, stopped_on, window_of};
+ghost use Rattle.trlab_campaign.specs.SeriesOutput.{total_speed_on, stopped_on, window_of};
 
 use std::alloc::{AllocError, Global};
 use trlab_diagram::{LaneCount, Point, Window};
@@ -51,7 +51,7 @@ fn count_line(line: &[LaneCar]) -> LaneCount
 /// The counts of a lane of a road; all are 0 if the road does not have this lane.
 fn count_lane(road: &Road, lane: u32) -> LaneCount
     ensures cars { result.cars ≡ cars_on lane road.now }
-    ensures distance { result.distance ≡ speed_on lane road.now }
+    ensures distance { result.distance ≡ total_speed_on lane road.now }
     ensures stopped { result.stopped ≡ stopped_on lane road.now }
     ensures few { IsBoundedCount 1 result }
 {
@@ -86,7 +86,7 @@ pub fn skip_steps<A: Executor>(
 ) -> Result<(), AllocError>
     requires ready { A.is_ready executor.now }
     requires room { run.old.step + steps < 2 ^ 32 }
-    ensures { OnOk result (IsStepsLater steps run.old run.new) }
+    ensures { OnOk result (IsLaterBy steps run.old run.new) }
 {
     for _ in 0..steps {
         run.advance(executor, alloc)?;
@@ -105,7 +105,7 @@ fn count_lanes<A: Executor>(
     requires ready { A.is_ready executor.now }
     requires few { steps ≤ MAX_STEPS }
     requires room { run.old.step + steps < 2 ^ 32 }
-    ensures on { OnOk result (IsStepsLater steps run.old run.new) }
+    ensures on { OnOk result (IsLaterBy steps run.old run.new) }
     ensures lane0 { (roads : ℕ → Cells) → AreRoads run.old.seed run.old.sheet roads
         → IfOk result (λ lanes. lanes.0 ≡ lane_count 0 (roads_after roads run.old.step steps)) }
     ensures lane1 { (roads : ℕ → Cells) → AreRoads run.old.seed run.old.sheet roads
@@ -158,7 +158,7 @@ pub fn take_window<A: Executor>(
     requires few { every ≤ MAX_STEPS }
     requires room { run.old.step + every < 2 ^ 32 }
     requires counts { run.old.seed.warm ≡ 0 }
-    ensures on { OnOk result (IsStepsLater every run.old run.new) }
+    ensures on { OnOk result (IsLaterBy every run.old run.new) }
     ensures counted { (roads : ℕ → Cells) (tallies : ℕ → StepTally)
         → IsCourse run.old.seed run.old.sheet roads tallies
         → IfOk result (λ window. window ≡ window_of roads tallies run.old.step every) }

@@ -42,7 +42,8 @@ pub fn write_output<K: Sink>(refused: bool, text: &[u8], writer: &mut K) -> End
     }
 }
 
-/// Writes the line of a refused input and flushes the writer.
+/// Writes `fault line N cause K` as the whole output and flushes the writer. Returns `Refused`, unless an allocation
+/// or the writer fails.
 pub fn refuse<K: Sink>(alloc: Global, line: u32, cause: Cause, writer: &mut K) -> End
     requires { K.failed writer.old ≡ false }
     ensures { LeavesWriter K.Sink (WroteOutputAtEnd true (fault_line (record { line = line; cause = cause })))

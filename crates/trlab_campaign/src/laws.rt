@@ -7,9 +7,9 @@ ghost use Rattle.trlab_campaign.specs.Capacity.{DiagramIsTriangle, SweepsBoundMo
 ghost use Rattle.trlab_campaign.specs.Capacity.{SweepsKeepToCapacity};
 ghost use Rattle.trlab_campaign.specs.CheckOutput.{IsCheckOutput};
 ghost use Rattle.trlab_campaign.specs.Headline.{JobTextsAreDriven, SweepTextsAreDriven};
-ghost use Rattle.trlab_campaign.specs.Laws.{HasOneOutput, HasSomeOutput};
-ghost use Rattle.trlab_campaign.specs.SeriesLaws.{LanesOfSeriesAddUp, SeriesHasOneOutput, SeriesHasSomeOutput};
-ghost use Rattle.trlab_campaign.specs.ShownLaws.{EveryNthStepIsShown, EveryStepFromStartIsEach, ShownHasOneOutput, ShownHasSomeOutput};
+ghost use Rattle.trlab_campaign.specs.Laws.{HasAtMostOneOutput, HasSomeOutput};
+ghost use Rattle.trlab_campaign.specs.SeriesLaws.{LanesOfSeriesAddUp, SeriesHasAtMostOneOutput, SeriesHasSomeOutput};
+ghost use Rattle.trlab_campaign.specs.ShownLaws.{EveryNthStepIsShown, EveryStepFromStartIsEach, ShownHasAtMostOneOutput, ShownHasSomeOutput};
 ghost use Rattle.trlab_campaign.specs.SweepOutput.{IsSweepOutput};
 
 /// The output for a job text that is not refused shows the roads of a driven run, at the steps that are shown, from the
@@ -28,7 +28,7 @@ pub fn sweep_texts_are_driven()
 /// For any choice of shown steps, a job text has exactly one output. The text determines whether that is a refusal.
 pub fn text_has_one_output()
     ensures some_output { ShownHasSomeOutput }
-    ensures one_output { ShownHasOneOutput }
+    ensures one_output { ShownHasAtMostOneOutput }
 {}
 
 /// The steps that are shown are `from`, `from` + `every`, `from` + 2 * `every` and so on. With 1 and 0 each
@@ -41,13 +41,13 @@ pub fn steps_are_shown_apart()
 /// Any check text has exactly one output. The text determines whether that is a refusal.
 pub fn check_has_one_output()
     ensures some_output { HasSomeOutput IsCheckOutput }
-    ensures one_output { HasOneOutput IsCheckOutput }
+    ensures one_output { HasAtMostOneOutput IsCheckOutput }
 {}
 
 /// Any sweep text has exactly one output. The text determines whether that is a refusal.
 pub fn sweep_has_one_output()
     ensures some_output { HasSomeOutput IsSweepOutput }
-    ensures one_output { HasOneOutput IsSweepOutput }
+    ensures one_output { HasAtMostOneOutput IsSweepOutput }
 {}
 
 /// Each point of the table for a sweep text is on or below a triangle: the flow is at most 1 minus the density, and at
@@ -65,7 +65,7 @@ pub fn sweeps_keep_to_capacity()
 /// For windows of one step or more, a job text has exactly one output. The text determines whether that is a refusal.
 pub fn series_has_one_output()
     ensures some_output { SeriesHasSomeOutput }
-    ensures one_output { SeriesHasOneOutput }
+    ensures one_output { SeriesHasAtMostOneOutput }
 {}
 
 /// In each window of a series, the counts of lane 0 and lane 1 add up to the counts of the road: its number of cars

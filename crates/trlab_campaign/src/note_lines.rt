@@ -4,9 +4,9 @@ ghost use Rattle.std.specs.Prelude.{◌≡◌, [], ◌∷◌, ◌++◌, flat_map
 ghost use Rattle.std.specs.List.{range_with_len};
 ghost use Rattle.trlab_code.specs.declared.program.Kind.{Kind};
 ghost use Rattle.trlab_notes.specs.Notes.{with_side};
-ghost use Rattle.trlab_verify.specs.TableForm.{said_of, meaning, meaning_at};
+ghost use Rattle.trlab_verify.specs.TableForm.{mark_value, meaning, meaning_at};
 ghost use Rattle.trlab_verify.specs.Verdict.{IsAccepted};
-ghost use Rattle.trlab_campaign.specs.NoteLines.{register_entry, said_text, registers_text};
+ghost use Rattle.trlab_campaign.specs.NoteLines.{register_entry, abstract_value_text, registers_text};
 ghost use Rattle.trlab_campaign.specs.NoteLines.{side_text, note_line, notes_text};
 
 use crate::output::push_text;
@@ -34,7 +34,7 @@ fn push_mark(
     side: bool,
 ) -> Result<(), AllocError>
     ensures { OnOk result
-        (out.new.items ≡ out.old.items ++ said_text register (with_side side (said_of mark))) }
+        (out.new.items ≡ out.old.items ++ abstract_value_text register (with_side side (mark_value mark))) }
 {
     match mark {
         Mark::Unset => Ok(()),

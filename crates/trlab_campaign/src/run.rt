@@ -217,7 +217,7 @@ impl<'a> Account for StepPictures<'a> {
 }
 
 /// Reads a job text, and writes the picture of its road at each step: `run_shown_text` with every step and without
-/// reports of progress.
+/// reports of progress. Returns how it ended.
 pub fn run_job_text<R: AllocGlobal + Threads + Wait + Sync, S: Source, K: Sink>(
     rt: &R,
     reader: &mut S,

@@ -7,7 +7,7 @@ ghost use Rattle.trlab_bounds.specs.declared.runs.TheConstants.{MAX_STEPS};
 ghost use Rattle.trlab_diagram.specs.Series.{window_text};
 ghost use Rattle.trlab_road.specs.Cells.{Cells};
 ghost use Rattle.trlab_step.specs.declared.tally.StepTally.{StepTally};
-ghost use Rattle.trlab_campaign.specs.Counting.{IsStepsLater};
+ghost use Rattle.trlab_campaign.specs.Counting.{IsLaterBy};
 ghost use Rattle.trlab_campaign.specs.Ending.{EngineEnds, LeavesUnflushed, WroteByResult};
 ghost use Rattle.trlab_campaign.specs.SeriesOutput.{CompletesWindows, IsCourse, IsSeriesOutput, SeriesOutput};
 ghost use Rattle.trlab_campaign.specs.SeriesOutput.{first_windows, window_of};
@@ -82,7 +82,7 @@ fn next_line<A: Executor>(
     requires few { every ≤ MAX_STEPS }
     requires room { run.old.step + every < 2 ^ 32 }
     requires counts { run.old.seed.warm ≡ 0 }
-    ensures on { OnOk result (IsStepsLater every run.old run.new) }
+    ensures on { OnOk result (IsLaterBy every run.old run.new) }
     ensures line { (roads : ℕ → Cells) (tallies : ℕ → StepTally)
         → IsCourse run.old.seed run.old.sheet roads tallies
         → IfOk result (λ line. line.items ≡ window_text (window_of roads tallies run.old.step every)) }
@@ -127,7 +127,7 @@ fn write_window<A: Executor, K: Sink>(
         → IsCourse run.old.seed run.old.sheet roads tallies
         → AddsByResult result (bytes_of K.Sink writer.old) (bytes_of K.Sink writer.new)
         (window_text (window_of roads tallies run.old.step every)) }
-    ensures on { OnOk result (IsStepsLater every run.old run.new) }
+    ensures on { OnOk result (IsLaterBy every run.old run.new) }
     ensures writer { LeavesUnflushed K.Sink result writer.old writer.new }
 {
     let line = next_line(executor, alloc, run, every, lines);

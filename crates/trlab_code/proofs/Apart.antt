@@ -3,7 +3,7 @@ use Rattle.std.proofs.Common.{◌≡◌, ◌≢◌, ℕ, ◌<◌, ◌⊎◌, Lis
 use Rattle.std.proofs.lemmas.Bool.{cases_order}
 use Rattle.trlab_code.specs.declared.fault.CodeFault.{CodeFault}
 use Rattle.trlab_code.specs.declared.fault.CodeFault.TheVariants as fault
-use Rattle.trlab_code.specs.Faults.{HasOpcode, IsFirstFault, bytes_at}
+use Rattle.trlab_code.specs.Faults.{HasOpcode, IsFirstCodeFault, bytes_at}
 use Rattle.trlab_code.proofs.EncodedCode.{opcode_of_row}
 
 -- the order in which faults are met; those of rows are told apart by their rows
@@ -20,7 +20,7 @@ rank fault.Trailing = 8
 rank fault.Memory = 9
 
 -- an opcode of no instruction and a field out of range are not both first
-rows_apart : (bytes : List ℕ) (pc qc : ℕ) → IsFirstFault bytes (fault.Opcode pc) → IsFirstFault bytes (fault.Field qc) → ⊥
+rows_apart : (bytes : List ℕ) (pc qc : ℕ) → IsFirstCodeFault bytes (fault.Opcode pc) → IsFirstCodeFault bytes (fault.Field qc) → ⊥
 rows_apart bytes pc qc f g =
     elim (cases_order pc qc) [
       | inl same ↦ f.2 (let P : ℕ → Type 0 = λ k. HasOpcode (bytes_at bytes k) in subst P (sym same) g.2.0)
@@ -31,7 +31,7 @@ rows_apart bytes pc qc f g =
     ]
 
 -- two faults of different ranks are not both first
-not_both : (bytes : List ℕ) (f g : CodeFault) → rank f < rank g → IsFirstFault bytes f → IsFirstFault bytes g → g ≡ fault.Memory
+not_both : (bytes : List ℕ) (f g : CodeFault) → rank f < rank g → IsFirstCodeFault bytes f → IsFirstCodeFault bytes g → g ≡ fault.Memory
 unfolding rank
 not_both bytes fault.Short fault.Magic lt f g = elim f [ inl short ↦ absurd (short g.0) | inr short ↦ absurd (g.1 short.0.magic) ]
 not_both bytes fault.Short fault.Version lt f g = elim f [ inl short ↦ absurd (short g.0) | inr short ↦ absurd (g.2 short.0.version) ]
@@ -73,7 +73,7 @@ not_both bytes f fault.Memory lt _ _ = refl
 not_both _ _ _ lt _ _ = absurd (omega arith)
 
 -- the first fault of a row is in one row
-same_opcode : (bytes : List ℕ) (pc qc : ℕ) → IsFirstFault bytes (fault.Opcode pc) → IsFirstFault bytes (fault.Opcode qc) → pc ≡ qc
+same_opcode : (bytes : List ℕ) (pc qc : ℕ) → IsFirstCodeFault bytes (fault.Opcode pc) → IsFirstCodeFault bytes (fault.Opcode qc) → pc ≡ qc
 same_opcode bytes pc qc f g =
     elim (cases_order pc qc) [
       | inl same ↦ same
@@ -83,7 +83,7 @@ same_opcode bytes pc qc f g =
       ]
     ]
 
-same_field : (bytes : List ℕ) (pc qc : ℕ) → IsFirstFault bytes (fault.Field pc) → IsFirstFault bytes (fault.Field qc) → pc ≡ qc
+same_field : (bytes : List ℕ) (pc qc : ℕ) → IsFirstCodeFault bytes (fault.Field pc) → IsFirstCodeFault bytes (fault.Field qc) → pc ≡ qc
 same_field bytes pc qc f g =
     elim (cases_order pc qc) [
       | inl same ↦ same
@@ -91,7 +91,7 @@ same_field bytes pc qc f g =
     ]
 
 -- two first faults of one rank are equal
-same_rank : (bytes : List ℕ) (f g : CodeFault) → rank f ≡ rank g → IsFirstFault bytes f → IsFirstFault bytes g → f ≡ g
+same_rank : (bytes : List ℕ) (f g : CodeFault) → rank f ≡ rank g → IsFirstCodeFault bytes f → IsFirstCodeFault bytes g → f ≡ g
 unfolding rank
 same_rank bytes fault.Short fault.Short e f g = refl
 same_rank bytes fault.Magic fault.Magic e f g = refl
@@ -106,7 +106,7 @@ same_rank bytes fault.Memory fault.Memory e f g = refl
 same_rank _ _ _ e _ _ = absurd (omega arith)
 
 -- two first faults are equal, or memory runs out
-pub one_fault : (bytes : List ℕ) (f g : CodeFault) → IsFirstFault bytes f → IsFirstFault bytes g → f ≢ fault.Memory → g ≢ fault.Memory → f ≡ g
+pub one_fault : (bytes : List ℕ) (f g : CodeFault) → IsFirstCodeFault bytes f → IsFirstCodeFault bytes g → f ≢ fault.Memory → g ≢ fault.Memory → f ≡ g
 one_fault bytes f g first second p q =
     elim (cases_order (rank f) (rank g)) [
       | inl same ↦ same_rank bytes f g same first second

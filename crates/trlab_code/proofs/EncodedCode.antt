@@ -7,9 +7,9 @@ use Rattle.trlab_code.specs.declared.instruction.Instr.{Instr}
 use Rattle.trlab_code.specs.declared.instruction.Instr.TheVariants.{Stay}
 use Rattle.trlab_code.specs.declared.fault.CodeFault.{CodeFault}
 use Rattle.trlab_code.specs.declared.fault.CodeFault.TheVariants as fault
-use Rattle.trlab_code.specs.Program.{Program, IsProgram, VersionAllows, reads_headspeed}
+use Rattle.trlab_code.specs.Program.{Program, IsValidProgram, VersionAllows, reads_headspeed}
 use Rattle.trlab_code.specs.Encoding.{instr_bytes, encoding}
-use Rattle.trlab_code.specs.Faults.{HasValidHeader, IsValidBefore, EncodesSomeInstr, HasOpcode, NeedsVersion, IsFirstFault, stated_count, stated_version, bytes_at}
+use Rattle.trlab_code.specs.Faults.{HasValidHeader, IsValidBefore, EncodesSomeInstr, HasOpcode, VersionIsNeeded, IsFirstCodeFault, stated_count, stated_version, bytes_at}
 
 -- the bytes of instructions, eight for each
 length_rows : (instrs : List Instr) → length (flat_map instr_bytes instrs) ≡ 8 * length instrs
@@ -35,7 +35,7 @@ version_is : (b : Bool) → (◌≡◌ {A = ℕ} (cond b 2 1) 1) ⊎ (◌≡◌ 
 version_is true = inr refl
 version_is false = inl refl
 
-header_is : (program : Program) → IsProgram program → HasValidHeader (encoding program)
+header_is : (program : Program) → IsValidProgram program → HasValidHeader (encoding program)
 unfolding encoding
 header_is program is = record {
   whole = omega arith;
@@ -56,19 +56,19 @@ of_version : (program : Program) (k : ℕ) → k < length program.instrs → Ver
 unfolding encoding
 of_version program k h reads = ap (λ (b : Bool). cond b 2 1) (list_any_at reads_headspeed program.instrs k Stay h reads)
 
-row_of_program : (program : Program) → IsProgram program → (k : ℕ) → k < length program.instrs → EncodesSomeInstr (stated_version (encoding program)) (bytes_at (encoding program) k)
+row_of_program : (program : Program) → IsValidProgram program → (k : ℕ) → k < length program.instrs → EncodesSomeInstr (stated_version (encoding program)) (bytes_at (encoding program) k)
 row_of_program program is k h =
     (get_or program.instrs k Stay, (row_of_spelling program k Stay h, is.in_range k Stay h, of_version program k h))
 
 -- all is well in the encoding of a program
-pub good_spelling : (program : Program) → IsProgram program → (k : ℕ) → k ≤ length program.instrs → IsValidBefore (encoding program) k
+pub good_spelling : (program : Program) → IsValidProgram program → (k : ℕ) → k ≤ length program.instrs → IsValidBefore (encoding program) k
 good_spelling program is k h = record {
   header = header_is program is;
   room = omega (arith, count_is program, length_is program);
   rows = λ j below. row_of_program program is j (omega arith);
 }
 
-good : (program : Program) → IsProgram program → IsValidBefore (encoding program) (length program.instrs)
+good : (program : Program) → IsValidProgram program → IsValidBefore (encoding program) (length program.instrs)
 good program is = good_spelling program is (length program.instrs) (omega arith)
 
 -- the second version is for programs with an instruction that reads the speed of the car ahead
@@ -76,7 +76,7 @@ reads_in_second : (program : Program) → stated_version (encoding program) ≡ 
 unfolding encoding
 reads_in_second program second = elim (cases_Bool (list_any reads_headspeed program.instrs)) [ inl some ↦ some | inr none ↦ absurd (cc) ]
 
-needs_version : (program : Program) → NeedsVersion (encoding program)
+needs_version : (program : Program) → VersionIsNeeded (encoding program)
 needs_version program second =
     let some = Any-from_list_any reads_headspeed program.instrs (reads_in_second program second) in
     (some.0, some.1, omega (arith, count_is program, some.2), row_of_spelling program some.0 some.1 some.2 ∙ ap instr_bytes some.3, some.4)
@@ -86,7 +86,7 @@ pub opcode_of_row : (version : ℕ) (row : List ℕ) → EncodesSomeInstr versio
 opcode_of_row version row h = (h.0, ap (λ bytes. get_or bytes 0 0) h.1.0)
 
 -- bytes that spell a program have no fault, unless an allocation fails
-pub no_fault : (program : Program) (f : CodeFault) → IsProgram program → IsFirstFault (encoding program) f → f ≡ fault.Memory
+pub no_fault : (program : Program) (f : CodeFault) → IsValidProgram program → IsFirstCodeFault (encoding program) f → f ≡ fault.Memory
 no_fault program fault.Short is h = elim h [ inl short ↦ absurd (short (good program is).header.whole) | inr short ↦ absurd (short.1 (good program is).room) ]
 no_fault program fault.Magic is h = absurd (h.1 (good program is).header.magic)
 no_fault program fault.Version is h = absurd (h.2 (good program is).header.version)

@@ -18,11 +18,11 @@ use Rattle.trlab_bounds.specs.declared.programs.TheConstants.{MAGIC}
 use Rattle.trlab_bounds.specs.declared.programs.TheConstants.{CERTAIN}
 use Rattle.trlab_code.specs.declared.fault.CodeFault.{CodeFault}
 use Rattle.trlab_code.specs.declared.fault.CodeFault.TheVariants as fault
-use Rattle.trlab_code.specs.Program.{Program, IsInRange, IsProgram, VersionAllows, reads_headspeed, version_of}
+use Rattle.trlab_code.specs.Program.{Program, IsInRange, IsValidProgram, VersionAllows, reads_headspeed, version_of}
 use Rattle.trlab_code.specs.Machine.{register_number, input_number}
 use Rattle.trlab_code.specs.Encoding.{kind_byte, header, instr_bytes, encoding}
-use Rattle.trlab_code.specs.Faults.{HasRoom, HasVersion, EncodesSomeInstr, HasValidHeader, IsValidBefore, NeedsVersion, IsFirstFault, stated_count, stated_version, bytes_at}
-use Rattle.trlab_code.specs.Laws.{Says}
+use Rattle.trlab_code.specs.Faults.{HasRoom, HasVersion, EncodesSomeInstr, HasValidHeader, IsValidBefore, VersionIsNeeded, IsFirstCodeFault, stated_count, stated_version, bytes_at}
+use Rattle.trlab_code.specs.Laws.{BytesMean}
 use Rattle.trlab_code.proofs.Opcodes.{opcode_or_not}
 use Rattle.trlab_code.proofs.Rows.{rows_more, good_more}
 use Rattle.trlab_code.proofs.Versions.{needless, needs_version, version_needed}
@@ -150,7 +150,7 @@ spells_or_not version row =
 
 -- some fault of bytes is the first, and it is not that memory runs out
 abbrev Faulty : List ℕ → Type 0
-Faulty bytes = (f : CodeFault) × (IsFirstFault bytes f × (f ≢ fault.Memory))
+Faulty bytes = (f : CodeFault) × (IsFirstCodeFault bytes f × (f ≢ fault.Memory))
 
 -- the rows before pc spell instructions, or one of them is the first fault
 rows_or_fault : (bytes : List ℕ) → HasValidHeader bytes → HasRoom bytes → (pc : ℕ) → pc ≤ stated_count bytes → IsValidBefore bytes pc ⊎ Faulty bytes
@@ -241,7 +241,7 @@ header_or_fault bytes =
     ]
 
 -- whether the instructions need the version that is stated
-needs_or_not : (bytes : List ℕ) → IsValidBefore bytes (stated_count bytes) → NeedsVersion bytes ⊎ (¬ (NeedsVersion bytes))
+needs_or_not : (bytes : List ℕ) → IsValidBefore bytes (stated_count bytes) → VersionIsNeeded bytes ⊎ (¬ (VersionIsNeeded bytes))
 needs_or_not bytes good =
     let rows = rows_of bytes (stated_count bytes) good in
     let program : Program = record { kind = good.header.kind.0; instrs = rows.instrs } in
@@ -251,7 +251,7 @@ needs_or_not bytes good =
     ]
 
 -- the program that bytes with a good header and good rows of a version that they need spell
-spelt : (bytes : List ℕ) → All (λ byte. byte < 2 ^ 8) bytes → IsValidBefore bytes (stated_count bytes) → NeedsVersion bytes → length bytes ≤ 8 + 8 * stated_count bytes → (program : Program) × ((bytes ≡ encoding program) × IsProgram program)
+spelt : (bytes : List ℕ) → All (λ byte. byte < 2 ^ 8) bytes → IsValidBefore bytes (stated_count bytes) → VersionIsNeeded bytes → length bytes ≤ 8 + 8 * stated_count bytes → (program : Program) × ((bytes ≡ encoding program) × IsValidProgram program)
 spelt bytes small good needs short =
     let kind = good.header.kind in
     let rows = rows_of bytes (stated_count bytes) good in
@@ -265,7 +265,7 @@ spelt bytes small good needs short =
     )
 
 -- bytes say something
-pub something : (bytes : List ℕ) → All (λ byte. byte < 2 ^ 8) bytes → (said : Result Program CodeFault) × Says bytes said
+pub something : (bytes : List ℕ) → All (λ byte. byte < 2 ^ 8) bytes → (said : Result Program CodeFault) × BytesMean bytes said
 something bytes small =
     elim (header_or_fault bytes) [
       | inr other ↦ (Err other.0, other.1)

@@ -8,7 +8,7 @@ use Rattle.trlab_code.specs.declared.instruction.Instr.{Instr}
 use Rattle.trlab_code.specs.declared.instruction.Instr.TheVariants.{Stay}
 use Rattle.trlab_code.specs.Program.{Program, reads_headspeed, version_of}
 use Rattle.trlab_code.specs.Encoding.{instr_bytes}
-use Rattle.trlab_code.specs.Faults.{IsValidBefore, HasHeadspeed, NeedsVersion, stated_count, stated_version, bytes_at}
+use Rattle.trlab_code.specs.Faults.{IsValidBefore, HasHeadspeed, VersionIsNeeded, stated_count, stated_version, bytes_at}
 use Rattle.trlab_code.proofs.Injective.{same_instr}
 use Rattle.trlab_code.proofs.EncodedCode.{row_is}
 
@@ -44,7 +44,7 @@ module _ (bytes : List ℕ) (program : Program) (many : length program.instrs �
       let same : row.0 ≡ h.1 = same_instr (sym row.1.0 ∙ h.3) in
       row.1.2 (ap reads_headspeed same ∙ h.4)
 
-  version_by : IsValidBefore bytes (stated_count bytes) → NeedsVersion bytes → (b : Bool) → list_any reads_headspeed program.instrs ≡ b → cond b 2 1 ≡ stated_version bytes
+  version_by : IsValidBefore bytes (stated_count bytes) → VersionIsNeeded bytes → (b : Bool) → list_any reads_headspeed program.instrs ≡ b → cond b 2 1 ≡ stated_version bytes
   version_by good needs true e = sym (second good (reads_row e))
   version_by good needs false e = elim good.header.version [
     | inl first ↦ sym first
@@ -52,11 +52,11 @@ module _ (bytes : List ℕ) (program : Program) (many : length program.instrs �
   ]
 
   -- the version that is needed is the one that is stated
-  pub version_needed : IsValidBefore bytes (stated_count bytes) → NeedsVersion bytes → version_of program ≡ stated_version bytes
+  pub version_needed : IsValidBefore bytes (stated_count bytes) → VersionIsNeeded bytes → version_of program ≡ stated_version bytes
   version_needed good needs = version_by good needs (list_any reads_headspeed program.instrs) refl
 
-  pub needless : IsValidBefore bytes (stated_count bytes) → version_of program ≢ stated_version bytes → ¬ (NeedsVersion bytes)
+  pub needless : IsValidBefore bytes (stated_count bytes) → version_of program ≢ stated_version bytes → ¬ (VersionIsNeeded bytes)
   needless good other needs = other (version_needed good needs)
 
-  pub needs_version : version_of program ≡ stated_version bytes → NeedsVersion bytes
+  pub needs_version : version_of program ≡ stated_version bytes → VersionIsNeeded bytes
   needs_version same two = elim (cases_Bool (list_any reads_headspeed program.instrs)) [ inl some ↦ reads_row some | inr none ↦ absurd cc ]

@@ -4,9 +4,9 @@ use Rattle.std.proofs.lemmas.List.{take-append-drop, take_all}
 use Rattle.std.specs.List.{flat_map}
 use Rattle.trlab_code.specs.declared.fault.CodeFault.{CodeFault}
 use Rattle.trlab_code.specs.declared.fault.CodeFault.TheVariants as fault
-use Rattle.trlab_code.specs.Program.{Program, IsProgram, version_of}
+use Rattle.trlab_code.specs.Program.{Program, IsValidProgram, version_of}
 use Rattle.trlab_code.specs.Encoding.{header, instr_bytes, encoding}
-use Rattle.trlab_code.specs.Faults.{IsFirstFault}
+use Rattle.trlab_code.specs.Faults.{IsFirstCodeFault}
 use Rattle.trlab_code.proofs.Injective.{same_program}
 use Rattle.trlab_code.proofs.EncodedCode.{no_fault}
 use Rattle.trlab_code.proofs.Apart.{one_fault, cases_memory}
@@ -23,19 +23,19 @@ spelling_of_parts bytes code version count needed many head rows short =
     let start : take 8 bytes ≡ header (version_of code) code.kind (length code.instrs) = rw (many, needed) head in
     sym cut ∙ ap (λ front. front ++ drop 8 bytes) start ∙ ap (λ rest. header (version_of code) code.kind (length code.instrs) ++ rest) (sym (rows ∙ all))
 
-pub found_fault : (bytes : List ℕ) (f : CodeFault) → IsFirstFault bytes f → (program : Program) → IsProgram program → bytes ≡ encoding program → (◌≡◌ {A = Answer} (Err f) (Ok program)) ⊎ (◌≡◌ {A = Answer} (Err f) (Err fault.Memory))
+pub found_fault : (bytes : List ℕ) (f : CodeFault) → IsFirstCodeFault bytes f → (program : Program) → IsValidProgram program → bytes ≡ encoding program → (◌≡◌ {A = Answer} (Err f) (Ok program)) ⊎ (◌≡◌ {A = Answer} (Err f) (Err fault.Memory))
 found_fault bytes f first program is spelt =
-    let P : List ℕ → Type 0 = λ b. IsFirstFault b f in
+    let P : List ℕ → Type 0 = λ b. IsFirstCodeFault b f in
     inr (ap Err (no_fault program f is (subst P spelt first)))
 
-pub told_fault : (bytes : List ℕ) (f : CodeFault) → IsFirstFault bytes f → (g : CodeFault) → IsFirstFault bytes g → g ≢ fault.Memory → (◌≡◌ {A = Answer} (Err f) (Err g)) ⊎ (◌≡◌ {A = Answer} (Err f) (Err fault.Memory))
+pub told_fault : (bytes : List ℕ) (f : CodeFault) → IsFirstCodeFault bytes f → (g : CodeFault) → IsFirstCodeFault bytes g → g ≢ fault.Memory → (◌≡◌ {A = Answer} (Err f) (Err g)) ⊎ (◌≡◌ {A = Answer} (Err f) (Err fault.Memory))
 told_fault bytes f first g other some =
     elim (cases_memory f) [ inl none ↦ inr (ap Err none) | inr not ↦ inl (ap Err (one_fault bytes f g first other not some)) ]
 
-pub found_program : (bytes : List ℕ) (code : Program) → bytes ≡ encoding code → (program : Program) → IsProgram program → bytes ≡ encoding program → (◌≡◌ {A = Answer} (Ok code) (Ok program)) ⊎ (◌≡◌ {A = Answer} (Ok code) (Err fault.Memory))
+pub found_program : (bytes : List ℕ) (code : Program) → bytes ≡ encoding code → (program : Program) → IsValidProgram program → bytes ≡ encoding program → (◌≡◌ {A = Answer} (Ok code) (Ok program)) ⊎ (◌≡◌ {A = Answer} (Ok code) (Err fault.Memory))
 found_program bytes code spelt program is other = inl (ap Ok (same_program code program (sym spelt ∙ other)))
 
-pub told_program : (bytes : List ℕ) (code : Program) → IsProgram code → bytes ≡ encoding code → (g : CodeFault) → IsFirstFault bytes g → g ≢ fault.Memory → (◌≡◌ {A = Answer} (Ok code) (Err g)) ⊎ (◌≡◌ {A = Answer} (Ok code) (Err fault.Memory))
+pub told_program : (bytes : List ℕ) (code : Program) → IsValidProgram code → bytes ≡ encoding code → (g : CodeFault) → IsFirstCodeFault bytes g → g ≢ fault.Memory → (◌≡◌ {A = Answer} (Ok code) (Err g)) ⊎ (◌≡◌ {A = Answer} (Ok code) (Err fault.Memory))
 told_program bytes code is spelt g first some =
-    let P : List ℕ → Type 0 = λ b. IsFirstFault b g in
+    let P : List ℕ → Type 0 = λ b. IsFirstCodeFault b g in
     absurd (some (no_fault code g is (subst P spelt first)))

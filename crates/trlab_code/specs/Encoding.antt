@@ -1,4 +1,4 @@
--- The one encoding of a program in bytes: a header, and then a row of bytes for each instruction.
+-- The encoding of a program in bytes: a header, and then eight bytes for each instruction.
 use Rattle.std.specs.Prelude.{◌≡◌, ℕ, ◌/◌, ◌%◌, ◌^◌, List, [], ◌∷◌, ◌++◌, length}
 use Rattle.std.specs.List.{flat_map}
 use Rattle.trlab_code.specs.declared.program.Kind.{Kind}
@@ -15,12 +15,12 @@ abbrev pub kind_byte : Kind → ℕ
 kind_byte Motion = 0
 kind_byte Change = 1
 
--- the row of an instruction: its opcode, three one-byte fields, and a number
+-- the row of an instruction: its opcode, three one-byte fields a, b and c, and a number of four bytes
 abbrev pub row : ℕ → ℕ → ℕ → ℕ → ℕ → InstructionRow
 row opcode a b c number = record { opcode = opcode; a = a; b = b; c = c; number = number }
 
 -- the row of each instruction, with 0 for the fields that it does not have; a register or an input is encoded
--- as its number
+-- as its number, and the number of a draw is its chance, that of a jump its target
 abbrev pub row_of : Instr → InstructionRow
 row_of (Num d n) = row 0x01 (register_number d) 0 0 n
 row_of (Get d k) = row 0x02 (register_number d) (input_number k) 0 0
@@ -45,21 +45,21 @@ row_of (Go a) = row 0x14 (register_number a) 0 0 0
 row_of Cross = row 0x15 0 0 0 0
 row_of Stay = row 0x16 0 0 0 0
 
--- the two bytes of a count below 2 ^ 16, the lower first
+-- the two bytes of a count below 2 ^ 16, the lower first; for example, 300 has the bytes 44 and 1
 abbrev pub count_bytes : ℕ → List ℕ
 count_bytes n = n % 256 ∷ n / 256 ∷ []
 
--- the four bytes of a number below 2 ^ 32, the lowest first
+-- the four bytes of a number below 2 ^ 32, the lowest first; for example, 300 has the bytes 44, 1, 0 and 0
 abbrev pub number_bytes : ℕ → List ℕ
 number_bytes n = n % 256 ∷ n / 256 % 256 ∷ n / 256 ^ 2 % 256 ∷ n / 256 ^ 3 ∷ []
 
 -- the eight bytes of a row: the opcode, the three fields and the four bytes of the number
 abbrev pub row_bytes : InstructionRow → List ℕ
-row_bytes r = r.opcode ∷ r.a ∷ r.b ∷ r.c ∷ number_bytes r.number
+row_bytes fields = fields.opcode ∷ fields.a ∷ fields.b ∷ fields.c ∷ number_bytes fields.number
 
 -- the eight bytes of an instruction: those of its row
 abbrev pub instr_bytes : Instr → List ℕ
-instr_bytes i = row_bytes (row_of i)
+instr_bytes instr = row_bytes (row_of instr)
 
 -- the eight bytes of a header: `TRLB`, the version, the kind and the number of instructions
 abbrev pub header : ℕ → Kind → ℕ → List ℕ
@@ -70,10 +70,11 @@ unfoldable pub encoding : Program → List ℕ
 encoding program =
     header (version_of program) program.kind (length program.instrs) ++ flat_map instr_bytes program.instrs
 
--- the bytes encode the instruction i, whose fields are in range and which this version may have
+-- the bytes encode the instruction, its fields are in range, and this version allows it
 abbrev pub EncodesInstr : ℕ → Instr → List ℕ → Type 0
-EncodesInstr version i bytes = (bytes ≡ instr_bytes i) × IsInRange i × VersionAllows version i
+EncodesInstr version instr bytes =
+    (bytes ≡ instr_bytes instr) × IsInRange instr × VersionAllows version instr
 
--- a byte is the opcode of some instruction
+-- the byte is the opcode of some instruction, 0x01 to 0x16
 abbrev pub IsOpcode : ℕ → Type 0
-IsOpcode byte = (i : Instr) × (byte ≡ (row_of i).opcode)
+IsOpcode byte = (instr : Instr) × (byte ≡ (row_of instr).opcode)

@@ -1,4 +1,4 @@
--- The first fault of bytes that spell no program, in the order in which a reader meets it.
+-- The first fault of bytes that do not encode a program, in the order in which a reader meets the faults.
 use Rattle.std.specs.Prelude.{◌≡◌, ℕ, ◌+◌, ◌*◌, ◌<◌, ◌≤◌, List, length, take, drop, slice_index, ◌⊎◌, IsTrue}
 use Rattle.trlab_code.specs.declared.program.Kind.{Kind}
 use Rattle.trlab_code.specs.declared.instruction.Instr.{Instr}
@@ -14,11 +14,12 @@ use Rattle.trlab_code.specs.Encoding.{kind_byte, instr_bytes, EncodesInstr, IsOp
 abbrev pub stated_version : List ℕ → ℕ
 stated_version bytes = slice_index bytes 4
 
--- the number of instructions that a header states: bytes 6 and 7, the lower first
+-- the number of instructions that a header states: bytes 6 and 7, the lower first; for example, 300 if byte 6
+-- is 44 and byte 7 is 1
 abbrev pub stated_count : List ℕ → ℕ
 stated_count bytes = slice_index bytes 6 + 256 * slice_index bytes 7
 
--- the eight bytes of the instruction at pc, after the header; fewer if the bytes end there
+-- the eight bytes of instruction pc, counted from 0 after the header; fewer if the bytes end there
 abbrev pub bytes_at : List ℕ → ℕ → List ℕ
 bytes_at bytes pc = take INSTR_BYTES (drop (HEADER_BYTES + INSTR_BYTES * pc) bytes)
 
@@ -26,15 +27,15 @@ bytes_at bytes pc = take INSTR_BYTES (drop (HEADER_BYTES + INSTR_BYTES * pc) byt
 abbrev pub HasHeader : List ℕ → Type 0
 HasHeader bytes = HEADER_BYTES ≤ length bytes
 
--- the bytes begin with MAGIC, the four bytes with which every encoding begins
+-- the bytes begin with MAGIC, the four characters `TRLB` with which every encoding begins
 abbrev pub HasMagic : List ℕ → Type 0
 HasMagic bytes = take 4 bytes ≡ MAGIC
 
--- the header states one of the two versions
+-- the header states a known version: PLAIN_VERSION or HEADSPEED_VERSION
 abbrev pub HasVersion : List ℕ → Type 0
 HasVersion bytes = (stated_version bytes ≡ PLAIN_VERSION) ⊎ (stated_version bytes ≡ HEADSPEED_VERSION)
 
--- byte 5 is that of a program kind
+-- byte 5 of the header is the byte of a program kind, motion or change
 abbrev pub HasKind : List ℕ → Type 0
 HasKind bytes = (kind : Kind) × (slice_index bytes 5 ≡ kind_byte kind)
 
@@ -42,19 +43,19 @@ HasKind bytes = (kind : Kind) × (slice_index bytes 5 ≡ kind_byte kind)
 abbrev pub HasCount : List ℕ → Type 0
 HasCount bytes = (1 ≤ stated_count bytes) × (stated_count bytes ≤ MAX_INSTRUCTIONS)
 
--- the bytes are long enough for the header and the stated number of instructions
+-- the bytes are long enough for the header and for all stated instructions
 abbrev pub HasRoom : List ℕ → Type 0
 HasRoom bytes = HEADER_BYTES + INSTR_BYTES * stated_count bytes ≤ length bytes
 
--- the first byte of a row is the opcode of some instruction
+-- the first byte of an instruction's row is the opcode of some instruction
 abbrev pub HasOpcode : List ℕ → Type 0
 HasOpcode row = IsOpcode (slice_index row 0)
 
--- the bytes of a row encode an instruction with fields in range that this version may have
+-- the bytes of a row encode an instruction, with fields in range, that this version allows
 abbrev pub EncodesSomeInstr : ℕ → List ℕ → Type 0
-EncodesSomeInstr version row = (i : Instr) × EncodesInstr version i row
+EncodesSomeInstr version row = (instr : Instr) × EncodesInstr version instr row
 
--- the bytes begin with a valid header: MAGIC, a version, a kind and a number of instructions
+-- the bytes begin with a valid header: MAGIC, a known version, a kind, and an allowed number of instructions
 pub record HasValidHeader (bytes : List ℕ) : Type 0 where
   pub whole : HasHeader bytes
   pub magic : HasMagic bytes
@@ -62,7 +63,7 @@ pub record HasValidHeader (bytes : List ℕ) : Type 0 where
   pub kind : HasKind bytes
   pub count : HasCount bytes
 
--- the header is valid, the stated instructions have room, and those before pc are valid
+-- the header is valid, the bytes are long enough for all stated instructions, and those before pc are valid
 pub record IsValidBefore (bytes : List ℕ) (pc : ℕ) : Type 0 where
   pub header : HasValidHeader bytes
   pub room : HasRoom bytes
@@ -72,53 +73,56 @@ pub record IsValidBefore (bytes : List ℕ) (pc : ℕ) : Type 0 where
 abbrev pub EndsEarly : List ℕ → Type 0
 EndsEarly bytes = (¬ (HasHeader bytes)) ⊎ (HasValidHeader bytes × ¬ (HasRoom bytes))
 
--- the bytes are long enough for a header and begin with MAGIC, and `rest` holds
+-- the bytes are long enough for a header and begin with MAGIC, and the given claim on the next bytes is true
 abbrev pub PassesMagic : List ℕ → Type 0 → Type 0
-PassesMagic bytes rest = HasHeader bytes × HasMagic bytes × rest
+PassesMagic bytes claim = HasHeader bytes × HasMagic bytes × claim
 
--- the bytes have a header that is valid up to the version and the kind, and `rest` holds
+-- the header is valid up to its kind, that is in MAGIC, version and kind, and the given claim is true
 abbrev pub PassesKind : List ℕ → Type 0 → Type 0
-PassesKind bytes rest = PassesMagic bytes (HasVersion bytes × HasKind bytes × rest)
+PassesKind bytes claim = PassesMagic bytes (HasVersion bytes × HasKind bytes × claim)
 
--- pc is below the stated number of instructions, the bytes before the instruction at pc are valid, and its
--- own bytes satisfy `IsSo`
+-- instruction pc is one of the stated instructions, all bytes before it are valid, and `IsFaulty` holds for
+-- its own eight bytes
 abbrev pub ReachesInstr : List ℕ → ℕ → (List ℕ → Type 0) → Type 0
-ReachesInstr bytes pc IsSo = (pc < stated_count bytes) × IsValidBefore bytes pc × IsSo (bytes_at bytes pc)
+ReachesInstr bytes pc IsFaulty =
+    (pc < stated_count bytes) × IsValidBefore bytes pc × IsFaulty (bytes_at bytes pc)
 
 -- one of the stated instructions reads the headspeed
 abbrev pub HasHeadspeed : List ℕ → Type 0
-HasHeadspeed bytes = (pc : ℕ) × (i : Instr)
-    × (pc < stated_count bytes) × (bytes_at bytes pc ≡ instr_bytes i) × IsTrue (reads_headspeed i)
+HasHeadspeed bytes = (pc : ℕ) × (instr : Instr)
+    × (pc < stated_count bytes) × (bytes_at bytes pc ≡ instr_bytes instr) × IsTrue (reads_headspeed instr)
 
--- the header states version 2 only if one of the stated instructions needs it to read the headspeed
-abbrev pub NeedsVersion : List ℕ → Type 0
-NeedsVersion bytes = stated_version bytes ≡ HEADSPEED_VERSION → HasHeadspeed bytes
+-- the stated version is needed: PLAIN_VERSION always is, and HEADSPEED_VERSION is if a stated instruction
+-- reads the headspeed
+abbrev pub VersionIsNeeded : List ℕ → Type 0
+VersionIsNeeded bytes = stated_version bytes ≡ HEADSPEED_VERSION → HasHeadspeed bytes
 
 -- there are bytes after the last stated instruction
 abbrev pub HasExtraBytes : List ℕ → Type 0
 HasExtraBytes bytes = HEADER_BYTES + INSTR_BYTES * stated_count bytes < length bytes
 
--- the header and all stated instructions are valid, and `rest` holds
+-- the header and all stated instructions are valid, and the given claim is true
 abbrev pub PassesInstrs : List ℕ → Type 0 → Type 0
-PassesInstrs bytes rest = IsValidBefore bytes (stated_count bytes) × rest
+PassesInstrs bytes claim = IsValidBefore bytes (stated_count bytes) × claim
 
--- the first fault after a valid header: an opcode or a field of the first invalid instruction, a needless
--- version 2, or bytes after the last instruction; `Memory` is always possible, header faults never
+-- the first fault after a valid header: the opcode, or else a field, of the first invalid instruction; then
+-- an unneeded HEADSPEED_VERSION; then bytes after the last instruction. `Memory`, a failed allocation, is
+-- always possible, and faults of the header never
 abbrev pub IsFaultAfterHeader : List ℕ → CodeFault → Type 0
 IsFaultAfterHeader bytes (fault.Opcode pc) = ReachesInstr bytes pc (λ row. ¬ (HasOpcode row))
 IsFaultAfterHeader bytes (fault.Field pc) =
     ReachesInstr bytes pc (λ row. HasOpcode row × ¬ (EncodesSomeInstr (stated_version bytes) row))
-IsFaultAfterHeader bytes fault.NeedlessVersion = PassesInstrs bytes (¬ (NeedsVersion bytes))
-IsFaultAfterHeader bytes fault.Trailing = PassesInstrs bytes (NeedsVersion bytes × HasExtraBytes bytes)
+IsFaultAfterHeader bytes fault.NeedlessVersion = PassesInstrs bytes (¬ (VersionIsNeeded bytes))
+IsFaultAfterHeader bytes fault.Trailing = PassesInstrs bytes (VersionIsNeeded bytes × HasExtraBytes bytes)
 IsFaultAfterHeader bytes fault.Memory = Unit {0}
 IsFaultAfterHeader bytes _ = ⊥
 
--- the first fault of bytes: that they end early, then MAGIC, the version, the kind, the number of
--- instructions, and the faults after the header; `Memory` is always possible
-abbrev pub IsFirstFault : List ℕ → CodeFault → Type 0
-IsFirstFault bytes fault.Short = EndsEarly bytes
-IsFirstFault bytes fault.Magic = HasHeader bytes × ¬ (HasMagic bytes)
-IsFirstFault bytes fault.Version = PassesMagic bytes (¬ (HasVersion bytes))
-IsFirstFault bytes fault.Kind = PassesMagic bytes (HasVersion bytes × ¬ (HasKind bytes))
-IsFirstFault bytes fault.Count = PassesKind bytes (¬ (HasCount bytes))
-IsFirstFault bytes fault = IsFaultAfterHeader bytes fault
+-- the first fault of bytes: too short for a header; then a wrong MAGIC, version, kind or number of
+-- instructions; then too short for these instructions, which is `Short` too; then a fault after the header
+abbrev pub IsFirstCodeFault : List ℕ → CodeFault → Type 0
+IsFirstCodeFault bytes fault.Short = EndsEarly bytes
+IsFirstCodeFault bytes fault.Magic = HasHeader bytes × ¬ (HasMagic bytes)
+IsFirstCodeFault bytes fault.Version = PassesMagic bytes (¬ (HasVersion bytes))
+IsFirstCodeFault bytes fault.Kind = PassesMagic bytes (HasVersion bytes × ¬ (HasKind bytes))
+IsFirstCodeFault bytes fault.Count = PassesKind bytes (¬ (HasCount bytes))
+IsFirstCodeFault bytes fault = IsFaultAfterHeader bytes fault

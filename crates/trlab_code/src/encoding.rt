@@ -2,9 +2,9 @@
 
 ghost use Rattle.std.specs.Prelude.{◌≡◌, IfOk, ◌≤◌, length, take, IfErr, ◌≢◌, ◌*◌, ◌<◌, ◌⊎◌, ℕ, drop, All, MatchResult};
 ghost use Rattle.trlab_code.specs.Encoding.{encoding, kind_byte, header, instr_bytes, EncodesInstr};
-ghost use Rattle.trlab_code.specs.Faults.{HasValidHeader, HasRoom, IsFirstFault, stated_count, stated_version, IsValidBefore, bytes_at};
+ghost use Rattle.trlab_code.specs.Faults.{HasValidHeader, HasRoom, IsFirstCodeFault, stated_count, stated_version, IsValidBefore, bytes_at};
 ghost use Rattle.std.specs.List.{flat_map};
-ghost use Rattle.trlab_code.specs.Program.{Program, IsInRange, IsProgram};
+ghost use Rattle.trlab_code.specs.Program.{Program, IsInRange, IsValidProgram};
 ghost use Rattle.trlab_code.specs.declared.fault.CodeFault.{CodeFault};
 
 use crate::fault::CodeFault;
@@ -42,7 +42,7 @@ impl Header {
         ensures version { IfOk result (λ h. stated_version bytes.now ≡ h.version) }
         ensures count { IfOk result (λ h. stated_count bytes.now ≡ h.count) }
         ensures spelt { IfOk result (λ h. take HEADER_BYTES bytes.now ≡ header h.version h.kind h.count) }
-        ensures fault { IfErr result (IsFirstFault bytes.now) }
+        ensures fault { IfErr result (IsFirstCodeFault bytes.now) }
     {
         if bytes.len() < HEADER_BYTES {
             return Err(CodeFault::Short);
@@ -112,7 +112,7 @@ fn instr_at(bytes: &[u8], version: u8, pc: u32) -> Result<Instr, CodeFault>
     requires inside { pc < stated_count bytes.now }
     requires before { IsValidBefore bytes.now pc }
     ensures { MatchResult result
-        (λ i. EncodesInstr (stated_version bytes.now) i (bytes_at bytes.now pc)) (IsFirstFault bytes.now) }
+        (λ i. EncodesInstr (stated_version bytes.now) i (bytes_at bytes.now pc)) (IsFirstCodeFault bytes.now) }
 {
     let row = InstructionRow::read(bytes, HEADER_BYTES + INSTR_BYTES * pc as usize);
     match row::instruction_of(row, version) {
@@ -134,7 +134,7 @@ fn instrs(alloc: Global, bytes: &[u8], header: Header) -> Result<Vec<Instr>, Cod
         flat_map instr_bytes instrs.items
         ≡ take (INSTR_BYTES * stated_count bytes.now) (drop HEADER_BYTES bytes.now)) }
     ensures rows { IfOk result (λ _. IsValidBefore bytes.now (stated_count bytes.now)) }
-    ensures fault { IfErr result (IsFirstFault bytes.now) }
+    ensures fault { IfErr result (IsFirstCodeFault bytes.now) }
 {
     let mut instrs = Vec::with_capacity(alloc, header.count as usize)?;
     for pc in 0..header.count {
@@ -158,15 +158,15 @@ fn instrs(alloc: Global, bytes: &[u8], header: Header) -> Result<Vec<Instr>, Cod
 ///
 /// The first fault of the bytes, or `Memory` if allocation fails.
 pub fn decode(alloc: Global, bytes: &[u8]) -> Result<Code, CodeFault>
-    ensures exact { MatchResult result (λ code. bytes.now ≡ encoding code) (IsFirstFault bytes.now) }
-    ensures program { IfOk result IsProgram }
+    ensures exact { MatchResult result (λ code. bytes.now ≡ encoding code) (IsFirstCodeFault bytes.now) }
+    ensures program { IfOk result IsValidProgram }
 
     // Each program is found, unless allocation fails.
-    ensures found { (program : Program) → IsProgram program → bytes.now ≡ encoding program
+    ensures found { (program : Program) → IsValidProgram program → bytes.now ≡ encoding program
         → (result ≡ Ok program) ⊎ (result ≡ Err CodeFault.Memory) }
 
     // Each fault is reported, unless allocation fails.
-    ensures told { (fault : CodeFault) → IsFirstFault bytes.now fault → fault ≢ CodeFault.Memory
+    ensures told { (fault : CodeFault) → IsFirstCodeFault bytes.now fault → fault ≢ CodeFault.Memory
         → (result ≡ Err fault) ⊎ (result ≡ Err CodeFault.Memory) }
 {
     let header = Header::read(bytes)?;

@@ -109,7 +109,7 @@ pub enum Instr {
     Min(Register, Register, Register),
     /// The larger of two registers.
     Max(Register, Register, Register),
-    /// The opposite of a flag.
+    /// Is a flag false?
     Not(Register, Register),
     /// Are both flags true?
     And(Register, Register, Register),

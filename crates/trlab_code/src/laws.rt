@@ -3,9 +3,9 @@
 //! Each law is the contract of a function with an empty body.
 
 ghost use Rattle.std.specs.Prelude.{◌≡◌, ◌≢◌, ℕ, List};
-ghost use Rattle.trlab_code.specs.Program.{Program, IsProgram};
+ghost use Rattle.trlab_code.specs.Program.{Program, IsValidProgram};
 ghost use Rattle.trlab_code.specs.Encoding.{encoding};
-ghost use Rattle.trlab_code.specs.Faults.{IsFirstFault};
+ghost use Rattle.trlab_code.specs.Faults.{IsFirstCodeFault};
 ghost use Rattle.trlab_code.specs.Laws.{BytesHaveOneMeaning, BytesHaveMeaning, EncodingIsBytes, EncodingMeansProgram};
 ghost use Rattle.trlab_code.specs.declared.fault.CodeFault.{CodeFault};
 
@@ -18,14 +18,14 @@ pub fn one_spelling()
 /// The encoding of a valid program has no fault other than `Memory`.
 #[tactic(auto, using(crate::proofs::EncodedCode::no_fault))]
 pub fn no_fault()
-    ensures { (program : Program) (fault : CodeFault) → IsProgram program
-        → IsFirstFault (encoding program) fault → fault ≡ CodeFault.Memory }
+    ensures { (program : Program) (fault : CodeFault) → IsValidProgram program
+        → IsFirstCodeFault (encoding program) fault → fault ≡ CodeFault.Memory }
 {}
 
 /// Bytes have at most one first fault other than `Memory`.
 #[tactic(auto, using(crate::proofs::Apart::one_fault))]
 pub fn one_fault()
-    ensures { (bytes : List ℕ) (first second : CodeFault) → IsFirstFault bytes first → IsFirstFault bytes second
+    ensures { (bytes : List ℕ) (first second : CodeFault) → IsFirstCodeFault bytes first → IsFirstCodeFault bytes second
         → first ≢ CodeFault.Memory → second ≢ CodeFault.Memory → first ≡ second }
 {}
 

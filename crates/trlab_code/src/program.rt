@@ -2,7 +2,7 @@
 
 ghost use Rattle.std.specs.Prelude.{◌≡◌, ◌↔◌, IsTrue, MatchOption, IfSome};
 ghost use Rattle.std.specs.List.{list_any};
-ghost use Rattle.trlab_code.specs.Program.{Program, IsInRange, IsProgram, VersionAllows, reads_headspeed, version_of};
+ghost use Rattle.trlab_code.specs.Program.{Program, IsInRange, IsValidProgram, VersionAllows, reads_headspeed, version_of};
 
 use crate::instruction::{Input, Instr};
 use std::marker::Model;
@@ -34,13 +34,13 @@ impl Drop for Code {
 }
 
 impl Model for Code {
-    ghost use Rattle.trlab_code.specs.Program.{Program, IsProgram};
+    ghost use Rattle.trlab_code.specs.Program.{Program, IsValidProgram};
 
     ghost Value = { Program };
 
     ghost view = { λ code. record { kind = code.kind; instrs = code.instrs.items } };
 
-    ghost invariant = { λ code. IsProgram (record { kind = code.kind; instrs = code.instrs.items }) };
+    ghost invariant = { λ code. IsValidProgram (record { kind = code.kind; instrs = code.instrs.items }) };
 }
 
 /// Are the fields of an instruction in range?
@@ -79,8 +79,8 @@ impl Code {
     /// A program with these instructions; `None` unless there are 1 to 128 and their fields are in range.
     pub fn new(kind: Kind, instrs: Vec<Instr>) -> Option<Code>
         ensures exact { let program : Program = record { kind = kind; instrs = instrs.items } in
-            MatchOption result (¬ (IsProgram program)) (λ code. code ≡ program) }
-        ensures program { IfSome result IsProgram }
+            MatchOption result (¬ (IsValidProgram program)) (λ code. code ≡ program) }
+        ensures program { IfSome result IsValidProgram }
     {
         if instrs.is_empty() || instrs.len() > MAX_INSTRUCTIONS {
             return None;
@@ -94,7 +94,7 @@ impl Code {
 
     /// A program with instructions whose number and fields are known to be in range.
     pub(crate) fn of(kind: Kind, instrs: Vec<Instr>) -> Code
-        requires { IsProgram (record { kind = kind; instrs = instrs.items }) }
+        requires { IsValidProgram (record { kind = kind; instrs = instrs.items }) }
         ensures { result ≡ record { kind = kind; instrs = instrs.items } }
     {
         Code { kind, instrs }
@@ -110,7 +110,7 @@ impl Code {
     /// The instructions in their order.
     pub fn instrs(&self) -> &[Instr]
         ensures value { result.now ≡ self.now.instrs }
-        ensures program { IsProgram self.now }
+        ensures program { IsValidProgram self.now }
     {
         &self.instrs
     }

@@ -1,7 +1,7 @@
 //! The views of cars.
 
 ghost use Rattle.std.specs.Prelude.{◌≡◌, IsNone, IfSome};
-ghost use Rattle.trlab_code.specs.Views.{IsView, motion_view, change_view};
+ghost use Rattle.trlab_code.specs.Views.{IsViewInRange, motion_view, change_view};
 
 use std::marker::Model;
 use trlab_bounds::roads::{MAX_GAP, MAX_LIMIT};
@@ -30,13 +30,13 @@ pub struct MotionView {
 
 impl Model for MotionView {
     ghost use Rattle.trlab_code.specs.declared.view.View.{View};
-    ghost use Rattle.trlab_code.specs.Views.{IsView};
+    ghost use Rattle.trlab_code.specs.Views.{IsViewInRange};
 
     ghost Value = { View };
 
     ghost view = { λ seen. seen.view };
 
-    ghost invariant = { λ seen. IsView seen.view };
+    ghost invariant = { λ seen. IsViewInRange seen.view };
 
     ghost inverse = { λ view. record { view = view } };
 }
@@ -44,9 +44,9 @@ impl Model for MotionView {
 impl MotionView {
     /// The view of a car, or `None` if a number is out of range. It shows nothing of the other lane.
     pub fn new(speed: u32, limit: u32, gap: u32, headspeed: u32) -> Option<MotionView>
-        ensures none { IsNone result → ¬ (IsView (motion_view speed limit gap headspeed)) }
+        ensures none { IsNone result → ¬ (IsViewInRange (motion_view speed limit gap headspeed)) }
         ensures some { IfSome result (λ seen. seen ≡ motion_view speed limit gap headspeed) }
-        ensures in_range { IfSome result IsView }
+        ensures in_range { IfSome result IsViewInRange }
     {
         let ahead = 1 <= limit && limit <= MAX_LIMIT && speed <= limit && gap <= MAX_GAP;
         if ahead && headspeed <= limit {
@@ -70,7 +70,7 @@ impl MotionView {
     /// The view's numbers, all in range.
     pub fn get(self) -> View
         ensures value { result ≡ self }
-        ensures in_range { IsView self }
+        ensures in_range { IsViewInRange self }
     {
         let MotionView { view } = self;
         view
@@ -86,13 +86,13 @@ pub struct ChangeView {
 
 impl Model for ChangeView {
     ghost use Rattle.trlab_code.specs.declared.view.View.{View};
-    ghost use Rattle.trlab_code.specs.Views.{IsView};
+    ghost use Rattle.trlab_code.specs.Views.{IsViewInRange};
 
     ghost Value = { View };
 
     ghost view = { λ seen. seen.view };
 
-    ghost invariant = { λ seen. IsView seen.view };
+    ghost invariant = { λ seen. IsViewInRange seen.view };
 
     ghost inverse = { λ view. record { view = view } };
 }
@@ -110,10 +110,10 @@ impl ChangeView {
         headspeed: u32,
     ) -> Option<ChangeView>
         ensures none { IsNone result
-            → ¬ (IsView (change_view speed limit gap side sidegap sideback lane headspeed)) }
+            → ¬ (IsViewInRange (change_view speed limit gap side sidegap sideback lane headspeed)) }
         ensures some { IfSome result
             (λ seen. seen ≡ change_view speed limit gap side sidegap sideback lane headspeed) }
-        ensures in_range { IfSome result IsView }
+        ensures in_range { IfSome result IsViewInRange }
     {
         let view = View {
             speed,
@@ -137,7 +137,7 @@ impl ChangeView {
     /// The view's numbers, all in range.
     pub fn get(self) -> View
         ensures value { result ≡ self }
-        ensures in_range { IsView self }
+        ensures in_range { IsViewInRange self }
     {
         let ChangeView { view } = self;
         view

@@ -10,9 +10,9 @@ use Rattle.clap.specs.Simple.{subcommand_of}
 use Rattle.clap.specs.declared.error.kind.ErrorKind.{ErrorKind}
 use Rattle.clap.proofs.OnLiterals.{clap_on_literals}
 use Rattle.trlab_command_line.specs.CommandLine.{command_line}
-use Rattle.trlab_command_line.specs.Explains.{explained_in}
+use Rattle.trlab_command_line.specs.Explains.{request_by_matches}
 use Rattle.trlab_command_line.specs.Numbers.{GivesFlag, GivesNumber}
-use Rattle.trlab_command_line.specs.Requests.{Asks, command_name}
+use Rattle.trlab_command_line.specs.Requests.{IsRequestOf, command_name}
 use Rattle.trlab_command_line.specs.declared.arguments.explain.Explaining.{Explaining}
 use Rattle.trlab_command_line.specs.declared.arguments.explain.Explaining.TheVariants.{Text as OfText}
 use Rattle.trlab_explain.specs.declared.explain.Form.TheVariants.{Text as Lines}
@@ -21,7 +21,7 @@ use Rattle.trlab_command_line.specs.declared.arguments.Request.TheVariants.{Chec
 use Rattle.trlab_command_line.proofs.Rows.{some_same}
 
 -- what is asked for has the name of the command that was entered
-pub asks_its_name : (name : Text) (rows : List Row) (request : Request) → Asks (Some (name, rows)) request → name ≡ command_name request
+pub asks_its_name : (name : Text) (rows : List Row) (request : Request) → IsRequestOf (Some (name, rows)) request → name ≡ command_name request
 asks_its_name name rows request a = ap (λ t. t.0) (some_same _ _ a.1)
 
 -- no command has another name too
@@ -60,10 +60,10 @@ run_has : option_map of_numbers (subcommand_of command_line (codes "run" ∷ [])
 unfolding clap_on_literals
 run_has = refl
 
-pub run_alone : (request : Request) → Asks (subcommand_of command_line (codes "run" ∷ [])) request → request ≡ Run 1 1 0 false
+pub run_alone : (request : Request) → IsRequestOf (subcommand_of command_line (codes "run" ∷ [])) request → request ≡ Run 1 1 0 false
 run_alone request a = go request a (ap (λ t. t.0) (some_same _ _ (sym run_has ∙ ap (option_map of_numbers) a.1)))
   where
-    go : (request : Request) → Asks (subcommand_of command_line (codes "run" ∷ [])) request → codes "run" ≡ command_name request → request ≡ Run 1 1 0 false
+    go : (request : Request) → IsRequestOf (subcommand_of command_line (codes "run" ∷ [])) request → codes "run" ≡ command_name request → request ≡ Run 1 1 0 false
     go Check a is = absurd (differ (codes "run") (codes "check") refl is)
     go (Sweep runners workers progress) a is = absurd (differ (codes "run") (codes "sweep") refl is)
     go (Series workers every from progress) a is = absurd (differ (codes "run") (codes "series") refl is)
@@ -85,10 +85,10 @@ sweep_has : option_map of_sweep (subcommand_of command_line (codes "sweep" ∷ [
 unfolding clap_on_literals
 sweep_has = refl
 
-pub sweep_alone : (request : Request) → Asks (subcommand_of command_line (codes "sweep" ∷ [])) request → request ≡ Sweep 1 1 false
+pub sweep_alone : (request : Request) → IsRequestOf (subcommand_of command_line (codes "sweep" ∷ [])) request → request ≡ Sweep 1 1 false
 sweep_alone request a = go request a (ap (λ t. t.0) (some_same _ _ (sym sweep_has ∙ ap (option_map of_sweep) a.1)))
   where
-    go : (request : Request) → Asks (subcommand_of command_line (codes "sweep" ∷ [])) request → codes "sweep" ≡ command_name request → request ≡ Sweep 1 1 false
+    go : (request : Request) → IsRequestOf (subcommand_of command_line (codes "sweep" ∷ [])) request → codes "sweep" ≡ command_name request → request ≡ Sweep 1 1 false
     go Check a is = absurd (differ (codes "sweep") (codes "check") refl is)
     go (Run workers every from progress) a is = absurd (differ (codes "sweep") (codes "run") refl is)
     go (Series workers every from progress) a is = absurd (differ (codes "sweep") (codes "series") refl is)
@@ -107,10 +107,10 @@ series_has : option_map of_numbers (subcommand_of command_line (codes "series" �
 unfolding clap_on_literals
 series_has = refl
 
-pub series_alone : (request : Request) → Asks (subcommand_of command_line (codes "series" ∷ [])) request → request ≡ Series 1 1 0 false
+pub series_alone : (request : Request) → IsRequestOf (subcommand_of command_line (codes "series" ∷ [])) request → request ≡ Series 1 1 0 false
 series_alone request a = go request a (ap (λ t. t.0) (some_same _ _ (sym series_has ∙ ap (option_map of_numbers) a.1)))
   where
-    go : (request : Request) → Asks (subcommand_of command_line (codes "series" ∷ [])) request → codes "series" ≡ command_name request → request ≡ Series 1 1 0 false
+    go : (request : Request) → IsRequestOf (subcommand_of command_line (codes "series" ∷ [])) request → codes "series" ≡ command_name request → request ≡ Series 1 1 0 false
     go Check a is = absurd (differ (codes "series") (codes "check") refl is)
     go (Run workers every from progress) a is = absurd (differ (codes "series") (codes "run") refl is)
     go (Sweep runners workers progress) a is = absurd (differ (codes "series") (codes "sweep") refl is)
@@ -126,16 +126,16 @@ series_alone request a = go request a (ap (λ t. t.0) (some_same _ _ (sym series
 -- ---- `explain`
 
 abbrev of_explain : Text × List Row → Text × Result Explaining ErrorKind
-of_explain p = (p.0, explained_in p.1)
+of_explain p = (p.0, request_by_matches p.1)
 
 explain_has : option_map of_explain (subcommand_of command_line (codes "explain" ∷ [])) ≡ Some (codes "explain", Ok (OfText None Lines))
 unfolding clap_on_literals
 explain_has = refl
 
-pub explain_alone : (request : Request) → Asks (subcommand_of command_line (codes "explain" ∷ [])) request → request ≡ Explain (OfText None Lines)
+pub explain_alone : (request : Request) → IsRequestOf (subcommand_of command_line (codes "explain" ∷ [])) request → request ≡ Explain (OfText None Lines)
 explain_alone request a = go request a (ap (λ t. t.0) (some_same _ _ (sym explain_has ∙ ap (option_map of_explain) a.1)))
   where
-    go : (request : Request) → Asks (subcommand_of command_line (codes "explain" ∷ [])) request → codes "explain" ≡ command_name request → request ≡ Explain (OfText None Lines)
+    go : (request : Request) → IsRequestOf (subcommand_of command_line (codes "explain" ∷ [])) request → codes "explain" ≡ command_name request → request ≡ Explain (OfText None Lines)
     go Check a is = absurd (differ (codes "explain") (codes "check") refl is)
     go (Run workers every from progress) a is = absurd (differ (codes "explain") (codes "run") refl is)
     go (Sweep runners workers progress) a is = absurd (differ (codes "explain") (codes "sweep") refl is)

@@ -19,9 +19,9 @@ use Rattle.clap.specs.declared.parser.matches.ArgMatches.{ArgMatches}
 use Rattle.clap.specs.declared.parser.matches.ArgMatches.TheViews.{out-ArgMatches, out-SubCommand}
 use Rattle.clap.specs.declared.parser.matches.SubCommand.{SubCommand}
 use Rattle.clap.proofs.CallerReads.{signed_reads}
-use Rattle.trlab_command_line.specs.Numbers.{GivesFlag, GivesNumber, HasFlag, HasValueFrom, MayHaveNumber, flag_text, argument_number, numeral_value, says_given}
+use Rattle.trlab_command_line.specs.Numbers.{GivesFlag, GivesNumber, HasFlag, HasValueFrom, MayHaveNumber, flag_text, argument_number, numeral_value, is_true_value}
 use Rattle.trlab_command_line.specs.CommandLine.{command_line}
-use Rattle.trlab_command_line.specs.Explains.{explained, explained_in}
+use Rattle.trlab_command_line.specs.Explains.{explained, request_by_matches}
 use Rattle.trlab_command_line.specs.declared.arguments.explain.Explaining.{Explaining}
 use Rattle.trlab_command_line.specs.Requests.{IsEntered}
 use Rattle.trlab_command_line.proofs.CommandLine.{taken}
@@ -146,14 +146,14 @@ the_flag flag rows r has set unset = by_true (bytes_eq has.0 (codes "true")) ref
 
 -- ---- the arguments of `explain`
 
-flag_says : (given : Bool) → says_given (flag_text given) ≡ given
+flag_says : (given : Bool) → is_true_value (flag_text given) ≡ given
 flag_says true = refl
 flag_says false = refl
 
 -- what they ask for, by what was found of each
 pub explained_same : (rows : List Row) (asked : Result Explaining ErrorKind) (what : Option Text) (number : Option ℕ) (json : Bool)
     → asked ≡ explained what number json → what ≡ first_of (codes "what") rows → number ≡ argument_number (codes "number") rows → GivesFlag (codes "json") rows json
-    → asked ≡ explained_in rows
+    → asked ≡ request_by_matches rows
 explained_same rows asked what number json is first second flag =
     is ∙ ap₂ (λ w n. explained w n json) first second
-    ∙ ap (explained (first_of (codes "what") rows) (argument_number (codes "number") rows)) (sym (ap says_given flag ∙ flag_says json))
+    ∙ ap (explained (first_of (codes "what") rows) (argument_number (codes "number") rows)) (sym (ap is_true_value flag ∙ flag_says json))

@@ -6,7 +6,7 @@ use Rattle.clap.specs.declared.builder.action.ArgAction.TheVariants.{SetTrue}
 use Rattle.clap.specs.declared.builder.value_parser.ValueParser.TheVariants.{Signed}
 use Rattle.trlab_bounds.specs.declared.runs.TheConstants.{MAX_RUNNERS, MAX_STEPS, MAX_WORKERS}
 
--- the option `--name n`: an integer from `least` to `most`, which is `default` if the option is not given
+-- the option `--name n`: an integer from `least` to `most`; without the option it is the numeral `default`
 abbrev pub number_option : Text → ℕ → ℕ → Text → Rule
 number_option name least most default = record (new_rule name) {
   long = Some name;
@@ -15,27 +15,27 @@ number_option name least most default = record (new_rule name) {
   defaults = default ∷ [];
 }
 
--- the option `--name n`: an integer from 1 to `most`, and 1 if the option is not given
+-- the option `--name n`: an integer from 1 to `most`; without the option it is 1
 abbrev pub count_option : Text → ℕ → Rule
 count_option name most = number_option name 1 most (codes "1")
 
--- the option `--workers n`, from 1 to MAX_WORKERS
+-- the option `--workers n`, from 1 to MAX_WORKERS; without the option 1
 abbrev pub workers_option : Rule
 workers_option = count_option (codes "workers") MAX_WORKERS
 
--- the option `--runners n`, from 1 to MAX_RUNNERS
+-- the option `--runners n`, from 1 to MAX_RUNNERS; without the option 1
 abbrev pub runners_option : Rule
 runners_option = count_option (codes "runners") MAX_RUNNERS
 
--- the option `--every n`, from 1 to MAX_STEPS
+-- the option `--every n`, from 1 to MAX_STEPS; without the option 1
 abbrev pub every_option : Rule
 every_option = count_option (codes "every") MAX_STEPS
 
--- the option `--from s`, from 0 to MAX_STEPS, which is 0 if the option is not given
+-- the option `--from s`, from 0 to MAX_STEPS; without the option 0
 abbrev pub from_option : Rule
 from_option = number_option (codes "from") 0 MAX_STEPS (codes "0")
 
--- the flag `--name`
+-- the flag `--name`, an option without a value
 abbrev pub flag : Text → Rule
 flag name = record (new_rule name) { long = Some name; action = Some SetTrue }
 
@@ -47,15 +47,15 @@ progress_flag = flag (codes "progress")
 abbrev pub json_flag : Rule
 json_flag = flag (codes "json")
 
--- the first argument of `explain`: any text
+-- the first argument of `explain`, with any text: the name of a command, `cause` or `reason`
 abbrev pub what_argument : Rule
 what_argument = new_rule (codes "what")
 
--- the second argument of `explain`: a number of 32 bits
+-- the second argument of `explain`: a number below 2^32
 abbrev pub number_argument : Rule
 number_argument = record (new_rule (codes "number")) { parser = Some (Signed (pos 0) (pos 4294967295)) }
 
--- a command of this name, with these arguments
+-- the command of this name, with these arguments
 abbrev pub command : Text → List Rule → App
 command name arguments = fold with_rule (new_app name) arguments
 
@@ -63,12 +63,13 @@ command name arguments = fold with_rule (new_app name) arguments
 abbrev pub check_command : App
 check_command = command (codes "check") []
 
--- a command of this name that runs a job, with the options `--every`, `--from`, `--workers` and `--progress`
+-- the command of this name that runs a job, with the options `--every`, `--from`, `--workers` and
+-- `--progress`
 abbrev pub job_command : Text → App
 job_command name =
     command name (every_option ∷ from_option ∷ workers_option ∷ progress_flag ∷ [])
 
--- the command `run`, with the options of a job
+-- the command `run`
 abbrev pub run_command : App
 run_command = job_command (codes "run")
 
@@ -76,7 +77,7 @@ run_command = job_command (codes "run")
 abbrev pub sweep_command : App
 sweep_command = command (codes "sweep") (runners_option ∷ workers_option ∷ progress_flag ∷ [])
 
--- the command `series`, with the options of a job
+-- the command `series`
 abbrev pub series_command : App
 series_command = job_command (codes "series")
 
@@ -94,7 +95,7 @@ program = on_top (λ s. record s {
   has_version = true;
 }) (new_app (codes "trlab"))
 
--- the commands of the program
+-- the commands of the program: `check`, `run`, `sweep`, `series` and `explain`
 abbrev pub commands : List Shape
 commands =
     check_command.top ∷ run_command.top ∷ sweep_command.top ∷ series_command.top

@@ -28,13 +28,13 @@ topic_named name =
     if bytes_eq name (codes "cause") then Some Cause
     else if bytes_eq name (codes "reason") then Some Reason else None
 
--- the form of an explanation, JSON exactly if `--json` is given
+-- the form of an explanation: JSON if `--json` is given (`true`), and otherwise text
 abbrev pub form_by : Bool → Form
 form_by false = Lines
 form_by true = Json
 
--- the request of `explain` with a first argument, or its kind of error, by the command and the topic that the
--- first argument names, by the number that is the second, and by whether `--json` is given
+-- the request of `explain` with a first argument, or its kind of error. The first argument names a command,
+-- which takes no number, or a topic, which takes no `--json` and needs a number; otherwise it is invalid
 abbrev pub request_by_name : Option Subject → Option Topic → Option ℕ → Bool → Result Explaining ErrorKind
 request_by_name (Some subject) topic None json = Ok (Text (Some subject) (form_by json))
 request_by_name (Some subject) topic (Some number) json = Err UnknownArgument
@@ -43,26 +43,26 @@ request_by_name None (Some topic) (Some number) false = Ok (Number topic number)
 request_by_name None (Some topic) None false = Err MissingRequiredArgument
 request_by_name None None number json = Err InvalidValue
 
--- the request of `explain`, or its kind of error, by its two optional arguments and by whether `--json` is
--- given
+-- the request of `explain`, or its kind of error, by its two arguments, each of which may be missing, and by
+-- whether `--json` is given; without arguments, the input is explained as the kind that it is meant to be
 abbrev pub explained : Option Word → Option ℕ → Bool → Result Explaining ErrorKind
 explained None number json = Ok (Text None (form_by json))
 explained (Some name) number json = request_by_name (subject_of_command name) (topic_named name) number json
 
 -- the request of `explain`, or its kind of error, by its matches
-abbrev pub explained_in : List Row → Result Explaining ErrorKind
-explained_in rows =
-    explained (first_of (codes "what") rows) (argument_number (codes "number") rows)
-    (is_given (codes "json") rows)
+abbrev pub request_by_matches : List Row → Result Explaining ErrorKind
+request_by_matches matches =
+    explained (first_of (codes "what") matches) (argument_number (codes "number") matches)
+    (is_given (codes "json") matches)
 
--- the kinds of error of a request of `explain`: none if it is accepted
+-- the kinds of error of a request of `explain`: none if it is accepted, and otherwise its one kind
 abbrev pub error_kinds : Result Explaining ErrorKind → Kinds
-error_kinds (Ok asked) = []
+error_kinds (Ok request) = []
 error_kinds (Err kind) = kind ∷ []
 
--- the kinds of error of the command that was entered: if it is `explain`, that its arguments do not go
--- together, and otherwise none
-abbrev pub pair_fault : Option (Word × List Row) → Kinds
-pair_fault None = []
-pair_fault (Some (name, rows)) =
-    if bytes_eq name (codes "explain") then error_kinds (explained_in rows) else []
+-- the kinds of error of the command that was entered with these matches: that the arguments of `explain` do
+-- not go together; none for other commands, or if none was entered
+abbrev pub explain_arguments_fault : Option (Word × List Row) → Kinds
+explain_arguments_fault None = []
+explain_arguments_fault (Some (name, matches)) =
+    if bytes_eq name (codes "explain") then error_kinds (request_by_matches matches) else []

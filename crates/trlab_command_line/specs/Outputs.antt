@@ -10,10 +10,10 @@ use Rattle.trlab_command_line.specs.declared.arguments.explain.Explaining.TheVar
 use Rattle.trlab_command_line.specs.declared.arguments.Request.{Request}
 use Rattle.trlab_command_line.specs.declared.arguments.Request.TheVariants.{Check, Explain, Run, Series, Sweep}
 
--- the whole output of a command for a text, and whether it is a refusal: `check` writes a verdict on a
--- program, `run` the pictures of a job at the steps that are shown, `sweep` the table of a sweep and `series`
--- the table of a job's windows, for any number of workers and runners, and `explain` the explanation of the
--- text, or of a number
+-- the complete outputs of a command for a text on standard input: `check` writes a verdict, `run` the
+-- pictures of a job at the steps that are shown, `sweep` a table of points, `series` a table of windows, and
+-- `explain` an explanation of the text or of a number. They do not depend on the numbers of workers and
+-- runners
 abbrev pub output_of : Request → List ℕ → Outputs
 output_of Check text = IsCheckOutput text
 output_of (Run workers every from progress) text = IsShownOutput (every_from every from) text
@@ -22,6 +22,6 @@ output_of (Series workers every from progress) text = IsSeriesOutput every from 
 output_of (Explain (Text subject form)) text = Explains form subject text
 output_of (Explain (Number topic number)) text = IsNumberPage topic number
 
--- the output if help or the version is asked for: some text, which is not a refusal
+-- the output if help or the version is asked for: any text, which is not a refusal
 abbrev pub IsHelp : Outputs
 IsHelp refused text = refused ≡ false

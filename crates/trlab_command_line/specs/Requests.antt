@@ -7,7 +7,7 @@ use Rattle.clap.specs.Simple.{label_of}
 use Rattle.clap.specs.Faults.{level_fault}
 use Rattle.trlab_command_line.specs.CommandLine.{command_line}
 use Rattle.trlab_command_line.specs.Numbers.{GivesFlag, GivesNumber}
-use Rattle.trlab_command_line.specs.Explains.{explained_in, pair_fault}
+use Rattle.trlab_command_line.specs.Explains.{request_by_matches, explain_arguments_fault}
 use Rattle.trlab_command_line.specs.declared.arguments.Request.{Request}
 use Rattle.trlab_command_line.specs.declared.arguments.Request.TheVariants.{Check, Explain, Run, Series, Sweep}
 use Rattle.trlab_bounds.specs.declared.runs.TheConstants.{MAX_RUNNERS, MAX_STEPS, MAX_WORKERS}
@@ -20,24 +20,26 @@ command_name (Sweep runners workers progress) = codes "sweep"
 command_name (Series workers every from progress) = codes "series"
 command_name (Explain explained) = codes "explain"
 
--- the matches of a command give a request: the numbers of its options, and whether progress is reported, or
--- for `explain` the request of its arguments
-abbrev pub Give : List Row → Request → Type 0
-Give rows Check = ⊤
-Give rows (Run workers every from progress) =
-    GivesNumber (codes "workers") rows workers × GivesNumber (codes "every") rows every
-    × GivesNumber (codes "from") rows from × GivesFlag (codes "progress") rows progress
-Give rows (Sweep runners workers progress) =
-    GivesNumber (codes "runners") rows runners × GivesNumber (codes "workers") rows workers
-    × GivesFlag (codes "progress") rows progress
-Give rows (Series workers every from progress) =
-    GivesNumber (codes "workers") rows workers × GivesNumber (codes "every") rows every
-    × GivesNumber (codes "from") rows from × GivesFlag (codes "progress") rows progress
-Give rows (Explain explained) = explained_in rows ≡ Ok explained
+-- the matches of a command give the values of a request: the numbers of its options and whether progress is
+-- reported; for `explain` the request of its arguments
+abbrev pub MatchesGive : List Row → Request → Type 0
+MatchesGive matches Check = ⊤
+MatchesGive matches (Run workers every from progress) =
+    GivesNumber (codes "workers") matches workers × GivesNumber (codes "every") matches every
+    × GivesNumber (codes "from") matches from × GivesFlag (codes "progress") matches progress
+MatchesGive matches (Sweep runners workers progress) =
+    GivesNumber (codes "runners") matches runners × GivesNumber (codes "workers") matches workers
+    × GivesFlag (codes "progress") matches progress
+MatchesGive matches (Series workers every from progress) =
+    GivesNumber (codes "workers") matches workers × GivesNumber (codes "every") matches every
+    × GivesNumber (codes "from") matches from × GivesFlag (codes "progress") matches progress
+MatchesGive matches (Explain explained) = request_by_matches matches ≡ Ok explained
 
--- the request of a command that was entered: the command of that name, with the values of its matches
-abbrev pub Asks : Option (Text × List Row) → Request → Type 0
-Asks entered request = (rows : List Row) × (entered ≡ Some (command_name request, rows)) × Give rows request
+-- the request of the command that was entered with these matches: it names this command and has the values of
+-- its matches
+abbrev pub IsRequestOf : Option (Text × List Row) → Request → Type 0
+IsRequestOf entered request =
+    (matches : List Row) × (entered ≡ Some (command_name request, matches)) × MatchesGive matches request
 
 -- the numbers of a request are in the ranges of the engines: 1 to MAX_WORKERS workers, 1 to MAX_RUNNERS
 -- runners, 1 to MAX_STEPS for `every`, and at most MAX_STEPS for `from`
@@ -57,20 +59,20 @@ FitsEngines (Explain explained) = ⊤
 abbrev pub IsNamedFirst : List Text → Request → Type 0
 IsNamedFirst arguments request = (rest : List Text) × (arguments ≡ command_name request ∷ rest)
 
--- the kinds of error that the arguments have: those of `clap`, and if it has none, that the arguments of
--- `explain` do not go together
+-- the kinds of error of these arguments: those of `clap`, or if it has none, that the arguments of `explain`
+-- do not go together; empty if the arguments are accepted
 abbrev pub arguments_fault : List Text → Kinds
 arguments_fault arguments =
-    or_else (fault_of command_line arguments) (pair_fault (subcommand_of command_line arguments))
+    or_else (fault_of command_line arguments) (explain_arguments_fault (subcommand_of command_line arguments))
 
--- a command of this name accepts these arguments, and its matches are `rows`
-abbrev pub Takes : Text → List Text → List Row → Type 0
-Takes name arguments rows = (level : Shape)
+-- the command of this name accepts these arguments, with the matches `matches`
+abbrev pub TakesArguments : Text → List Text → List Row → Type 0
+TakesArguments name arguments matches = (level : Shape)
     × (find (λ s. answers_to name (label_of s)) (built command_line).subs ≡ Some level)
     × (level_fault level [] nothing_held arguments false [] ≡ [])
-    × (rows ≡ rows_after level.rules [] arguments)
+    × (matches ≡ rows_after level.rules [] arguments)
 
--- a command of this name, which is not `help`, accepts some arguments with the matches `rows`
+-- the command of this name, which is not `help`, accepts some arguments, with the matches `matches`
 abbrev pub IsEntered : Text → List Row → Type 0
-IsEntered name rows =
-    (name ≡ codes "help" → ⊥) × ((arguments : List Text) × Takes name arguments rows)
+IsEntered name matches =
+    (name ≡ codes "help" → ⊥) × ((arguments : List Text) × TakesArguments name arguments matches)

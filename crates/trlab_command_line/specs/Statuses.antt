@@ -5,30 +5,30 @@ use Rattle.clap.specs.declared.error.kind.ErrorKind.TheVariants.{DisplayHelp, Di
 use Rattle.trlab_campaign.specs.declared.end.End.{End}
 use Rattle.trlab_campaign.specs.declared.end.End.TheVariants.{Done, Refused, Memory, DeviceFault}
 
--- the exit status by how a command ended: 0 with a whole output, 1 with a refusal, 3 if an allocation failed,
--- 4 if a device failed
+-- the exit status by how a command ended: 0 after a complete output, 1 after a complete refusal, 3 if an
+-- allocation failed, 4 if a device failed
 abbrev pub status_of_end : End → ℕ
 status_of_end Done = 0
 status_of_end Refused = 1
 status_of_end Memory = 3
 status_of_end DeviceFault = 4
 
--- whether the arguments ask for help or the version, by `clap`'s answer to them
+-- whether `clap`'s error is that help or the version was asked for
 abbrev pub asks_for_help : ErrorKind → Bool
 asks_for_help DisplayHelp = true
 asks_for_help DisplayVersion = true
 asks_for_help _ = false
 
--- the exit status by `clap`'s answer: 0 for help or the version, 3 if an allocation failed, and otherwise 2,
--- because the arguments are refused
+-- the exit status for `clap`'s error: 0 for help or the version, 3 if an allocation failed, and otherwise 2,
+-- because the arguments are rejected
 abbrev pub status_of_error : ErrorKind → ℕ
 status_of_error DisplayHelp = 0
 status_of_error DisplayVersion = 0
 status_of_error OutOfMemory = 3
 status_of_error _ = 2
 
--- the exit status after printing `clap`'s text: 4 if help or the version was asked for and the writer failed,
--- and otherwise the status of the answer
+-- the exit status after `clap`'s text was printed: 4 if help or the version was asked for and the writer
+-- failed, and otherwise the status of `clap`'s error
 abbrev pub status_of_print : ErrorKind → Bool → ℕ
 status_of_print DisplayHelp failed = if failed then 4 else 0
 status_of_print DisplayVersion failed = if failed then 4 else 0

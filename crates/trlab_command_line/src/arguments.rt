@@ -8,8 +8,8 @@ mod options;
 ghost use Rattle.std.specs.Prelude.{◌≡◌, ◌∷◌, [], IfOk, None, Some, false, map, codes, string_bytes};
 ghost use Rattle.clap.specs.Words.{FailsBy, found_of, rows_of, subcommand_of};
 ghost use Rattle.trlab_command_line.specs.CommandLine.{command_line};
-ghost use Rattle.trlab_command_line.specs.Explains.{pair_fault};
-ghost use Rattle.trlab_command_line.specs.Requests.{Asks, FitsEngines, IsEntered, IsNamedFirst, arguments_fault};
+ghost use Rattle.trlab_command_line.specs.Explains.{explain_arguments_fault};
+ghost use Rattle.trlab_command_line.specs.Requests.{IsRequestOf, FitsEngines, IsEntered, IsNamedFirst, arguments_fault};
 ghost use Rattle.trlab_command_line.specs.declared.arguments.explain.Explaining.TheVariants.{Text};
 ghost use Rattle.trlab_explain.specs.declared.explain.Form.TheVariants.{Text as Lines};
 
@@ -25,7 +25,7 @@ use std::alloc::Global;
 pub enum Request {
     /// Check the program on standard input.
     Check,
-    /// Run the job on standard input.
+    /// Run the job on standard input, and print its road at some steps.
     Run {
         /// The number of workers that share the work, 1 to 16.
         workers: u32,
@@ -63,8 +63,8 @@ pub enum Request {
 /// The request of a command, by its name and its matches.
 fn request_of(alloc: Global, name: &str, matches: &ArgMatches) -> Result<Request, Error>
     requires { IsEntered name.now (rows_of (found_of matches.now)) }
-    ensures answer { IfOk result (Asks (Some (name.now, rows_of (found_of matches.now)))) }
-    ensures fault { FailsBy (pair_fault (Some (name.now, rows_of (found_of matches.now)))) result }
+    ensures answer { IfOk result (IsRequestOf (Some (name.now, rows_of (found_of matches.now)))) }
+    ensures fault { FailsBy (explain_arguments_fault (Some (name.now, rows_of (found_of matches.now)))) result }
     ensures counts { IfOk result FitsEngines }
 {
     match name {
@@ -101,7 +101,7 @@ fn request_of(alloc: Global, name: &str, matches: &ArgMatches) -> Result<Request
 /// An error of `clap` if the arguments ask for help or the version, if they are rejected (also because the arguments of
 /// `explain` do not go together), or if an allocation fails.
 pub fn read_words(alloc: Global, arguments: &[String]) -> Result<Request, Error>
-    ensures answer { IfOk result (Asks (subcommand_of command_line (map string_bytes arguments.now))) }
+    ensures answer { IfOk result (IsRequestOf (subcommand_of command_line (map string_bytes arguments.now))) }
     ensures fault { FailsBy (arguments_fault (map string_bytes arguments.now)) result }
     ensures counts { IfOk result FitsEngines }
     ensures named { IfOk result (IsNamedFirst (map string_bytes arguments.now)) }

@@ -9,7 +9,7 @@ use Rattle.std.proofs.lemmas.Str.Parse.{digit_from_value}
 use Rattle.trlab_diagram.specs.declared.point.Point.{Point}
 use Rattle.trlab_diagram.specs.Flow.{flow_of}
 use Rattle.trlab_diagram.specs.Table.{heading, line_text, point_line}
-use Rattle.trlab_diagram.specs.Laws.{CountsFit64Bits, TableTellsPoints}
+use Rattle.trlab_diagram.specs.Laws.{CountsFit64Bits, TableDeterminesPoints}
 
 -- digits end where a comma stands
 cut : (xs us ys vs : List ℕ) → AllDigits 10 xs → AllDigits 10 us → xs ++ (44 ∷ ys) ≡ us ++ (44 ∷ vs) → (xs ≡ us) × (ys ≡ vs)
@@ -81,6 +81,6 @@ same_rows (p ∷ points) (q ∷ others) ps qs e =
     let rest = same_rows points others (All-tail CountsFit64Bits p points ps) (All-tail CountsFit64Bits q others qs) first.1 in
     cc (first.0, rest)
 
-pub table_tells_points : TableTellsPoints
+pub table_tells_points : TableDeterminesPoints
 table_tells_points points others ps qs e =
     same_rows points others ps qs (append_cancel_left (line_text heading) (rows points) (rows others) e)

@@ -11,13 +11,13 @@ series_heading = codes
     "step,cars,cells,steps,distance,stopped,changes,flow,cars0,distance0,stopped0,cars1,distance1,stopped1"
 
 -- the columns of a lane: its cars, their distance and the stopped cars
-abbrev pub lane_numbers : LaneCount → List ℕ
-lane_numbers lane = lane.cars ∷ lane.distance ∷ lane.stopped ∷ []
+abbrev pub lane_columns : LaneCount → List ℕ
+lane_columns lane = lane.cars ∷ lane.distance ∷ lane.stopped ∷ []
 
 -- the columns of a window: its step, then the columns of its point, of lane 0 and of lane 1
 abbrev pub window_numbers : Window → List ℕ
 window_numbers window =
-    window.step ∷ (numbers window.point ++ (lane_numbers window.lane0 ++ lane_numbers window.lane1))
+    window.step ∷ (numbers window.point ++ (lane_columns window.lane0 ++ lane_columns window.lane1))
 
 -- the line of a window: its columns in decimal digits, separated by commas
 abbrev pub window_line : Window → List ℕ
@@ -27,6 +27,6 @@ window_line window = join_with_byte 44 (map decimal (window_numbers window))
 abbrev pub window_text : Window → List ℕ
 window_text window = line_text (window_line window)
 
--- the text of the table of a series: the heading, and a line for each window
+-- the table of a series: the heading, and a line for each window; each line ends with LF
 abbrev pub series_text : List Window → List ℕ
 series_text windows = line_text series_heading ++ flat_map window_text windows

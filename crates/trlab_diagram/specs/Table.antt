@@ -26,6 +26,6 @@ table_lines points = heading ∷ map point_line points
 abbrev pub line_text : List ℕ → List ℕ
 line_text line = line ++ (10 ∷ [])
 
--- the text of the table of points: its lines, each of which ends with LF
+-- the table of points: the heading, and a line for each point; each line ends with LF
 abbrev pub points_text : List Point → List ℕ
 points_text points = flat_map line_text (table_lines points)

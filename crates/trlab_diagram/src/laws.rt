@@ -2,9 +2,9 @@
 //!
 //! Each law is the contract of a function with an empty body.
 
-ghost use Rattle.trlab_diagram.specs.Laws.{TableTellsPoints};
+ghost use Rattle.trlab_diagram.specs.Laws.{TableDeterminesPoints};
 
 /// A table determines its points: different lists of points have different tables.
 pub fn table_tells_points()
-    ensures { TableTellsPoints }
+    ensures { TableDeterminesPoints }
 {}

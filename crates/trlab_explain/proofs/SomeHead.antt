@@ -1,37 +1,39 @@
 -- Every text has the head of an explanation.
 use Rattle.std.proofs.Common.{ℕ, List, [], refl, inl, inr, Bool, true, false}
-use Rattle.std.specs.Prelude.{Result, Ok, Err}
-use Rattle.trlab_verify.proofs.Judged.{accepted_or_refused}
+use Rattle.std.specs.Prelude.{Result, Ok, Err, IfOk}
+use Rattle.trlab_verify.proofs.Judged.{accepted_or_refused, some_budget}
 use Rattle.trlab_texts.specs.Reading.{Fault}
 use Rattle.trlab_jobs.specs.Check.{Check as CheckSaid}
 use Rattle.trlab_jobs.proofs.OneText.{something as job_says}
 use Rattle.trlab_jobs.proofs.OneSweep.{something as sweep_says}
-use Rattle.trlab_jobs.proofs.OneCheck.{something as check_says}
+use Rattle.trlab_jobs.proofs.OneCheck.{HasProgram, says_program}
 use Rattle.trlab_lines.specs.Lines.{lines_of}
 use Rattle.trlab_campaign.specs.CheckOutput.{refused_line}
 use Rattle.trlab_campaign.specs.Refusal.{fault_line}
 use Rattle.trlab_lines.specs.Lines.{line_at}
 use Rattle.trlab_jobs.specs.declared.subject.Subject.TheVariants.{Job, Sweep, Check}
 use Rattle.trlab_explain.specs.Quotes.{quote_line}
-use Rattle.trlab_explain.specs.Explanations.{IsCheckHead, IsFaultHead, IsProgramHead, IsTextHead}
+use Rattle.trlab_explain.specs.Explanations.{accepted_line, IsCheckHead, IsFaultHead, IsProgramHead, IsTextHead}
 use Rattle.trlab_explain.specs.Laws.{EveryTextHasAHead}
 
 fault_some : (text : List ℕ) (fault : Fault) → (refused : Bool) × (answer quote : List ℕ) × IsFaultHead text fault refused answer quote
 fault_some text fault = (true, fault_line fault, quote_line fault.line (line_at fault.line (lines_of text)), (refl, refl, refl))
 
 text_some : {A : Type 0} (text : List ℕ) (says : Result A Fault) → (refused : Bool) × (answer quote : List ℕ) × IsTextHead text says refused answer quote
-text_some text (Ok said) = (false, [], [], refl)
+text_some text (Ok said) = (false, [], [], (refl, refl))
 text_some text (Err fault) = fault_some text fault
 
-program_some : (check : CheckSaid) → (refused : Bool) × (answer quote : List ℕ) × IsProgramHead check refused answer quote
-program_some check = elim (accepted_or_refused check.program.kind check.program) [
-  | inl accepted ↦ (false, [], [], accepted)
-  | inr refused ↦ (true, refused_line refused.0 refused.1, [], (refused.0, refused.1, refused.2, refl))
+program_some : (check : CheckSaid) → HasProgram check → (refused : Bool) × (answer quote : List ℕ) × IsProgramHead check refused answer quote
+program_some check is = elim (accepted_or_refused check.program.kind check.program) [
+  | inl accepted ↦
+      let found = some_budget check.program.kind check.program is accepted in
+      (false, accepted_line found.0, [], (accepted, (found.0, found.1.longest, refl)))
+  | inr refused ↦ (true, refused_line refused.0 refused.1, [], (refused.0, refused.1, refused.2, refl, refl))
 ]
 
-check_some : (text : List ℕ) (says : Result CheckSaid Fault) → (refused : Bool) × (answer quote : List ℕ) × IsCheckHead text says refused answer quote
-check_some text (Ok check) = program_some check
-check_some text (Err fault) = fault_some text fault
+check_some : (text : List ℕ) (says : Result CheckSaid Fault) → IfOk says HasProgram → (refused : Bool) × (answer quote : List ℕ) × IsCheckHead text says refused answer quote
+check_some text (Ok check) is = program_some check is
+check_some text (Err fault) is = fault_some text fault
 
 pub some_head : EveryTextHasAHead
 some_head Job text =
@@ -43,6 +45,6 @@ some_head Sweep text =
     let told = text_some text found.0 in
     (told.0, told.1, told.2, (found.0, found.1, told.3))
 some_head Check text =
-    let found = check_says text in
-    let told = check_some text found.0 in
-    (told.0, told.1, told.2, (found.0, found.1, told.3))
+    let found = says_program text in
+    let told = check_some text found.0 found.1.1 in
+    (told.0, told.1, told.2, (found.0, found.1.0, told.3))

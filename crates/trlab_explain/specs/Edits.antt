@@ -3,36 +3,42 @@ use Rattle.std.specs.Prelude.{◌≡◌, ℕ, ◌+◌, ◌<◌, List, ◌++◌, 
 use Rattle.trlab_lines.specs.Lines.{lines_of}
 use Rattle.trlab_texts.specs.declared.fault.Cause.{Cause}
 use Rattle.trlab_texts.specs.Reading.{Fault}
-use Rattle.trlab_jobs.specs.Job.{Job as JobSaid, JobText}
-use Rattle.trlab_jobs.specs.Sweep.{Sweep as SweepSaid, SweepText}
-use Rattle.trlab_jobs.specs.Check.{Check as CheckSaid, CheckText}
+use Rattle.trlab_jobs.specs.Job.{Job as JobSaid, ParsesAsJob}
+use Rattle.trlab_jobs.specs.Sweep.{Sweep as SweepSaid, ParsesAsSweep}
+use Rattle.trlab_jobs.specs.Check.{Check as CheckSaid, ParsesAsCheck}
 use Rattle.trlab_jobs.specs.declared.subject.Subject.{Subject}
 use Rattle.trlab_jobs.specs.declared.subject.Subject.TheVariants.{Job, Sweep, Check}
 
--- a text with `removed` bytes from `at` on replaced by `inserted`
+-- a text with `removed` bytes from the position `at` on, counted from 0, replaced by `inserted`: with `r` for
+-- the byte at 0, `Road 1` becomes `road 1`
 abbrev pub edited : ℕ → ℕ → List ℕ → List ℕ → List ℕ
 edited at removed inserted text = take at text ++ (inserted ++ drop (at + removed) text)
 
--- the line and the cause of the fault in a result, or none if the result is a value
+-- the line and the cause of the fault in a result; none if the result is a value
 abbrev pub fault_of : {A : Type 0} → Result A Fault → Option (ℕ × Cause)
-fault_of (Ok said) = None
+fault_of (Ok x) = None
 fault_of (Err fault) = Some (fault.line, fault.cause)
 
--- `fault` is the line and the cause of the first fault of a text that is read as this kind, or none if it has
--- no fault
+-- `fault` is the line and the cause of the first fault of a text that is read as this kind of input; none if
+-- the text has no fault
 abbrev pub HasFirstFault : Subject → List ℕ → Option (ℕ × Cause) → Type 0
-HasFirstFault Job text fault = (says : Result JobSaid Fault) × JobText text says × (fault ≡ fault_of says)
-HasFirstFault Sweep text fault = (says : Result SweepSaid Fault) × SweepText text says × (fault ≡ fault_of says)
-HasFirstFault Check text fault = (says : Result CheckSaid Fault) × CheckText text says × (fault ≡ fault_of says)
+HasFirstFault Job text fault =
+    (result : Result JobSaid Fault) × ParsesAsJob text result × (fault ≡ fault_of result)
+HasFirstFault Sweep text fault =
+    (result : Result SweepSaid Fault) × ParsesAsSweep text result × (fault ≡ fault_of result)
+HasFirstFault Check text fault =
+    (result : Result CheckSaid Fault) × ParsesAsCheck text result × (fault ≡ fault_of result)
 
--- the changed text has no fault, or its first fault is after the line `number` and fewer lines follow it than
--- follow that line in the other text
+-- there is no fault in a text with the lines `changed`; or it is after the line `number`, and fewer lines
+-- come after it than after the line `number` in a text with the lines `lines`. For example, line 4 of 9 is
+-- later than line 3 of 9, but not later than line 3 of 8
 abbrev pub IsLaterOrNone : List (List ℕ) → ℕ → List (List ℕ) → Option (ℕ × Cause) → Type 0
 IsLaterOrNone lines number changed None = Unit {0}
 IsLaterOrNone lines number changed (Some fault) =
     (number < fault.0) × (length changed + number < length lines + fault.0)
 
--- the changed text, read as this kind, gets further than `text`, whose first fault is at the line `number`
+-- the text `changed`, read as this kind of input, gets further than `text`, whose first fault is at the line
+-- `number`
 abbrev pub GetsFurther : List ℕ → ℕ → Subject → List ℕ → Type 0
 GetsFurther text number subject changed = (fault : Option (ℕ × Cause))
     × HasFirstFault subject changed fault × IsLaterOrNone (lines_of text) number (lines_of changed) fault

@@ -4,7 +4,7 @@ use Rattle.json.specs.Print.{print}
 use Rattle.json.specs.Token.{Token, begin_object, end_object, begin_array, end_array, key, string, number, boolean, null, bad}
 use Rattle.trlab_lines.specs.Plain.{IsPlain}
 
--- the text of a token is plain; tokens other than keys, strings and numbers have no text
+-- the text of a token is plain; only keys, strings and numbers have a text
 abbrev pub HasPlainText : Token → Type 0
 HasPlainText begin_object = ⊤
 HasPlainText end_object = ⊤
@@ -21,15 +21,14 @@ HasPlainText bad = ⊤
 abbrev pub answer_token : List ℕ → Token
 answer_token line = if length line == 0 then null else string (take (length line - 1) line)
 
--- the last members of the object of an explanation, and its end: the exit status and the line that the
--- command prints
+-- the last members of an explanation's object, and its end: `status`, 1 if the input is rejected and
+-- otherwise 0, and `answer`, the line that the command prints
 abbrev pub object_end : Bool → List ℕ → List Token
 object_end refused answer =
     key (codes "status") ∷ number (decimal (if refused then 1 else 0))
     ∷ key (codes "answer") ∷ answer_token answer ∷ end_object ∷ []
 
--- `text` is the JSON text of some tokens, and an LF; the last tokens are those that end the object of an
--- explanation
+-- `text` is the JSON text of some tokens, and an LF; the last tokens are `object_end`
 abbrev pub EndsObject : Bool → List ℕ → List ℕ → Type 0
 EndsObject refused answer text =
     (first : List Token) × (text ≡ print (first ++ object_end refused answer) ++ 10 ∷ [])

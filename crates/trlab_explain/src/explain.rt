@@ -8,7 +8,7 @@ ghost use Rattle.trlab_lines.specs.Plain.{IsPlain};
 ghost use Rattle.trlab_verify.specs.Faults.{IsFaultOf};
 ghost use Rattle.trlab_jobs.specs.Check.{Check as CheckSaid};
 ghost use Rattle.trlab_explain.specs.Quotes.{quote_line};
-ghost use Rattle.trlab_explain.specs.Explanations.{Explains, HasHead, IsBlankHead, IsReadAs, IsRefusedWith, IsHeadAs, IsFaultHead, IsProgramHead};
+ghost use Rattle.trlab_explain.specs.Explanations.{Explains, HasHead, IsBlankHead, IsRefusedWith, IsHeadAs, IsFaultHead, IsProgramHead, accepted_line};
 
 use crate::explanation::{Explanation, json_form, text_form};
 use crate::meant::subject_of;
@@ -100,36 +100,6 @@ fn explain_refusal(
     }
 }
 
-/// Explains an input that is read as a job.
-fn explain_job(explanation: &mut Explanation, text: &[u8]) -> Result<()>
-    requires { IsBlankHead explanation.old.refused explanation.old.answer explanation.old.quote }
-    ensures { OnOk result (IsHeadAs Subject.Job text.now
-        explanation.new.refused explanation.new.answer explanation.new.quote) }
-{
-    match parse_job(explanation.body.alloc, text) {
-        Ok(job) => {
-            add_job(&mut explanation.body, text, &job);
-            Ok(())
-        }
-        Err(refusal) => explain_refusal(explanation, Subject::Job, text, refusal),
-    }
-}
-
-/// Explains an input that is read as a sweep.
-fn explain_sweep(explanation: &mut Explanation, text: &[u8]) -> Result<()>
-    requires { IsBlankHead explanation.old.refused explanation.old.answer explanation.old.quote }
-    ensures { OnOk result (IsHeadAs Subject.Sweep text.now
-        explanation.new.refused explanation.new.answer explanation.new.quote) }
-{
-    match parse_sweep(explanation.body.alloc, text) {
-        Ok(sweep) => {
-            add_sweep(&mut explanation.body, text, &sweep);
-            Ok(())
-        }
-        Err(refusal) => explain_refusal(explanation, Subject::Sweep, text, refusal),
-    }
-}
-
 /// Explains a program that the verifier accepts with a budget.
 fn explain_accepted(
     explanation: &mut Explanation,
@@ -137,7 +107,9 @@ fn explain_accepted(
     code: &Code,
     budget: u32,
 ) -> Result<()>
-    ensures { explanation.new.refused ≡ explanation.old.refused }
+    requires { explanation.old.answer ≡ [] }
+    ensures refused { explanation.new.refused ≡ explanation.old.refused }
+    ensures answer { OnOk result (explanation.new.answer ≡ accepted_line budget) }
 {
     explanation.answer.say("accepted budget ")?;
     explanation.answer.number(u64::from(budget))?;
@@ -195,40 +167,33 @@ fn explain_program(explanation: &mut Explanation, text: &[u8], check: Check) -> 
     }
 }
 
-/// Explains an input that is read as a check.
-fn explain_check(explanation: &mut Explanation, text: &[u8]) -> Result<()>
-    requires { IsBlankHead explanation.old.refused explanation.old.answer explanation.old.quote }
-    ensures { OnOk result (IsHeadAs Subject.Check text.now
-        explanation.new.refused explanation.new.answer explanation.new.quote) }
-{
-    match parse_check(explanation.body.alloc, text) {
-        Ok(check) => explain_program(explanation, text, check),
-        Err(refusal) => explain_refusal(explanation, Subject::Check, text, refusal),
-    }
-}
-
 /// Explains an input as one of this kind.
 fn explain_as(explanation: &mut Explanation, subject: Subject, text: &[u8]) -> Result<()>
     requires { IsBlankHead explanation.old.refused explanation.old.answer explanation.old.quote }
     ensures { OnOk result (IsHeadAs subject text.now
         explanation.new.refused explanation.new.answer explanation.new.quote) }
 {
+    let alloc = explanation.body.alloc;
     match subject {
-        Subject::Job => explain_job(explanation, text),
-        Subject::Sweep => explain_sweep(explanation, text),
-        Subject::Check => explain_check(explanation, text),
+        Subject::Job => match parse_job(alloc, text) {
+            Ok(job) => {
+                add_job(&mut explanation.body, text, &job);
+                Ok(())
+            }
+            Err(refusal) => explain_refusal(explanation, subject, text, refusal),
+        },
+        Subject::Sweep => match parse_sweep(alloc, text) {
+            Ok(sweep) => {
+                add_sweep(&mut explanation.body, text, &sweep);
+                Ok(())
+            }
+            Err(refusal) => explain_refusal(explanation, subject, text, refusal),
+        },
+        Subject::Check => match parse_check(alloc, text) {
+            Ok(check) => explain_program(explanation, text, check),
+            Err(refusal) => explain_refusal(explanation, subject, text, refusal),
+        },
     }
-}
-
-/// The wanted kind of input, or else the kind that the text is meant to be.
-fn read_as(alloc: Global, wanted: Option<Subject>, text: &[u8]) -> Result<Subject>
-    ensures { IfOk result (IsReadAs wanted text.now) }
-{
-    let subject = match wanted {
-        Some(subject) => subject,
-        None => subject_of(alloc, text)?,
-    };
-    Ok(subject)
 }
 
 /// Plain text as bytes.
@@ -265,7 +230,10 @@ fn explained(
 ) -> Result<(bool, Vec<u8>)>
     ensures { IfOk result (λ output. Explains form wanted text.now output.0 output.1.items) }
 {
-    let subject = read_as(alloc, wanted, text)?;
+    let subject = match wanted {
+        Some(subject) => subject,
+        None => subject_of(alloc, text)?,
+    };
     let mut explanation = Explanation::new(alloc, subject);
     match explain_as(&mut explanation, subject, text) {
         Ok(()) => bytes_in_form(alloc, form, &explanation),
@@ -278,7 +246,8 @@ fn explained(
 pub fn write_explanation<K: Sink>(output: Result<(bool, Vec<u8>)>, writer: &mut K) -> End
     requires { K.failed writer.old ≡ false }
     ensures answer { MatchResult output
-        (λ output. WroteOutputAtEnd output.0 output.1.items result (bytes_of K.Sink writer.old) (bytes_of K.Sink writer.new))
+        (λ output. WroteOutputAtEnd output.0 output.1.items result
+        (bytes_of K.Sink writer.old) (bytes_of K.Sink writer.new))
         (λ _. (result ≡ Memory) × AddsNone (bytes_of K.Sink writer.old) (bytes_of K.Sink writer.new)) }
     ensures handed { FlushedAtEnd result
         (K.handed_on writer.new) (K.flushes writer.old) (K.flushes writer.new) }

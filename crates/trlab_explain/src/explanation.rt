@@ -50,18 +50,13 @@ impl Explanation {
     }
 }
 
-/// The text form of an explanation below its head.
-fn body_page(alloc: Global, body: &Body) -> Result<Page> {
-    let mut text = Draft::new(alloc);
-    push_text(&mut text, body);
-    page_of(alloc, text.text()?)
-}
-
 pub fn text_form(alloc: Global, explanation: &Explanation) -> Result<Page>
     ensures { IfOk result (BeginsWith
         (text_front explanation.now.refused explanation.now.answer explanation.now.quote)) }
 {
-    let body = body_page(alloc, &explanation.body)?;
+    let mut text = Draft::new(alloc);
+    push_text(&mut text, &explanation.body);
+    let body = page_of(alloc, text.text()?)?;
     let mut page = Page::new(alloc);
     if explanation.refused {
         page.add(&explanation.answer)?;

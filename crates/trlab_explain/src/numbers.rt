@@ -15,7 +15,7 @@ use trlab_texts::Cause;
 /// A reason's cause has the reason's number plus this.
 const BEFORE_REASONS: u32 = 40;
 
-/// The causes of rejected inputs, except those of reasons. A cause that names a place is listed with place 0.
+/// The causes, except those of reasons. No input has the last one. A cause that names a place is listed with place 0.
 const CAUSES: [Cause; 30] = [
     Cause::Line,
     Cause::Number,

@@ -29,22 +29,15 @@ fn edited(alloc: Global, text: &[u8], at: usize, removed: usize, inserted: &[u8]
 fn first_fault(alloc: Global, subject: Subject, text: &[u8]) -> Result<Option<(u32, Cause)>>
     ensures { IfOk result (λ fault. HasFirstFault subject text.now fault) }
 {
-    match subject {
-        Subject::Job => match read_job(alloc, text) {
-            Ok(_) => Ok(None),
-            Err(TextFault::At { line, cause }) => Ok(Some((line, cause))),
-            Err(TextFault::Memory) => Err(AllocError),
-        },
-        Subject::Sweep => match read_sweep(alloc, text) {
-            Ok(_) => Ok(None),
-            Err(TextFault::At { line, cause }) => Ok(Some((line, cause))),
-            Err(TextFault::Memory) => Err(AllocError),
-        },
-        Subject::Check => match read_check(alloc, text) {
-            Ok(_) => Ok(None),
-            Err(TextFault::At { line, cause }) => Ok(Some((line, cause))),
-            Err(TextFault::Memory) => Err(AllocError),
-        },
+    let fault = match subject {
+        Subject::Job => read_job(alloc, text).err(),
+        Subject::Sweep => read_sweep(alloc, text).err(),
+        Subject::Check => read_check(alloc, text).err(),
+    };
+    match fault {
+        None => Ok(None),
+        Some(TextFault::At { line, cause }) => Ok(Some((line, cause))),
+        Some(TextFault::Memory) => Err(AllocError),
     }
 }
 

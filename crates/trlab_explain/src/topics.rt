@@ -56,23 +56,15 @@ fn push_topic(page: &mut Page, topic: Topic, number: u32) -> Result<()>
     page.say(": ")
 }
 
-/// Whether a number of this topic is unknown, and the words about the number.
-fn number_words(alloc: Global, topic: Topic, number: u32) -> Result<(bool, Page)>
-    ensures { IfOk result (λ words. words.0 ≡ not (is_known topic number)) }
-{
-    let mut text = Draft::new(alloc);
-    let is_none = push_number(&mut text, topic, number);
-    Ok((is_none, page_of(alloc, text.text()?)?))
-}
-
 /// Whether a number of this topic is unknown, and its page.
 fn number_page(alloc: Global, topic: Topic, number: u32) -> Result<(bool, Vec<u8>)>
     ensures { IfOk result (λ page. IsNumberPage topic number page.0 page.1.items) }
 {
-    let (is_none, words) = number_words(alloc, topic, number)?;
+    let mut words = Draft::new(alloc);
+    let is_none = push_number(&mut words, topic, number);
     let mut page = Page::new(alloc);
     push_topic(&mut page, topic, number)?;
-    page.add(&words)?;
+    page.add(&page_of(alloc, words.text()?)?)?;
     Ok((is_none, plain_bytes(alloc, &page)?))
 }
 

@@ -10,29 +10,29 @@ use Rattle.trlab_texts.specs.declared.fault.TextFault.TheVariants.{At, Memory}
 use Rattle.trlab_texts.specs.Reading.{Reports, ReportsLine, text_fault}
 use Rattle.trlab_texts.specs.Programs.{code_line}
 use Rattle.trlab_jobs.specs.declared.check.Question.{Question}
-use Rattle.trlab_jobs.specs.Check.{check_of, question_of, Check, CheckLinesSay, LoneCodeSays, ProgramSays, QuestionSays}
+use Rattle.trlab_jobs.specs.Check.{check_of, question_of, Check, CheckLinesParseTo, LoneCodeParsesTo, ProgramParsesTo, QuestionParsesTo}
 
 -- the line of a program alone, before other lines, and of none
-pub code_is_alone : (text : List ℕ) (left : List (List ℕ)) (program : Program) → code_line text (Ok program) → left ≡ [] → LoneCodeSays text left (Ok program)
+pub code_is_alone : (text : List ℕ) (left : List (List ℕ)) (program : Program) → code_line text (Ok program) → left ≡ [] → LoneCodeParsesTo text left (Ok program)
 code_is_alone text left program says none = rw none (Ok program, (says, refl))
 
-pub code_before_others : (text : List ℕ) (left : List (List ℕ)) (program : Program) → code_line text (Ok program) → left ≢ [] → LoneCodeSays text left (Err (record { line = 2; cause = Line }))
+pub code_before_others : (text : List ℕ) (left : List (List ℕ)) (program : Program) → code_line text (Ok program) → left ≢ [] → LoneCodeParsesTo text left (Err (record { line = 2; cause = Line }))
 code_before_others text [] program says some = absurd (some refl)
 code_before_others text (next ∷ left) program says some = (Ok program, (says, refl))
 
-pub no_code_alone : (text : List ℕ) (left : List (List ℕ)) (fault : LineFault) → ReportsLine (code_line text) (Err fault) → Reports (LoneCodeSays text left) (Err (text_fault 1 fault))
+pub no_code_alone : (text : List ℕ) (left : List (List ℕ)) (fault : LineFault) → ReportsLine (code_line text) (Err fault) → Reports (LoneCodeParsesTo text left) (Err (text_fault 1 fault))
 no_code_alone text left (Wrong cause) says = (Err cause, (says, refl))
 no_code_alone text left NoMemory says = tt
 
 -- what is asked of a program by its first line, which says the question and the line that begins it
 pub check_says : (text line : List ℕ) (question : Question) (left : List (List ℕ)) (program : Program) → (question, line) ≡ question_of text
-    → ProgramSays line left (Ok program) → CheckLinesSay (text ∷ left) (Ok (check_of question program))
+    → ProgramParsesTo line left (Ok program) → CheckLinesParseTo (text ∷ left) (Ok (check_of question program))
 check_says text line question left program is says =
-    subst (λ (first : Question × List ℕ). QuestionSays first left (Ok (check_of question program))) is (Ok program, (says, refl))
+    subst (λ (first : Question × List ℕ). QuestionParsesTo first left (Ok (check_of question program))) is (Ok program, (says, refl))
 
 -- lines that are no program have its fault, whatever is asked
 pub check_fails : (text line : List ℕ) (question : Question) (left : List (List ℕ)) (fault : TextFault) → (question, line) ≡ question_of text
-    → Reports {A = Program} (ProgramSays line left) (Err fault) → Reports {A = Check} (CheckLinesSay (text ∷ left)) (Err fault)
+    → Reports {A = Program} (ProgramParsesTo line left) (Err fault) → Reports {A = Check} (CheckLinesParseTo (text ∷ left)) (Err fault)
 check_fails text line question left (At number cause) is says =
-    subst (λ (first : Question × List ℕ). QuestionSays first left (Err (record { line = number; cause = cause }))) is (Err (record { line = number; cause = cause }), (says, refl))
+    subst (λ (first : Question × List ℕ). QuestionParsesTo first left (Err (record { line = number; cause = cause }))) is (Err (record { line = number; cause = cause }), (says, refl))
 check_fails text line question left Memory is says = tt

@@ -6,7 +6,7 @@ use Rattle.trlab_texts.specs.declared.fault.Cause.{Cause}
 use Rattle.trlab_texts.specs.declared.fault.TextFault.{TextFault}
 use Rattle.trlab_texts.specs.declared.fault.TextFault.TheVariants.{At, Memory}
 use Rattle.trlab_texts.specs.Lines.{Rest}
-use Rattle.trlab_texts.specs.Reading.{Fault, LineSays, line_with_rest, at_line, exactly, Reports}
+use Rattle.trlab_texts.specs.Reading.{Fault, LineParsesTo, line_with_rest, at_line, exactly, Reports}
 use Rattle.trlab_jobs.specs.Counts.{cars_line, counts_from}
 
 -- counts after others
@@ -40,7 +40,7 @@ line_wrong number left fault (Ok n) e = absurd (cc e)
 line_wrong number left fault (Err cause) e = cc e
 
 -- a count was read
-line_more : (cells steps point number count : ℕ) (left : List (List ℕ)) (after : Rest) → LineSays (exactly (cars_line cells steps point)) number left (Ok (count, after))
+line_more : (cells steps point number count : ℕ) (left : List (List ℕ)) (after : Rest) → LineParsesTo (exactly (cars_line cells steps point)) number left (Ok (count, after))
     → counts_from cells steps point number left ≡ (counts_from cells steps (point + 1) after.number after.left >>= λ counts. Ok (count ∷ counts))
 unfolding counts_from
 line_more cells steps point number count [] after told = absurd (cc told)
@@ -50,7 +50,7 @@ line_more cells steps point number count (text ∷ left) after told =
 
 -- a line has a fault
 line_fault : (cells steps point number : ℕ) (left : List (List ℕ)) (fault : Fault) → left ≢ []
-    → LineSays {A = ℕ} (exactly (cars_line cells steps point)) number left (Err fault) → counts_from cells steps point number left ≡ Err fault
+    → LineParsesTo {A = ℕ} (exactly (cars_line cells steps point)) number left (Err fault) → counts_from cells steps point number left ≡ Err fault
 unfolding counts_from
 line_fault cells steps point number [] fault some told = absurd (some refl)
 line_fault cells steps point number (text ∷ left) fault some told =
@@ -59,7 +59,7 @@ line_fault cells steps point number (text ∷ left) fault some told =
     rw said refl
 
 pub one_more : (cells steps : ℕ) (begin : Rest) (counts : List ℕ) (point : ℕ) (place after : Rest) (count : ℕ) → ReadSoFar cells steps begin counts point place
-    → LineSays (exactly (cars_line cells steps point)) place.number place.left (Ok (count, after))
+    → LineParsesTo (exactly (cars_line cells steps point)) place.number place.left (Ok (count, after))
     → ReadSoFar cells steps begin (counts ++ (count ∷ [])) (point + 1) after
 one_more cells steps begin counts point place after count so_far told =
     sym (behind_more counts count (counts_from cells steps (point + 1) after.number after.left))
@@ -67,7 +67,7 @@ one_more cells steps begin counts point place after count so_far told =
 
 -- the reading stops at a fault
 pub stopped : (cells steps : ℕ) (begin : Rest) (counts : List ℕ) (point : ℕ) (place : Rest) (fault : TextFault) → ReadSoFar cells steps begin counts point place → place.left ≢ []
-    → Reports {A = ℕ × Rest} (LineSays (exactly (cars_line cells steps point)) place.number place.left) (Err fault)
+    → Reports {A = ℕ × Rest} (LineParsesTo (exactly (cars_line cells steps point)) place.number place.left) (Err fault)
     → Reports {A = List ℕ} (λ says. says ≡ counts_from cells steps 1 begin.number begin.left) (Err fault)
 stopped cells steps begin counts point place (At line cause) so_far some told =
     let fault : Fault = record { line = line; cause = cause } in

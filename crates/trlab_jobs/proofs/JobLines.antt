@@ -11,7 +11,7 @@ use Rattle.trlab_texts.specs.Reading.{Reading, ◌>>=◌, ◌>>◌, say, line, e
 use Rattle.trlab_jobs.specs.Lanes.{lanes}
 use Rattle.trlab_jobs.specs.RuleParts.{rule}
 use Rattle.trlab_jobs.specs.Later.{later_rules}
-use Rattle.trlab_jobs.specs.Job.{Job, job, road_line, key_line, limit_line, steps_line, JobLinesSay, ResultWithoutRest}
+use Rattle.trlab_jobs.specs.Job.{Job, job, road_line, key_line, limit_line, steps_line, JobLinesParseTo, ReadingHasResult}
 use Rattle.trlab_texts.proofs.Readings.{goes_on}
 
 -- what is read after each line
@@ -63,24 +63,24 @@ pub behind_all : (key : List ℕ) (road : Cells) (first : Programs) (steps : ℕ
 behind_all key road first steps later at after says = (Ok (later, after), (says, refl))
 
 -- what the lines of a text say, from the place before the first of them on
-pub lines_say : (text : List ℕ) (begin after : Rest) (x : Job) → begin ≡ all_lines text → whole begin (Ok (x, after)) → JobLinesSay text (Ok x)
+pub lines_say : (text : List ℕ) (begin after : Rest) (x : Job) → begin ≡ all_lines text → whole begin (Ok (x, after)) → JobLinesParseTo text (Ok x)
 unfolding job
 lines_say text begin after x e says = (after, subst (λ (p : Rest). whole p (Ok (x, after))) e says)
 
 pub lines_fail : (text : List ℕ) (begin : Rest) (fault : TextFault) → begin ≡ all_lines text
-    → Reports {A = Job × Rest} (whole begin) (Err fault) → Reports {A = Job} (JobLinesSay text) (Err fault)
+    → Reports {A = Job × Rest} (whole begin) (Err fault) → Reports {A = Job} (JobLinesParseTo text) (Err fault)
 unfolding job
 lines_fail text begin (At line cause) e says = subst (λ (p : Rest). whole p (Err (record { line = line; cause = cause }))) e says
 lines_fail text begin Memory e says = tt
 
 -- a reading up to the end stops at a fault
-pub ends_in_fault : (reading : Reading Job) (place : Rest) (fault : TextFault) → Reports {A = Job × Rest} (reading place) (Err fault) → Reports {A = Job} (ResultWithoutRest reading place) (Err fault)
+pub ends_in_fault : (reading : Reading Job) (place : Rest) (fault : TextFault) → Reports {A = Job × Rest} (reading place) (Err fault) → Reports {A = Job} (ReadingHasResult reading place) (Err fault)
 ends_in_fault reading place (At line cause) says = says
 ends_in_fault reading place Memory says = tt
 
 -- what the lines of a text say, where those from a place on were read up to the end
-pub lines_end : (text : List ℕ) (begin place : Rest) (reading : Reading Job) (says : Result Job TextFault) → begin ≡ all_lines text → Reports (ResultWithoutRest reading place) says
-    → ((out : Result (Job × Rest) TextFault) → Reports (reading place) out → Reports (whole begin) out) → Reports (JobLinesSay text) says
+pub lines_end : (text : List ℕ) (begin place : Rest) (reading : Reading Job) (says : Result Job TextFault) → begin ≡ all_lines text → Reports (ReadingHasResult reading place) says
+    → ((out : Result (Job × Rest) TextFault) → Reports (reading place) out → Reports (whole begin) out) → Reports (JobLinesParseTo text) says
 lines_end text begin place reading (Ok x) e (after, told) behind = lines_say text begin after x e (behind (Ok (x, after)) told)
 lines_end text begin place reading (Err (At line cause)) e told behind = lines_fail text begin (At line cause) e (behind (Err (At line cause)) told)
 lines_end text begin place reading (Err Memory) e told behind = tt

@@ -8,7 +8,7 @@ use Rattle.trlab_texts.specs.declared.fault.TextFault.{TextFault}
 use Rattle.trlab_texts.specs.declared.fault.TextFault.TheVariants.{At, Memory}
 use Rattle.trlab_texts.specs.Lines.{Rest}
 use Rattle.trlab_texts.specs.Reading.{Reading, say, ◌>>=◌, Reports}
-use Rattle.trlab_jobs.specs.Later.{later_rule, to_the_end, later_from, later_rules}
+use Rattle.trlab_jobs.specs.Later.{later_rule, to_the_end, later_rules_from, later_rules}
 use Rattle.trlab_jobs.specs.Stored.{AreLaterRules}
 use Rattle.trlab_texts.proofs.Readings.{goes_on, stops}
 
@@ -19,7 +19,7 @@ behind first (Err fault) = Err fault
 
 -- what the lines that are left say, after the later rules that were read, is what all lines say
 pub record ReadSoFar (lanes steps : ℕ) (start : Rest) (later : Sheet) (room least : ℕ) (place : Rest) : Type 0 where
-  pub goes_on : (out : Result (Sheet × Rest) TextFault) → Reports (later_from room lanes steps least place) out
+  pub goes_on : (out : Result (Sheet × Rest) TextFault) → Reports (later_rules_from room lanes steps least place) out
       → Reports (later_rules lanes steps start) (behind later out)
   pub kept : (rest : Sheet) → AreLaterRules lanes steps least rest → AreLaterRules lanes steps 0 (later ++ rest)
 
@@ -43,37 +43,37 @@ open_line reading place (text ∷ left) out some told = told
 -- what is read of a later rule and of those after it
 abbrev one_and_more : ℕ → ℕ → ℕ → ℕ → Reading Sheet
 one_and_more room lanes steps least = later_rule (suc room) lanes steps least >>= λ entry.
-    later_from room lanes steps (entry.0 + 1) >>= λ later. say (entry ∷ later)
+    later_rules_from room lanes steps (entry.0 + 1) >>= λ later. say (entry ∷ later)
 
 -- a later rule was read, and others may follow
 line_more : (lanes steps room least : ℕ) (place after : Rest) (entry : ℕ × Programs) (out : Result (Sheet × Rest) TextFault) → place.left ≢ []
-    → later_rule (suc room) lanes steps least place (Ok (entry, after)) → Reports (later_from room lanes steps (entry.0 + 1) after) out
-    → Reports (later_from (suc room) lanes steps least place) (behind (entry ∷ []) out)
-unfolding later_from
+    → later_rule (suc room) lanes steps least place (Ok (entry, after)) → Reports (later_rules_from room lanes steps (entry.0 + 1) after) out
+    → Reports (later_rules_from (suc room) lanes steps least place) (behind (entry ∷ []) out)
+unfolding later_rules_from
 line_more lanes steps room least place after entry out some one told =
     open_line (one_and_more room lanes steps least) place place.left (behind (entry ∷ []) out) some
-    (goes_on (later_rule (suc room) lanes steps least) (λ entry. later_from room lanes steps (entry.0 + 1) >>= λ later. say (entry ∷ later)) place after entry (behind (entry ∷ []) out) one
-    (said_before (later_from room lanes steps (entry.0 + 1)) entry after out told))
+    (goes_on (later_rule (suc room) lanes steps least) (λ entry. later_rules_from room lanes steps (entry.0 + 1) >>= λ later. say (entry ∷ later)) place after entry (behind (entry ∷ []) out) one
+    (said_before (later_rules_from room lanes steps (entry.0 + 1)) entry after out told))
 
 -- a later rule has a fault
 line_fault : (lanes steps room least : ℕ) (place : Rest) (fault : TextFault) → place.left ≢ []
     → Reports {A = (ℕ × Programs) × Rest} (later_rule room lanes steps least place) (Err fault)
-    → Reports {A = Sheet × Rest} (later_from room lanes steps least place) (Err fault)
-unfolding later_from
+    → Reports {A = Sheet × Rest} (later_rules_from room lanes steps least place) (Err fault)
+unfolding later_rules_from
 line_fault lanes steps zero least place fault some told =
     open_line (later_rule 0 lanes steps least >>= λ entry. say (entry ∷ [])) place place.left (Err fault) some
     (stops (later_rule 0 lanes steps least) (λ entry. say (entry ∷ [])) place fault told)
 line_fault lanes steps (suc room) least place fault some told =
     open_line (one_and_more room lanes steps least) place place.left (Err fault) some
-    (stops (later_rule (suc room) lanes steps least) (λ entry. later_from room lanes steps (entry.0 + 1) >>= λ later. say (entry ∷ later)) place fault told)
+    (stops (later_rule (suc room) lanes steps least) (λ entry. later_rules_from room lanes steps (entry.0 + 1) >>= λ later. say (entry ∷ later)) place fault told)
 
 no_line : (reading : Reading Sheet) (place : Rest) (left : List (List ℕ)) → left ≡ [] → to_the_end left reading place (Ok ([], place))
 no_line reading place [] none = refl
 no_line reading place (text ∷ left) none = absurd (cc none)
 
 -- no line is left
-line_none : (lanes steps room least : ℕ) (place : Rest) → place.left ≡ [] → later_from room lanes steps least place (Ok ([], place))
-unfolding later_from
+line_none : (lanes steps room least : ℕ) (place : Rest) → place.left ≡ [] → later_rules_from room lanes steps least place (Ok ([], place))
+unfolding later_rules_from
 line_none lanes steps zero least place none = no_line (later_rule 0 lanes steps least >>= λ entry. say (entry ∷ [])) place place.left none
 line_none lanes steps (suc room) least place none = no_line (one_and_more room lanes steps least) place place.left none
 
@@ -86,7 +86,7 @@ one_more lanes steps start later room left least place after from rule s some e 
     let entry : ℕ × Programs = (from, rule) in
     record {
       goes_on = λ out told. subst (λ o. Reports (later_rules lanes steps start) o) (behind_more later entry out)
-          (s.goes_on (behind (entry ∷ []) out) (subst (λ n. Reports (later_from n lanes steps least place) (behind (entry ∷ []) out)) (sym e)
+          (s.goes_on (behind (entry ∷ []) out) (subst (λ n. Reports (later_rules_from n lanes steps least place) (behind (entry ∷ []) out)) (sym e)
           (line_more lanes steps left least place after entry out some (rw e at one) told)));
       kept = λ rest more. subst (λ sheet. AreLaterRules lanes steps 0 sheet) (sym (append_assoc later (entry ∷ []) rest))
           (s.kept (entry ∷ rest) (rises, (within, (suits, more))));

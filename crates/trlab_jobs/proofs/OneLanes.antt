@@ -4,31 +4,31 @@ use Rattle.std.specs.Prelude.{Option, IfSome, Result, Ok, Err, codes, option_to_
 use Rattle.trlab_road.specs.declared.fault.RoadFault.{RoadFault}
 use Rattle.trlab_road.specs.Cells.{Cells}
 use Rattle.trlab_road.specs.Legal.{IsLegal}
-use Rattle.trlab_road.specs.Laws.{Says}
+use Rattle.trlab_road.specs.Laws.{PicturesMean}
 use Rattle.trlab_road.proofs.PictureFaults.{something, one_thing}
 use Rattle.trlab_texts.specs.declared.fault.Cause.TheVariants.{Road}
 use Rattle.trlab_texts.specs.Words.{next_word_is}
 use Rattle.trlab_texts.specs.Reading.{Fault, line, exactly, ◌>>=◌}
 use Rattle.trlab_texts.proofs.Fine.{Anything, FineText, road_other, word_fine}
 use Rattle.trlab_texts.proofs.OneAnswer.{OneText, OneReading, exact_line, then_one, perhaps_one, before_one}
-use Rattle.trlab_jobs.specs.Lanes.{LanesSay, line_of_fault, last_line, lane_word, second_lane, road_of, lanes}
+use Rattle.trlab_jobs.specs.Lanes.{LanesParseTo, line_of_fault, line_of_last_lane, lane_word, second_lane, road_of, lanes}
 
 -- what pictures say, with the line and the cause of a fault
 abbrev in_text : ℕ → ℕ → Result Cells RoadFault → Result Cells Fault
 in_text first last (Ok road) = Ok road
 in_text first last (Err wrong) = Err (record { line = line_of_fault first last wrong; cause = Road wrong })
 
-said_in_text : (first last limit : ℕ) (pictures : List (List ℕ)) (said : Result Cells RoadFault) → Says limit pictures said
-    → LanesSay first last limit pictures (in_text first last said) × FineText IsLegal (in_text first last said)
+said_in_text : (first last limit : ℕ) (pictures : List (List ℕ)) (said : Result Cells RoadFault) → PicturesMean limit pictures said
+    → LanesParseTo first last limit pictures (in_text first last said) × FineText IsLegal (in_text first last said)
 said_in_text first last limit pictures (Ok road) says = ((says.1, says.0), says.1)
 said_in_text first last limit pictures (Err wrong) says = ((wrong, (says.0, (says.1, refl))), road_other wrong)
 
-without_lines : (first last limit : ℕ) (pictures : List (List ℕ)) (says : Result Cells Fault) → LanesSay first last limit pictures says
-    → (said : Result Cells RoadFault) × (Says limit pictures said × (says ≡ in_text first last said))
+without_lines : (first last limit : ℕ) (pictures : List (List ℕ)) (says : Result Cells Fault) → LanesParseTo first last limit pictures says
+    → (said : Result Cells RoadFault) × (PicturesMean limit pictures said × (says ≡ in_text first last said))
 without_lines first last limit pictures (Ok road) p = (Ok road, ((p.1, p.0), refl))
 without_lines first last limit pictures (Err fault) p = (Err p.0, ((p.1.0, p.1.1.0), ap Err p.1.1.1))
 
-lanes_say_one : (first last limit : ℕ) (pictures : List (List ℕ)) → OneText IsLegal (LanesSay first last limit pictures)
+lanes_say_one : (first last limit : ℕ) (pictures : List (List ℕ)) → OneText IsLegal (LanesParseTo first last limit pictures)
 lanes_say_one first last limit pictures =
     let found = something limit pictures in
     let said = said_in_text first last limit pictures found.0 found.1 in
@@ -51,4 +51,4 @@ pub lanes_one : (limit : ℕ) → OneReading IsLegal (lanes limit)
 lanes_one limit place =
     then_one (line (exactly lane_word)) (λ picture. second_lane >>= road_of place.number limit picture) lane_one (λ picture any.
     then_one second_lane (road_of place.number limit picture) second_one (λ second any behind.
-    before_one behind (lanes_say_one place.number (last_line place.number second) limit (picture ∷ option_to_list second)))) place
+    before_one behind (lanes_say_one place.number (line_of_last_lane place.number second) limit (picture ∷ option_to_list second)))) place

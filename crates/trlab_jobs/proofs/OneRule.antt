@@ -7,7 +7,7 @@ use Rattle.hex.specs.Hex.{decode_of}
 use Rattle.hex.specs.declared.error.FromHexError.{FromHexError}
 use Rattle.trlab_code.specs.declared.program.Kind.{Kind}
 use Rattle.trlab_code.specs.declared.program.Kind.TheVariants.{Motion, Change}
-use Rattle.trlab_code.specs.Program.{Program, IsProgram}
+use Rattle.trlab_code.specs.Program.{Program, IsValidProgram}
 use Rattle.trlab_verify.specs.CheckedProgram.{CheckedProgram, IsChecked}
 use Rattle.trlab_verify.specs.Verdict.{IsAccepted}
 use Rattle.trlab_verify.proofs.Judged.{some_budget}
@@ -23,31 +23,31 @@ use Rattle.trlab_texts.specs.declared.fault.Cause.TheVariants.{OneLane}
 use Rattle.trlab_texts.specs.Causes.{IsNotStandardRefused}
 use Rattle.trlab_texts.specs.Words.{word_after}
 use Rattle.trlab_texts.specs.Reading.{Reading, line, exactly, say, ◌>>=◌}
-use Rattle.trlab_texts.specs.Programs.{Part, part, part_of, heading_line}
+use Rattle.trlab_texts.specs.Programs.{EndSplit, part, split_at_end, heading_line}
 use Rattle.trlab_texts.proofs.Fine.{Anything, Fine, IsOtherFault, line_other, one_lane_other, hex_other, word_fine}
 use Rattle.trlab_texts.proofs.OneAnswer.{OneLine, OneReading, exact, exact_line, then_one, said_one, perhaps_one, of_line_one, part_with}
 use Rattle.trlab_texts.proofs.OneProgram.{checked_one, part_one}
 use Rattle.trlab_jobs.specs.declared.rule_line.RuleLine.{RuleLine}
 use Rattle.trlab_jobs.specs.declared.rule_line.RuleLine.TheVariants.{Nasch, Vdr, Rickert, Own}
 use Rattle.trlab_jobs.specs.RuleLines.{rule_line, later_line}
-use Rattle.trlab_jobs.specs.RuleParts.{Accepts, MotionSays, TwoProgramsSay, TwoLaneRuleSays, digits_misplacement, code_misplacement, block_misplacement, part_misplacement, misplacement, change_by, next_is_change, change_part, own_rule, rule_from, rule}
-use Rattle.trlab_jobs.specs.Later.{later_rule, to_the_end, later_from, later_rules}
+use Rattle.trlab_jobs.specs.RuleParts.{VerifiesAs, IsMotionRule, IsTwoProgramRule, IsTwoLaneRule, digits_misplacement, code_misplacement, block_misplacement, part_misplacement, misplacement, change_by, next_is_change, change_part, own_rule, rule_from, rule}
+use Rattle.trlab_jobs.specs.Later.{later_rule, to_the_end, later_rules_from, later_rules}
 use Rattle.trlab_jobs.specs.Stored.{AreLaterRules}
 use Rattle.trlab_jobs.proofs.FineLines.{Chances, rule_line_fine, later_line_fine}
 
 -- a program that the verifier accepts
 record IsGood (kind : Kind) (program : Program) : Type 0 where
-  pub is : IsProgram program
+  pub is : IsValidProgram program
   pub accepted : IsAccepted kind program
 
 -- an accepted program has a budget
-budgeted : (kind : Kind) (program : Program) → IsGood kind program → (checked : CheckedProgram) × Accepts kind program checked
+budgeted : (kind : Kind) (program : Program) → IsGood kind program → (checked : CheckedProgram) × VerifiesAs kind program checked
 budgeted kind program good =
     let found = some_budget kind program good.is good.accepted in
     (record { program = program; budget = found.0 }, (refl, (good.accepted, found.1)))
 
 -- and only one
-accepts_one : (kind : Kind) (program : Program) (checked other : CheckedProgram) → Accepts kind program checked → Accepts kind program other → checked ≡ other
+accepts_one : (kind : Kind) (program : Program) (checked other : CheckedProgram) → VerifiesAs kind program checked → VerifiesAs kind program other → checked ≡ other
 accepts_one kind program checked other p q = checked_one checked other (p.0 ∙ sym q.0) kind p.1.1 q.1.1
 
 -- rules of the same programs are one
@@ -65,13 +65,13 @@ with_change : (lanes : ℕ) (motion change : CheckedProgram) → IsChecked Motio
     → IsRuleFor lanes (record { motion = motion; change = Some change })
 with_change lanes motion change is changes two = record { motion = is; change = changes; two_lanes = λ some. two }
 
-motion_only : (motion : Program) (checked : CheckedProgram) → Accepts Motion motion checked
-    → (other : Result Programs Cause) → MotionSays motion other → other ≡ Ok (record { motion = checked; change = None })
+motion_only : (motion : Program) (checked : CheckedProgram) → VerifiesAs Motion motion checked
+    → (other : Result Programs Cause) → IsMotionRule motion other → other ≡ Ok (record { motion = checked; change = None })
 motion_only motion checked is (Ok rule) p =
     ap Ok (programs_are rule (record { motion = checked; change = None }) (accepts_one Motion motion rule.motion checked p.0 is) p.1)
 motion_only motion checked is (Err cause) p = absurd p
 
-motion_one : (lanes : ℕ) (motion : Program) → IsGood Motion motion → OneLine (IsRuleFor lanes) (MotionSays motion)
+motion_one : (lanes : ℕ) (motion : Program) → IsGood Motion motion → OneLine (IsRuleFor lanes) (IsMotionRule motion)
 motion_one lanes motion good =
     let found = budgeted Motion motion good in
     record {
@@ -82,18 +82,18 @@ motion_one lanes motion good =
     }
 
 -- a change program that must be there
-change_is : (change : Program) (found : Option CheckedProgram) (checked : CheckedProgram) → MatchOption found ⊥ (Accepts Change change) → Accepts Change change checked → found ≡ Some checked
+change_is : (change : Program) (found : Option CheckedProgram) (checked : CheckedProgram) → MatchOption found ⊥ (VerifiesAs Change change) → VerifiesAs Change change checked → found ≡ Some checked
 change_is change None checked p is = absurd p
 change_is change (Some other) checked p is = ap Some (accepts_one Change change other checked p is)
 
-both_only : (motion change : Program) (checked other : CheckedProgram) → Accepts Motion motion checked → Accepts Change change other
-    → (says : Result Programs Cause) → TwoProgramsSay motion change says → says ≡ Ok (record { motion = checked; change = Some other })
+both_only : (motion change : Program) (checked other : CheckedProgram) → VerifiesAs Motion motion checked → VerifiesAs Change change other
+    → (says : Result Programs Cause) → IsTwoProgramRule motion change says → says ≡ Ok (record { motion = checked; change = Some other })
 both_only motion change checked other is changes (Ok rule) p =
     ap Ok (programs_are rule (record { motion = checked; change = Some other }) (accepts_one Motion motion rule.motion checked p.0 is) (change_is change rule.change other p.1 changes))
 both_only motion change checked other is changes (Err cause) p = absurd p
 
 exchange_one : (one_lane : Bool) (lanes : ℕ) (motion change : Program) → IsGood Motion motion → IsGood Change change → (one_lane ≡ false → lanes ≡ 2)
-    → OneLine (IsRuleFor lanes) (TwoLaneRuleSays one_lane motion change)
+    → OneLine (IsRuleFor lanes) (IsTwoLaneRule one_lane motion change)
 exchange_one true lanes motion change good also two = exact (Err OneLane) one_lane_other
 exchange_one false lanes motion change good also two =
     let found = budgeted Motion motion good in
@@ -114,12 +114,12 @@ code_misplaced : (word : Result (List ℕ) Cause) → Fine Anything word → IsN
 code_misplaced (Ok digits) fine = digits_misplaced (decode_of digits)
 code_misplaced (Err cause) fine = fine
 
-block_misplaced : (first : ℕ) (left : List (List ℕ)) (found : Option Part) → IsOtherFault (block_misplacement first left found)
+block_misplaced : (first : ℕ) (left : List (List ℕ)) (found : Option EndSplit) → IsOtherFault (block_misplacement first left found)
 block_misplaced first left None = line_other
 block_misplaced first left (Some parts) = one_lane_other
 
 part_misplaced : (headed : Bool) (first : ℕ) (text : List ℕ) (left : List (List ℕ)) → IsOtherFault (part_misplacement headed first text left)
-part_misplaced true first text left = block_misplaced first left (part_of left)
+part_misplaced true first text left = block_misplaced first left (split_at_end left)
 part_misplaced false first text left = code_misplaced (word_after (codes "code ") text) (word_fine (codes "code ") text)
 
 misplaced : (first : ℕ) (left : List (List ℕ)) → IsOtherFault (misplacement first left)
@@ -188,16 +188,16 @@ to_the_end_one : {P : Sheet → Type 0} (left : List (List ℕ)) (reading : Read
 to_the_end_one [] reading none one = said_one [] none
 to_the_end_one (text ∷ left) reading none one = one
 
-later_from_one : (room lanes steps least : ℕ) → FewLanes lanes → OneReading (AreLaterRules lanes steps least) (later_from room lanes steps least)
-unfolding later_from
+later_from_one : (room lanes steps least : ℕ) → FewLanes lanes → OneReading (AreLaterRules lanes steps least) (later_rules_from room lanes steps least)
+unfolding later_rules_from
 later_from_one zero lanes steps least few place =
     to_the_end_one place.left (later_rule 0 lanes steps least >>= λ entry. say (entry ∷ [])) tt
     (then_one (later_rule 0 lanes steps least) (λ entry. say (entry ∷ [])) (later_rule_one 0 lanes steps least few)
     (λ entry is. said_one (entry ∷ []) (is.0, (is.1.0, (is.1.1, tt))))) place
 later_from_one (suc room) lanes steps least few place =
-    to_the_end_one place.left (later_rule (suc room) lanes steps least >>= λ entry. later_from room lanes steps (entry.0 + 1) >>= λ later. say (entry ∷ later)) tt
-    (then_one (later_rule (suc room) lanes steps least) (λ entry. later_from room lanes steps (entry.0 + 1) >>= λ later. say (entry ∷ later)) (later_rule_one (suc room) lanes steps least few) (λ entry is.
-    then_one (later_from room lanes steps (entry.0 + 1)) (λ later. say (entry ∷ later)) (later_from_one room lanes steps (entry.0 + 1) few) (λ later more.
+    to_the_end_one place.left (later_rule (suc room) lanes steps least >>= λ entry. later_rules_from room lanes steps (entry.0 + 1) >>= λ later. say (entry ∷ later)) tt
+    (then_one (later_rule (suc room) lanes steps least) (λ entry. later_rules_from room lanes steps (entry.0 + 1) >>= λ later. say (entry ∷ later)) (later_rule_one (suc room) lanes steps least few) (λ entry is.
+    then_one (later_rules_from room lanes steps (entry.0 + 1)) (λ later. say (entry ∷ later)) (later_from_one room lanes steps (entry.0 + 1) few) (λ later more.
     said_one (entry ∷ later) (is.0, (is.1.0, (is.1.1, more)))))) place
 
 pub later_rules_one : (lanes steps : ℕ) → FewLanes lanes → OneReading (AreLaterRules lanes steps 0) (later_rules lanes steps)

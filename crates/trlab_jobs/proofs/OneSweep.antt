@@ -16,9 +16,9 @@ use Rattle.trlab_jobs.specs.RuleParts.{rule}
 use Rattle.trlab_jobs.specs.Job.{key_line, limit_line}
 use Rattle.trlab_jobs.specs.Shapes.{length_line, lanes_line, warm_line, measure_line, shape, span, cell_count, all_steps}
 use Rattle.trlab_jobs.specs.Counts.{counts}
-use Rattle.trlab_jobs.specs.Sweep.{Setup, Sweep, sweep_line, sweep_heading, setup, with_counts, SweepLinesSay, SweepText}
-use Rattle.trlab_jobs.specs.Stored.{Spreads, IsStoredSweep}
-use Rattle.trlab_jobs.specs.Laws.{HasSomeResult, HasOneResult, NeverRefusesStandardRules}
+use Rattle.trlab_jobs.specs.Sweep.{Setup, Sweep, sweep_line, sweep_heading, setup, with_counts, SweepLinesParseTo, ParsesAsSweep}
+use Rattle.trlab_jobs.specs.Stored.{CanSpreadOn, IsStoredSweep}
+use Rattle.trlab_jobs.specs.Laws.{HasSomeResult, HasAtMostOneResult, NeverRefusesStandardRules}
 use Rattle.trlab_jobs.proofs.FineLines.{fixed_fine}
 use Rattle.trlab_jobs.proofs.FineCounts.{AllHaveRoom, counts_fine}
 use Rattle.trlab_jobs.proofs.SweepLines.{after_limit, after_cells, after_warm, after_key, after_shape, after_rule}
@@ -73,7 +73,7 @@ setup_one =
     then_one span _ span_one (λ steps counted.
     said_one (record { key = key; shape = roads; rule = first; span = steps }) (record { shape = is; rule = suits; counted = counted })))))
 
-all_spread : (roads : Shape) (cars : List ℕ) → IsShape roads → All (λ count. count ≤ cell_count roads) cars → All (Spreads roads) cars
+all_spread : (roads : Shape) (cars : List ℕ) → IsShape roads → All (λ count. count ≤ cell_count roads) cars → All (CanSpreadOn roads) cars
 all_spread roads cars is fit = λ k d inside. record { lanes_fit = is.lanes; length_fits = is.cells; limit_fits = is.limit; room = fit k d inside }
 
 stored : (common : Setup) (cars : List ℕ) → IsSetup common → AllHaveRoom (cell_count common.shape) (all_steps common.span) cars → IsStoredSweep (record { setup = common; cars = cars })
@@ -107,18 +107,18 @@ said_stored common cars at after says counted =
     stored common cars (values (common, after) (setup_one at).one says)
     (subst (λ (r : Result (List ℕ) Fault). FineText (AllHaveRoom (cell_count common.shape) (all_steps common.span)) r) (sym counted) all)
 
-sweep_text : (text : List ℕ) → OneText IsStoredSweep (SweepText text)
-sweep_text text = text_one SweepLinesSay text (made with_counts (setup_one (all_lines text)).one with_counts_fine)
+sweep_text : (text : List ℕ) → OneText IsStoredSweep (ParsesAsSweep text)
+sweep_text text = text_one SweepLinesParseTo text (made with_counts (setup_one (all_lines text)).one with_counts_fine)
 
 -- it says something, and what it says can be run
-pub says_stored : (text : List ℕ) → (says : Result Sweep Fault) × (SweepText text says × IfOk says IsStoredSweep)
+pub says_stored : (text : List ℕ) → (says : Result Sweep Fault) × (ParsesAsSweep text says × IfOk says IsStoredSweep)
 says_stored text = said (sweep_text text)
 
-pub something : HasSomeResult SweepText
+pub something : HasSomeResult ParsesAsSweep
 something text = let one = sweep_text text in (one.answer, one.says)
 
-pub one_thing : HasOneResult SweepText
+pub one_thing : HasAtMostOneResult ParsesAsSweep
 one_thing text says other p q = agree says other (sweep_text text) p q
 
-pub sweeps_never : NeverRefusesStandardRules SweepText
+pub sweeps_never : NeverRefusesStandardRules ParsesAsSweep
 sweeps_never text fault p = fails fault (sweep_text text) p

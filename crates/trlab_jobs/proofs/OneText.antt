@@ -12,9 +12,9 @@ use Rattle.trlab_texts.proofs.OneAnswer.{OnePart, OneText, OneReading, agree, sa
 use Rattle.trlab_jobs.specs.Lanes.{lanes}
 use Rattle.trlab_jobs.specs.RuleParts.{rule}
 use Rattle.trlab_jobs.specs.Later.{later_rules}
-use Rattle.trlab_jobs.specs.Job.{Job, job, road_line, key_line, limit_line, steps_line, ResultWithoutRest, JobLinesSay, JobText}
+use Rattle.trlab_jobs.specs.Job.{Job, job, road_line, key_line, limit_line, steps_line, ReadingHasResult, JobLinesParseTo, ParsesAsJob}
 use Rattle.trlab_jobs.specs.Stored.{IsStoredJob}
-use Rattle.trlab_jobs.specs.Laws.{HasSomeResult, HasOneResult, NeverRefusesStandardRules}
+use Rattle.trlab_jobs.specs.Laws.{HasSomeResult, HasAtMostOneResult, NeverRefusesStandardRules}
 use Rattle.trlab_jobs.proofs.FineLines.{fixed_fine, key_line_fine}
 use Rattle.trlab_jobs.proofs.JobLines.{after_road, after_key, after_limit, after_lanes, after_rule, after_steps, after_all}
 use Rattle.trlab_jobs.proofs.OneLanes.{lanes_one}
@@ -52,17 +52,17 @@ without_rest (Ok found) = Ok found.0
 without_rest (Err fault) = Err fault
 
 without_rest_says : {A : Type 0} (P : A → Type 0) (reading : Reading A) (place : Rest) (out : Result (A × Rest) Fault) → reading place out → FineText (λ (found : A × Rest). P found.0) out
-    → ResultWithoutRest reading place (without_rest out) × FineText P (without_rest out)
+    → ReadingHasResult reading place (without_rest out) × FineText P (without_rest out)
 without_rest_says P reading place (Ok found) says fine = ((found.1, says), fine)
 without_rest_says P reading place (Err fault) says fine = (says, fine)
 
-with_rest : {A : Type 0} (reading : Reading A) (place : Rest) (says : Result A Fault) → ResultWithoutRest reading place says
+with_rest : {A : Type 0} (reading : Reading A) (place : Rest) (says : Result A Fault) → ReadingHasResult reading place says
     → (out : Result (A × Rest) Fault) × (reading place out × (says ≡ without_rest out))
 with_rest reading place (Ok x) p = (Ok (x, p.0), (p.1, refl))
 with_rest reading place (Err fault) p = (Err fault, (p, refl))
 
 -- a text says what its lines say up to the end
-to_the_end : {A : Type 0} {P : A → Type 0} (reading : Reading A) (place : Rest) → OnePart P (reading place) → OneText P (ResultWithoutRest reading place)
+to_the_end : {A : Type 0} {P : A → Type 0} (reading : Reading A) (place : Rest) → OnePart P (reading place) → OneText P (ReadingHasResult reading place)
 to_the_end {A} {P} reading place part =
     let one = part.one in
     let found = without_rest_says P reading place one.answer one.says one.keeps in
@@ -73,18 +73,18 @@ to_the_end {A} {P} reading place part =
       only = λ other p. let also = with_rest reading place other p in also.1.1 ∙ ap without_rest (one.only also.0 also.1.0);
     }
 
-pub job_text : (text : List ℕ) → OneText IsStoredJob (JobText text)
-job_text text = text_one JobLinesSay text (to_the_end job (all_lines text) (job_one (all_lines text)))
+pub job_text : (text : List ℕ) → OneText IsStoredJob (ParsesAsJob text)
+job_text text = text_one JobLinesParseTo text (to_the_end job (all_lines text) (job_one (all_lines text)))
 
 -- it says something, and what it says can be run
-pub says_plain : (text : List ℕ) → (says : Result Job Fault) × (JobText text says × IfOk says IsStoredJob)
+pub says_plain : (text : List ℕ) → (says : Result Job Fault) × (ParsesAsJob text says × IfOk says IsStoredJob)
 says_plain text = said (job_text text)
 
-pub something : HasSomeResult JobText
+pub something : HasSomeResult ParsesAsJob
 something text = let one = job_text text in (one.answer, one.says)
 
-pub one_thing : HasOneResult JobText
+pub one_thing : HasAtMostOneResult ParsesAsJob
 one_thing text says other p q = agree says other (job_text text) p q
 
-pub jobs_never : NeverRefusesStandardRules JobText
+pub jobs_never : NeverRefusesStandardRules ParsesAsJob
 jobs_never text fault p = fails fault (job_text text) p

@@ -8,12 +8,12 @@ use Rattle.trlab_texts.specs.Lines.{Rest, all_lines}
 use Rattle.trlab_texts.specs.Reading.{Reports}
 use Rattle.trlab_jobs.specs.Shapes.{cell_count, all_steps}
 use Rattle.trlab_jobs.specs.Counts.{counts}
-use Rattle.trlab_jobs.specs.Sweep.{Setup, Sweep, setup, SweepLinesSay}
+use Rattle.trlab_jobs.specs.Sweep.{Setup, Sweep, setup, SweepLinesParseTo}
 
 -- the first fault of the points is that of the text
 pub counts_fail : (common : Setup) (text : List ℕ) (at after : Rest) (fault : TextFault) → at ≡ all_lines text → setup at (Ok (common, after))
     → Reports {A = List ℕ} (λ says. says ≡ counts (cell_count common.shape) (all_steps common.span) after.number after.left) (Err fault)
-    → Reports {A = Sweep} (SweepLinesSay text) (Err fault)
+    → Reports {A = Sweep} (SweepLinesParseTo text) (Err fault)
 counts_fail common text at after (At line cause) begins says told =
     (Ok (common, after), (rw begins at says, ap (map_ok (λ cars. record { setup = common; cars = cars })) told))
 counts_fail common text at after Memory begins says told = tt
@@ -21,6 +21,6 @@ counts_fail common text at after Memory begins says told = tt
 -- the counts of the points make a sweep of what they have in common
 pub counts_said : (common : Setup) (cars : List ℕ) (text : List ℕ) (at after : Rest) → at ≡ all_lines text → setup at (Ok (common, after))
     → Ok cars ≡ counts (cell_count common.shape) (all_steps common.span) after.number after.left
-    → SweepLinesSay text (Ok (record { setup = common; cars = cars }))
+    → SweepLinesParseTo text (Ok (record { setup = common; cars = cars }))
 counts_said common cars text at after begins says counted =
     (Ok (common, after), (rw begins at says, ap (map_ok (λ cars. record { setup = common; cars = cars })) counted))

@@ -8,9 +8,9 @@ use Rattle.trlab_texts.specs.Words.{word_after, number_within}
 use Rattle.trlab_texts.specs.Reading.{Fault, at_line}
 use Rattle.trlab_jobs.specs.declared.limits.TheConstants.{MAX_CARS, MAX_POINTS, MAX_WORK}
 
--- the number of cars of point `point`, counted from 1, or the first of these causes: more than MAX_POINTS
--- points, more cars than the `cells` of a road, more than MAX_WORK steps in the points so far, `steps` for
--- each
+-- the number of cars of a sweep's point, of which `point` is the number, counted from 1; or the first of
+-- these causes: more than MAX_POINTS points, more cars than the `cells` of a road, more than MAX_WORK steps
+-- for the points up to this one, with `steps` for each
 abbrev pub admit_cars : ℕ → ℕ → ℕ → ℕ → Result ℕ Cause
 admit_cars cells steps point count =
     if nat_lt MAX_POINTS point then Err TooMany
@@ -18,13 +18,14 @@ admit_cars cells steps point count =
     else if nat_lt MAX_WORK (point * steps) then Err Work
     else Ok count
 
--- the number of cars, from 0 to MAX_CARS, on the line `cars n` of point `point`, if the point can be admitted
+-- the number of cars on the line `cars n` of a point, from 0 to MAX_CARS; the cause `Number` for any other
+-- number comes before those of `admit_cars`
 abbrev pub cars_line : ℕ → ℕ → ℕ → List ℕ → Result ℕ Cause
 cars_line cells steps point text =
     number_within 0 MAX_CARS (word_after (codes "cars ") text) >>= admit_cars cells steps point
 
--- the numbers of cars of the points from point `point` on, one on each line that is left, or the first fault;
--- the next line has the number `number`
+-- the numbers of cars of the points from the point `point` on, one on each line that is left, or the first
+-- fault; the next line has the number `number`
 unfoldable pub counts_from : ℕ → ℕ → ℕ → ℕ → List (List ℕ) → Result (List ℕ) Fault
 counts_from cells steps point number [] = Ok []
 counts_from cells steps point number (text ∷ left) =
@@ -32,8 +33,8 @@ counts_from cells steps point number (text ∷ left) =
     counts_from cells steps (point + 1) (number + 1) left >>= λ counts.
     Ok (count ∷ counts)
 
--- the numbers of cars of all points, one on each line that is left, or the first fault; if no line is left,
--- the line `number` is missing
+-- the numbers of cars of all points, one on each line that is left, or the first fault: 0 and 10 for the
+-- lines `cars 0` and `cars 10`; if no line is left, the line `number` is missing
 abbrev pub counts : ℕ → ℕ → ℕ → List (List ℕ) → Result (List ℕ) Fault
 counts cells steps number [] = Err (record { line = number; cause = Line })
 counts cells steps number (text ∷ left) = counts_from cells steps 1 number (text ∷ left)

@@ -12,7 +12,7 @@ use Rattle.trlab_texts.specs.declared.fault.Cause.TheVariants.{Line, Key}
 use Rattle.trlab_bounds.specs.declared.runs.TheConstants.{MAX_STEPS}
 use Rattle.trlab_texts.specs.Lines.{all_lines, Rest}
 use Rattle.trlab_texts.specs.Words.{word_after, number_within}
-use Rattle.trlab_texts.specs.Reading.{Fault, Reading, say, ◌>>=◌, ◌>>◌, line, exactly, TextSays}
+use Rattle.trlab_texts.specs.Reading.{Fault, Reading, say, ◌>>=◌, ◌>>◌, line, exactly, TextParsesTo}
 use Rattle.trlab_jobs.specs.Lanes.{lanes}
 use Rattle.trlab_jobs.specs.RuleParts.{rule}
 use Rattle.trlab_jobs.specs.Later.{later_rules}
@@ -34,8 +34,8 @@ abbrev pub key_of_hex : Result (List ℕ) FromHexError → Result (List ℕ) Cau
 key_of_hex (Ok key) = Ok key
 key_of_hex (Err fault) = Err Key
 
--- the key that a word writes: 64 hexadecimal digits of either case, or else the cause `Key`; if there is no
--- word, its cause stays
+-- the key that a word writes, in 64 hexadecimal digits of either case; otherwise the cause `Key`, or if there
+-- is no word, the cause of that
 abbrev pub key_of : Result (List ℕ) Cause → Result (List ℕ) Cause
 key_of (Ok word) = key_of_hex (decode_sized word 32)
 key_of (Err cause) = Err cause
@@ -71,23 +71,24 @@ job = do
   road ← lanes limit
   job_after key road
 
--- the result of `reading` from `place` on, without the rest that a value leaves
-abbrev pub ResultWithoutRest : {A : Type 0} → Reading A → Rest → Result A Fault → Type 0
-ResultWithoutRest reading place (Ok say) = (rest : Rest) × reading place (Ok (say, rest))
-ResultWithoutRest reading place (Err fault) = reading place (Err fault)
+-- the result of `reading` from `place` on: its value, with any rest after it, or its fault
+abbrev pub ReadingHasResult : {A : Type 0} → Reading A → Rest → Result A Fault → Type 0
+ReadingHasResult reading place (Ok x) = (rest : Rest) × reading place (Ok (x, rest))
+ReadingHasResult reading place (Err fault) = reading place (Err fault)
 
 -- the result for the lines of a job text: a job, or the first fault
-abbrev pub JobLinesSay : List ℕ → Result Job Fault → Type 0
-JobLinesSay text = ResultWithoutRest job (all_lines text)
+abbrev pub JobLinesParseTo : List ℕ → Result Job Fault → Type 0
+JobLinesParseTo text = ReadingHasResult job (all_lines text)
 
--- the result for a job text: a job, or its first fault; a text that is too long has no other fault
-abbrev pub JobText : List ℕ → Result Job Fault → Type 0
-JobText text says = TextSays JobLinesSay text says
+-- the result for a job text: a job, or the first fault; for a text that is too long, this is `TooBig`
+abbrev pub ParsesAsJob : List ℕ → Result Job Fault → Type 0
+ParsesAsJob text result = TextParsesTo JobLinesParseTo text result
 
 -- the start of a job's run: its road and key, as road 0, with tallies counted from step 0 on
 abbrev pub seed_of : Job → Seed
 seed_of job = record { road = job.road; key = job.key; number = 0; warm = 0 }
 
--- the sheet of a job: its first rule from step 0 on, and its later rules
+-- the sheet of a job: its first rule from step 0 on, and its later rules; a later rule for step 0 replaces
+-- the first rule
 abbrev pub sheet_of : Job → Sheet
 sheet_of job = sheet_with job.first job.later

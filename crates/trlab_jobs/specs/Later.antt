@@ -7,27 +7,28 @@ use Rattle.trlab_texts.specs.Reading.{Reading, say, ◌>>=◌, line, exactly}
 use Rattle.trlab_jobs.specs.RuleLines.{later_line}
 use Rattle.trlab_jobs.specs.RuleParts.{rule_from}
 
--- reads a later rule for a road with `lanes` lanes, and gives it with its step, at least `least` and below
--- `steps`; there is room for `room` more rules
+-- reads a later rule for a road with `lanes` lanes, and gives it with its step, which is at least `least` and
+-- below `steps`; `room` is the number of later rules that may still come, with this one
 abbrev pub later_rule : ℕ → ℕ → ℕ → ℕ → Reading (ℕ × Programs)
 later_rule room lanes steps least rest out =
-    (line (exactly (later_line room steps least)) >>= λ at.
-    rule_from lanes rest.number at.1 >>= λ rule. say (at.0, rule)) rest out
+    (line (exactly (later_line room steps least)) >>= λ stated.
+    rule_from lanes rest.number stated.1 >>= λ rule. say (stated.0, rule)) rest out
 
--- reads rules by `reading` if a line is left, and otherwise gives no rules
+-- reads rules by `reading` if a line is left; at the end of the text, gives no rules
 abbrev pub to_the_end : List (List ℕ) → Reading Sheet → Reading Sheet
 to_the_end [] reading = say []
 to_the_end (text ∷ left) reading = reading
 
 -- reads the later rules up to the end of a text, at most `room`, for a road with `lanes` lanes; their steps
--- are below `steps` and increase, and the first is at least `least`
-unfoldable pub later_from : ℕ → ℕ → ℕ → ℕ → Reading Sheet
-later_from zero lanes steps least = λ rest out.
+-- increase, the first is at least `least`, and all are below `steps`. With room for none, a line that is left
+-- is a fault
+unfoldable pub later_rules_from : ℕ → ℕ → ℕ → ℕ → Reading Sheet
+later_rules_from zero lanes steps least = λ rest out.
     to_the_end rest.left (later_rule 0 lanes steps least >>= λ entry. say (entry ∷ [])) rest out
-later_from (suc room) lanes steps least = λ rest out.
+later_rules_from (suc room) lanes steps least = λ rest out.
     to_the_end rest.left (later_rule (suc room) lanes steps least >>= λ entry.
-    later_from room lanes steps (entry.0 + 1) >>= λ later. say (entry ∷ later)) rest out
+    later_rules_from room lanes steps (entry.0 + 1) >>= λ later. say (entry ∷ later)) rest out
 
--- reads the later rules of a run of `steps` steps, on a road with `lanes` lanes: at most MAX_LATER
+-- reads the later rules of a run of `steps` steps, at most MAX_LATER, for a road with `lanes` lanes
 abbrev pub later_rules : ℕ → ℕ → Reading Sheet
-later_rules lanes steps = later_from MAX_LATER lanes steps 0
+later_rules lanes steps = later_rules_from MAX_LATER lanes steps 0

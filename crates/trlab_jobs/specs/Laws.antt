@@ -4,21 +4,22 @@ use Rattle.trlab_bounds.specs.declared.texts.TheConstants.{TEXT_LIMIT}
 use Rattle.trlab_texts.specs.Causes.{IsNotStandardRefused}
 use Rattle.trlab_texts.specs.Reading.{Fault}
 
--- any text has a result: a value, or a first fault
+-- every text has a result: a value, or a first fault
 abbrev pub HasSomeResult : {A : Type 0} → (List ℕ → Result A Fault → Type 0) → Type 0
-HasSomeResult Says = (text : List ℕ) → (says : _) × Says text says
+HasSomeResult IsResult = (text : List ℕ) → (result : _) × IsResult text result
 
--- a text has only one result
-abbrev pub HasOneResult : {A : Type 0} → (List ℕ → Result A Fault → Type 0) → Type 0
-HasOneResult Says =
-    (text : List ℕ) (says other : _) → Says text says → Says text other → says ≡ other
+-- every text has at most one result
+abbrev pub HasAtMostOneResult : {A : Type 0} → (List ℕ → Result A Fault → Type 0) → Type 0
+HasAtMostOneResult IsResult =
+    (text : List ℕ) (result other : _) → IsResult text result → IsResult text other → result ≡ other
 
--- no text has the cause of a standard rule whose program is rejected
+-- no text is rejected because the verifier rejects a standard rule
 abbrev pub NeverRefusesStandardRules : {A : Type 0} → (List ℕ → Result A Fault → Type 0) → Type 0
-NeverRefusesStandardRules Says =
-    (text : List ℕ) (fault : Fault) → Says text (Err fault) → IsNotStandardRefused fault.cause
+NeverRefusesStandardRules IsResult =
+    (text : List ℕ) (fault : Fault) → IsResult text (Err fault) → IsNotStandardRefused fault.cause
 
--- all texts that are too long have the same result
-abbrev pub LongTextsSayTheSame : {A : Type 0} → (List ℕ → Result A Fault → Type 0) → Type 0
-LongTextsSayTheSame Says = (text other : List ℕ) (says : _)
-    → TEXT_LIMIT < length text → TEXT_LIMIT < length other → Says text says → Says other says
+-- all texts of more than TEXT_LIMIT bytes have the same results, so a reader needs no more than the first
+-- TEXT_LIMIT + 1 bytes
+abbrev pub LongTextsHaveTheSameResults : {A : Type 0} → (List ℕ → Result A Fault → Type 0) → Type 0
+LongTextsHaveTheSameResults IsResult = (text other : List ℕ) (result : _)
+    → TEXT_LIMIT < length text → TEXT_LIMIT < length other → IsResult text result → IsResult other result

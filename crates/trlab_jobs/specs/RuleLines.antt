@@ -11,77 +11,79 @@ use Rattle.trlab_texts.specs.Words.{is_word, as_word, two_words, number_of, with
 use Rattle.trlab_lines.specs.Cutting.{without_prefix, cut}
 use Rattle.trlab_asm.specs.Results.{◌>>=◌}
 
--- the rule `own`, which has no words of its own, if the line is `rule own`; none for any other line
+-- the rule `own`, which has no words of its own, for the line `rule own`; none for any other line
 abbrev pub own_words : List ℕ → Option (RuleLine (List ℕ))
 own_words text = if bytes_eq text (codes "rule own") then Some Own else None
 
--- the words t and c of `rule rickert t c`, from the text after its name, or none if that text is not two
--- words; `others` if the line has another name
+-- the words t and c of the line `rule rickert t c`, from the text after `rule rickert `; none if that text is
+-- not two words, and `others` if the line has another name
 abbrev pub rickert_words : Option (List ℕ) → Option (RuleLine (List ℕ)) → Option (RuleLine (List ℕ))
 rickert_words None others = others
-rickert_words (Some words) others = option_map (λ two. Rickert two.0 two.1) (two_words words)
+rickert_words (Some after) others = option_map (λ two. Rickert two.0 two.1) (two_words after)
 
--- the words t and t0 of `rule vdr t t0`, from the text after its name, or none if that text is not two words;
--- `others` if the line has another name
+-- the words t and t0 of the line `rule vdr t t0`, from the text after `rule vdr `; none if that text is not
+-- two words, and `others` if the line has another name
 abbrev pub vdr_words : Option (List ℕ) → Option (RuleLine (List ℕ)) → Option (RuleLine (List ℕ))
 vdr_words None others = others
-vdr_words (Some words) others = option_map (λ two. Vdr two.0 two.1) (two_words words)
+vdr_words (Some after) others = option_map (λ two. Vdr two.0 two.1) (two_words after)
 
--- the word t of `rule nasch t`, from the text after its name, or none if that text is not one word; `others`
--- if the line has another name
+-- the word t of the line `rule nasch t`, from the text after `rule nasch `; none if that text is not one
+-- word, and `others` if the line has another name
 abbrev pub nasch_words : Option (List ℕ) → Option (RuleLine (List ℕ)) → Option (RuleLine (List ℕ))
 nasch_words None others = others
-nasch_words (Some words) others = option_map Nasch (as_word words)
+nasch_words (Some after) others = option_map Nasch (as_word after)
 
--- the words of a line that states a rule: `nasch`, `vdr`, `rickert` or `own`; none for any other line
+-- the rule that a line states, with words for its chances: `nasch`, `vdr`, `rickert` or `own`; none for any
+-- other line. For example, `rule vdr 5 x` is `vdr` with the words `5` and `x`
 abbrev pub rule_words : List ℕ → Option (RuleLine (List ℕ))
 rule_words text =
     nasch_words (without_prefix (codes "rule nasch ") text)
     (vdr_words (without_prefix (codes "rule vdr ") text)
     (rickert_words (without_prefix (codes "rule rickert ") text) (own_words text)))
 
--- the chance that a word writes, from 0 to CERTAIN, which is a probability times 2^31; otherwise the cause
+-- the chance that a word writes, a probability times 2^31: a number from 0 to CERTAIN, or else the cause
 -- `Number`
 abbrev pub chance_of : List ℕ → Result ℕ Cause
 chance_of word = within 0 CERTAIN (number_of word)
 
--- the rule with chances for its words, read from left to right; the cause `Number` at the first word that
--- does not write a chance
+-- the rule with the chances that its words write; the cause `Number` if a word does not write a chance
 abbrev pub rule_numbers : RuleLine (List ℕ) → Result (RuleLine ℕ) Cause
 rule_numbers (Nasch p) = chance_of p >>= λ p. Ok (Nasch p)
 rule_numbers (Vdr p p0) = chance_of p >>= λ p. chance_of p0 >>= λ p0. Ok (Vdr p p0)
 rule_numbers (Rickert p c) = chance_of p >>= λ p. chance_of c >>= λ c. Ok (Rickert p c)
 rule_numbers Own = Ok Own
 
--- the rule that a line states: the cause `Line` if its words are wrong, and only then the cause `Number` for
--- its numbers
+-- the rule that a line states, with its chances: the cause `Line` for wrong words, and then the cause
+-- `Number` for wrong numbers
 abbrev pub rule_line : List ℕ → Result (RuleLine ℕ) Cause
 rule_line text = ok_or (rule_words text) Line >>= rule_numbers
 
--- the word of a step, and the words of the rule after it; none if either is wrong
+-- the word of a step and the words of a rule, from the two parts of a line after `at `; none if either is
+-- wrong
 abbrev pub step_and_rule : List ℕ × List ℕ → Option (List ℕ × RuleLine (List ℕ))
 step_and_rule parts =
     if is_word parts.0 then option_map (λ rule. (parts.0, rule)) (rule_words parts.1) else None
 
--- the word s and the words of the rule on a line `at s` with a rule after it; none for any other line
+-- the word s and the words of the rule on the line `at s rule ..`; none for any other line. For example,
+-- `at 100 rule own` has the word `100` and the rule `own`
 abbrev pub later_words : List ℕ → Option (List ℕ × RuleLine (List ℕ))
 later_words text =
     option_and_then step_and_rule (option_and_then (cut 32) (without_prefix (codes "at ") text))
 
--- the step that a word writes, from 0 to LONGEST_NUMBER; otherwise the cause `Number`
+-- the number of a step that a word writes, from 0 to LONGEST_NUMBER; otherwise the cause `Number`
 abbrev pub step_of : List ℕ → Result ℕ Cause
 step_of word = within 0 LONGEST_NUMBER (number_of word)
 
--- the step of a later rule, or a cause: `TooMany` if `room`, the number of rules that may follow, is 0, and
--- then `Order` if the step is below `least` or not below `steps`
+-- the step of a later rule in a run of `steps` steps, or a cause: `TooMany` if no more rules may come (`room`
+-- is 0), and then `Order` if the step is below `least` or not below `steps`
 abbrev pub admit_step : ℕ → ℕ → ℕ → ℕ → Result ℕ Cause
 admit_step room steps least step =
     if room == 0 then Err TooMany
     else if nat_le least step && nat_lt step steps then Ok step
     else Err Order
 
--- the step and the rule on a line `at s` with a rule, in a run of `steps` steps; its causes come in this
--- order: wrong words, wrong numbers from left to right, no `room`, a step below `least` or not below `steps`
+-- the step and the rule on the line `at s rule ..`, in a run of `steps` steps; its causes come in this order:
+-- wrong words, wrong numbers, no `room`, a step below `least` or not below `steps`
 abbrev pub later_line : ℕ → ℕ → ℕ → List ℕ → Result (ℕ × RuleLine ℕ) Cause
 later_line room steps least text =
     ok_or (later_words text) Line >>= λ words.

@@ -16,60 +16,60 @@ use Rattle.trlab_jobs.specs.declared.rule_line.RuleLine.{RuleLine}
 use Rattle.trlab_jobs.specs.declared.rule_line.RuleLine.TheVariants.{Nasch, Vdr, Rickert, Own}
 use Rattle.trlab_texts.specs.Words.{word_after, next_word_is}
 use Rattle.trlab_texts.specs.Reading.{Fault, Reading, say, ◌>>=◌, line, exactly, read_if, of_line}
-use Rattle.trlab_texts.specs.Programs.{Part, part, part_of, heading_line}
+use Rattle.trlab_texts.specs.Programs.{EndSplit, part, split_at_end, heading_line}
 use Rattle.trlab_jobs.specs.RuleLines.{rule_line}
 
--- the verifier accepts `program` as one of this kind, and `checked` is `program` with its budget
-abbrev pub Accepts : Kind → Program → CheckedProgram → Type 0
-Accepts kind program checked =
+-- the verifier accepts `program` as one of this kind, and `checked` is the program with its budget
+abbrev pub VerifiesAs : Kind → Program → CheckedProgram → Type 0
+VerifiesAs kind program checked =
     (checked.program ≡ program) × (IsAccepted kind program × IsChecked kind checked)
 
--- the result for a rule with this standard motion program and no change program: never a fault, but always a
--- rule whose program the verifier accepts
-abbrev pub MotionSays : Program → Result Programs Cause → Type 0
-MotionSays motion (Ok rule) = Accepts Motion motion rule.motion × (rule.change ≡ None)
-MotionSays motion (Err cause) = ⊥
+-- the result for a rule with this standard motion program and no change program: always a rule whose program
+-- the verifier accepts, and never a fault
+abbrev pub IsMotionRule : Program → Result Programs Cause → Type 0
+IsMotionRule motion (Ok rule) = VerifiesAs Motion motion rule.motion × (rule.change ≡ None)
+IsMotionRule motion (Err cause) = ⊥
 
--- the result for a rule with these standard programs: never a fault, but always a rule whose two programs the
--- verifier accepts
-abbrev pub TwoProgramsSay : Program → Program → Result Programs Cause → Type 0
-TwoProgramsSay motion change (Ok rule) =
-    Accepts Motion motion rule.motion × MatchOption rule.change ⊥ (Accepts Change change)
-TwoProgramsSay motion change (Err cause) = ⊥
+-- the result for a rule with these standard programs: always a rule whose two programs the verifier accepts,
+-- and never a fault
+abbrev pub IsTwoProgramRule : Program → Program → Result Programs Cause → Type 0
+IsTwoProgramRule motion change (Ok rule) =
+    VerifiesAs Motion motion rule.motion × MatchOption rule.change ⊥ (VerifiesAs Change change)
+IsTwoProgramRule motion change (Err cause) = ⊥
 
--- the result for a rule with these standard programs, by whether the road has one lane: the cause `OneLane`
--- if `true`, and otherwise the rule
-abbrev pub TwoLaneRuleSays : Bool → Program → Program → Result Programs Cause → Type 0
-TwoLaneRuleSays true motion change says = says ≡ Err OneLane
-TwoLaneRuleSays false motion change says = TwoProgramsSay motion change says
+-- the result for a rule with these standard programs: the cause `OneLane` if the road has one lane (`true`),
+-- and otherwise the rule
+abbrev pub IsTwoLaneRule : Bool → Program → Program → Result Programs Cause → Type 0
+IsTwoLaneRule true motion change result = result ≡ Err OneLane
+IsTwoLaneRule false motion change result = IsTwoProgramRule motion change result
 
--- the cause for the decoded digits of a change program on a road with one lane: `Hex` if they are invalid,
--- and otherwise `OneLane`
+-- the cause for a change program in hexadecimal digits on a road with one lane, by the decoded digits: `Hex`
+-- if they are invalid, and otherwise `OneLane`, also for bytes that are not a program
 abbrev pub digits_misplacement : Result (List ℕ) FromHexError → Cause
 digits_misplacement (Ok bytes) = OneLane
 digits_misplacement (Err fault) = Hex
 
--- the cause for the line `code X` of a change program on a road with one lane, from its word X: the word's
--- own cause, or that of its digits
+-- the cause for the line `code X` of a change program on a road with one lane, from its word X: the cause if
+-- the line has no such word, and otherwise that of the hexadecimal digits X
 abbrev pub code_misplacement : Result (List ℕ) Cause → Cause
 code_misplacement (Ok digits) = digits_misplacement (decode_of digits)
 code_misplacement (Err cause) = cause
 
--- the fault of a change program's block on a road with one lane: `OneLane` at its first line, `first`;
--- without a line `end`, a missing line after the last line
-abbrev pub block_misplacement : ℕ → List (List ℕ) → Option Part → Fault
+-- the fault of a change program's block on a road with one lane, by its split at `end`: `OneLane` at its
+-- first line, `first`; without a line `end`, a line is missing after the last line of the text
+abbrev pub block_misplacement : ℕ → List (List ℕ) → Option EndSplit → Fault
 block_misplacement first left None = record { line = first + 1 + length left; cause = Line }
 block_misplacement first left (Some parts) = record { line = first; cause = OneLane }
 
--- the fault of a change program on a road with one lane, from its first line `text`, of number `first`: that
--- of a block if `true`, and otherwise that of the line `code X`
+-- the fault of a change part on a road with one lane, whose first line is `text`, with the number `first`:
+-- that of a block if the line is a heading (`true`), and otherwise that of the line `code X`
 abbrev pub part_misplacement : Bool → ℕ → List ℕ → List (List ℕ) → Fault
-part_misplacement true first text left = block_misplacement first left (part_of left)
+part_misplacement true first text left = block_misplacement first left (split_at_end left)
 part_misplacement false first text left =
     record { line = first; cause = code_misplacement (word_after (codes "code ") text) }
 
--- the first fault of a change part on a road with one lane, from the line `first` on: wrong words or a
--- missing line come first, then digits that are not hexadecimal, then the missing lane
+-- the fault of a change part on a road with one lane, from the line `first` on: wrong words, a missing line
+-- or invalid hexadecimal digits, and otherwise the missing lane, even if the program is wrong too
 abbrev pub misplacement : ℕ → List (List ℕ) → Fault
 misplacement first [] = record { line = first; cause = Line }
 misplacement first (text ∷ left) = part_misplacement (bytes_eq text (heading_line Change)) first text left
@@ -79,15 +79,16 @@ abbrev pub change_by : Bool → Reading CheckedProgram
 change_by true rest out = out ≡ Err (misplacement rest.number rest.left)
 change_by false rest out = part Change rest out
 
--- whether a change part begins on the next line: its first word is `change` or `code`
+-- whether the next line begins a change part: its first word is `change` or `code`
 abbrev pub next_is_change : List (List ℕ) → Bool
 next_is_change left = next_word_is (codes "change") left || next_word_is (codes "code") left
 
--- reads a change part if the next line begins one, and otherwise gives none, on a road with `lanes` lanes
+-- reads a change part for a road with `lanes` lanes if the next line begins one; otherwise reads no line and
+-- gives none
 abbrev pub change_part : ℕ → Reading (Option CheckedProgram)
 change_part lanes rest out = read_if (next_is_change rest.left) (change_by (nat_eq lanes 1)) rest out
 
--- reads the programs of `rule own` on a road with `lanes` lanes: a motion part, and a change part if one
+-- reads the programs of `rule own` for a road with `lanes` lanes: a motion part, and a change part if one
 -- follows
 abbrev pub own_rule : ℕ → Reading Programs
 own_rule lanes = do
@@ -95,15 +96,15 @@ own_rule lanes = do
   change ← change_part lanes
   say (record { motion = motion; change = change })
 
--- reads a rule for a road with `lanes` lanes, from its line `number`, which was read already: only the
--- programs of `rule own` take more lines
+-- reads the rest of a rule for a road with `lanes` lanes after its line, which has the number `number`: the
+-- programs of `rule own`, and no lines for any other rule
 abbrev pub rule_from : ℕ → ℕ → RuleLine ℕ → Reading Programs
-rule_from lanes number (Nasch p) = of_line number (MotionSays (nasch_program p))
-rule_from lanes number (Vdr p p0) = of_line number (MotionSays (vdr_program p p0))
+rule_from lanes number (Nasch p) = of_line number (IsMotionRule (nasch_program p))
+rule_from lanes number (Vdr p p0) = of_line number (IsMotionRule (vdr_program p p0))
 rule_from lanes number (Rickert p c) =
-    of_line number (TwoLaneRuleSays (nat_eq lanes 1) (nasch_program p) (rickert_program c))
+    of_line number (IsTwoLaneRule (nat_eq lanes 1) (nasch_program p) (rickert_program c))
 rule_from lanes number Own = own_rule lanes
 
--- reads a rule for a road with `lanes` lanes: a rule line, and the programs of `rule own` after it
+-- reads a rule for a road with `lanes` lanes: a line `rule ..`, and after `rule own` its programs
 abbrev pub rule : ℕ → Reading Programs
 rule lanes rest out = (line (exactly rule_line) >>= rule_from lanes rest.number) rest out

@@ -9,7 +9,7 @@ use Rattle.trlab_jobs.specs.declared.sweep.Shape.{Shape}
 use Rattle.trlab_jobs.specs.declared.sweep.Span.{Span}
 use Rattle.trlab_jobs.specs.Job.{limit_line}
 
--- the number of cells per lane on the line `length n`, from 1 to MAX_LENGTH
+-- the length of a lane on the line `length n`, from 1 to MAX_LENGTH cells
 abbrev pub length_line : List ℕ → Result ℕ Cause
 length_line text = number_within 1 MAX_LENGTH (word_after (codes "length ") text)
 
@@ -17,7 +17,7 @@ length_line text = number_within 1 MAX_LENGTH (word_after (codes "length ") text
 abbrev pub lanes_line : List ℕ → Result ℕ Cause
 lanes_line text = number_within 1 MAX_LANES (word_after (codes "lanes ") text)
 
--- the number of steps that are not counted, on the line `warm n`, from 0 to MAX_STEPS
+-- the number of steps before counting begins, on the line `warm n`, from 0 to MAX_STEPS
 abbrev pub warm_line : List ℕ → Result ℕ Cause
 warm_line text = number_within 0 MAX_STEPS (word_after (codes "warm ") text)
 
@@ -25,7 +25,7 @@ warm_line text = number_within 0 MAX_STEPS (word_after (codes "warm ") text)
 abbrev pub measure_line : List ℕ → Result ℕ Cause
 measure_line text = number_within 1 MAX_STEPS (word_after (codes "measure ") text)
 
--- reads the shape of a sweep's roads: the limit, the length and the number of lanes
+-- reads the shape of a sweep's roads: the limit, the length of a lane, and the number of lanes
 abbrev pub shape : Reading Shape
 shape = do
   limit ← line (exactly limit_line)
@@ -33,17 +33,17 @@ shape = do
   lanes ← line (exactly lanes_line)
   say (record { limit = limit; cells = cells; lanes = lanes })
 
--- reads the steps of a sweep's points: the warm steps and the counted steps
+-- reads the span of a sweep's points: the steps before counting begins, and the counted steps
 abbrev pub span : Reading Span
 span = do
   warm ← line (exactly warm_line)
   measure ← line (exactly measure_line)
   say (record { warm = warm; measure = measure })
 
--- the number of cells of a road of this shape: lanes times cells per lane
+-- the number of cells of a road of this shape, on all its lanes
 abbrev pub cell_count : Shape → ℕ
 cell_count shape = shape.lanes * shape.cells
 
--- the number of steps of a point: those that are not counted, and those that are
+-- the number of steps of a point: those before counting begins, and the counted ones
 abbrev pub all_steps : Span → ℕ
 all_steps span = span.warm + span.measure

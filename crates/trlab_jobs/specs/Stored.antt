@@ -17,22 +17,23 @@ AreLaterRules lanes steps least (entry ∷ later) =
     (least ≤ entry.0) × ((entry.0 < steps)
     × (IsRuleFor lanes entry.1 × AreLaterRules lanes steps (entry.0 + 1) later))
 
--- a job as the code keeps it: its road is legal, its rules are for its number of lanes, and the steps of its
--- later rules increase and are below its number of steps
+-- a job as the code keeps it: its road is legal, its rules are for the number of its lanes, and the steps of
+-- its later rules increase and are below its number of steps
 pub record IsStoredJob (job : Job) : Type 0 where
   pub legal : IsLegal job.road
   pub first : IsRuleFor (length job.road.lanes) job.first
   pub later : AreLaterRules (length job.road.lanes) job.steps 0 job.later
 
--- `count` cars can be spread evenly on a road of this shape
-abbrev pub Spreads : Shape → ℕ → Type 0
-Spreads shape count = CanSpread shape.lanes shape.cells shape.limit count
+-- `count` cars can be spread evenly over a road of this shape: it has a cell for each, and a valid size and
+-- limit
+abbrev pub CanSpreadOn : Shape → ℕ → Type 0
+CanSpreadOn shape count = CanSpread shape.lanes shape.cells shape.limit count
 
 -- a sweep as the code keeps it: a rule for its number of lanes, cars that can be spread evenly at each point,
 -- at most MAX_POINTS points, at least one counted step, and at most MAX_WORK steps per point
 pub record IsStoredSweep (sweep : Sweep) : Type 0 where
   pub rule : IsRuleFor sweep.setup.shape.lanes sweep.setup.rule
-  pub spreads : All (Spreads sweep.setup.shape) sweep.cars
+  pub spreads : All (CanSpreadOn sweep.setup.shape) sweep.cars
   pub few : length sweep.cars ≤ MAX_POINTS
   pub counted : 1 ≤ sweep.setup.span.measure
   pub short : all_steps sweep.setup.span ≤ MAX_WORK

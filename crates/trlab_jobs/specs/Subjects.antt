@@ -10,12 +10,12 @@ use Rattle.trlab_jobs.specs.declared.subject.Subject.TheVariants.{Job, Sweep, Ch
 abbrev pub is_named : List ℕ → List ℕ → Bool
 is_named word name = bytes_eq (map to_ascii_lowercase word) (map to_ascii_lowercase name)
 
--- the first words of a check text
+-- the words with which a check text may begin
 abbrev pub program_words : List (List ℕ)
 program_words = codes "motion" ∷ codes "change" ∷ codes "code" ∷ codes "notes" ∷ []
 
 -- the kind of input that begins with this word, in small or capital letters: a job with `road`, a sweep with
--- `sweep`, a check with `motion`, `change`, `code` or `notes`; none for any other word
+-- `sweep`, a check with one of `program_words`; none for any other word
 abbrev pub subject_named : List ℕ → Option Subject
 subject_named word =
     if is_named word (codes "road") then Some Job

@@ -5,7 +5,7 @@ use Rattle.trlab_rules.specs.Rules.{Programs}
 use Rattle.trlab_texts.specs.declared.fault.Cause.{Cause}
 use Rattle.trlab_texts.specs.declared.fault.Cause.TheVariants.{Line}
 use Rattle.trlab_texts.specs.Lines.{all_lines, Rest}
-use Rattle.trlab_texts.specs.Reading.{Fault, Reading, say, ◌>>=◌, ◌>>◌, line, exactly, TextSays}
+use Rattle.trlab_texts.specs.Reading.{Fault, Reading, say, ◌>>=◌, ◌>>◌, line, exactly, TextParsesTo}
 use Rattle.trlab_asm.specs.Results.{map_ok}
 use Rattle.trlab_jobs.specs.declared.sweep.Shape.{Shape}
 use Rattle.trlab_jobs.specs.declared.sweep.Span.{Span}
@@ -14,7 +14,7 @@ use Rattle.trlab_jobs.specs.RuleParts.{rule}
 use Rattle.trlab_jobs.specs.Shapes.{shape, span, cell_count, all_steps}
 use Rattle.trlab_jobs.specs.Counts.{counts}
 
--- the common part of a sweep's points: the key, the shape of the roads, the rule, and the steps
+-- the common part of a sweep's points: the key, the shape of the roads, the rule, and the span of steps
 pub record Setup : Type 0 where
   pub key : List ℕ
   pub shape : Shape
@@ -26,8 +26,8 @@ pub record Sweep : Type 0 where
   pub setup : Setup
   pub cars : List ℕ
 
--- the sweep with these parts: the key, the roads (limit, cells per lane, lanes), the rule, the steps (not
--- counted and counted), and the cars of each point
+-- the sweep with these parts: the key; the limit, the cells per lane and the lanes of its roads; the rule;
+-- the steps before counting begins and the counted steps; and the number of cars of each point
 abbrev pub sweep_of : List ℕ → ℕ → ℕ → ℕ → Programs → ℕ → ℕ → List ℕ → Sweep
 sweep_of key limit cells lanes rule warm measure cars =
     let shape : Shape = record { limit = limit; cells = cells; lanes = lanes } in
@@ -38,11 +38,11 @@ sweep_of key limit cells lanes rule warm measure cars =
 abbrev pub sweep_line : List ℕ → Result (Unit {0}) Cause
 sweep_line text = if bytes_eq text (codes "sweep 1") then Ok tt else Err Line
 
--- reads the line `sweep 1`, and then the key
+-- reads the line `sweep 1` and the line of the key, and gives the key
 abbrev pub sweep_heading : Reading (List ℕ)
 sweep_heading = line (exactly sweep_line) >> line (exactly key_line)
 
--- reads the lines of a sweep text before its points: `sweep 1`, the key, the shape, a rule and the steps
+-- reads the lines of a sweep text before its points: `sweep 1`, the key, the shape, a rule and the span
 unfoldable pub setup : Reading Setup
 setup = do
   key ← sweep_heading
@@ -51,8 +51,8 @@ setup = do
   steps ← span
   say (record { key = key; shape = roads; rule = rule; span = steps })
 
--- the result for a sweep, from its common part: the fault if that has one, and otherwise the sweep with the
--- numbers of cars on all lines that are left, or the first fault in them
+-- the result for a sweep, from that for its common part: a fault stays, and otherwise the lines that are left
+-- have the number of cars of each point, or the first fault
 abbrev pub with_counts : Result (Setup × Rest) Fault → Result Sweep Fault
 with_counts (Err fault) = Err fault
 with_counts (Ok found) =
@@ -60,10 +60,10 @@ with_counts (Ok found) =
     (counts (cell_count found.0.shape) (all_steps found.0.span) found.1.number found.1.left)
 
 -- the result for the lines of a sweep text: a sweep, or the first fault
-abbrev pub SweepLinesSay : List ℕ → Result Sweep Fault → Type 0
-SweepLinesSay text says =
-    (found : Result (Setup × Rest) Fault) × (setup (all_lines text) found × (says ≡ with_counts found))
+abbrev pub SweepLinesParseTo : List ℕ → Result Sweep Fault → Type 0
+SweepLinesParseTo text result =
+    (found : Result (Setup × Rest) Fault) × (setup (all_lines text) found × (result ≡ with_counts found))
 
--- the result for a sweep text: a sweep, or its first fault; a text that is too long has no other fault
-abbrev pub SweepText : List ℕ → Result Sweep Fault → Type 0
-SweepText text says = TextSays SweepLinesSay text says
+-- the result for a sweep text: a sweep, or the first fault; for a text that is too long, this is `TooBig`
+abbrev pub ParsesAsSweep : List ℕ → Result Sweep Fault → Type 0
+ParsesAsSweep text result = TextParsesTo SweepLinesParseTo text result

@@ -2,7 +2,7 @@
 
 ghost use Rattle.std.specs.Prelude.{◌≡◌, ◌<◌, ◌≤◌, Err, length};
 ghost use Rattle.trlab_lines.specs.Lines.{lines_of};
-ghost use Rattle.trlab_jobs.specs.Check.{CheckLinesSay, CheckText, LoneCodeSays, ProgramSays, heading_kind, question_of};
+ghost use Rattle.trlab_jobs.specs.Check.{CheckLinesParseTo, ParsesAsCheck, LoneCodeParsesTo, ProgramParsesTo, heading_kind, question_of};
 ghost use Rattle.trlab_texts.specs.Reading.{Reports};
 ghost use Rattle.trlab_bounds.specs.declared.texts.TheConstants.{TEXT_LIMIT};
 
@@ -73,7 +73,7 @@ fn headings() -> LineNames {
 
 /// The program of the line `code X`, which must be the last line.
 fn code_alone<'a>(alloc: Global, line: &'a [u8], rest: &[u8]) -> Result<Code, Refusal<'a>>
-    ensures { Reports (LoneCodeSays line.now (lines_of rest.now)) result }
+    ensures { Reports (LoneCodeParsesTo line.now (lines_of rest.now)) result }
 {
     match parse_code(alloc, line) {
         Ok(code) => {
@@ -90,7 +90,7 @@ fn code_alone<'a>(alloc: Global, line: &'a [u8], rest: &[u8]) -> Result<Code, Re
 /// The program that begins with `line`; a block continues in the lines of `rest`.
 fn read_program<'a>(alloc: Global, line: &'a [u8], rest: &'a [u8]) -> Result<Code, Refusal<'a>>
     requires { length rest.now ≤ TEXT_LIMIT }
-    ensures { Reports (ProgramSays line.now (lines_of rest.now)) result }
+    ensures { Reports (ProgramParsesTo line.now (lines_of rest.now)) result }
 {
     match heading_kind(line) {
         Some(kind) => program_after(alloc, kind, 1, rest),
@@ -101,7 +101,7 @@ fn read_program<'a>(alloc: Global, line: &'a [u8], rest: &'a [u8]) -> Result<Cod
 /// Reads the lines of a text that is not too long.
 fn read_lines(alloc: Global, text: &[u8]) -> Result<Check, Refusal<'_>>
     requires { length text.now ≤ TEXT_LIMIT }
-    ensures { Reports (CheckLinesSay (lines_of text.now)) result }
+    ensures { Reports (CheckLinesParseTo (lines_of text.now)) result }
 {
     let Some((first, rest)) = next_line(text) else {
         return Err(Refusal::no_line(1, headings()));
@@ -120,7 +120,7 @@ fn read_lines(alloc: Global, text: &[u8]) -> Result<Check, Refusal<'_>>
 /// A refusal with the first fault of the text: `TooBig` at line 0 if the text is too long, in which case nothing is
 /// read, and otherwise a cause at its line. The fault is `TextFault::Memory` if an allocation fails.
 pub fn parse_check(alloc: Global, text: &[u8]) -> Result<Check, Refusal<'_>>
-    ensures told { Reports (CheckText text.now) result }
+    ensures told { Reports (ParsesAsCheck text.now) result }
     ensures too_big { TEXT_LIMIT < length text.now → result ≡ Err (TextFault.At 0 Cause.TooBig) }
 {
     if text.len() > TEXT_LIMIT {
@@ -138,7 +138,7 @@ pub fn parse_check(alloc: Global, text: &[u8]) -> Result<Check, Refusal<'_>>
 ///
 /// The fault of [`parse_check`].
 pub fn read_check(alloc: Global, text: &[u8]) -> Result<Check, TextFault>
-    ensures told { Reports (CheckText text.now) result }
+    ensures told { Reports (ParsesAsCheck text.now) result }
     ensures too_big { TEXT_LIMIT < length text.now → result ≡ Err (TextFault.At 0 Cause.TooBig) }
 {
     match parse_check(alloc, text) {

@@ -1,7 +1,7 @@
 //! Job texts: a key, a road, a rule, the number of steps, and rules of later steps.
 
 ghost use Rattle.std.specs.Prelude.{◌≡◌, ◌<◌, ◌≤◌, Err, IfOk, length};
-ghost use Rattle.trlab_jobs.specs.Job.{road_line, key_line, limit_line, steps_line, JobText, JobLinesSay, ResultWithoutRest, job_after};
+ghost use Rattle.trlab_jobs.specs.Job.{road_line, key_line, limit_line, steps_line, ParsesAsJob, JobLinesParseTo, ReadingHasResult, job_after};
 ghost use Rattle.trlab_road.specs.Legal.{IsLegal};
 ghost use Rattle.trlab_texts.specs.Reading.{Reports};
 ghost use Rattle.trlab_jobs.specs.Stored.{IsStoredJob};
@@ -97,7 +97,7 @@ pub fn steps_line(line: &[u8]) -> Result<u32, Objection<'_>>
 /// Reads the lines after the lanes: a rule, the number of steps, and rules of later steps.
 fn read_rules(alloc: Global, key: [u8; 32], road: Road, rest: Rest<'_>) -> Result<Job, Refusal<'_>>
     requires { IsLegal road }
-    ensures told { Reports (ResultWithoutRest (job_after key road) rest.entry) result }
+    ensures told { Reports (ReadingHasResult (job_after key road) rest.entry) result }
     ensures stored { IfOk result IsStoredJob }
 {
     let count = road.lanes();
@@ -118,7 +118,7 @@ fn read_rules(alloc: Global, key: [u8; 32], road: Road, rest: Rest<'_>) -> Resul
 /// Reads the lines of a text that is not too long.
 fn read_lines(alloc: Global, text: &[u8]) -> Result<Job, Refusal<'_>>
     requires { length text.now ≤ TEXT_LIMIT }
-    ensures told { Reports (JobLinesSay text.now) result }
+    ensures told { Reports (JobLinesParseTo text.now) result }
     ensures stored { IfOk result IsStoredJob }
 {
     let ((), rest) = Rest::start(text).read_line(LineName::Road, road_line)?;
@@ -135,7 +135,7 @@ fn read_lines(alloc: Global, text: &[u8]) -> Result<Job, Refusal<'_>>
 /// A refusal with the first fault of the text: `TooBig` at line 0 if the text is too long, in which case nothing is
 /// read, and otherwise a cause at its line. The fault is `TextFault::Memory` if an allocation fails.
 pub fn parse_job(alloc: Global, text: &[u8]) -> Result<Job, Refusal<'_>>
-    ensures told { Reports (JobText text.now) result }
+    ensures told { Reports (ParsesAsJob text.now) result }
     ensures too_big { TEXT_LIMIT < length text.now → result ≡ Err (TextFault.At 0 Cause.TooBig) }
     ensures stored { IfOk result IsStoredJob }
 {
@@ -154,7 +154,7 @@ pub fn parse_job(alloc: Global, text: &[u8]) -> Result<Job, Refusal<'_>>
 ///
 /// The fault of [`parse_job`].
 pub fn read_job(alloc: Global, text: &[u8]) -> Result<Job, TextFault>
-    ensures told { Reports (JobText text.now) result }
+    ensures told { Reports (ParsesAsJob text.now) result }
     ensures too_big { TEXT_LIMIT < length text.now → result ≡ Err (TextFault.At 0 Cause.TooBig) }
     ensures stored { IfOk result IsStoredJob }
 {

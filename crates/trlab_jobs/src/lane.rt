@@ -6,7 +6,7 @@ ghost use Rattle.trlab_road.specs.Legal.{IsLegal};
 ghost use Rattle.trlab_road.specs.Pictures.{pictures_of};
 ghost use Rattle.trlab_texts.specs.Wanted.{IsWantedIn};
 ghost use Rattle.trlab_texts.specs.Reading.{Reports, line, exactly};
-ghost use Rattle.trlab_jobs.specs.Lanes.{lane_word, second_lane, line_of_fault, LanesSay, PicturesSay, lanes};
+ghost use Rattle.trlab_jobs.specs.Lanes.{lane_word, second_lane, line_of_fault, LanesParseTo, PicturesParseTo, lanes};
 
 use std::alloc::Global;
 use trlab_bounds::roads::MAX_LENGTH;
@@ -103,7 +103,7 @@ fn shown<'a>(
     cells: usize,
     pictures: &[&[u8]],
 ) -> Result<Road, Refusal<'a>>
-    ensures told { Reports (LanesSay first last limit (pictures_of pictures.now)) result }
+    ensures told { Reports (LanesParseTo first last limit (pictures_of pictures.now)) result }
     ensures legal { IfOk result (λ road. IsLegal road) }
 {
     match Road::parse(alloc, limit, pictures) {
@@ -124,7 +124,7 @@ fn road_of<'a>(
 ) -> Result<Road, Refusal<'a>>
     requires { after ≡ first + 1 }
     ensures told { Reports
-        (PicturesSay first limit picture.entry second.entry) result }
+        (PicturesParseTo first limit picture.entry second.entry) result }
     ensures legal { IfOk result (λ road. IsLegal road) }
 {
     let picture = picture.bytes();

@@ -8,7 +8,7 @@ ghost use Rattle.trlab_verify.specs.CheckedProgram.{IsChecked};
 ghost use Rattle.trlab_texts.specs.Reading.{Reports, ReportsLine, ReportsCause, ReportsFault, line, exactly, text_fault};
 ghost use Rattle.trlab_texts.specs.Words.{word_after};
 ghost use Rattle.trlab_jobs.specs.RuleLines.{rule_line, later_line};
-ghost use Rattle.trlab_jobs.specs.RuleParts.{MotionSays, TwoLaneRuleSays, code_misplacement, misplacement, next_is_change, change_by, change_part, own_rule, rule_from, rule};
+ghost use Rattle.trlab_jobs.specs.RuleParts.{IsMotionRule, IsTwoLaneRule, code_misplacement, misplacement, next_is_change, change_by, change_part, own_rule, rule_from, rule};
 ghost use Rattle.std.specs.Result.{result_map_both};
 ghost use Rattle.trlab_jobs.specs.Later.{later_rule, later_rules};
 ghost use Rattle.trlab_jobs.specs.Stored.{AreLaterRules};
@@ -45,7 +45,7 @@ impl Lanes {
 
 /// The rule of a line `rule nasch t`.
 fn nasch_rule<'a>(alloc: Global, brake: Chance) -> Result<Rule, LineRefusal<'a>>
-    ensures told { ReportsLine (MotionSays (nasch_program brake)) result }
+    ensures told { ReportsLine (IsMotionRule (nasch_program brake)) result }
     ensures suits { IfOk result (λ rule. (lanes : ℕ) → IsRuleFor lanes rule) }
 {
     match nasch(alloc, brake) {
@@ -56,7 +56,7 @@ fn nasch_rule<'a>(alloc: Global, brake: Chance) -> Result<Rule, LineRefusal<'a>>
 
 /// The rule of a line `rule vdr t t0`.
 fn vdr_rule<'a>(alloc: Global, moving: Chance, stopped: Chance) -> Result<Rule, LineRefusal<'a>>
-    ensures told { ReportsLine (MotionSays (vdr_program moving stopped)) result }
+    ensures told { ReportsLine (IsMotionRule (vdr_program moving stopped)) result }
     ensures suits { IfOk result (λ rule. (lanes : ℕ) → IsRuleFor lanes rule) }
 {
     match vdr(alloc, moving, stopped) {
@@ -75,7 +75,7 @@ fn rickert_rule<'a>(
     requires some { 1 ≤ lanes.count }
     requires few { lanes.count ≤ 2 }
     ensures told { ReportsLine
-        (TwoLaneRuleSays (nat_eq lanes.count 1) (nasch_program brake) (rickert_program crossing)) result }
+        (IsTwoLaneRule (nat_eq lanes.count 1) (nasch_program brake) (rickert_program crossing)) result }
     ensures suits { IfOk result (λ rule. IsRuleFor lanes.count rule) }
 {
     if lanes.count == 1 {

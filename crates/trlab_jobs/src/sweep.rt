@@ -12,7 +12,7 @@ ghost use Rattle.trlab_jobs.specs.declared.limits.TheConstants.{MAX_POINTS};
 ghost use Rattle.trlab_jobs.specs.Counts.{admit_cars, cars_line, counts, counts_from};
 ghost use Rattle.trlab_bounds.specs.declared.texts.TheConstants.{TEXT_LIMIT};
 ghost use Rattle.trlab_jobs.specs.Job.{key_line};
-ghost use Rattle.trlab_jobs.specs.Sweep.{sweep_heading, setup, sweep_line, SweepLinesSay, SweepText};
+ghost use Rattle.trlab_jobs.specs.Sweep.{sweep_heading, setup, sweep_line, SweepLinesParseTo, ParsesAsSweep};
 ghost use Rattle.trlab_jobs.specs.Stored.{IsStoredSweep};
 
 use crate::job::key_line;
@@ -303,7 +303,7 @@ fn read_setup(alloc: Global, rest: Rest<'_>) -> Result<(Setup, Rest<'_>), Refusa
 /// Reads the lines of a text that is not too long.
 fn read_lines(alloc: Global, text: &[u8]) -> Result<Sweep, Refusal<'_>>
     requires { length text.now ≤ TEXT_LIMIT }
-    ensures told { Reports (SweepLinesSay text.now) result }
+    ensures told { Reports (SweepLinesParseTo text.now) result }
     ensures stored { IfOk result IsStoredSweep }
 {
     let (setup, rest) = read_setup(alloc, Rest::start(text))?;
@@ -334,7 +334,7 @@ fn read_lines(alloc: Global, text: &[u8]) -> Result<Sweep, Refusal<'_>>
 /// A refusal with the first fault of the text: `TooBig` at line 0 if the text is too long, in which case nothing is
 /// read, and otherwise a cause at its line. The fault is `TextFault::Memory` if an allocation fails.
 pub fn parse_sweep(alloc: Global, text: &[u8]) -> Result<Sweep, Refusal<'_>>
-    ensures told { Reports (SweepText text.now) result }
+    ensures told { Reports (ParsesAsSweep text.now) result }
     ensures too_big { TEXT_LIMIT < length text.now → result ≡ Err (TextFault.At 0 Cause.TooBig) }
     ensures stored { IfOk result IsStoredSweep }
 {
@@ -353,7 +353,7 @@ pub fn parse_sweep(alloc: Global, text: &[u8]) -> Result<Sweep, Refusal<'_>>
 ///
 /// The fault of [`parse_sweep`].
 pub fn read_sweep(alloc: Global, text: &[u8]) -> Result<Sweep, TextFault>
-    ensures told { Reports (SweepText text.now) result }
+    ensures told { Reports (ParsesAsSweep text.now) result }
     ensures too_big { TEXT_LIMIT < length text.now → result ≡ Err (TextFault.At 0 Cause.TooBig) }
     ensures stored { IfOk result IsStoredSweep }
 {

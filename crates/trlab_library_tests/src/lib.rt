@@ -13,6 +13,4 @@ mod programs;
 #[cfg(test)]
 mod traffic;
 #[cfg(test)]
-mod words;
-#[cfg(test)]
 mod workers;

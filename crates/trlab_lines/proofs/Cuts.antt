@@ -6,23 +6,23 @@ use Rattle.std.proofs.lemmas.Bool.{ltb-false, eqb-true, eq-eqb, ne_eqb}
 use Rattle.std.proofs.lemmas.List.{take-append-drop, get_or-take, length-take-le}
 use Rattle.std.proofs.lemmas.List.Quantifiers.{position-Some}
 use Rattle.std.proofs.lemmas.List.Sums.{fails_before_first}
-use Rattle.trlab_lines.specs.Cutting.{around, cut}
-use Rattle.trlab_lines.specs.Lines.{lines_of, HasNoEnd}
+use Rattle.trlab_lines.specs.Cutting.{split_around, cut}
+use Rattle.trlab_lines.specs.Lines.{lines_of, HasNoLineFeed}
 
-rest_has_no_end : (c : ℕ) (line : List ℕ) → HasNoEnd (c ∷ line) → HasNoEnd line
+rest_has_no_end : (c : ℕ) (line : List ℕ) → HasNoLineFeed (c ∷ line) → HasNoLineFeed line
 rest_has_no_end c line none = λ k d inside. none (suc k) d (omega arith)
 
-first_is_no_end : (c : ℕ) (line : List ℕ) → HasNoEnd (c ∷ line) → (c == 10) ≡ false
+first_is_no_end : (c : ℕ) (line : List ℕ) → HasNoLineFeed (c ∷ line) → (c == 10) ≡ false
 first_is_no_end c line none = ne_eqb c 10 (none 0 0 (omega arith))
 
 -- what stands before an LF is a line, and the rest has the other lines
-pub line_and_rest : (line rest : List ℕ) → HasNoEnd line → lines_of (line ++ (10 ∷ rest)) ≡ line ∷ lines_of rest
+pub line_and_rest : (line rest : List ℕ) → HasNoLineFeed line → lines_of (line ++ (10 ∷ rest)) ≡ line ∷ lines_of rest
 unfolding lines_of
 line_and_rest [] rest none = refl
 line_and_rest (c ∷ line) rest none = rw (first_is_no_end c line none, line_and_rest line rest (rest_has_no_end c line none)) refl
 
 -- a text without an LF is one line
-pub last_line : (c : ℕ) (line : List ℕ) → HasNoEnd (c ∷ line) → lines_of (c ∷ line) ≡ (c ∷ line) ∷ []
+pub last_line : (c : ℕ) (line : List ℕ) → HasNoLineFeed (c ∷ line) → lines_of (c ∷ line) ≡ (c ∷ line) ∷ []
 unfolding lines_of
 last_line c [] none = rw (first_is_no_end c [] none) refl
 last_line c (d ∷ line) none = rw (first_is_no_end c (d ∷ line) none, last_line d line (rest_has_no_end c (d ∷ line) none)) refl
@@ -51,13 +51,13 @@ past_the_end p n true e none = cc
 past_the_end p n false e none = ltb-false p n e
 
 -- where no LF is found
-pub nowhere : (text : List ℕ) → position (λ byte. byte == 10) text ≡ None → HasNoEnd text
+pub nowhere : (text : List ℕ) → position (λ byte. byte == 10) text ≡ None → HasNoLineFeed text
 nowhere text none =
     let beyond : length text ≤ position_or_len (λ byte. byte == 10) text = past_the_end (position_or_len (λ byte. byte == 10) text) (length text) (nat_lt (position_or_len (λ byte. byte == 10) text) (length text)) refl none in
     λ k d inside. differs (get_or text k d) (fails_before_first (λ byte. byte == 10) text k d (omega arith))
 
 -- where one is found, before that there is none
-none_before : (text : List ℕ) (end : ℕ) → position (λ byte. byte == 10) text ≡ Some end → HasNoEnd (take end text)
+none_before : (text : List ℕ) (end : ℕ) → position (λ byte. byte == 10) text ≡ Some end → HasNoLineFeed (take end text)
 none_before text end found =
     let at = position-Some (λ byte. byte == 10) text end 0 found in
     λ k d inside.
@@ -89,7 +89,7 @@ record IsEnd (text line rest : List ℕ) : Type 0 where
   before : line ≡ take end text
   behind : rest ≡ drop (end + 1) text
 
-end_around : (text line rest : List ℕ) (place : Option ℕ) → position (λ byte. byte == 10) text ≡ place → Some (line, rest) ≡ around text place → IsEnd text line rest
+end_around : (text line rest : List ℕ) (place : Option ℕ) → position (λ byte. byte == 10) text ≡ place → Some (line, rest) ≡ split_around text place → IsEnd text line rest
 end_around text line rest None at e = cc
 end_around text line rest (Some end) at e = record {
   end = end;
@@ -114,12 +114,12 @@ bytes_of_cut text line rest e =
     end_between text at.end at.found ∙ (ap (λ l. l ++ (10 ∷ drop (at.end + 1) text)) (sym at.before) ∙ ap (λ r. line ++ (10 ∷ r)) (sym at.behind))
 
 -- and the line has no LF
-pub no_end_of_cut : (text line rest : List ℕ) → Some (line, rest) ≡ cut 10 text → HasNoEnd line
+pub no_end_of_cut : (text line rest : List ℕ) → Some (line, rest) ≡ cut 10 text → HasNoLineFeed line
 no_end_of_cut text line rest e =
     let at = end_of_cut text line rest e in
-    subst HasNoEnd (sym at.before) (none_before text at.end at.found)
+    subst HasNoLineFeed (sym at.before) (none_before text at.end at.found)
 
-none_around : (text : List ℕ) (place : Option ℕ) → None ≡ around text place → place ≡ None
+none_around : (text : List ℕ) (place : Option ℕ) → None ≡ split_around text place → place ≡ None
 none_around text None e = refl
 none_around text (Some end) e = cc
 

@@ -1,4 +1,4 @@
--- The oddities of a line.
+-- The oddities of a line: characters that lines outside programs may not have, or no characters at all.
 use Rattle.std.specs.Prelude.{◌≡◌, ◌⊎◌, ℕ, ◌-◌, ◌==◌, IsTrue, List, [], ◌∷◌, length, Some, slice_get}
 use Rattle.std.specs.List.{list_any}
 use Rattle.std.specs.Option.{is_some}
@@ -10,13 +10,13 @@ use Rattle.trlab_lines.specs.declared.oddity.Oddity.TheVariants.{ByteOrderMark, 
 abbrev pub Contains : List ℕ → ℕ → Type 0
 Contains line byte = IsTrue (list_any (λ c. c == byte) line)
 
--- the line has this oddity: a byte order mark, a carriage return, no bytes at all, a tab, a space as its
--- first or last byte, or a `;` or `#` as in a comment
-abbrev pub Shows : List ℕ → Oddity → Type 0
-Shows line ByteOrderMark = IsTrue (is_some (without_prefix (239 ∷ 187 ∷ 191 ∷ []) line))
-Shows line CarriageReturn = Contains line 13
-Shows line Empty = line ≡ []
-Shows line Tab = Contains line 9
-Shows line FirstSpace = slice_get line 0 ≡ Some 32
-Shows line FinalSpace = slice_get line (length line - 1) ≡ Some 32
-Shows line Comment = Contains line 59 ⊎ Contains line 35
+-- the line has this oddity: it begins with a byte order mark, contains a carriage return, has no bytes,
+-- contains a tab, begins or ends with a space, or contains a `;` or `#` as comments do
+abbrev pub HasOddity : List ℕ → Oddity → Type 0
+HasOddity line ByteOrderMark = IsTrue (is_some (without_prefix (239 ∷ 187 ∷ 191 ∷ []) line))
+HasOddity line CarriageReturn = Contains line 13
+HasOddity line Empty = line ≡ []
+HasOddity line Tab = Contains line 9
+HasOddity line FirstSpace = slice_get line 0 ≡ Some 32
+HasOddity line FinalSpace = slice_get line (length line - 1) ≡ Some 32
+HasOddity line Comment = Contains line 59 ⊎ Contains line 35

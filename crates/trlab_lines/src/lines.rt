@@ -1,7 +1,7 @@
 //! Lines of a text, the words of a line, and the values of decimal digits.
 
 ghost use Rattle.std.specs.Prelude.{◌≡◌, ◌<◌, [], ◌∷◌, length, MatchOption, IfSome, ◌==◌, not, option_map, ◌≤◌, true};
-ghost use Rattle.trlab_lines.specs.Lines.{lines_of, BeginsWithLine, HasNoEnd};
+ghost use Rattle.trlab_lines.specs.Lines.{lines_of, BeginsWithLine, HasNoLineFeed};
 ghost use Rattle.std.specs.List.{position};
 ghost use Rattle.trlab_lines.specs.Cutting.{cut, is_blank, without_indent, up_to_blank, only_word, without_comment, label_and_rest, name_and_operands};
 ghost use Rattle.std.specs.Str.Parse.{digits_value};
@@ -16,7 +16,7 @@ pub fn next_line(text: &[u8]) -> Option<(&[u8], &[u8])>
     ensures lines { MatchOption result (lines_of text.now ≡ [])
         (λ found. lines_of text.now ≡ found.0.now ∷ lines_of found.1.now) }
     ensures bytes { MatchOption result (text.now ≡ []) (λ found. BeginsWithLine text.now found.0.now found.1.now) }
-    ensures no_end { IfSome result (λ found. HasNoEnd found.0.now) }
+    ensures no_end { IfSome result (λ found. HasNoLineFeed found.0.now) }
     ensures shorter { IfSome result (λ found. length found.1.now < length text.now) }
 {
     if text.is_empty() {

@@ -1,23 +1,28 @@
 //! Oddities: characters that lines outside programs may not have.
 
 ghost use Rattle.std.specs.Prelude.{IfSome};
-ghost use Rattle.trlab_lines.specs.Oddities.{Shows};
+ghost use Rattle.trlab_lines.specs.Oddities.{HasOddity};
 
 /// A character that is not allowed in any line outside programs, or an empty line.
 #[derive(Clone, Copy)]
 pub enum Oddity {
+    /// The line begins with the bytes EF BB BF.
     ByteOrderMark,
     CarriageReturn,
+    /// The line has no bytes.
     Empty,
     Tab,
+    /// The line begins with a space.
     FirstSpace,
+    /// The line ends with a space.
     FinalSpace,
+    /// The line has a `;` or a `#`.
     Comment,
 }
 
 /// The first oddity of a line, in the order of the variants of [`Oddity`].
 pub fn oddity_of(line: &[u8]) -> Option<Oddity>
-    ensures { IfSome result (Shows line.now) }
+    ensures { IfSome result (HasOddity line.now) }
 {
     if line.strip_prefix(b"\xef\xbb\xbf").is_some() {
         Some(Oddity::ByteOrderMark)

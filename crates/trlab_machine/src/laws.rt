@@ -11,7 +11,7 @@ ghost use Rattle.trlab_bounds.specs.declared.programs.TheConstants.{WORDS};
 ghost use Rattle.trlab_code.specs.declared.view.View.{View};
 ghost use Rattle.trlab_code.specs.Program.{Draws};
 ghost use Rattle.trlab_code.specs.Machine.{Answer, Goes, EndsWith};
-ghost use Rattle.trlab_code.specs.Views.{IsView};
+ghost use Rattle.trlab_code.specs.Views.{IsViewInRange};
 ghost use Rattle.trlab_verify.specs.CheckedProgram.{CheckedProgram, IsChecked};
 ghost use Rattle.trlab_machine.specs.Moves.{IsAllowed, MovesWithin};
 ghost use Rattle.trlab_machine.specs.Crossings.{crossing_answer, CrossesWithin};
@@ -42,7 +42,7 @@ pub fn motion_answers()
 /// most the gap and the limit.
 pub fn checked_motions_move()
     ensures { (motion : CheckedProgram) (view : View) (words : List ℕ) →
-        IsChecked Motion motion → IsView view → length words ≡ WORDS →
+        IsChecked Motion motion → IsViewInRange view → length words ≡ WORDS →
         MovesWithin motion.program.instrs view words motion.budget }
 {}
 
@@ -58,6 +58,6 @@ pub fn change_answers()
 /// crosses to an empty side cell or stays.
 pub fn checked_changes_answer()
     ensures { (change : CheckedProgram) (view : View) (words : List ℕ) →
-        IsChecked Change change → IsView view → length words ≡ WORDS →
+        IsChecked Change change → IsViewInRange view → length words ≡ WORDS →
         CrossesWithin change.program.instrs view words change.budget }
 {}

@@ -5,7 +5,7 @@
 ghost use Rattle.std.specs.Prelude.{◌≡◌, ◌≤◌, All, length};
 ghost use Rattle.trlab_code.specs.Machine.{IsSafe, EndsWith};
 ghost use Rattle.trlab_code.specs.Program.{IsInRange};
-ghost use Rattle.trlab_code.specs.Views.{IsView};
+ghost use Rattle.trlab_code.specs.Views.{IsViewInRange};
 ghost use Rattle.trlab_machine.specs.Stored.{answer_of, number_in, result_number};
 ghost use Rattle.trlab_words.specs.Chances.{happens_on};
 
@@ -37,7 +37,7 @@ pub fn run(
     requires safe { IsSafe kind instrs.now budget }
     requires few { length instrs.now ≤ MAX_INSTRUCTIONS }
     requires in_range { All IsInRange instrs.now }
-    requires seen { IsView view.now }
+    requires seen { IsViewInRange view.now }
     ensures ends { EndsWith kind instrs.now view.now words.now
         (answer_of kind result.answer) result.steps }
     ensures within { result.steps ≤ budget }

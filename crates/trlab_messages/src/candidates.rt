@@ -119,16 +119,6 @@ impl Candidates {
     }
 }
 
-/// Adds the candidates for a fault of a program's lines.
-fn program_candidates(list: &mut Candidates, fault: &Fault<'_>, why: Why) {
-    match why {
-        Why::Word => unknown_word_candidates(list, fault),
-        Why::Operand | Why::Number => operand_candidates(list, fault, why),
-        Why::NoLabel => label_candidate(list, fault),
-        Why::LabelTwice | Why::TooLong | Why::Empty | Why::Memory => {}
-    }
-}
-
 /// Adds the candidates for a fault.
 fn add_candidates(list: &mut Candidates, fault: &Fault<'_>) {
     if let Some(front) = fault.line.strip_suffix(b"\r") {
@@ -136,15 +126,16 @@ fn add_candidates(list: &mut Candidates, fault: &Fault<'_>) {
     }
     match fault.cause {
         Cause::Line => line_candidates(list, fault),
-        Cause::Program(why) => program_candidates(list, fault, why),
+        Cause::Program(Why::Word) => unknown_word_candidates(list, fault),
+        Cause::Program(Why::Operand) => operand_candidates(list, fault, Why::Operand),
+        Cause::Program(Why::Number) => operand_candidates(list, fault, Why::Number),
+        Cause::Program(Why::NoLabel) => label_candidate(list, fault),
         Cause::Number => number_candidates(list, fault),
         Cause::Key | Cause::Hex => hex_candidates(list, fault),
         Cause::OneLane => lanes_candidate(list, fault),
         Cause::Code(CodeFault::NeedlessVersion) => version_candidate(list, fault),
         Cause::Road(RoadFault::Character { place, .. }) => cell_candidate(list, fault, place),
-        Cause::Code(_) | Cause::Road(_) => {}
-        Cause::Order | Cause::TooMany | Cause::Work | Cause::TooBig => {}
-        Cause::StandardRefused | Cause::Verdict(_) => {}
+        _ => {}
     }
 }
 

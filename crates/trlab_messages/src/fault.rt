@@ -12,7 +12,7 @@ use trlab_asm::{Why, mnemonic_named};
 use trlab_jobs::Subject;
 use trlab_lines::{Place, name_and_operands};
 use trlab_texts::word::head_word;
-use trlab_texts::{Cause, LineName, LineNames, Wanted};
+use trlab_texts::{Cause, LineName, Wanted};
 
 /// The first fault of an input.
 #[derive(Clone, Copy)]
@@ -60,14 +60,15 @@ fn intro_of(subject: Subject) -> &'static str {
 
 /// Adds the forms of the lines of a job or sweep that would be valid at a fault.
 fn push_line_forms(forms: &mut Draft, fault: &Fault<'_>) {
-    let names = match (fault.wanted, named(head_word(fault.line))) {
-        (Wanted::Lines(names), _) => *names,
-        (_, Some(name)) => LineNames::none().with(name),
-        (_, None) => LineNames::none(),
-    };
-    for line in &LineName::ALL {
-        if names.has(*line) {
-            forms.line(form_of_line(*line));
+    let own_name = named(head_word(fault.line));
+    for name in &LineName::ALL {
+        let is_valid = match fault.wanted {
+            Wanted::Lines(names) => names.has(*name),
+            // A value is wrong, not the name of its line.
+            _ => own_name == Some(*name),
+        };
+        if is_valid {
+            forms.line(form_of_line(*name));
         }
     }
 }

@@ -15,13 +15,10 @@ pub fn form_of_line(line: LineName) -> &'static str {
         LineName::Sweep => "`sweep 1`, the first line of a sweep.",
         LineName::Key => "`key` followed by 64 hexadecimal digits.",
         LineName::Limit => "`limit n` (maximum speed in cells per step, 1 to 35).",
-        LineName::Lane => {
-            "`lane` followed by 1 to 100000 cells: `.` is empty, a car is its speed, 0 to 9 or a to z."
-        }
-        LineName::Rule => {
-            "`rule nasch t`, `rule vdr t t0`, `rule rickert t c` or `rule own` \
-             (t, t0 and c: probabilities times 2147483648)."
-        }
+        LineName::Lane =>
+            "`lane` followed by 1 to 100000 cells: `.` is empty, a car is its speed, 0 to 9 or a to z.",
+        LineName::Rule => "`rule nasch t`, `rule vdr t t0`, `rule rickert t c` or `rule own` \
+             (t, t0 and c: probabilities times 2147483648).",
         LineName::Motion => "a motion program: `motion`, its instructions and `end`; or `code X`.",
         LineName::Change => "a change program: `change`, its instructions and `end`; or `code X`.",
         LineName::End => "an instruction of the program, or `end` after the last one.",
@@ -44,9 +41,8 @@ pub const INSTRUCTIONS: &str =
 pub fn form_of_instruction(name: Mnemonic) -> &'static str {
     match name {
         Mnemonic::Num => "`num rd, n` (n from 0 to 4294967295).",
-        Mnemonic::Get => {
-            "`get rd, input`: speed, limit, gap or headspeed; in a change also sidegap, sideback, lane."
-        }
+        Mnemonic::Get =>
+            "`get rd, input`: speed, limit, gap or headspeed; in a change also sidegap, sideback, lane.",
         Mnemonic::Side => "`side rd`.",
         Mnemonic::Draw => "`draw rd, k, t`, k from 0 to 15, t from 0 to 2147483648.",
         Mnemonic::Copy => "`copy rd, ra`.",

@@ -4,7 +4,7 @@ use trlab_asm::{OperandKind, Why, mnemonic_named, operand_kinds};
 use trlab_lines::{
     cut, label_and_rest, name_and_operands, only_word, without_comment, without_indent,
 };
-use trlab_texts::word::long_number;
+use trlab_texts::word::number_from;
 
 /// The number of bytes before the name of a line's instruction.
 pub fn start_of_name(line: &[u8]) -> usize {
@@ -13,17 +13,11 @@ pub fn start_of_name(line: &[u8]) -> usize {
     code.len().saturating_sub(without_indent(body).len())
 }
 
-/// Whether a word is a number in a range.
-fn is_within(word: &[u8], least: u32, most: u32) -> bool {
-    let (least, most) = (u64::from(least), u64::from(most));
-    matches!(long_number(word), Ok(number) if least <= number && number <= most)
-}
-
 /// Whether a line is rejected for this word as an operand of this kind.
 fn is_at_fault(operand: OperandKind, word: &[u8], why: Why) -> bool {
     match (why, operand.range()) {
         (Why::Operand, _) => !operand.has_form(word),
-        (Why::Number, Some((least, most))) => !is_within(word, least, most),
+        (Why::Number, Some((least, most))) => number_from(least, most, word).is_err(),
         (Why::NoLabel, None) => operand == OperandKind::Target,
         _ => false,
     }

@@ -4,7 +4,7 @@
 //! Sentences are drafts and may quote any bytes of the input; `page_of` makes pages of plain text from them.
 //!
 //! ```text
-//! push_text(&mut text, body); // for example "This is a valid job: `trlab run` runs it." and more lines
+//! push_text(&mut text, &explanation.body); // for example "This is a valid job: `trlab run` runs it."
 //! ```
 #![tactic(auto)]
 
@@ -20,6 +20,7 @@ mod instruction;
 mod job;
 mod members;
 mod names;
+mod object_writer;
 mod program;
 mod reasons;
 mod repairs;
@@ -33,7 +34,8 @@ pub use body::Body;
 pub use candidates::candidates_for;
 pub use fault::{Fault, add_fault};
 pub use job::add_job;
-pub use members::{ObjectWriter, add_body};
+pub use members::add_body;
+pub use object_writer::ObjectWriter;
 pub use program::{ProgramVerdict, add_program};
 pub use repairs::{Change, Edit, Repair};
 pub use sentence::{Draft, page_of};

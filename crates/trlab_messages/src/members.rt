@@ -1,12 +1,12 @@
 //! The JSON form of explanations: the members that describe the input, its error and its work.
 
-mod value;
-
 use crate::body::{Body, Known, Number, Problem, Rejection};
 use crate::causes::cause_meaning;
-pub use crate::members::value::ObjectWriter;
-use crate::members::value::{Value, add_lines, add_member, begin_member};
+use crate::object_writer::{
+    ObjectWriter, add_amount, add_count, add_lines, add_string, add_words, begin_member,
+};
 use crate::repairs::{Change, RepairInWords, command_of};
+use crate::sentence::{Draft, Shown};
 use json::Token;
 use trlab_code::CodeFault;
 use trlab_texts::Cause;
@@ -16,103 +16,68 @@ const FORMAT: u64 = 1;
 
 /// Adds the first and the last byte of a span of a line, counted from 1.
 fn add_span<W: ObjectWriter>(out: &mut W, span: Option<(usize, usize)>) {
-    let (first, last) = match span {
-        Some((before, count)) => (
-            Value::Count((before as u64).saturating_add(1)),
-            Value::Count(before.saturating_add(count) as u64),
-        ),
-        None => (Value::Null, Value::Null),
-    };
-    add_member(out, "first", first);
-    add_member(out, "last", last);
-}
-
-/// Adds the verifier's reason to an error of a job or sweep.
-fn add_reason<W: ObjectWriter>(out: &mut W, rejection: Option<&Rejection>) {
-    let Some(rejection) = rejection else {
-        return add_member(out, "reason", Value::Null);
-    };
-    begin_member(out, "reason", Token::BeginObject);
-    add_member(out, "number", Value::Count(u64::from(rejection.reason)));
-    add_member(out, "meaning", Value::Words(rejection.meaning));
-    add_member(out, "instruction", Value::Text(&rejection.instruction));
-    out.token(Ok(Token::EndObject));
-}
-
-/// The members of an error.
-#[derive(Clone, Copy)]
-struct ErrorMembers<'a> {
-    kind: &'static str,
-    number: u64,
-    meaning: &'static str,
-    line: u32,
-    text: Value<'a>,
-    span: Option<(usize, usize)>,
-    pc: Value<'a>,
-    reason: Option<&'a Rejection>,
-    found: Value<'a>,
-    expected: Value<'a>,
-    advice: &'static str,
-}
-
-/// The members of an error that the reader of the input found.
-fn of_problem<'a>(problem: &'a Problem, reason: Option<&'a Rejection>) -> ErrorMembers<'a> {
-    let (pc, advice) = match (reason, problem.cause) {
-        (Some(reason), _) => (Value::Count(u64::from(reason.at)), reason.advice),
-        (None, Cause::Code(CodeFault::Opcode(pc) | CodeFault::Field(pc))) => {
-            (Value::Count(u64::from(pc)), problem.hint)
+    match span {
+        Some((before, count)) => {
+            add_count(out, "first", (before as u64).saturating_add(1));
+            add_count(out, "last", before.saturating_add(count) as u64);
         }
-        (None, _) => (Value::Null, problem.hint),
+        None => {
+            begin_member(out, "first", Token::Null);
+            begin_member(out, "last", Token::Null);
+        }
+    }
+}
+
+/// Adds the error that the reader of the input found, and the verifier's reason if it rejects a program there.
+fn add_problem<W: ObjectWriter>(out: &mut W, problem: &Problem, rejection: Option<&Rejection>) {
+    add_words(out, "kind", Ok("cause"));
+    add_count(out, "number", problem.cause.number());
+    add_words(out, "meaning", Ok(cause_meaning(problem.cause)));
+    add_count(out, "line", u64::from(problem.line));
+    match &problem.text {
+        Some(line) => add_string(out, "text", line.text()),
+        None => begin_member(out, "text", Token::Null),
+    }
+    add_span(out, problem.span);
+    let advice = match rejection {
+        Some(rejection) => {
+            add_count(out, "pc", u64::from(rejection.at));
+            begin_member(out, "reason", Token::BeginObject);
+            add_count(out, "number", u64::from(rejection.reason));
+            add_words(out, "meaning", Ok(rejection.meaning));
+            add_words(out, "instruction", rejection.instruction.text());
+            out.token(Ok(Token::EndObject));
+            rejection.advice
+        }
+        None => {
+            match problem.cause {
+                Cause::Code(CodeFault::Opcode(pc) | CodeFault::Field(pc)) => {
+                    add_count(out, "pc", u64::from(pc))
+                }
+                _ => begin_member(out, "pc", Token::Null),
+            }
+            begin_member(out, "reason", Token::Null);
+            problem.hint
+        }
     };
-    ErrorMembers {
-        kind: "cause",
-        number: problem.cause.number(),
-        meaning: cause_meaning(problem.cause),
-        line: problem.line,
-        text: match &problem.text {
-            Some(line) => Value::Quote(line),
-            None => Value::Null,
-        },
-        span: problem.span,
-        pc,
-        reason,
-        found: Value::Text(&problem.found),
-        expected: Value::Lines(&problem.expected),
-        advice,
-    }
+    add_words(out, "found", problem.found.text());
+    add_lines(out, "expected", &[&problem.expected]);
+    add_words(out, "advice", Ok(advice));
 }
 
-/// The members of an error that the verifier found in the program of a check.
-fn of_rejection(rejection: &Rejection) -> ErrorMembers<'_> {
-    ErrorMembers {
-        kind: "reason",
-        number: u64::from(rejection.reason),
-        meaning: rejection.meaning,
-        line: rejection.line,
-        text: Value::Text(&rejection.text),
-        span: None,
-        pc: Value::Count(u64::from(rejection.at)),
-        reason: None,
-        found: Value::Null,
-        expected: Value::NoLines,
-        advice: rejection.advice,
-    }
-}
-
-fn add_error<W: ObjectWriter>(out: &mut W, error: &ErrorMembers<'_>) {
-    begin_member(out, "error", Token::BeginObject);
-    add_member(out, "kind", Value::Words(error.kind));
-    add_member(out, "number", Value::Count(error.number));
-    add_member(out, "meaning", Value::Words(error.meaning));
-    add_member(out, "line", Value::Count(u64::from(error.line)));
-    add_member(out, "text", error.text);
-    add_span(out, error.span);
-    add_member(out, "pc", error.pc);
-    add_reason(out, error.reason);
-    add_member(out, "found", error.found);
-    add_member(out, "expected", error.expected);
-    add_member(out, "advice", Value::Words(error.advice));
-    out.token(Ok(Token::EndObject));
+/// Adds the error that the verifier found in the program of a check.
+fn add_rejection<W: ObjectWriter>(out: &mut W, rejection: &Rejection) {
+    add_words(out, "kind", Ok("reason"));
+    add_count(out, "number", u64::from(rejection.reason));
+    add_words(out, "meaning", Ok(rejection.meaning));
+    add_count(out, "line", u64::from(rejection.line));
+    add_words(out, "text", rejection.text.text());
+    add_span(out, None);
+    add_count(out, "pc", u64::from(rejection.at));
+    begin_member(out, "reason", Token::Null);
+    begin_member(out, "found", Token::Null);
+    add_lines(out, "expected", &[]);
+    add_words(out, "advice", Ok(rejection.advice));
 }
 
 /// Adds the facts known before each instruction of an accepted program.
@@ -120,9 +85,9 @@ fn add_table<W: ObjectWriter>(out: &mut W, table: &[Known]) {
     begin_member(out, "known", Token::BeginArray);
     for known in table {
         out.token(Ok(Token::BeginObject));
-        add_member(out, "line", Value::Count(u64::from(known.line)));
-        add_member(out, "instruction", Value::Text(&known.instruction));
-        add_member(out, "facts", Value::Lines(&known.facts));
+        add_count(out, "line", u64::from(known.line));
+        add_words(out, "instruction", known.instruction.text());
+        add_lines(out, "facts", &[&known.facts]);
         out.token(Ok(Token::EndObject));
     }
     out.token(Ok(Token::EndArray));
@@ -130,34 +95,53 @@ fn add_table<W: ObjectWriter>(out: &mut W, table: &[Known]) {
 
 /// Adds a repair: an edit with its line, its span and the replacement, or another command that reads the input.
 fn add_repair<W: ObjectWriter>(out: &mut W, found: &RepairInWords) {
-    let command = match &found.repair.change {
-        Change::Edited(_) => Value::Null,
-        Change::ReadAs(other) => Value::Words(command_of(*other)),
-    };
     out.token(Ok(Token::BeginObject));
-    add_member(out, "why", Value::Words(found.repair.mistake));
-    add_member(out, "command", command);
-    begin_member(out, "edits", Token::BeginArray);
-    if let Change::Edited(edit) = &found.repair.change {
-        out.token(Ok(Token::BeginObject));
-        add_member(out, "line", Value::Count(u64::from(found.line)));
-        add_span(out, Some((found.before, edit.removed)));
-        add_member(out, "replacement", Value::Bytes(&edit.inserted));
-        out.token(Ok(Token::EndObject));
+    add_words(out, "why", Ok(found.repair.mistake));
+    match &found.repair.change {
+        Change::ReadAs(other) => {
+            add_words(out, "command", Ok(command_of(*other)));
+            add_lines(out, "edits", &[]);
+        }
+        Change::Edited(edit) => {
+            begin_member(out, "command", Token::Null);
+            begin_member(out, "edits", Token::BeginArray);
+            out.token(Ok(Token::BeginObject));
+            add_count(out, "line", u64::from(found.line));
+            add_span(out, Some((found.before, edit.removed)));
+            let mut replacement = Draft::new(out.alloc());
+            write!(replacement, "{}", Shown(&edit.inserted));
+            add_string(out, "replacement", replacement.text());
+            out.token(Ok(Token::EndObject));
+            out.token(Ok(Token::EndArray));
+        }
     }
-    out.token(Ok(Token::EndArray));
     out.token(Ok(Token::EndObject));
 }
 
 fn add_numbers<W: ObjectWriter>(out: &mut W, numbers: &[Number]) {
     if numbers.is_empty() {
-        return add_member(out, "numbers", Value::Null);
+        return begin_member(out, "numbers", Token::Null);
     }
     begin_member(out, "numbers", Token::BeginObject);
     for number in numbers {
         if !number.key.is_empty() {
-            add_member(out, number.key, Value::Amount(number.amount));
+            add_amount(out, number.key, number.amount);
         }
+    }
+    out.token(Ok(Token::EndObject));
+}
+
+/// Adds the error of an input, if it has one.
+fn add_error<W: ObjectWriter>(out: &mut W, body: &Body) {
+    let (problem, rejection) = (body.problem.as_ref(), body.rejection.as_ref());
+    if problem.is_none() && rejection.is_none() {
+        return begin_member(out, "error", Token::Null);
+    }
+    begin_member(out, "error", Token::BeginObject);
+    if let Some(problem) = problem {
+        add_problem(out, problem, rejection);
+    } else if let Some(rejection) = rejection {
+        add_rejection(out, rejection);
     }
     out.token(Ok(Token::EndObject));
 }
@@ -165,17 +149,10 @@ fn add_numbers<W: ObjectWriter>(out: &mut W, numbers: &[Number]) {
 /// Begins an object, with a body as its members.
 pub fn add_body<W: ObjectWriter>(out: &mut W, body: &Body) {
     out.token(Ok(Token::BeginObject));
-    add_member(out, "format", Value::Count(FORMAT));
-    add_member(out, "command", Value::Words(command_of(body.subject)));
-    match (&body.problem, &body.rejection) {
-        (Some(problem), rejection) => add_error(out, &of_problem(problem, rejection.as_ref())),
-        (None, Some(rejection)) => add_error(out, &of_rejection(rejection)),
-        (None, None) => add_member(out, "error", Value::Null),
-    }
-    begin_member(out, "facts", Token::BeginArray);
-    add_lines(out, &body.known);
-    add_lines(out, &body.facts);
-    out.token(Ok(Token::EndArray));
+    add_count(out, "format", FORMAT);
+    add_words(out, "command", Ok(command_of(body.subject)));
+    add_error(out, body);
+    add_lines(out, "facts", &[&body.known, &body.facts]);
     add_table(out, &body.table);
     begin_member(out, "repairs", Token::BeginArray);
     if let Some(found) = &body.repair {

@@ -36,30 +36,29 @@ pub struct Listing<'a> {
     is_in_bytes: bool,
 }
 
-impl Listing<'_> {
-    /// The number of an instruction's line: `listed` for a program in bytes.
-    fn line_number(&self, pc: u32, listed: u32) -> u32 {
-        match self.lines.get(pc as usize) {
-            Some((number, _)) if !self.is_in_bytes => *number,
-            _ => listed,
-        }
+impl<'a> Listing<'a> {
+    /// The number and the bytes of an instruction's line.
+    fn line(&self, pc: u32) -> (u32, &'a [u8]) {
+        self.lines.get(pc as usize).copied().unwrap_or((0, b""))
     }
 
-    /// Adds an instruction as it is written.
-    fn push_text(&self, text: &mut Draft, pc: u32) {
-        if let Some((_, line)) = self.lines.get(pc as usize) {
-            write!(text, "{}", Quoted(*line));
+    /// The number of an instruction's line: `listed` for a program in bytes.
+    fn line_number(&self, pc: u32, listed: u32) -> u32 {
+        if self.is_in_bytes {
+            listed
+        } else {
+            self.line(pc).0
         }
     }
 
     /// Adds an instruction after `line N: `, or after `instruction N: ` for a program in bytes.
     fn push_instruction(&self, text: &mut Draft, pc: u32) {
-        match self.lines.get(pc as usize) {
-            Some((_, line)) if self.is_in_bytes => {
-                write!(text, "instruction {pc}: {}", Quoted(*line))
-            }
-            Some((number, line)) => write!(text, "line {number}: {}", Quoted(*line)),
-            None => {}
+        let (number, line) = self.line(pc);
+        let line = Quoted(line);
+        if self.is_in_bytes {
+            write!(text, "instruction {pc}: {line}");
+        } else {
+            write!(text, "line {number}: {line}");
         }
     }
 }

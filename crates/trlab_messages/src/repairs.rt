@@ -1,6 +1,6 @@
 //! Repairs: the lines that they change, and their words in the text form.
 
-use crate::sentence::Draft;
+use crate::sentence::{Draft, Shown};
 use std::alloc::Global;
 use trlab_jobs::Subject;
 use trlab_lines::{Place, bytes_at};
@@ -61,66 +61,61 @@ pub fn command_of(subject: Subject) -> &'static str {
     }
 }
 
-/// The number of the line with the byte at `at`.
-fn line_of(text: &[u8], at: usize) -> u32 {
-    let above = bytes_at(text, 0, at).iter();
-    let lines = above.filter(|byte| **byte == b'\n').count();
-    u32::try_from(lines).unwrap_or(u32::MAX).saturating_add(1)
-}
-
 /// The line with the byte at `at`: usually the line at fault.
 fn place_of<'a>(error: &Place<'a>, at: usize) -> Place<'a> {
     let length = error.line.unwrap_or(b"").len();
     if error.start <= at && at <= error.start.saturating_add(length) {
-        *error
-    } else {
-        Place::at(error.text, line_of(error.text, at))
+        return *error;
     }
+    let above = bytes_at(error.text, 0, at).iter();
+    let lines = above.filter(|byte| **byte == b'\n').count();
+    Place::at(
+        error.text,
+        u32::try_from(lines).unwrap_or(u32::MAX).saturating_add(1),
+    )
 }
 
 /// Adds how to edit a line after its first `before` bytes.
 fn push_within(how: &mut Draft, place: &Place<'_>, before: usize, edit: &Edit) {
     let line = place.line.unwrap_or(b"");
+    let number = place.number;
     let column = before.saturating_add(1);
-    let removed = bytes_at(line, before, edit.removed);
-    write!(how, "Line {}", place.number);
-    if edit.inserted.is_empty() && before.saturating_add(edit.removed) == line.len() {
-        return write!(how, ": delete everything from column {column} on.");
-    }
-    write!(how, ", column {column}: ");
-    if removed.is_empty() {
-        how.say("insert `");
-    } else if edit.inserted.is_empty() {
-        how.say("delete `");
+    let removed = Shown(bytes_at(line, before, edit.removed));
+    let inserted = Shown(&edit.inserted);
+    if !edit.inserted.is_empty() && !removed.0.is_empty() {
+        write!(
+            how,
+            "Line {number}, column {column}: replace `{removed}` with `{inserted}`."
+        );
+    } else if !edit.inserted.is_empty() {
+        write!(how, "Line {number}, column {column}: insert `{inserted}`.");
+    } else if before.saturating_add(edit.removed) == line.len() {
+        write!(
+            how,
+            "Line {number}: delete everything from column {column} on."
+        );
     } else {
-        how.say("replace `");
+        write!(how, "Line {number}, column {column}: delete `{removed}`.");
     }
-    how.show(removed);
-    if !removed.is_empty() && !edit.inserted.is_empty() {
-        how.say("` with `");
-    }
-    how.show(&edit.inserted);
-    how.say("`.");
 }
 
 /// Adds how to edit lines as a whole, or else a part of one.
 fn push_edit(how: &mut Draft, place: &Place<'_>, before: usize, edit: &Edit) {
     let number = place.number;
     let length = place.line.unwrap_or(b"").len();
-    if edit.at == place.text.len() {
-        how.say("At the end, add the line `");
-    } else if edit.removed == 0 && edit.inserted.last() == Some(&b'\n') {
-        write!(how, "Above line {number}, add the line `");
-    } else if edit.inserted.is_empty() && before == 0 && edit.removed >= length.max(1) {
-        return write!(how, "Delete line {number}.");
-    } else if before == 0 && edit.removed == length {
-        write!(how, "Replace line {number} with `");
-    } else {
-        return push_within(how, place, before, edit);
-    }
     let line = edit.inserted.strip_prefix(b"\n").unwrap_or(&edit.inserted);
-    how.show(line.strip_suffix(b"\n").unwrap_or(line));
-    how.say("`.");
+    let line = Shown(line.strip_suffix(b"\n").unwrap_or(line));
+    if edit.at == place.text.len() {
+        write!(how, "At the end, add the line `{line}`.");
+    } else if edit.removed == 0 && edit.inserted.last() == Some(&b'\n') {
+        write!(how, "Above line {number}, add the line `{line}`.");
+    } else if edit.inserted.is_empty() && before == 0 && edit.removed >= length.max(1) {
+        write!(how, "Delete line {number}.");
+    } else if before == 0 && edit.removed == length {
+        write!(how, "Replace line {number} with `{line}`.");
+    } else {
+        push_within(how, place, before, edit);
+    }
 }
 
 /// A repair, and how to make it.
@@ -146,9 +141,7 @@ impl RepairInWords {
                 (place.number, before)
             }
             Change::ReadAs(other) => {
-                how.say("Read it with `trlab ");
-                how.say(command_of(*other));
-                how.say("`.");
+                write!(how, "Read it with `trlab {}`.", command_of(*other));
                 (error.number, 0)
             }
         };

@@ -40,7 +40,7 @@ pub struct Draft {
 }
 
 impl Draft {
-    /// An empty draft.
+    /// A draft that has allocated nothing yet.
     pub fn new(alloc: Global) -> Draft {
         Draft {
             text: String::new(alloc),
@@ -57,11 +57,6 @@ impl Draft {
     pub fn line(&mut self, words: &str) {
         self.say(words);
         self.say("\n");
-    }
-
-    /// Adds bytes in full.
-    pub fn show(&mut self, bytes: &[u8]) {
-        write!(self, "{}", Shown(bytes));
     }
 
     /// `write!` and `writeln!` call this.

@@ -1,6 +1,6 @@
 //! The text form of explanations, below their heads.
 
-use crate::body::{Body, Known, Number, Problem};
+use crate::body::{Body, Number, Problem};
 use crate::causes::cause_meaning;
 use crate::sentence::Draft;
 use trlab_code::CodeFault;
@@ -38,16 +38,6 @@ fn push_numbers(text: &mut Draft, numbers: &[Number]) {
     }
 }
 
-/// Adds the facts known before each instruction. An empty line separates them from the instruction above, because at
-/// the target of a jump they do not follow from it.
-fn push_table(text: &mut Draft, table: &[Known]) {
-    for known in table {
-        text.say("\n");
-        text.push_lines("    ", "    ", &known.facts);
-        text.push_lines("", "", &known.instruction);
-    }
-}
-
 fn push_facts(text: &mut Draft, body: &Body) {
     if !body.known.is_empty() {
         text.line("Known before it:");
@@ -56,26 +46,28 @@ fn push_facts(text: &mut Draft, body: &Body) {
     text.push_lines("", "", &body.facts);
     if !body.table.is_empty() {
         text.line("What the verifier knows before each instruction:");
-        push_table(text, &body.table);
+    }
+    for known in &body.table {
+        // An empty line, because at the target of a jump the facts do not follow from the instruction above.
+        text.say("\n");
+        text.push_lines("    ", "    ", &known.facts);
+        text.push_lines("", "", &known.instruction);
     }
 }
 
 /// Adds advice, the problem that was found, and a repair or where to look.
 fn push_help(text: &mut Draft, body: &Body) {
     if let Some(rejection) = &body.rejection {
-        text.say("Advice: ");
-        text.line(rejection.advice);
+        writeln!(text, "Advice: {}", rejection.advice);
     }
     if let Some(problem) = &body.problem {
         text.push_lines("Found: ", "", &problem.found);
         if !problem.hint.is_empty() {
-            text.say("Check: ");
-            text.line(problem.hint);
+            writeln!(text, "Check: {}", problem.hint);
         }
     }
     if let Some(found) = &body.repair {
-        text.say("Repair: ");
-        text.line(found.repair.mistake);
+        writeln!(text, "Repair: {}", found.repair.mistake);
         text.push_lines("", "", &found.how);
     }
 }

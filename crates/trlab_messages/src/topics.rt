@@ -9,22 +9,20 @@ use trlab_texts::Cause;
 
 /// Adds the last line of a page.
 fn push_end(text: &mut Draft, all: &str) {
-    text.say("To find it in your file: `trlab explain < FILE`. All ");
-    text.say(all);
-    text.line(": docs/ERRORS.md.");
+    writeln!(
+        text,
+        "To find it in your file: `trlab explain < FILE`. All {all}: docs/ERRORS.md."
+    );
 }
 
 fn push_advice(text: &mut Draft, reason: Reason) {
     let motion = advice(reason, Kind::Motion);
     let change = advice(reason, Kind::Change);
     if motion == change {
-        text.say("Advice: ");
-        text.line(motion);
+        writeln!(text, "Advice: {motion}");
     } else {
-        text.say("Advice for a motion program: ");
-        text.line(motion);
-        text.say("Advice for a change program: ");
-        text.line(change);
+        writeln!(text, "Advice for a motion program: {motion}");
+        writeln!(text, "Advice for a change program: {change}");
     }
 }
 
@@ -34,14 +32,12 @@ pub fn push_cause(text: &mut Draft, cause: Cause) {
     if let Cause::Verdict(number) = cause
         && let Some(reason) = Reason::from_number(number)
     {
-        text.say("The reason: ");
-        text.line(reason_meaning(reason));
+        writeln!(text, "The reason: {}", reason_meaning(reason));
         push_advice(text, reason);
     }
     let check = cause_hint(cause);
     if !check.is_empty() {
-        text.say("Check: ");
-        text.line(check);
+        writeln!(text, "Check: {check}");
     }
     push_end(text, "causes");
 }

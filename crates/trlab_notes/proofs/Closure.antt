@@ -14,9 +14,9 @@ use Rattle.trlab_code.specs.Flow.{destination}
 use Rattle.trlab_notes.specs.declared.reasons.Reason.TheVariants as why
 use Rattle.trlab_notes.specs.declared.note.AbstractValue.{AbstractValue}
 use Rattle.trlab_notes.specs.declared.note.AbstractValue.TheVariants.{Nothing, Between, Implies}
-use Rattle.trlab_notes.specs.Notes.{Note, same_variable, low, high, said_with_side, level_between, known_level, closure, maybe_closure}
-use Rattle.trlab_notes.specs.Transfer.{assign_any, sharpen, slacken, least_difference, assign, assign_result, result_said, result_to, to_result, chain, refine_order, refine_flag, next_note, jump_note}
-use Rattle.trlab_notes.specs.Order.{join, join_said, IsNoStronger, IsNoMorePrecise}
+use Rattle.trlab_notes.specs.Notes.{Note, same_variable, low, high, value_with_side, level_between, known_level, closure, maybe_closure}
+use Rattle.trlab_notes.specs.Transfer.{assign_destination, sharpen, slacken, least_difference, assign, assign_result, result_value, result_to, to_result, chain, refine_order, refine_flag, next_note, jump_note}
+use Rattle.trlab_notes.specs.Order.{join, join_values, IsNoStronger, IsNoMorePrecise}
 use Rattle.trlab_notes.specs.Reasons.{form_checks, first_reason, reason_against, may_be_too_large, may_be_below_zero, may_be_above, may_be_occupied}
 use Rattle.trlab_notes.proofs.Order.{same_note}
 use Rattle.trlab_notes.proofs.Tables.{note_same, level_same, known_twice, both_known, known_unfolds}
@@ -25,8 +25,8 @@ pub known_settled : (m : Note) (x y : Variable) → known_level (closure m) x y 
 unfolding known_level closure
 known_settled m x y = known_twice (m.said x) (m.said y) (same_variable x y) (m.level x y)
 
-pub told_settled : (m : Note) (x : Variable) → said_with_side (closure m) x ≡ said_with_side m x
-unfolding said_with_side closure
+pub told_settled : (m : Note) (x : Variable) → value_with_side (closure m) x ≡ value_with_side m x
+unfolding value_with_side closure
 told_settled m x = refl
 
 pub said_same : (m : Note) → (closure m).said ≡ m.said
@@ -47,14 +47,14 @@ settled_twice m = settled_same (closure m) m (said_same m) (known_settled m) (si
 -- it is no stronger, nor is the note
 pub settled_less : (m : Note) → IsNoStronger (closure m) m
 settled_less m = let f = same_note m in record {
-  said = λ x. subst (λ s. IsNoMorePrecise s (said_with_side m x)) (sym (told_settled m x)) (f.said x);
+  said = λ x. subst (λ s. IsNoMorePrecise s (value_with_side m x)) (sym (told_settled m x)) (f.said x);
   order = λ x y. let e = known_settled m x y in omega (arith, e);
   beside = λ h. sym (side_same m) ∙ h;
 }
 
 pub settled_more : (m : Note) → IsNoStronger m (closure m)
 settled_more m = let f = same_note m in record {
-  said = λ x. subst (λ s. IsNoMorePrecise (said_with_side m x) s) (sym (told_settled m x)) (f.said x);
+  said = λ x. subst (λ s. IsNoMorePrecise (value_with_side m x) s) (sym (told_settled m x)) (f.said x);
   order = λ x y. let e = known_settled m x y in omega (arith, e);
   beside = λ h. side_same m ∙ h;
 }
@@ -63,16 +63,16 @@ settled_more m = let f = same_note m in record {
 pub joined_settled : (m n : Note) → join m (closure n) ≡ join m n
 unfolding join
 joined_settled m n =
-    note_same _ _ (fun_ext (λ x. ap (join_said (said_with_side m x)) (told_settled n x))) (level_same _ _ (λ x y. ap (min (known_level m x y)) (known_settled n x y))) (ap (λ b. m.side && b) (side_same n))
+    note_same _ _ (fun_ext (λ x. ap (join_values (value_with_side m x)) (told_settled n x))) (level_same _ _ (λ x y. ap (min (known_level m x y)) (known_settled n x y))) (ap (λ b. m.side && b) (side_same n))
 
 pub settled_joins : (m n : Note) → join (closure m) n ≡ join m n
 unfolding join
 settled_joins m n =
-    note_same _ _ (fun_ext (λ x. ap (λ s. join_said s (said_with_side n x)) (told_settled m x))) (level_same _ _ (λ x y. ap (λ k. min k (known_level n x y)) (known_settled m x y))) (ap (λ b. b && n.side) (side_same m))
+    note_same _ _ (fun_ext (λ x. ap (λ s. join_values s (value_with_side n x)) (told_settled m x))) (level_same _ _ (λ x y. ap (λ k. min k (known_level n x y)) (known_settled m x y))) (ap (λ b. b && n.side) (side_same m))
 
 -- a join has all that it knows in its levels
 pub join_is_settled : (m n : Note) → closure (join m n) ≡ join m n
-unfolding join closure said_with_side known_level
+unfolding join closure value_with_side known_level
 join_is_settled m n =
     note_same _ _ refl (level_same _ _ (λ x y. (both_known (m.said x) (n.said x) (m.said y) (n.said y) m.side n.side (same_variable x y) (level_between (m.said x) (m.said y) (same_variable x y) (m.level x y)) (level_between (n.said x) (n.said y) (same_variable x y) (n.level x y)) (known_twice (m.said x) (m.said y) (same_variable x y) (m.level x y)) (known_twice (n.said x) (n.said y) (same_variable x y) (n.level x y))))) refl
 
@@ -119,8 +119,8 @@ module _ (m : Note) where
   same : (x y : Variable) → known_level (closure m) x y ≡ known_level m x y
   same = known_settled m
 
-  said_of_result : (i : Instr) → result_said (closure m) i ≡ result_said m i
-  unfolding closure said_with_side
+  said_of_result : (i : Instr) → result_value (closure m) i ≡ result_value m i
+  unfolding closure value_with_side
   said_of_result (Sub d a b) = λ z. Between (max (low (m.said (variable.Register a)) - high (m.said (variable.Register b))) (least_difference (same (variable.Register b) (variable.Register a) z))) (high (m.said (variable.Register a)) - low (m.said (variable.Register b)))
   said_of_result i = refl
 
@@ -147,7 +147,7 @@ module _ (m : Note) where
   after_settled : (d : Register) (i : Instr) → Some (closure (assign_result (closure m) d i)) ≡ Some (closure (assign_result m d i))
   after_settled d i = ap Some (written_settled d _ _ _ _ _ _ (said_of_result i) (from_result i) (into_result i))
 
-  any_settled : (o : Option Register) (i : Instr) → maybe_closure (assign_any (closure m) i o) ≡ maybe_closure (assign_any m i o)
+  any_settled : (o : Option Register) (i : Instr) → maybe_closure (assign_destination (closure m) i o) ≡ maybe_closure (assign_destination m i o)
   any_settled None i = refl
   any_settled (Some d) i = after_settled d i
 

@@ -6,9 +6,9 @@ use Rattle.trlab_code.specs.declared.instruction.Register.{Register}
 use Rattle.trlab_code.specs.declared.instruction.Variable.{Variable}
 use Rattle.trlab_code.specs.declared.instruction.Variable.TheVariants as variable
 use Rattle.trlab_code.specs.Machine.{Value, Unset, Number, Flag, Store, update, variable_number}
-use Rattle.trlab_notes.specs.Notes.{Note, same_variable, with_side, said_with_side, implies, level_between, known_level}
+use Rattle.trlab_notes.specs.Notes.{Note, same_variable, with_side, value_with_side, implies, level_between, known_level}
 use Rattle.trlab_notes.specs.Transfer.{assign, sharpen, slacken, chain, refine_order, refine_flag}
-use Rattle.trlab_notes.specs.Order.{join_said, join}
+use Rattle.trlab_notes.specs.Order.{join_values, join}
 use Rattle.trlab_notes.proofs.Variables.{same_is}
 
 -- a level k says that m is at most n where it is 1, and below n where it is 2
@@ -130,11 +130,11 @@ with_side_fits side k (Implies imp) (Number n) h f = f
 with_side_fits side k (Implies true) (Flag b) h f = λ p q. f refl q
 with_side_fits side k (Implies false) (Flag b) h f = λ p q. h p
 
-pub told_fits : (side : Bool) (note : Note) (s : Store) → Fits side note s → (x : Variable) → FitsSaid side (said_with_side note x) (s x)
-unfolding said_with_side
+pub told_fits : (side : Bool) (note : Note) (s : Store) → Fits side note s → (x : Variable) → FitsSaid side (value_with_side note x) (s x)
+unfolding value_with_side
 told_fits side note s fits x = with_side_fits side note.side (note.said x) (s x) fits.beside (fits.each x)
 
-pub both_left : (side : Bool) (a b : AbstractValue) (v : Value) → FitsSaid side a v → FitsSaid side (join_said a b) v
+pub both_left : (side : Bool) (a b : AbstractValue) (v : Value) → FitsSaid side a v → FitsSaid side (join_values a b) v
 both_left side (Between a b) (Between c d) Unset f = f
 both_left side (Between a b) (Between c d) (Flag t) f = f
 both_left side (Between a b) (Between c d) (Number n) f = (omega arith, omega arith)
@@ -149,7 +149,7 @@ both_left side (Between a b) (Implies q) v f = tt
 both_left side (Implies p) Nothing v f = tt
 both_left side (Implies p) (Between c d) v f = tt
 
-pub both_right : (side : Bool) (a b : AbstractValue) (v : Value) → FitsSaid side b v → FitsSaid side (join_said a b) v
+pub both_right : (side : Bool) (a b : AbstractValue) (v : Value) → FitsSaid side b v → FitsSaid side (join_values a b) v
 both_right side (Between a b) (Between c d) Unset f = f
 both_right side (Between a b) (Between c d) (Flag t) f = f
 both_right side (Between a b) (Between c d) (Number n) f = (omega arith, omega arith)
@@ -189,7 +189,7 @@ and_right false q h = absurd (cc h)
 pub joined_left : (side : Bool) (m n : Note) (s : Store) → Fits side m s → Fits side (join m n) s
 unfolding join
 joined_left side m n s fits =
-    fits_from side (join m n) s (λ x. both_left side (said_with_side m x) (said_with_side n x) (s x) (told_fits side m s fits x)) (λ x y a b ex ey. ahead_min_left (known_level m x y) (known_level n x y) a b (fits.order x y a b ex ey)) (λ h. fits.beside (and_left m.side n.side h))
+    fits_from side (join m n) s (λ x. both_left side (value_with_side m x) (value_with_side n x) (s x) (told_fits side m s fits x)) (λ x y a b ex ey. ahead_min_left (known_level m x y) (known_level n x y) a b (fits.order x y a b ex ey)) (λ h. fits.beside (and_left m.side n.side h))
 
 pub ahead_min_right : (j k m n : ℕ) → Ahead k m n → Ahead (min j k) m n
 ahead_min_right j k m n a = λ p. grind arith
@@ -197,7 +197,7 @@ ahead_min_right j k m n a = λ p. grind arith
 pub joined_right : (side : Bool) (m n : Note) (s : Store) → Fits side n s → Fits side (join m n) s
 unfolding join
 joined_right side m n s fits =
-    fits_from side (join m n) s (λ x. both_right side (said_with_side m x) (said_with_side n x) (s x) (told_fits side n s fits x)) (λ x y a b ex ey. ahead_min_right (known_level m x y) (known_level n x y) a b (fits.order x y a b ex ey)) (λ h. fits.beside (and_right m.side n.side h))
+    fits_from side (join m n) s (λ x. both_right side (value_with_side m x) (value_with_side n x) (s x) (told_fits side n s fits x)) (λ x y a b ex ey. ahead_min_right (known_level m x y) (known_level n x y) a b (fits.order x y a b ex ey)) (λ h. fits.beside (and_right m.side n.side h))
 
 known_max : (sx sy : AbstractValue) (same : Bool) (j k m n : ℕ) → Ahead (level_between sx sy same j) m n → Ahead k m n →
     Ahead (level_between sx sy same (max j k)) m n

@@ -13,10 +13,10 @@ use Rattle.trlab_code.specs.declared.instruction.Variable.TheVariants as variabl
 use Rattle.trlab_code.specs.Machine.{update}
 use Rattle.trlab_code.specs.Flow.{destination}
 use Rattle.trlab_notes.specs.declared.note.AbstractValue.{AbstractValue}
-use Rattle.trlab_notes.specs.Notes.{Note, same_variable, with_side, said_with_side, low, high, implies, level_between, known_level}
-use Rattle.trlab_notes.specs.Transfer.{assign_any, assign, assign_result, result_said, result_to, to_result, refine_order, refine_flag, next_note, jump_note}
+use Rattle.trlab_notes.specs.Notes.{Note, same_variable, with_side, value_with_side, low, high, implies, level_between, known_level}
+use Rattle.trlab_notes.specs.Transfer.{assign_destination, assign, assign_result, result_value, result_to, to_result, refine_order, refine_flag, next_note, jump_note}
 use Rattle.trlab_notes.specs.Order.{IsNoMorePrecise, IsNoStronger, AreNoStronger}
-use Rattle.trlab_notes.specs.Reasons.{among, is_nothing, is_range, is_flag, numbers_of, operands_of, some_unset, some_of_other_kind, may_be_too_large, may_be_below_zero, may_be_above, may_be_occupied, flags_of, values_of, reason_against}
+use Rattle.trlab_notes.specs.Reasons.{any_register, is_nothing, is_range, is_flag, numbers_of, operands_of, some_unset, some_of_wrong_type, may_be_too_large, may_be_below_zero, may_be_above, may_be_occupied, flags_of, values_of, reason_against}
 use Rattle.trlab_notes.specs.declared.reasons.Reason.{Reason}
 use Rattle.trlab_notes.proofs.Steps.{IsClear}
 use Rattle.trlab_notes.proofs.Order.{Wider, wider, known_up, Closed, On}
@@ -27,7 +27,7 @@ module _ (V : Variable → Type 0) (closed : Closed V) where
   written_up : (m n : Note) (d : Register) (s t : AbstractValue) (to to' from from' : Variable → ℕ) → On V m n →
       IsNoMorePrecise (with_side m.side s) (with_side n.side t) → ((y : Variable) → V y → to y ≤ to' y) → ((x : Variable) → V x → from x ≤ from' x) →
       On V (assign m d s to from) (assign n d t to' from')
-  unfolding assign update said_with_side known_level
+  unfolding assign update value_with_side known_level
   written_up m n d s t to to' from from' f h below above = record {
     said = λ x lx. said_at x lx (same_variable x (variable.Register d));
     order = λ x y lx ly. (level_at x y lx ly (same_variable x (variable.Register d)) (same_variable y (variable.Register d)));
@@ -49,7 +49,7 @@ module _ (V : Variable → Type 0) (closed : Closed V) where
       level_at x y lx ly false false = f.order x y lx ly
 
   pub learnt_up : (m n : Note) (p q : Variable) (k : ℕ) → V p → V q → On V m n → On V (refine_order m p q k) (refine_order n p q k)
-  unfolding refine_order said_with_side known_level
+  unfolding refine_order value_with_side known_level
   learnt_up m n p q k lp lq f = record {
     said = f.said;
     order = λ x y lx ly. (learnt_level (m.said x) (m.said y) (n.said x) (n.said y) (same_variable x y) (m.level x y) (n.level x y) _ _
@@ -62,7 +62,7 @@ module _ (V : Variable → Type 0) (closed : Closed V) where
   at_reg = closed.regs
 
   pub trusted_up : (m n : Note) (a : Register) → On V m n → On V (refine_flag m a) (refine_flag n a)
-  unfolding refine_flag said_with_side known_level
+  unfolding refine_flag value_with_side known_level
   trusted_up m n a f = record {
     said = λ x lx. more_side m.side n.side _ _ (m.said x) (n.said x) grows (or_left n.side (implies (n.said (variable.Register a)))) (f.said x lx);
     order = f.order;
@@ -98,7 +98,7 @@ module _ (V : Variable → Type 0) (closed : Closed V) where
 
   module _ (m n : Note) (f : On V m n) where
     wide_at : (x : Variable) → V x → Wider (m.said x) (n.said x)
-    unfolding said_with_side
+    unfolding value_with_side
     wide_at x h = wider m.side n.side (m.said x) (n.said x) (f.said x h)
 
     -- a number that an instruction reads
@@ -109,25 +109,25 @@ module _ (V : Variable → Type 0) (closed : Closed V) where
     reads : (r : Register) → is_nothing (m.said (variable.Register r)) ≡ false → is_flag (m.said (variable.Register r)) ≡ false → Reads r
     reads r p q = record { lo = low_up _ _ (wide_at (variable.Register r) (at_reg r)); hi = high_down _ _ p q (wide_at (variable.Register r) (at_reg r)) }
 
-    two_numbers : (a b : Register) (rest : Bool) → (among is_nothing m (a ∷ b ∷ []) || rest) ≡ false →
-        (among is_flag m (a ∷ b ∷ []) || false) ≡ false → Reads a × Reads b
+    two_numbers : (a b : Register) (rest : Bool) → (any_register is_nothing m (a ∷ b ∷ []) || rest) ≡ false →
+        (any_register is_flag m (a ∷ b ∷ []) || false) ≡ false → Reads a × Reads b
     two_numbers a b rest h k =
         let h1 = or_parts _ _ (or_parts _ _ h).0 in
         let k1 = or_parts _ _ (or_parts _ _ k).0 in
         (reads a h1.0 k1.0, reads b (or_parts _ _ h1.1).0 (or_parts _ _ k1.1).0)
 
-    one_number : (a : Register) (rest : Bool) → (among is_nothing m (a ∷ []) || rest) ≡ false →
-        (among is_flag m (a ∷ []) || false) ≡ false → Reads a
+    one_number : (a : Register) (rest : Bool) → (any_register is_nothing m (a ∷ []) || rest) ≡ false →
+        (any_register is_flag m (a ∷ []) || false) ≡ false → Reads a
     one_number a rest h k = reads a (or_parts _ _ (or_parts _ _ h).0).0 (or_parts _ _ (or_parts _ _ k).0).0
 
-    flag_up : (a : Register) → IsTrue (implies (said_with_side m (variable.Register a))) → IsTrue (implies (said_with_side n (variable.Register a)))
-    unfolding said_with_side
+    flag_up : (a : Register) → IsTrue (implies (value_with_side m (variable.Register a))) → IsTrue (implies (value_with_side n (variable.Register a)))
+    unfolding value_with_side
     flag_up a = implies_up m.side n.side (m.said (variable.Register a)) (n.said (variable.Register a)) (f.said (variable.Register a) (at_reg a))
 
     -- what is said of a result
-    said_up : (i : Instr) → Reaches i → some_unset m i ≡ false → some_of_other_kind m i ≡ false →
-        IsNoMorePrecise (with_side m.side (result_said m i)) (with_side n.side (result_said n i))
-    unfolding said_with_side
+    said_up : (i : Instr) → Reaches i → some_unset m i ≡ false → some_of_wrong_type m i ≡ false →
+        IsNoMorePrecise (with_side m.side (result_value m i)) (with_side n.side (result_value n i))
+    unfolding value_with_side
     said_up (Num d v) w h k = (omega arith, omega arith)
     said_up (Get d j) w h k = told_twice m.side n.side _ _ (f.said (variable.Input j) w)
     said_up (Side d) w h k = λ e. refl
@@ -147,7 +147,7 @@ module _ (V : Variable → Type 0) (closed : Closed V) where
     said_up (Or d a b) w h k = or_up _ _ _ _ (and_up _ _ _ _ (flag_up a) (flag_up b)) f.beside
     said_up i w h k = tt
 
-    to_up : (i : Instr) → Reaches i → some_unset m i ≡ false → some_of_other_kind m i ≡ false → (y : Variable) → V y →
+    to_up : (i : Instr) → Reaches i → some_unset m i ≡ false → some_of_wrong_type m i ≡ false → (y : Variable) → V y →
         result_to m i y ≤ result_to n i y
     to_up (Get d j) w h k y l = f.order (variable.Input j) y w l
     to_up (Copy d a) w h k y l = f.order (variable.Register a) y (at_reg a) l
@@ -162,7 +162,7 @@ module _ (V : Variable → Type 0) (closed : Closed V) where
     to_up (Max d a b) w h k y l = omega (arith, f.order (variable.Register a) y (at_reg a) l, f.order (variable.Register b) y (at_reg b) l)
     to_up i w h k y l = omega arith
 
-    from_up : (i : Instr) → Reaches i → some_unset m i ≡ false → some_of_other_kind m i ≡ false → (y : Variable) → V y →
+    from_up : (i : Instr) → Reaches i → some_unset m i ≡ false → some_of_wrong_type m i ≡ false → (y : Variable) → V y →
         to_result m i y ≤ to_result n i y
     from_up (Get d j) w h k y l = f.order y (variable.Input j) l w
     from_up (Copy d a) w h k y l = f.order y (variable.Register a) l (at_reg a)
@@ -175,17 +175,17 @@ module _ (V : Variable → Type 0) (closed : Closed V) where
     from_up (Max d a b) w h k y l = omega (arith, f.order y (variable.Register a) l (at_reg a), f.order y (variable.Register b) l (at_reg b))
     from_up i w h k y l = omega arith
 
-    after_up : (d : Register) (i : Instr) → Reaches i → some_unset m i ≡ false → some_of_other_kind m i ≡ false →
+    after_up : (d : Register) (i : Instr) → Reaches i → some_unset m i ≡ false → some_of_wrong_type m i ≡ false →
         On V (assign_result m d i) (assign_result n d i)
-    after_up d i w h k = written_up m n d (result_said m i) (result_said n i) (result_to m i) (result_to n i) (to_result m i) (to_result n i) f (said_up i w h k) (to_up i w h k) (from_up i w h k)
+    after_up d i w h k = written_up m n d (result_value m i) (result_value n i) (result_to m i) (result_to n i) (to_result m i) (to_result n i) f (said_up i w h k) (to_up i w h k) (from_up i w h k)
 
-    any_up : (o : Option Register) (i : Instr) → Reaches i → some_unset m i ≡ false → some_of_other_kind m i ≡ false →
-        BothOn (assign_any m i o) (assign_any n i o)
+    any_up : (o : Option Register) (i : Instr) → Reaches i → some_unset m i ≡ false → some_of_wrong_type m i ≡ false →
+        BothOn (assign_destination m i o) (assign_destination n i o)
     any_up None i w h k = tt
     any_up (Some d) i w h k = after_up d i w h k
 
     -- the notes on the ways from an instruction without a fault
-    pub fall_up : (i : Instr) → Reaches i → some_unset m i ≡ false → some_of_other_kind m i ≡ false → BothOn (next_note m i) (next_note n i)
+    pub fall_up : (i : Instr) → Reaches i → some_unset m i ≡ false → some_of_wrong_type m i ≡ false → BothOn (next_note m i) (next_note n i)
     fall_up (JumpLess a b t) w h k = learnt_up m n (variable.Register b) (variable.Register a) 1 (at_reg b) (at_reg a) f
     fall_up (JumpAtMost a b t) w h k = learnt_up m n (variable.Register b) (variable.Register a) 2 (at_reg b) (at_reg a) f
     fall_up (JumpTrue a t) w h k = f
@@ -198,21 +198,21 @@ module _ (V : Variable → Type 0) (closed : Closed V) where
     jump_up (JumpTrue a t) = trusted_up m n a f
     jump_up i = f
 
-    sets : (xs : List Register) → among is_nothing m xs ≡ false → among is_nothing n xs ≡ false
-    unfolding said_with_side
+    sets : (xs : List Register) → any_register is_nothing m xs ≡ false → any_register is_nothing n xs ≡ false
+    unfolding value_with_side
     sets [] h = refl
     sets (x ∷ xs) h = let e = or_parts _ _ h in both_false _ _ (still_set m.side n.side _ _ (f.said (variable.Register x) (at_reg x)) e.0) (sets xs e.1)
 
-    ranges_stay : (xs : List Register) → among is_nothing m xs ≡ false → among is_flag m xs ≡ false → among is_flag n xs ≡ false
-    unfolding said_with_side
+    ranges_stay : (xs : List Register) → any_register is_nothing m xs ≡ false → any_register is_flag m xs ≡ false → any_register is_flag n xs ≡ false
+    unfolding value_with_side
     ranges_stay [] h g = refl
     ranges_stay (x ∷ xs) h g =
         let e = or_parts _ _ h in
         let d = or_parts _ _ g in
         both_false _ _ (still_range m.side n.side _ _ (f.said (variable.Register x) (at_reg x)) e.0 d.0) (ranges_stay xs e.1 d.1)
 
-    flags_stay : (xs : List Register) → among is_nothing m xs ≡ false → among is_range m xs ≡ false → among is_range n xs ≡ false
-    unfolding said_with_side
+    flags_stay : (xs : List Register) → any_register is_nothing m xs ≡ false → any_register is_range m xs ≡ false → any_register is_range n xs ≡ false
+    unfolding value_with_side
     flags_stay [] h g = refl
     flags_stay (x ∷ xs) h g =
         let e = or_parts _ _ h in
@@ -225,14 +225,14 @@ module _ (V : Variable → Type 0) (closed : Closed V) where
         let b = or_parts _ _ a.1 in
         both_false _ _ (sets (numbers_of (operands_of i)) a.0) (both_false _ _ (sets (flags_of (operands_of i)) b.0) (sets (values_of (operands_of i)) b.1))
 
-    kinds_up : (i : Instr) → some_unset m i ≡ false → some_of_other_kind m i ≡ false → some_of_other_kind n i ≡ false
+    kinds_up : (i : Instr) → some_unset m i ≡ false → some_of_wrong_type m i ≡ false → some_of_wrong_type n i ≡ false
     kinds_up i h g =
         let a = or_parts _ _ h in
         let b = or_parts _ _ a.1 in
         let c = or_parts _ _ g in
         both_false _ _ (ranges_stay (numbers_of (operands_of i)) a.0 c.0) (flags_stay (flags_of (operands_of i)) b.0 c.1)
 
-    size_up : (i : Instr) → some_unset m i ≡ false → some_of_other_kind m i ≡ false → may_be_too_large m i ≡ false → may_be_too_large n i ≡ false
+    size_up : (i : Instr) → some_unset m i ≡ false → some_of_wrong_type m i ≡ false → may_be_too_large m i ≡ false → may_be_too_large n i ≡ false
     size_up (Add d a b) h k e = let o = two_numbers a b _ h k in grind (arith, e, o.0.hi, o.1.hi)
     size_up (Mul d a v) h k e = let o = one_number a _ h k in grind (arith, e, mul-le-mul_right v o.hi)
     size_up i h k e = refl

@@ -7,8 +7,8 @@ use Rattle.trlab_code.specs.declared.instruction.Variable.{Variable}
 use Rattle.trlab_code.specs.declared.instruction.Variable.TheVariants as variable
 use Rattle.trlab_notes.specs.declared.note.AbstractValue.{AbstractValue}
 use Rattle.trlab_notes.specs.declared.note.AbstractValue.TheVariants.{Nothing, Between, Implies}
-use Rattle.trlab_notes.specs.Notes.{Note, same_variable, with_side, said_with_side, level_between, known_level}
-use Rattle.trlab_notes.specs.Order.{join_said, join, IsNoMorePrecise, IsNoStronger}
+use Rattle.trlab_notes.specs.Notes.{Note, same_variable, with_side, value_with_side, level_between, known_level}
+use Rattle.trlab_notes.specs.Order.{join_values, join, IsNoMorePrecise, IsNoStronger}
 use Rattle.trlab_notes.proofs.Fits.{and_left, and_right}
 
 -- where one says a range, so does the other, and within it
@@ -71,17 +71,17 @@ no_more_twice (Implies i) Nothing t p q = absurd p
 no_more_twice (Implies i) (Between c d) t p q = absurd p
 
 pub same_note : (m : Note) → IsNoStronger m m
-same_note m = record { said = λ x. no_more_same (said_with_side m x); order = λ x y. omega arith; beside = λ h. h }
+same_note m = record { said = λ x. no_more_same (value_with_side m x); order = λ x y. omega arith; beside = λ h. h }
 
 pub through : (l m n : Note) → IsNoStronger l m → IsNoStronger m n → IsNoStronger l n
 through l m n f g = record {
-  said = λ x. no_more_twice (said_with_side l x) (said_with_side m x) (said_with_side n x) (f.said x) (g.said x);
+  said = λ x. no_more_twice (value_with_side l x) (value_with_side m x) (value_with_side n x) (f.said x) (g.said x);
   order = λ x y. omega (arith, f.order x y, g.order x y);
   beside = λ h. g.beside (f.beside h);
 }
 
 -- a join says no more than each of the two
-both_first : (p q : Bool) (s t : AbstractValue) → IsNoMorePrecise (with_side (p && q) (join_said (with_side p s) (with_side q t))) (with_side p s)
+both_first : (p q : Bool) (s t : AbstractValue) → IsNoMorePrecise (with_side (p && q) (join_values (with_side p s) (with_side q t))) (with_side p s)
 both_first p q Nothing t = tt
 both_first p q (Between a b) (Between c d) = (omega arith, omega arith)
 both_first p q (Between a b) Nothing = tt
@@ -92,7 +92,7 @@ both_first p q (Implies true) (Implies j) = λ h. refl
 both_first true q (Implies false) (Implies j) = λ h. refl
 both_first false q (Implies false) (Implies j) = λ h. h
 
-both_second : (p q : Bool) (s t : AbstractValue) → IsNoMorePrecise (with_side (p && q) (join_said (with_side p s) (with_side q t))) (with_side q t)
+both_second : (p q : Bool) (s t : AbstractValue) → IsNoMorePrecise (with_side (p && q) (join_values (with_side p s) (with_side q t))) (with_side q t)
 both_second p q Nothing t = tt
 both_second p q (Between a b) (Between c d) = (omega arith, omega arith)
 both_second p q (Between a b) Nothing = tt
@@ -105,7 +105,7 @@ both_second p q (Implies i) (Implies false) = λ h. search (rules, h)
 
 -- and as much as each note that says no more than the two
 both_most : (r p q : Bool) (u s t : AbstractValue) → (IsTrue r → IsTrue p) → (IsTrue r → IsTrue q) → IsNoMorePrecise (with_side r u) (with_side p s) →
-    IsNoMorePrecise (with_side r u) (with_side q t) → IsNoMorePrecise (with_side r u) (with_side (p && q) (join_said (with_side p s) (with_side q t)))
+    IsNoMorePrecise (with_side r u) (with_side q t) → IsNoMorePrecise (with_side r u) (with_side (p && q) (join_values (with_side p s) (with_side q t)))
 both_most r p q Nothing s t f g h k = tt
 both_most r p q (Between a b) (Between c d) (Between e f) _ _ h k = (omega arith, omega arith)
 both_most r p q (Between a b) Nothing t f g h k = absurd h
@@ -128,10 +128,10 @@ and_both true q h k = k
 and_both false q h k = h
 
 pub join_first : (m n : Note) → IsNoStronger (join m n) m
-unfolding join said_with_side known_level
+unfolding join value_with_side known_level
 join_first m n = record {
   said = λ x. both_first m.side n.side (m.said x) (n.said x);
-  order = λ x y. (known_from (join_said (with_side m.side (m.said x)) (with_side n.side (n.said x))) (join_said (with_side m.side (m.said y)) (with_side n.side (n.said y))) (m.said x) (m.said y) (same_variable x y) _ (m.level x y)
+  order = λ x y. (known_from (join_values (with_side m.side (m.said x)) (with_side n.side (n.said x))) (join_values (with_side m.side (m.said y)) (with_side n.side (n.said y))) (m.said x) (m.said y) (same_variable x y) _ (m.level x y)
       (wider (m.side && n.side) m.side _ (m.said x) (both_first m.side n.side (m.said x) (n.said x)))
       (wider (m.side && n.side) m.side _ (m.said y) (both_first m.side n.side (m.said y) (n.said y)))
       (omega arith));
@@ -139,10 +139,10 @@ join_first m n = record {
 }
 
 pub join_second : (m n : Note) → IsNoStronger (join m n) n
-unfolding join said_with_side known_level
+unfolding join value_with_side known_level
 join_second m n = record {
   said = λ x. both_second m.side n.side (m.said x) (n.said x);
-  order = λ x y. (known_from (join_said (with_side m.side (m.said x)) (with_side n.side (n.said x))) (join_said (with_side m.side (m.said y)) (with_side n.side (n.said y))) (n.said x) (n.said y) (same_variable x y) _ (n.level x y)
+  order = λ x y. (known_from (join_values (with_side m.side (m.said x)) (with_side n.side (n.said x))) (join_values (with_side m.side (m.said y)) (with_side n.side (n.said y))) (n.said x) (n.said y) (same_variable x y) _ (n.level x y)
       (wider (m.side && n.side) n.side _ (n.said x) (both_second m.side n.side (m.said x) (n.said x)))
       (wider (m.side && n.side) n.side _ (n.said y) (both_second m.side n.side (m.said y) (n.said y)))
       (omega arith));
@@ -164,10 +164,10 @@ level_known Nothing sy tx ty same j k p q l = omega arith
 level_known (Implies i) sy tx ty same j k p q l = omega arith
 
 pub join_most : (l m n : Note) → IsNoStronger l m → IsNoStronger l n → IsNoStronger l (join m n)
-unfolding join said_with_side known_level
+unfolding join value_with_side known_level
 join_most l m n f g = record {
   said = λ x. both_most l.side m.side n.side (l.said x) (m.said x) (n.said x) f.beside g.beside (f.said x) (g.said x);
-  order = λ x y. (level_known (l.said x) (l.said y) (join_said (with_side m.side (m.said x)) (with_side n.side (n.said x))) (join_said (with_side m.side (m.said y)) (with_side n.side (n.said y))) (same_variable x y) (l.level x y) _
+  order = λ x y. (level_known (l.said x) (l.said y) (join_values (with_side m.side (m.said x)) (with_side n.side (n.said x))) (join_values (with_side m.side (m.said y)) (with_side n.side (n.said y))) (same_variable x y) (l.level x y) _
       (wider l.side (m.side && n.side) (l.said x) _ (both_most l.side m.side n.side (l.said x) (m.said x) (n.said x) f.beside g.beside (f.said x) (g.said x)))
       (wider l.side (m.side && n.side) (l.said y) _ (both_most l.side m.side n.side (l.said y) (m.said y) (n.said y) f.beside g.beside (f.said y) (g.said y)))
       (omega (arith, f.order x y, g.order x y)));
@@ -182,23 +182,23 @@ pub record Closed (V : Variable → Type 0) : Type 0 where
 
 -- no stronger, as far as these variables go
 pub record On (V : Variable → Type 0) (m n : Note) : Type 0 where
-  pub said : (x : Variable) → V x → IsNoMorePrecise (said_with_side m x) (said_with_side n x)
+  pub said : (x : Variable) → V x → IsNoMorePrecise (value_with_side m x) (value_with_side n x)
   pub order : (x y : Variable) → V x → V y → known_level m x y ≤ known_level n x y
   pub beside : IsTrue m.side → IsTrue n.side
 
 module _ (V : Variable → Type 0) (closed : Closed V) where
   pub through_on : (l m n : Note) → On V l m → On V m n → On V l n
   through_on l m n f g = record {
-    said = λ x h. no_more_twice (said_with_side l x) (said_with_side m x) (said_with_side n x) (f.said x h) (g.said x h);
+    said = λ x h. no_more_twice (value_with_side l x) (value_with_side m x) (value_with_side n x) (f.said x h) (g.said x h);
     order = λ x y h k. omega (arith, f.order x y h k, g.order x y h k);
     beside = λ h. g.beside (f.beside h);
   }
 
   pub join_most_on : (l m n : Note) → On V l m → On V l n → On V l (join m n)
-  unfolding join said_with_side known_level
+  unfolding join value_with_side known_level
   join_most_on l m n f g = record {
     said = λ x h. both_most l.side m.side n.side (l.said x) (m.said x) (n.said x) f.beside g.beside (f.said x h) (g.said x h);
-    order = λ x y h k. (level_known (l.said x) (l.said y) (join_said (with_side m.side (m.said x)) (with_side n.side (n.said x))) (join_said (with_side m.side (m.said y)) (with_side n.side (n.said y))) (same_variable x y) (l.level x y) _
+    order = λ x y h k. (level_known (l.said x) (l.said y) (join_values (with_side m.side (m.said x)) (with_side n.side (n.said x))) (join_values (with_side m.side (m.said y)) (with_side n.side (n.said y))) (same_variable x y) (l.level x y) _
         (wider l.side (m.side && n.side) (l.said x) _ (both_most l.side m.side n.side (l.said x) (m.said x) (n.said x) f.beside g.beside (f.said x h) (g.said x h)))
         (wider l.side (m.side && n.side) (l.said y) _ (both_most l.side m.side n.side (l.said y) (m.said y) (n.said y) f.beside g.beside (f.said y k) (g.said y k)))
         (omega (arith, f.order x y h k, g.order x y h k)));
@@ -207,5 +207,5 @@ module _ (V : Variable → Type 0) (closed : Closed V) where
 
 -- a note that says nothing is no stronger than any
 pub blank_least : (n : Note) → IsNoStronger (record { said = λ x. Nothing; level = λ x y. 0; side = false }) n
-unfolding said_with_side known_level
+unfolding value_with_side known_level
 blank_least n = record { said = λ x. tt; order = λ x y. omega arith; beside = λ h. absurd (cc h) }

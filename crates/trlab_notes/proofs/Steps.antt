@@ -15,12 +15,12 @@ use Rattle.trlab_notes.specs.declared.note.AbstractValue.{AbstractValue}
 use Rattle.trlab_notes.specs.declared.note.AbstractValue.TheVariants.{Nothing, Between, Implies}
 use Rattle.trlab_code.specs.declared.instruction.Variable.{Variable}
 use Rattle.trlab_code.specs.declared.instruction.Variable.TheVariants as variable
-use Rattle.trlab_code.specs.Machine.{Value, Unset, Number, Flag, Store, seen, update, Effect, Writes, Falls, Jumps, Ends, Sticks, effect, on_number, on_flag, on_any, write_sized, jump_if, allows, allows_input, start, Goes, Crosses}
+use Rattle.trlab_code.specs.Machine.{Value, Unset, Number, Flag, Store, seen, update, Effect, Writes, Falls, Jumps, Ends, Sticks, effect, on_number, on_flag, on_any, write_u32, jump_if, allows, allows_input, start, Goes, Crosses}
 use Rattle.trlab_code.specs.Flow.{target, is_end, on_target}
 use Rattle.trlab_bounds.specs.declared.programs.TheConstants.{MAX_NUMBER}
-use Rattle.trlab_notes.specs.Notes.{Note, said_with_side, low, high, implies, known_level}
+use Rattle.trlab_notes.specs.Notes.{Note, value_with_side, low, high, implies, known_level}
 use Rattle.trlab_notes.specs.Transfer.{assign, sharpen, slacken, least_difference, next_note, jump_note}
-use Rattle.trlab_notes.specs.Reasons.{is_of_kind, reason_against, among, is_nothing, is_range, is_flag, some_unset, some_of_other_kind, falls_out, may_be_too_large, may_be_below_zero, may_be_above, may_be_occupied}
+use Rattle.trlab_notes.specs.Reasons.{is_of_kind, reason_against, any_register, is_nothing, is_range, is_flag, some_unset, some_of_wrong_type, falls_out, may_be_too_large, may_be_below_zero, may_be_above, may_be_occupied}
 use Rattle.trlab_notes.specs.declared.reasons.Reason.{Reason}
 use Rattle.trlab_notes.proofs.Fits.{number_is, Ahead, FitsSaid, Fits, sharper_right, sharper_less, just_right, ahead_max, written_fits, told_fits, learnt_fits, trusted_fits, and_left, and_right, either_true}
 use Rattle.trlab_notes.proofs.Growth.{div_mono}
@@ -40,7 +40,7 @@ Leads side m i s Sticks = ⊥
 pub record IsClear (kind own : Kind) (len pc : ℕ) (m : Note) (i : Instr) : Type 0 where
   pub allowed : not (is_of_kind kind own i) ≡ false
   pub set : some_unset m i ≡ false
-  pub kinds : some_of_other_kind m i ≡ false
+  pub kinds : some_of_wrong_type m i ≡ false
   pub forward : on_target (λ t. nat_le t pc) (target i) ≡ false
   pub within : on_target (λ t. nat_le len t) (target i) ≡ false
   pub follows : falls_out len pc i ≡ false
@@ -113,7 +113,7 @@ on_any_at P Unset f h p = absurd (h refl)
 on_any_at P (Number n) f h p = p
 on_any_at P (Flag b) f h p = p
 
-write_sized_at : (P : Effect → Type 0) (d : Register) (n : ℕ) → n ≤ MAX_NUMBER → P (Writes d (Number n)) → P (write_sized d n)
+write_sized_at : (P : Effect → Type 0) (d : Register) (n : ℕ) → n ≤ MAX_NUMBER → P (Writes d (Number n)) → P (write_u32 d n)
 write_sized_at P d n h p = let e : nat_lt n 4294967296 ≡ true = grind (arith, h) in subst (λ b. P (cond b (Writes d (Number n)) Sticks)) (sym e) p
 
 if_at : (P : Effect → Type 0) (b : Bool) (e f : Effect) → b ≡ true → P e → P (cond b e f)
@@ -169,9 +169,9 @@ module _ (side : Bool) (m : Note) (s : Store) (fits : Fits side m s) where
       written_fits side m s fits d (Flag b) (Implies imp) none none h (λ y k n e ey p. omega arith) (λ y k n e ey p. omega arith)
 
   -- a copy of the value at a variable, with what is told and known of it
-  writes_copy : (d : Register) (a : Variable) → Fits side (assign m d (said_with_side m a) (known_level m a) (λ y. known_level m y a)) (update s (variable.Register d) (s a))
+  writes_copy : (d : Register) (a : Variable) → Fits side (assign m d (value_with_side m a) (known_level m a) (λ y. known_level m y a)) (update s (variable.Register d) (s a))
   writes_copy d a =
-      written_fits side m s fits d (s a) (said_with_side m a) (known_level m a) (λ y. known_level m y a) (told_fits side m s fits a) (λ y k n e ey. fits.order a y k n e ey) (λ y k n e ey. fits.order y a n k ey e)
+      written_fits side m s fits d (s a) (value_with_side m a) (known_level m a) (λ y. known_level m y a) (told_fits side m s fits a) (λ y k n e ey. fits.order a y k n e ey) (λ y k n e ey. fits.order y a n k ey e)
 
   leads_num : (d : Register) (n : ℕ) → Fits side (assign m d (Between n n) none none) (update s (variable.Register d) (Number n))
   leads_num d n = writes_number d n n n none none (omega arith) (omega arith) (λ y k e p. omega arith) (λ y k e p. omega arith)
@@ -237,12 +237,12 @@ module _ (side : Bool) (m : Note) (s : Store) (fits : Fits side m s) where
       (λ y k e h. let f : p.n + known_level m a y ≤ suc k = fits.order a y p.n k p.value e h in omega (arith, div-le_self p.n n))
       (λ y k e h. omega arith)
 
-  flag_told : (a : Variable) (b : Bool) → s a ≡ Flag b → IsTrue (implies (said_with_side m a)) → IsTrue b → IsTrue side
-  flag_told a b e h k = imp_flag side (said_with_side m a) b (subst (λ w. FitsSaid side (said_with_side m a) w) e (told_fits side m s fits a)) h k
+  flag_told : (a : Variable) (b : Bool) → s a ≡ Flag b → IsTrue (implies (value_with_side m a)) → IsTrue b → IsTrue side
+  flag_told a b e h k = imp_flag side (value_with_side m a) b (subst (λ w. FitsSaid side (value_with_side m a) w) e (told_fits side m s fits a)) h k
 
   -- the operands of an instruction without a fault
-  two_numbers : (a b : Register) (rest : Bool) → (among is_nothing m (a ∷ b ∷ []) || rest) ≡ false →
-      (among is_flag m (a ∷ b ∷ []) || false) ≡ false → Operand m s (variable.Register a) × Operand m s (variable.Register b)
+  two_numbers : (a b : Register) (rest : Bool) → (any_register is_nothing m (a ∷ b ∷ []) || rest) ≡ false →
+      (any_register is_flag m (a ∷ b ∷ []) || false) ≡ false → Operand m s (variable.Register a) × Operand m s (variable.Register b)
   two_numbers a b rest h k =
       let h0 = or_parts _ _ h in
       let k0 = or_parts _ _ k in
@@ -250,20 +250,20 @@ module _ (side : Bool) (m : Note) (s : Store) (fits : Fits side m s) where
       let k1 = or_parts _ _ k0.0 in
       (one (variable.Register a) h1.0 k1.0, one (variable.Register b) (or_parts _ _ h1.1).0 (or_parts _ _ k1.1).0)
 
-  one_number : (a : Register) (rest : Bool) → (among is_nothing m (a ∷ []) || rest) ≡ false →
-      (among is_flag m (a ∷ []) || false) ≡ false → Operand m s (variable.Register a)
+  one_number : (a : Register) (rest : Bool) → (any_register is_nothing m (a ∷ []) || rest) ≡ false →
+      (any_register is_flag m (a ∷ []) || false) ≡ false → Operand m s (variable.Register a)
   one_number a rest h k = one (variable.Register a) (or_parts _ _ (or_parts _ _ h).0).0 (or_parts _ _ (or_parts _ _ k).0).0
 
   flag_at : (a : Register) → is_nothing (m.said (variable.Register a)) ≡ false → is_range (m.said (variable.Register a)) ≡ false →
       (b : Bool) × (s (variable.Register a) ≡ Flag b)
   flag_at a h k = flag_there side (m.said (variable.Register a)) (s (variable.Register a)) h k (fits.each (variable.Register a))
 
-  one_flag : (a : Register) (rest : Bool) → (among is_nothing m (a ∷ []) || rest) ≡ false → among is_range m (a ∷ []) ≡ false →
+  one_flag : (a : Register) (rest : Bool) → (any_register is_nothing m (a ∷ []) || rest) ≡ false → any_register is_range m (a ∷ []) ≡ false →
       (b : Bool) × (s (variable.Register a) ≡ Flag b)
   one_flag a rest h k = flag_at a (or_parts _ _ (or_parts _ _ h).0).0 (or_parts _ _ k).0
 
-  two_flags : (a b : Register) (rest : Bool) → (among is_nothing m (a ∷ b ∷ []) || rest) ≡ false →
-      among is_range m (a ∷ b ∷ []) ≡ false → ((p : Bool) × (s (variable.Register a) ≡ Flag p)) × ((p : Bool) × (s (variable.Register b) ≡ Flag p))
+  two_flags : (a b : Register) (rest : Bool) → (any_register is_nothing m (a ∷ b ∷ []) || rest) ≡ false →
+      any_register is_range m (a ∷ b ∷ []) ≡ false → ((p : Bool) × (s (variable.Register a) ≡ Flag p)) × ((p : Bool) × (s (variable.Register b) ≡ Flag p))
   two_flags a b rest h k =
       let h1 = or_parts _ _ (or_parts _ _ h).0 in
       let k1 = or_parts _ _ k in
@@ -300,7 +300,7 @@ module _ (kind own : Kind) (view : View) (words : List ℕ) (len pc : ℕ) (m : 
   leads (Draw d k t) c = (_, refl, writes_flag view.side m s fits d _ false (λ p q. absurd (cc p)))
   leads (Add d a b) c =
       let o = two_numbers view.side m s fits a b _ c.set c.kinds in
-      read_two (Leads view.side m (Add d a b) s) (variable.Register a) (variable.Register b) (λ j k. write_sized d (j + k)) o.0 o.1 (write_sized_at (Leads view.side m (Add d a b) s) d (o.0.n + o.1.n) (let l : high (m.said (variable.Register a)) + high (m.said (variable.Register b)) ≤ MAX_NUMBER = grind (arith, c.fits) in omega (arith, l, o.0.most, o.1.most)) (_, refl, leads_add view.side m s fits d (variable.Register a) (variable.Register b) o.0 o.1))
+      read_two (Leads view.side m (Add d a b) s) (variable.Register a) (variable.Register b) (λ j k. write_u32 d (j + k)) o.0 o.1 (write_sized_at (Leads view.side m (Add d a b) s) d (o.0.n + o.1.n) (let l : high (m.said (variable.Register a)) + high (m.said (variable.Register b)) ≤ MAX_NUMBER = grind (arith, c.fits) in omega (arith, l, o.0.most, o.1.most)) (_, refl, leads_add view.side m s fits d (variable.Register a) (variable.Register b) o.0 o.1))
   leads (Sub d a b) c =
       let o = two_numbers view.side m s fits a b _ c.set c.kinds in
       let k : 1 ≤ known_level m (variable.Register b) (variable.Register a) = positive_known view.side m s fits _ c.positive in
@@ -309,7 +309,7 @@ module _ (kind own : Kind) (view : View) (words : List ℕ) (len pc : ℕ) (m : 
       read_two (Leads view.side m (Sub d a b) s) (variable.Register a) (variable.Register b) (λ j k. cond (nat_le k j) (Writes d (Number (j - k))) Sticks) o.0 o.1 (if_at (Leads view.side m (Sub d a b) s) (nat_le o.1.n o.0.n) (Writes d (Number (o.0.n - o.1.n))) Sticks (le-leb o.1.n o.0.n le) (_, refl, leads_sub view.side m s fits d (variable.Register a) (variable.Register b) o.0 o.1 le))
   leads (Mul d a n) c =
       let o = one_number view.side m s fits a _ c.set c.kinds in
-      on_number_at (Leads view.side m (Mul d a n) s) (s (variable.Register a)) o.n (λ j. write_sized d (j * n)) o.value (write_sized_at (Leads view.side m (Mul d a n) s) d (o.n * n) (let l : high (m.said (variable.Register a)) * n ≤ MAX_NUMBER = grind (arith, c.fits) in omega (arith, l, mul-le-mul_right n o.most)) (_, refl, leads_mul view.side m s fits d (variable.Register a) n o))
+      on_number_at (Leads view.side m (Mul d a n) s) (s (variable.Register a)) o.n (λ j. write_u32 d (j * n)) o.value (write_sized_at (Leads view.side m (Mul d a n) s) d (o.n * n) (let l : high (m.said (variable.Register a)) * n ≤ MAX_NUMBER = grind (arith, c.fits) in omega (arith, l, mul-le-mul_right n o.most)) (_, refl, leads_mul view.side m s fits d (variable.Register a) n o))
   leads (Div d a n) c =
       let o = one_number view.side m s fits a _ c.set c.kinds in
       on_number_at (Leads view.side m (Div d a n) s) (s (variable.Register a)) o.n (λ j. Writes d (Number (j / n))) o.value (_, refl, leads_div view.side m s fits d (variable.Register a) n o)

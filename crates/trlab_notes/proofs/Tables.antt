@@ -9,10 +9,10 @@ use Rattle.trlab_notes.specs.declared.note.AbstractValue.{AbstractValue}
 use Rattle.trlab_notes.specs.declared.note.AbstractValue.TheVariants.{Nothing, Between, Implies}
 use Rattle.trlab_notes.specs.declared.rows.Stored.{Stored}
 use Rattle.trlab_notes.specs.declared.rows.LevelRow.{LevelRow}
-use Rattle.trlab_notes.specs.Notes.{Note, same_variable, with_side, said_with_side, level_between, known_level, range_level, implies, closure, entry, entry_said, entry_level}
+use Rattle.trlab_notes.specs.Notes.{Note, same_variable, with_side, value_with_side, level_between, known_level, range_level, implies, closure, entry, entry_said, entry_level}
 use Rattle.trlab_notes.specs.Transfer.{assign, chain, refine_order, refine_flag}
-use Rattle.trlab_notes.specs.Order.{IsNoMorePrecise, IsNoStronger, join, join_said}
-use Rattle.trlab_notes.specs.Rows.{level_of, level_at, known_with, AreValidLevels, IncludesRanges, IsTransposed}
+use Rattle.trlab_notes.specs.Order.{IsNoMorePrecise, IsNoStronger, join, join_values}
+use Rattle.trlab_notes.specs.Rows.{level_of, level_at, known_level_from, AreValidLevels, IncludesRanges, IsTransposed}
 use Rattle.trlab_notes.specs.Stored.{note_of}
 use Rattle.trlab_bounds.specs.declared.programs.TheConstants.{VARIABLES}
 use Rattle.trlab_code.specs.declared.instruction.Register.{Register}
@@ -116,7 +116,7 @@ lesser j k r s t x y h l = omega (arith, x, y, h, l)
 
 -- the levels of a join are what both know
 pub both_known : (s u t v : AbstractValue) (p q same : Bool) (j k : ℕ) → level_between s t same j ≡ j → level_between u v same k ≡ k →
-    level_between (join_said (with_side p s) (with_side q u)) (join_said (with_side p t) (with_side q v)) same (min j k) ≡ min j k
+    level_between (join_values (with_side p s) (with_side q u)) (join_values (with_side p t) (with_side q v)) same (min j k) ≡ min j k
 both_known (Between a b) (Between e f) (Between c d) (Between g h) p q true j k x y = omega (arith, x, y)
 both_known (Between a b) (Between e f) (Between c d) (Between g h) p q false j k x y = lesser j k _ _ _ x y (range_less b (max b f) c (min c g) (omega arith) (omega arith)) (range_less f (max b f) g (min c g) (omega arith) (omega arith))
 both_known (Between a b) (Between e f) (Between c d) Nothing p q same j k x y = omega (arith, y)
@@ -134,7 +134,7 @@ both_known (Implies i) (Implies l) t v p q same j k x y = omega (arith, x)
 
 -- the variables of a join are those of both notes
 abbrev SaidByBoth : Stored → Stored → List AbstractValue → Type 0
-SaidByBoth a b said = (x : ℕ) → x < VARIABLES → get_or said x Nothing ≡ join_said (with_side a.side (get_or a.said x Nothing)) (with_side b.side (get_or b.said x Nothing))
+SaidByBoth a b said = (x : ℕ) → x < VARIABLES → get_or said x Nothing ≡ join_values (with_side a.side (get_or a.said x Nothing)) (with_side b.side (get_or b.said x Nothing))
 
 -- and its levels are the lesser ones
 abbrev LevelsOfBoth : Stored → Stored → List LevelRow → Type 0
@@ -142,7 +142,7 @@ LevelsOfBoth a b rows = (x y : ℕ) → x < VARIABLES → y < VARIABLES → leve
 
 pub join_is : (a b : Stored) (said : List AbstractValue) (rows : List LevelRow) (side : Bool) → SaidByBoth a b said → LevelsOfBoth a b rows →
     side ≡ (a.side && b.side) → made said rows side ≡ join (note_of a) (note_of b)
-unfolding join said_with_side
+unfolding join value_with_side
 join_is a b said rows side hs hl e =
     note_same _ _ (fun_ext (λ x. hs (variable_number x) (below_variables x))) (level_same _ _ (λ x y. hl (variable_number x) (variable_number y) (below_variables x) (below_variables y) ∙ least_same (known_is a.said a.rows a.side a.ranges x y) (known_is b.said b.rows b.side b.ranges x y))) e
   where
@@ -355,9 +355,9 @@ entry_one x y = omega arith
 
 pub entry_fits : (said : List AbstractValue) (levels : List (List ℕ)) → AreEntryLevels levels → AreValidLevels said levels
 entry_fits said levels h x y lx ly =
-    at_numbers (λ j. known_with said j y (level_at levels j y) ≤ 2)
-    (λ u. at_numbers (λ k. known_with said (variable_number u) k (level_at levels (variable_number u) k) ≤ 2)
-    (λ v. subst (λ z. known_with said (variable_number u) (variable_number v) z ≤ 2) (sym (h u v)) (entry_small _ _ _ (entry_level u v) (entry_one u v))) y ly)
+    at_numbers (λ j. known_level_from said j y (level_at levels j y) ≤ 2)
+    (λ u. at_numbers (λ k. known_level_from said (variable_number u) k (level_at levels (variable_number u) k) ≤ 2)
+    (λ v. subst (λ z. known_level_from said (variable_number u) (variable_number v) z ≤ 2) (sym (h u v)) (entry_small _ _ _ (entry_level u v) (entry_one u v))) y ly)
     x lx
 
 -- one note is no stronger than another where the tables say no more
@@ -365,7 +365,7 @@ pub no_stronger : (m n : Stored) →
     ((x : ℕ) → x < VARIABLES → IsNoMorePrecise (with_side m.side (get_or m.said x Nothing)) (with_side n.side (get_or n.said x Nothing))) →
     ((x y : ℕ) → x < VARIABLES → y < VARIABLES → level_of m.rows x y ≤ level_of n.rows x y) → (IsTrue m.side → IsTrue n.side) →
     IsNoStronger (note_of m) (note_of n)
-unfolding said_with_side
+unfolding value_with_side
 no_stronger m n f g h = record {
   said = λ x. f (variable_number x) (below_variables x);
   order = λ x y. let l = g (variable_number x) (variable_number y) (below_variables x) (below_variables y) in omega (arith, l, known_is m.said m.rows m.side m.ranges x y, known_is n.said n.rows n.side n.ranges x y);
@@ -374,7 +374,7 @@ no_stronger m n f g h = record {
 
 pub no_stronger_said : (m n : Stored) → IsNoStronger (note_of m) (note_of n) → (x : ℕ) → x < VARIABLES →
     IsNoMorePrecise (with_side m.side (get_or m.said x Nothing)) (with_side n.side (get_or n.said x Nothing))
-unfolding said_with_side
+unfolding value_with_side
 no_stronger_said m n h = at_numbers (λ x. IsNoMorePrecise (with_side m.side (get_or m.said x Nothing)) (with_side n.side (get_or n.said x Nothing))) h.said
 
 pub no_stronger_levels : (m n : Stored) → IsNoStronger (note_of m) (note_of n) → (x y : ℕ) → x < VARIABLES → y < VARIABLES → level_of m.rows x y ≤ level_of n.rows x y

@@ -10,9 +10,9 @@ use Rattle.trlab_code.specs.Machine.{variable_number, allows_input}
 use Rattle.trlab_notes.specs.declared.note.AbstractValue.{AbstractValue}
 use Rattle.trlab_notes.specs.declared.note.AbstractValue.TheVariants.{Nothing, Between, Implies}
 
--- An abstract state: the abstract value of each variable, the level of each variable to each, and whether the
--- side cell is known to be empty. The level of x to y is 2 if x is below y, 1 if x is at most y, 0 if neither
--- is known.
+-- an abstract state: the abstract value of each variable, the level of each variable to each, and whether the
+-- side cell is known to be empty. The level of x to y is 2 if x is known to be below y, 1 if it is known to
+-- be at most y, and 0 otherwise
 pub record Note : Type 0 where
   pub said : Variable → AbstractValue
   pub level : Variable → Variable → ℕ
@@ -22,16 +22,16 @@ pub record Note : Type 0 where
 abbrev pub same_variable : Variable → Variable → Bool
 same_variable x y = nat_eq (variable_number x) (variable_number y)
 
--- an abstract value with what `side` adds: if the side cell is known to be empty, every flag implies that it
--- is
+-- an abstract value refined by `side`: if the side cell is known to be empty, each flag implies that it is;
+-- other abstract values stay as they are
 abbrev pub with_side : Bool → AbstractValue → AbstractValue
 with_side side Nothing = Nothing
 with_side side (Between lo hi) = Between lo hi
-with_side side (Implies imp) = Implies (imp || side)
+with_side side (Implies implied) = Implies (implied || side)
 
--- the abstract value of variable x in a note, with what the note knows of the side cell
-unfoldable pub said_with_side : Note → Variable → AbstractValue
-said_with_side note x = with_side note.side (note.said x)
+-- the abstract value of variable x in a note, refined by the note's knowledge of the side cell
+unfoldable pub value_with_side : Note → Variable → AbstractValue
+value_with_side note x = with_side note.side (note.said x)
 
 -- the smallest number of a range; 0 for other abstract values
 abbrev pub low : AbstractValue → ℕ
@@ -43,37 +43,41 @@ abbrev pub high : AbstractValue → ℕ
 high (Between lo hi) = hi
 high _ = 0
 
--- is this the abstract value of a flag that, if it is true, implies that the side cell is empty?
+-- does this abstract value imply that the side cell is empty? It does if it is a flag that is true only if
+-- that cell is empty
 abbrev pub implies : AbstractValue → Bool
-implies (Implies imp) = imp
+implies (Implies implied) = implied
 implies _ = false
 
--- the level of a number of at most hi to a number of at least lo: 2 if hi is below lo, 1 if they are equal,
--- otherwise 0
+-- the level that follows from ranges, of a number of at most hi to a number of at least lo: 2 if hi is below
+-- lo, 1 if they are equal, otherwise 0
 abbrev pub range_level : ℕ → ℕ → ℕ
 range_level hi lo = if nat_lt hi lo then 2 else (if nat_le hi lo then 1 else 0)
 
--- the level of one number to another: 1 for the same variable, otherwise `level` or the level of their
--- ranges, whichever is larger; 0 if one of them is not a number
+-- the known level of one variable to another, from their abstract values, whether they are the same variable,
+-- and their level in a note: 1 if they are the same, otherwise this level or the level of their ranges,
+-- whichever is larger; 0 if one of them is not a number
 abbrev pub level_between : AbstractValue → AbstractValue → Bool → ℕ → ℕ
-level_between (Between lx hx) (Between ly hy) true level = 1
-level_between (Between lx hx) (Between ly hy) false level = max level (range_level hx ly)
+level_between (Between x_lo x_hi) (Between y_lo y_hi) true level = 1
+level_between (Between x_lo x_hi) (Between y_lo y_hi) false level = max level (range_level x_hi y_lo)
 level_between _ _ same level = 0
 
--- all that a note knows of the level of x to y, from levels and ranges; 0 if one of them is not a number
+-- the known level of x to y: 1 if they are the same variable, otherwise their level in the note or the level
+-- of their ranges, whichever is larger; 0 if one of them is not a number
 unfoldable pub known_level : Note → Variable → Variable → ℕ
 known_level note x y = level_between (note.said x) (note.said y) (same_variable x y) (note.level x y)
 
--- the closure of a note: the same knowledge, with its levels saying all that it knows of the order
+-- the closure of a note under its ranges: each level is the known level, so that the order of two variables
+-- that follows from their ranges is a level too. Levels are not chained through a third variable
 unfoldable pub closure : Note → Note
 closure note = record note { level = known_level note }
 
--- the closure of a note, or `None` if there is no note
+-- the closure of a note, if there is one
 abbrev pub maybe_closure : Option Note → Option Note
 maybe_closure None = None
 maybe_closure (Some note) = Some (closure note)
 
--- the range of an input, on any legal road
+-- the range of an input: the smallest and the largest number that it is on any legal road
 abbrev pub input_range : Input → AbstractValue
 input_range Speed = Between 0 MAX_LIMIT
 input_range Limit = Between 1 MAX_LIMIT
@@ -83,19 +87,19 @@ input_range SideBack = Between 0 MAX_GAP
 input_range Lane = Between 0 1
 input_range Headspeed = Between 0 MAX_LIMIT
 
--- the abstract value of a variable at the start: registers are unset, and the inputs that the kind may read
--- have their ranges
+-- the abstract value of a variable at the start of a program of this kind: inputs that the kind may read have
+-- their ranges, and nothing is known of registers and other inputs
 abbrev pub entry_said : Kind → Variable → AbstractValue
 entry_said kind (variable.Register r) = Nothing
 entry_said kind (variable.Input k) = if allows_input kind k then input_range k else Nothing
 
--- the level of two variables at the start: speed and headspeed are at most the limit, and nothing else is
--- known
+-- the level of one variable to another at the start of a program: speed and headspeed are at most the limit,
+-- and nothing else is known
 abbrev pub entry_level : Variable → Variable → ℕ
 entry_level (variable.Input Speed) (variable.Input Limit) = 1
 entry_level (variable.Input Headspeed) (variable.Input Limit) = 1
 entry_level _ _ = 0
 
--- the entry note: what is known at the start of each program of this kind
+-- the entry note: the knowledge at the start of each program of this kind
 unfoldable pub entry : Kind → Note
 entry kind = record { said = entry_said kind; level = entry_level; side = false }

@@ -3,39 +3,43 @@ use Rattle.std.specs.Prelude.{◌≤◌, ◌&&◌, min, max, IsTrue, Option, Som
 use Rattle.trlab_code.specs.declared.instruction.Variable.{Variable}
 use Rattle.trlab_notes.specs.declared.note.AbstractValue.{AbstractValue}
 use Rattle.trlab_notes.specs.declared.note.AbstractValue.TheVariants.{Nothing, Between, Implies}
-use Rattle.trlab_notes.specs.Notes.{Note, said_with_side, known_level}
+use Rattle.trlab_notes.specs.Notes.{Note, value_with_side, known_level}
 
--- an abstract value says no more than another: it is `Nothing`, or a range that contains the other range, or
--- a flag that implies an empty side cell only if the other flag does
+-- an abstract value is no more precise than another: it is `Nothing`; or a range that contains the other
+-- range, as `Between 0 9` contains `Between 2 5`; or a flag that implies an empty side cell only if the other
+-- flag does
 abbrev pub IsNoMorePrecise : AbstractValue → AbstractValue → Type 0
-IsNoMorePrecise Nothing t = Unit {0}
+IsNoMorePrecise Nothing other = Unit {0}
 IsNoMorePrecise (Between lo hi) (Between least most) = (lo ≤ least) × (most ≤ hi)
-IsNoMorePrecise (Implies imp) (Implies other) = IsTrue imp → IsTrue other
+IsNoMorePrecise (Implies implied) (Implies other) = IsTrue implied → IsTrue other
 IsNoMorePrecise _ _ = ⊥
 
--- note m is no stronger than note n: m knows no more of the values, the order and the side cell
+-- note m is no stronger than note n: it knows no more of the values, of the order and of the side cell
 pub record IsNoStronger (m n : Note) : Type 0 where
-  pub said : (x : Variable) → IsNoMorePrecise (said_with_side m x) (said_with_side n x)
+  pub said : (x : Variable) → IsNoMorePrecise (value_with_side m x) (value_with_side n x)
   pub order : (x y : Variable) → known_level m x y ≤ known_level n x y
   pub beside : IsTrue m.side → IsTrue n.side
 
--- both notes are missing, or both are there and the first is no stronger than the second
+-- of two notes, either of which may be missing, the first is no stronger than the second; if one is missing,
+-- so is the other
 abbrev pub AreNoStronger : Option Note → Option Note → Type 0
 AreNoStronger None None = Unit {0}
 AreNoStronger (Some m) (Some n) = IsNoStronger m n
 AreNoStronger _ _ = ⊥
 
--- the common knowledge of two abstract values: the smallest range around two ranges, a flag that implies an
--- empty side cell only if both flags do, and otherwise `Nothing`
-abbrev pub join_said : AbstractValue → AbstractValue → AbstractValue
-join_said (Between a b) (Between c d) = Between (min a c) (max b d)
-join_said (Implies p) (Implies q) = Implies (p && q)
-join_said _ _ = Nothing
+-- the common knowledge of two abstract values: the smallest range around two ranges, for example
+-- `Between 0 9` for `Between 0 3` and `Between 5 9`; a flag that implies an empty side cell if both flags do;
+-- otherwise `Nothing`
+abbrev pub join_values : AbstractValue → AbstractValue → AbstractValue
+join_values (Between lo hi) (Between least most) = Between (min lo least) (max hi most)
+join_values (Implies implied) (Implies other) = Implies (implied && other)
+join_values _ _ = Nothing
 
--- the join of notes m and n: their common knowledge of the values, the order and the side cell
+-- the join of notes m and n, the strongest note that is no stronger than either: their common knowledge of
+-- the values, the order and the side cell
 unfoldable pub join : Note → Note → Note
 join m n = record {
-  said = λ x. join_said (said_with_side m x) (said_with_side n x);
+  said = λ x. join_values (value_with_side m x) (value_with_side n x);
   level = λ x y. min (known_level m x y) (known_level n x y);
   side = m.side && n.side;
 }

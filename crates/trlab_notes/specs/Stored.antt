@@ -1,23 +1,23 @@
--- How the code keeps notes.
+-- How the code keeps notes: as arrays in the order of the variables' numbers.
 use Rattle.std.specs.Prelude.{ℕ, List, Option, Some, None, slice_index_or}
 use Rattle.trlab_code.specs.Machine.{variable_number}
 use Rattle.trlab_notes.specs.declared.rows.Stored.{Stored}
 use Rattle.trlab_notes.specs.Notes.{Note}
-use Rattle.trlab_notes.specs.Rows.{level_of, said_in}
+use Rattle.trlab_notes.specs.Rows.{level_of, value_in}
 
--- the note that is stored
+-- the note that the code keeps as `stored`
 abbrev pub note_of : Stored → Note
 note_of stored = record {
-  said = said_in stored.said;
+  said = value_in stored.said;
   level = λ x y. level_of stored.rows (variable_number x) (variable_number y);
   side = stored.side;
 }
 
--- the note that is stored, or `None` if there is none
+-- the note that the code keeps, if there is one
 abbrev pub maybe_note : Option Stored → Option Note
 maybe_note None = None
 maybe_note (Some stored) = Some (note_of stored)
 
--- the stored note of the instruction at q; `None` if it has none
-abbrev pub notes_of : List (Option Stored) → ℕ → Option Note
-notes_of notes q = maybe_note (slice_index_or notes q None)
+-- the note that the code keeps for the instruction at q; `None` if it keeps none
+abbrev pub stored_note_at : List (Option Stored) → ℕ → Option Note
+stored_note_at notes q = maybe_note (slice_index_or notes q None)

@@ -4,8 +4,8 @@ ghost use Rattle.std.specs.Prelude.{◌≡◌, ℕ, ◌<◌, ◌≤◌, slice_in
 ghost use Rattle.trlab_code.specs.declared.instruction.Variable.{Variable as AVariable};
 ghost use Rattle.trlab_code.specs.Machine.{variable_number};
 ghost use Rattle.trlab_notes.specs.declared.note.AbstractValue.TheVariants.{Nothing};
-ghost use Rattle.trlab_notes.specs.Notes.{closure, entry, known_level, said_with_side, with_side};
-ghost use Rattle.trlab_notes.specs.Rows.{AreValidLevels, known_with, level_at, level_in, level_of, levels_in, said_in};
+ghost use Rattle.trlab_notes.specs.Notes.{closure, entry, known_level, value_with_side, with_side};
+ghost use Rattle.trlab_notes.specs.Rows.{AreValidLevels, known_level_from, level_at, level_in, level_of, levels_in, value_in};
 ghost use Rattle.trlab_notes.specs.Stored.{note_of};
 
 use crate::note::{AbstractValue, entry_levels, entry_said, level_between};
@@ -15,8 +15,8 @@ use trlab_code::{Kind, VARIABLES, Variable};
 /// The known levels of the variable x to all variables, from its own levels and the ranges.
 fn known_row(said: &[AbstractValue; VARIABLES], x: usize, levels: &[u8; VARIABLES]) -> LevelRow
     requires inside { x < VARIABLES }
-    requires small { (y : ℕ) → y < VARIABLES → known_with said.now x y (slice_index levels.now y) ≤ 2 }
-    ensures { (y : ℕ) → y < VARIABLES → level_in result y ≡ known_with said.now x y (slice_index levels.now y) }
+    requires small { (y : ℕ) → y < VARIABLES → known_level_from said.now x y (slice_index levels.now y) ≤ 2 }
+    ensures { (y : ℕ) → y < VARIABLES → level_in result y ≡ known_level_from said.now x y (slice_index levels.now y) }
 {
     let mut row = LevelRow::empty();
     for y in 0..VARIABLES {
@@ -32,7 +32,7 @@ fn known_rows(
 ) -> [LevelRow; VARIABLES]
     requires { AreValidLevels said.now levels.now }
     ensures { (x y : ℕ) → x < VARIABLES → y < VARIABLES →
-        level_of result x y ≡ known_with said.now x y (level_at levels.now x y) }
+        level_of result x y ≡ known_level_from said.now x y (level_at levels.now x y) }
 {
     let mut rows = [LevelRow::empty(); VARIABLES];
     for x in 0..VARIABLES {
@@ -60,7 +60,7 @@ impl Stored {
     ) -> Stored
         requires { AreValidLevels said levels.now }
         ensures { note_of result ≡ closure (record {
-          said = said_in said;
+          said = value_in said;
           level = levels_in levels.now;
           side = side;
         }) }
@@ -90,9 +90,9 @@ impl Stored {
     }
 
     /// The abstract value of a variable, including the knowledge of the side cell.
-    #[tactic(auto, unfolding(crate::specs::Notes::said_with_side))]
-    pub(crate) fn said_with_side(&self, variable: Variable) -> AbstractValue
-        ensures { result ≡ said_with_side (note_of self.now) variable }
+    #[tactic(auto, unfolding(crate::specs::Notes::value_with_side))]
+    pub(crate) fn value_with_side(&self, variable: Variable) -> AbstractValue
+        ensures { result ≡ value_with_side (note_of self.now) variable }
     {
         self.said_at(variable.number())
     }

@@ -3,9 +3,9 @@
 ghost use Rattle.std.specs.Prelude.{◌≡◌, ◌≤◌, MatchOption, ◌<◌, nat_le};
 ghost use Rattle.trlab_code.specs.Machine.{allows, allows_input};
 ghost use Rattle.trlab_code.specs.Flow.{target, on_target};
-ghost use Rattle.trlab_notes.specs.Reasons.{is_nothing, is_range, is_flag, is_of_kind, some_unset, some_of_other_kind, may_be_too_large, may_be_below_zero, may_be_above, may_be_occupied, falls_out, first_reason, range_checks, reason_against};
+ghost use Rattle.trlab_notes.specs.Reasons.{is_nothing, is_range, is_flag, is_of_kind, some_unset, some_of_wrong_type, may_be_too_large, may_be_below_zero, may_be_above, may_be_occupied, falls_out, first_reason, range_checks, reason_against};
 ghost use Rattle.trlab_notes.specs.Stored.{note_of};
-ghost use Rattle.trlab_notes.specs.Transfer.{register_said};
+ghost use Rattle.trlab_notes.specs.Transfer.{register_value};
 
 use crate::note::AbstractValue;
 use crate::rows::Stored;
@@ -146,23 +146,23 @@ fn is_of_kind(kind: Kind, own: Kind, instr: Instr) -> bool
 
 /// Whether a register may be unset.
 fn is_unset(note: &Stored, register: Register) -> bool
-    ensures { result ≡ is_nothing (register_said (note_of note.now) register) }
+    ensures { result ≡ is_nothing (register_value (note_of note.now) register) }
 {
-    matches!(note.register_said(register), AbstractValue::Nothing)
+    matches!(note.register_value(register), AbstractValue::Nothing)
 }
 
 /// Whether a register holds a number.
 fn has_number(note: &Stored, register: Register) -> bool
-    ensures { result ≡ is_range (register_said (note_of note.now) register) }
+    ensures { result ≡ is_range (register_value (note_of note.now) register) }
 {
-    matches!(note.register_said(register), AbstractValue::Between(..))
+    matches!(note.register_value(register), AbstractValue::Between(..))
 }
 
 /// Whether a register holds a flag.
 fn has_flag(note: &Stored, register: Register) -> bool
-    ensures { result ≡ is_flag (register_said (note_of note.now) register) }
+    ensures { result ≡ is_flag (register_value (note_of note.now) register) }
 {
-    matches!(note.register_said(register), AbstractValue::Implies(_))
+    matches!(note.register_value(register), AbstractValue::Implies(_))
 }
 
 /// Whether an operand may be unset.
@@ -178,7 +178,7 @@ fn has_unset(note: &Stored, instr: Instr) -> bool
 
 /// Whether an operand is a flag instead of a number, or a number instead of a flag.
 fn has_other_kind(note: &Stored, instr: Instr) -> bool
-    ensures { result ≡ some_of_other_kind (note_of note.now) instr }
+    ensures { result ≡ some_of_wrong_type (note_of note.now) instr }
 {
     match Operands::of(instr) {
         Operands::Numbers(a, b) => has_flag(note, a) || has_flag(note, b),
@@ -195,11 +195,11 @@ fn may_be_too_large(note: &Stored, instr: Instr) -> bool
 {
     match instr {
         Instr::Add(_, a, b) => {
-            let (a, b) = (note.register_said(a).high(), note.register_said(b).high());
+            let (a, b) = (note.register_value(a).high(), note.register_value(b).high());
             u64::from(a) + u64::from(b) > u64::from(MAX_NUMBER)
         }
         Instr::Mul(_, a, n) => {
-            u64::from(note.register_said(a).high()) * u64::from(n) > u64::from(MAX_NUMBER)
+            u64::from(note.register_value(a).high()) * u64::from(n) > u64::from(MAX_NUMBER)
         }
         _ => false,
     }

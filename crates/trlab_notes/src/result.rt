@@ -8,9 +8,9 @@ ghost use Rattle.trlab_code.specs.Program.{IsInRange};
 ghost use Rattle.trlab_notes.specs.declared.note.AbstractValue.TheVariants.{Between};
 ghost use Rattle.trlab_notes.specs.Notes.{closure, high, low};
 ghost use Rattle.trlab_notes.specs.Reasons.{may_be_too_large};
-ghost use Rattle.trlab_notes.specs.Rows.{known_with, level_in};
+ghost use Rattle.trlab_notes.specs.Rows.{known_level_from, level_in};
 ghost use Rattle.trlab_notes.specs.Stored.{note_of};
-ghost use Rattle.trlab_notes.specs.Transfer.{assign_result, flag_implies, least_difference, register_level, register_said, result_said, result_to, to_result};
+ghost use Rattle.trlab_notes.specs.Transfer.{assign_result, flag_implies, least_difference, register_level, register_value, result_value, result_to, to_result};
 
 use crate::note::{AbstractValue, BELOW, level_between};
 use crate::rows::{LevelRow, Stored, with_variable};
@@ -80,8 +80,9 @@ fn known_ways(
     from: LevelRow,
 ) -> (LevelRow, LevelRow)
     requires { variable < VARIABLES }
-    ensures to { (y : ℕ) → y < VARIABLES → level_in result.0 y ≡ known_with said.now variable y (level_in to y) }
-    ensures from { (x : ℕ) → x < VARIABLES → level_in result.1 x ≡ known_with said.now x variable (level_in from x) }
+    ensures to { (y : ℕ) → y < VARIABLES → level_in result.0 y ≡ known_level_from said.now variable y (level_in to y) }
+    ensures from { (x : ℕ) → x < VARIABLES
+        → level_in result.1 x ≡ known_level_from said.now x variable (level_in from x) }
 {
     let (mut row, mut column) = (to, from);
     for x in 0..VARIABLES {
@@ -99,8 +100,8 @@ fn known_ways(
 
 impl Stored {
     /// The abstract value of a register.
-    pub(crate) fn register_said(&self, register: Register) -> AbstractValue
-        ensures { result ≡ register_said (note_of self.now) register }
+    pub(crate) fn register_value(&self, register: Register) -> AbstractValue
+        ensures { result ≡ register_value (note_of self.now) register }
     {
         self.said[Variable::Register(register).number()]
     }
@@ -109,7 +110,7 @@ impl Stored {
     fn flag_implies(&self, register: Register) -> bool
         ensures { result ≡ flag_implies (note_of self.now) register }
     {
-        self.said_with_side(Variable::Register(register)).implies()
+        self.value_with_side(Variable::Register(register)).implies()
     }
 
     /// The known level of one register to another.
@@ -120,26 +121,26 @@ impl Stored {
     }
 
     /// The abstract value of an instruction's result.
-    fn result_said(&self, instr: Instr) -> AbstractValue
+    fn result_value(&self, instr: Instr) -> AbstractValue
         requires in_range { IsInRange instr }
         requires fits { may_be_too_large (note_of self.now) instr ≡ false }
-        ensures { result ≡ result_said (note_of self.now) instr }
+        ensures { result ≡ result_value (note_of self.now) instr }
     {
         match instr {
             Instr::Num(_, n) => AbstractValue::Between(n, n),
-            Instr::Get(_, input) => self.said_with_side(Variable::Input(input)),
+            Instr::Get(_, input) => self.value_with_side(Variable::Input(input)),
             Instr::Side(_) => AbstractValue::Implies(true),
             Instr::Draw(..) | Instr::Not(..) => AbstractValue::Implies(false),
-            Instr::Copy(_, a) => self.said_with_side(Variable::Register(a)),
-            Instr::Add(_, a, b) => sum(self.register_said(a), self.register_said(b)),
+            Instr::Copy(_, a) => self.value_with_side(Variable::Register(a)),
+            Instr::Add(_, a, b) => sum(self.register_value(a), self.register_value(b)),
             Instr::Sub(_, a, b) => {
                 let least = least_difference(self.register_level(b, a));
-                difference(self.register_said(a), self.register_said(b), least)
+                difference(self.register_value(a), self.register_value(b), least)
             }
-            Instr::Mul(_, a, n) => product(self.register_said(a), n),
-            Instr::Div(_, a, n) => quotient(self.register_said(a), n),
-            Instr::Min(_, a, b) => smaller(self.register_said(a), self.register_said(b)),
-            Instr::Max(_, a, b) => greater(self.register_said(a), self.register_said(b)),
+            Instr::Mul(_, a, n) => product(self.register_value(a), n),
+            Instr::Div(_, a, n) => quotient(self.register_value(a), n),
+            Instr::Min(_, a, b) => smaller(self.register_value(a), self.register_value(b)),
+            Instr::Max(_, a, b) => greater(self.register_value(a), self.register_value(b)),
             Instr::And(_, a, b) => AbstractValue::Implies(
                 self.flag_implies(a) || self.flag_implies(b),
             ),
@@ -160,15 +161,15 @@ impl Stored {
             Instr::Add(_, a, b) => {
                 let by_a = self
                     .row(Variable::Register(a))
-                    .slacken(self.register_said(b).high());
+                    .slacken(self.register_value(b).high());
                 let by_b = self
                     .row(Variable::Register(b))
-                    .slacken(self.register_said(a).high());
+                    .slacken(self.register_value(a).high());
                 by_a.either(by_b)
             }
             Instr::Sub(_, a, b) => self
                 .row(Variable::Register(a))
-                .sharpen(self.register_said(b).low()),
+                .sharpen(self.register_value(b).low()),
             Instr::Min(_, a, b) => {
                 self.row(Variable::Register(a))
                     .either(self.row(Variable::Register(b)))
@@ -190,10 +191,10 @@ impl Stored {
             Instr::Add(_, a, b) => {
                 let by_a = self
                     .column(Variable::Register(a))
-                    .sharpen(self.register_said(b).low());
+                    .sharpen(self.register_value(b).low());
                 let by_b = self
                     .column(Variable::Register(b))
-                    .sharpen(self.register_said(a).low());
+                    .sharpen(self.register_value(a).low());
                 by_a.either(by_b)
             }
             Instr::Min(_, a, b) => {
@@ -216,7 +217,7 @@ impl Stored {
     {
         let variable = Variable::Register(dest).number();
         let mut said = self.said;
-        said[variable] = self.result_said(instr);
+        said[variable] = self.result_value(instr);
         let (row, column) = known_ways(
             &said,
             variable,

@@ -3,7 +3,7 @@
 ghost use Rattle.std.specs.Prelude.{◌≡◌, ◌↔◌, ℕ, ◌<◌, ◌≤◌, IsTrue, slice_index_or};
 ghost use Rattle.trlab_notes.specs.declared.note.AbstractValue.TheVariants.{Nothing};
 ghost use Rattle.trlab_notes.specs.Notes.{with_side};
-ghost use Rattle.trlab_notes.specs.Order.{IsNoMorePrecise, IsNoStronger, join, join_said};
+ghost use Rattle.trlab_notes.specs.Order.{IsNoMorePrecise, IsNoStronger, join, join_values};
 ghost use Rattle.trlab_notes.specs.Rows.{level_of};
 ghost use Rattle.trlab_notes.specs.Stored.{note_of};
 
@@ -59,8 +59,8 @@ pub fn is_no_stronger(m: &Stored, n: &Stored) -> bool
 }
 
 /// The common knowledge of two abstract values.
-fn join_said(a: AbstractValue, b: AbstractValue) -> AbstractValue
-    ensures { result ≡ join_said a b }
+fn join_values(a: AbstractValue, b: AbstractValue) -> AbstractValue
+    ensures { result ≡ join_values a b }
 {
     match (a, b) {
         (AbstractValue::Between(low, high), AbstractValue::Between(other_low, other_high)) => {
@@ -73,13 +73,13 @@ fn join_said(a: AbstractValue, b: AbstractValue) -> AbstractValue
 
 /// The common knowledge of two notes about each variable.
 fn join_variables(a: &Stored, b: &Stored) -> [AbstractValue; VARIABLES]
-    ensures { (x : ℕ) → x < VARIABLES → slice_index_or result x Nothing ≡ join_said
+    ensures { (x : ℕ) → x < VARIABLES → slice_index_or result x Nothing ≡ join_values
         (with_side a.now.side (slice_index_or a.now.said x Nothing))
         (with_side b.now.side (slice_index_or b.now.said x Nothing)) }
 {
     let mut said = [AbstractValue::Nothing; VARIABLES];
     for x in 0..VARIABLES {
-        said[x] = join_said(a.said_at(x), b.said_at(x));
+        said[x] = join_values(a.said_at(x), b.said_at(x));
     }
     said
 }

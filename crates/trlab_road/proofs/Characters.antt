@@ -1,7 +1,7 @@
--- Characters of speeds: no two speeds have one, and none is the point.
+-- Characters of speeds: no two speeds have one, and none is the dot.
 use Rattle.std.proofs.Common.{◌≡◌, ◌≢◌, ℕ, zero, suc, ◌+◌, ◌-◌, ◌<◌, ◌≤◌, eqb, ◌⊎◌, refl, sym, ◌∙◌, ap, inl, inr, arith}
 use Rattle.std.proofs.lemmas.Bool.{cases_lt, cases_eq, cond_above, cond_below, eq-eqb, ne_eqb}
-use Rattle.trlab_road.specs.Pictures.{ShowsSpeed, point, speed_character}
+use Rattle.trlab_road.specs.Pictures.{ShowsSpeed, dot, speed_character}
 use Rattle.trlab_road.specs.Stored.{speed_of_character}
 use Rattle.trlab_road.proofs.Ring.{greatest_is}
 
@@ -20,7 +20,7 @@ module _ (v : ℕ) where
   tells : Tells
   tells = elim (cases_lt v 10) [ inl low ↦ inl (low, of_digit v low) | inr high ↦ inr (high, of_letter v high) ]
 
-  pub no_point : speed_character v ≢ point
+  pub no_point : speed_character v ≢ dot
   no_point same = elim tells [ inl w ↦ let e = w.1 in absurd (omega (arith, e, same)) | inr w ↦ let e = w.1 in absurd (omega (arith, e, same)) ]
 
   pub at_least : v ≤ speed_character v

@@ -7,7 +7,7 @@ use Rattle.std.proofs.lemmas.List.FromFn.{length-map-range_with_len, get_or-map-
 use Rattle.trlab_road.specs.declared.fault.RoadFault.{RoadFault}
 use Rattle.trlab_road.specs.declared.fault.RoadFault.TheVariants.{Lanes, Length, Limit, Memory, TooManyCars}
 use Rattle.trlab_road.specs.Cells.{Cells, Lane}
-use Rattle.trlab_road.specs.Spreading.{CanSpread, IsEven, IsEvenFault, IsEvenLane, even_lane, even_place}
+use Rattle.trlab_road.specs.Spreading.{CanSpread, IsEvenlySpaced, IsEvenSpacingFault, IsEvenlySpacedLane, even_lane, even_place}
 use Rattle.trlab_road.specs.Laws.{EvenCarsMean}
 use Rattle.trlab_road.proofs.EvenLanes.{EvenUpTo, even_all, even_more, even_none, even_skip}
 use Rattle.trlab_road.proofs.EvenRoads.{even_legal, no_fault, one_even, one_fault}
@@ -28,7 +28,7 @@ lane_up_to lanes cells n l some room (suc i) h =
     ]
 
 -- the road of such lanes
-even_exists : (lanes cells limit n : ℕ) → CanSpread lanes cells limit n → (road : Cells) × IsEven lanes cells limit n road
+even_exists : (lanes cells limit n : ℕ) → CanSpread lanes cells limit n → (road : Cells) × IsEvenlySpaced lanes cells limit n road
 even_exists lanes cells limit n fits =
     let some : 0 < lanes = fits.lanes_fit.some_lane in
     let lane : (l : ℕ) → (one : Lane) × EvenUpTo lanes cells n l n one = λ l. lane_up_to lanes cells n l some fits.room n (omega arith) in
@@ -40,7 +40,7 @@ even_exists lanes cells limit n fits =
         each_lane = λ l h.
             let start : 0 + l ≡ l = omega arith in
             let at_l = get_or-map-range_with_len (λ k. (lane k).0) 0 lanes l l [] h start in
-            subst (λ (one : Lane). IsEvenLane lanes cells n l one) (sym at_l) (even_all lanes cells n l n (lane l).0 (omega arith) (omega arith) (lane l).1);
+            subst (λ (one : Lane). IsEvenlySpacedLane lanes cells n l one) (sym at_l) (even_all lanes cells n l n (lane l).0 (omega arith) (omega arith) (lane l).1);
       },
     )
 
@@ -71,11 +71,11 @@ one_thing lanes cells limit n (Ok road) (Err f) s t = absurd (t.1 (no_fault lane
 one_thing lanes cells limit n (Err f) (Ok road) s t = absurd (s.1 (no_fault lanes cells limit n f t.0 s.0))
 one_thing lanes cells limit n (Err f) (Err g) s t = ap Err (one_fault lanes cells limit n f g s.0 t.0 s.1 t.1)
 
-pub told_fault : (lanes cells limit n : ℕ) (f : RoadFault) → IsEvenFault lanes cells limit n f → (g : RoadFault) → IsEvenFault lanes cells limit n g
+pub told_fault : (lanes cells limit n : ℕ) (f : RoadFault) → IsEvenSpacingFault lanes cells limit n f → (g : RoadFault) → IsEvenSpacingFault lanes cells limit n g
     → g ≢ Memory → (◌≡◌ {A = Answer} (Err f) (Err g)) ⊎ (◌≡◌ {A = Answer} (Err f) (Err Memory))
 told_fault lanes cells limit n f first g other some =
     elim (cases_memory f) [ inl none ↦ inr (ap Err none) | inr not ↦ inl (ap Err (one_fault lanes cells limit n f g first other not some)) ]
 
-pub told_road : (lanes cells limit n : ℕ) (road : Cells) → CanSpread lanes cells limit n → (g : RoadFault) → IsEvenFault lanes cells limit n g
+pub told_road : (lanes cells limit n : ℕ) (road : Cells) → CanSpread lanes cells limit n → (g : RoadFault) → IsEvenSpacingFault lanes cells limit n g
     → g ≢ Memory → (◌≡◌ {A = Answer} (Ok road) (Err g)) ⊎ (◌≡◌ {A = Answer} (Ok road) (Err Memory))
 told_road lanes cells limit n road fits g first some = absurd (some (no_fault lanes cells limit n g fits first))

@@ -5,7 +5,7 @@ use Rattle.std.proofs.lemmas.Bool.{cases_eq, cases_order}
 use Rattle.std.proofs.lemmas.List.{get_or-set_same, get_or-set_other, length-set, length-replicate}
 use Rattle.std.proofs.lemmas.Option.{some_pair_parts}
 use Rattle.trlab_road.specs.Cells.{Lane, at}
-use Rattle.trlab_road.specs.Spreading.{flat_cell, even_lane, even_place, IsEvenLane}
+use Rattle.trlab_road.specs.Spreading.{flat_cell, even_lane, even_place, IsEvenlySpacedLane}
 use Rattle.trlab_road.proofs.MotionByCar.{all_empty}
 
 -- a car further on stands on a later cell
@@ -116,7 +116,7 @@ even_more lanes cells n l i lane some room low m on =
 
 -- when all cars were looked at, the lane is done
 pub even_all : (lanes cells n l i : ℕ) (lane : Lane) → n ≤ i → i ≤ n → EvenUpTo lanes cells n l i lane
-    → IsEvenLane lanes cells n l lane
+    → IsEvenlySpacedLane lanes cells n l lane
 even_all lanes cells n l i lane low high m = record {
   same_length = m.same_length;
   stands = λ k h on. m.stands k (omega arith) on;

@@ -8,11 +8,11 @@ use Rattle.trlab_road.specs.declared.fault.RoadFault.{RoadFault}
 use Rattle.trlab_road.specs.declared.fault.RoadFault.TheVariants.{Lanes, Length, Limit, Character, SpeedAboveLimit, Memory, TooManyCars}
 use Rattle.trlab_road.specs.Cells.{HasNumber, Cell, Lane, Cells, at, cell, lane_of, cars, IsAt}
 use Rattle.trlab_road.specs.Legal.{IsLegal, LanesFit, LengthFits, LimitFits}
-use Rattle.trlab_road.specs.Spreading.{even_lane, even_place, IsInPlace, IsEvenLane, IsEven, CanSpread, IsEvenFault}
+use Rattle.trlab_road.specs.Spreading.{even_lane, even_place, IsEvenlySpacedAt, IsEvenlySpacedLane, IsEvenlySpaced, CanSpread, IsEvenSpacingFault}
 use Rattle.trlab_road.specs.Standing.{standing, rank}
 use Rattle.trlab_road.proofs.Ring.{inside, car_in}
 use Rattle.trlab_road.proofs.MotionLaws.{on_lane, fewer_cars}
-use Rattle.trlab_road.proofs.StandingOrder.{get_or-map_in, standing_rank, standing_cell, rank_below_cars, length-standing_lanes, car_of}
+use Rattle.trlab_road.proofs.StandingOrder.{get_or-map_in, standing_rank, standing_cell, rank_below_cars, length-standing_from_lane, car_of}
 use Rattle.trlab_road.proofs.Numbers.{car_cell, all_taken, full, no_one, no_more_cars}
 
 -- where each number below n has a car, there are n cars at least
@@ -33,26 +33,26 @@ enough_cars road n all =
     let here : cell road l p ≡ Some (x, v) = subst (λ (i : ℕ). cell road l p ≡ Some (i, v)) s.1.1 s.1.0 in
     let r = rank road l p in
     let low = rank_below_cars road l p (x, v) here in
-    let within : r < length (standing road) = rw length-standing_lanes low in
+    let within : r < length (standing road) = rw length-standing_from_lane low in
     let e = standing_rank road l p x v d here in
     (r, ((x, v), get_or-map_in car_cell (standing road) r d None within ∙ ap car_cell e, ap (λ (car : Car). car.number) e)))
     (λ x z y h g. sym h ∙ g) in
     let a = full n in
     let b = all_taken (standing road) in
-    let e = length-standing_lanes 0 road.lanes in
+    let e = length-standing_from_lane 0 road.lanes in
     omega (arith, k, a, b, e)
 
-module _ (lanes cells limit n : ℕ) (road : Cells) (fits : CanSpread lanes cells limit n) (e : IsEven lanes cells limit n road) where
+module _ (lanes cells limit n : ℕ) (road : Cells) (fits : CanSpread lanes cells limit n) (e : IsEvenlySpaced lanes cells limit n road) where
   -- each number below n has its car
   pub even_stands : (i : ℕ) → i < n → HasNumber road i
   even_stands i low =
       let on : even_lane lanes cells n i < lanes = mod-lt _ fits.lanes_fit.some_lane in
       (car_in (even_lane lanes cells n i) (even_place lanes cells n i) i 0, ((e.each_lane (even_lane lanes cells n i) on).stands i low refl, refl))
 
-  lane_at : (l x : ℕ) (car : ℕ × ℕ) → cell road l x ≡ Some car → IsEvenLane lanes cells n l (lane_of road l)
+  lane_at : (l x : ℕ) (car : ℕ × ℕ) → cell road l x ≡ Some car → IsEvenlySpacedLane lanes cells n l (lane_of road l)
   lane_at l x car h = e.each_lane l (rw e.same_lanes at (on_lane road l x car h))
 
-  car_at : (l x number speed : ℕ) → cell road l x ≡ Some (number, speed) → IsInPlace lanes cells n number l x
+  car_at : (l x number speed : ℕ) → cell road l x ≡ Some (number, speed) → IsEvenlySpacedAt lanes cells n number l x
   car_at l x number speed h = (lane_at l x (number, speed) h).nothing_else x number speed h
 
   car_stands : (l x number speed : ℕ) → cell road l x ≡ Some (number, speed) → speed ≡ 0
@@ -97,7 +97,7 @@ module _ (lanes cells limit n : ℕ) (road : Cells) (fits : CanSpread lanes cell
       omega (arith, enough, most)
 
 -- lanes with the same evenly spread cars have the same cells
-same_cell : (lanes cells n l : ℕ) (lane other : Lane) → IsEvenLane lanes cells n l lane → IsEvenLane lanes cells n l other
+same_cell : (lanes cells n l : ℕ) (lane other : Lane) → IsEvenlySpacedLane lanes cells n l lane → IsEvenlySpacedLane lanes cells n l other
     → (x : ℕ) (c d : Cell) → at lane x ≡ c → at other x ≡ d → c ≡ d
 same_cell lanes cells n l lane other p q x None None h g = refl
 same_cell lanes cells n l lane other p q x (Some car) d h g =
@@ -114,8 +114,8 @@ abbrev made : ℕ → List Lane → Cells
 made limit lanes = record { limit = limit; lanes = lanes }
 
 -- evenly spread cars make one road only
-pub one_even : (lanes cells limit n : ℕ) (road other : Cells) → IsEven lanes cells limit n road
-    → IsEven lanes cells limit n other → road ≡ other
+pub one_even : (lanes cells limit n : ℕ) (road other : Cells) → IsEvenlySpaced lanes cells limit n road
+    → IsEvenlySpaced lanes cells limit n other → road ≡ other
 one_even lanes cells limit n road other p q =
     let same : road.lanes ≡ other.lanes =
     ext_get_or [] road.lanes other.lanes (p.same_lanes ∙ sym q.same_lanes)
@@ -129,7 +129,7 @@ one_even lanes cells limit n road other p q =
 
 -- what fits has no fault
 pub no_fault : (lanes cells limit n : ℕ) (fault : RoadFault) → CanSpread lanes cells limit n
-    → IsEvenFault lanes cells limit n fault → fault ≡ Memory
+    → IsEvenSpacingFault lanes cells limit n fault → fault ≡ Memory
 no_fault lanes cells limit n Lanes fits h = absurd (h fits.lanes_fit)
 no_fault lanes cells limit n Length fits h = absurd (h.1 fits.length_fits)
 no_fault lanes cells limit n Limit fits h = absurd (h.2 fits.limit_fits)
@@ -140,7 +140,7 @@ no_fault lanes cells limit n Memory fits h = refl
 
 -- two faults are one, unless an allocation fails
 pub one_fault : (lanes cells limit n : ℕ) (fault other : RoadFault)
-    → IsEvenFault lanes cells limit n fault → IsEvenFault lanes cells limit n other
+    → IsEvenSpacingFault lanes cells limit n fault → IsEvenSpacingFault lanes cells limit n other
     → fault ≢ Memory → other ≢ Memory → fault ≡ other
 one_fault lanes cells limit n Lanes Lanes f g p q = refl
 one_fault lanes cells limit n Lanes Length f g p q = absurd (f g.0)

@@ -5,7 +5,7 @@ use Rattle.trlab_road.specs.LaneCars.{LaneCar}
 use Rattle.trlab_road.specs.Cells.{Cells, Lane}
 use Rattle.trlab_road.specs.Gaps.{gap, headspeed}
 use Rattle.trlab_road.specs.InLine.{IsFollowed, IsLineFrom}
-use Rattle.trlab_road.specs.Standing.{IsStanding}
+use Rattle.trlab_road.specs.Standing.{IsNthCar}
 use Rattle.trlab_road.specs.Stored.{AreSorted, IsFoundAt, car_on, lanes_from, list_at, no_car, place_of}
 use Rattle.trlab_road.proofs.Headspeeds.{next_headspeed}
 use Rattle.trlab_road.proofs.ListGaps.{gap_next}
@@ -66,7 +66,7 @@ module _ (n : ℕ) (lists : List (Vec LaneCar Global)) (limit k l i : ℕ) (s : 
         lane = l;
         some = omega (arith, size, low);
         standing = λ j inside.
-            subst (λ (car : LaneCar). IsStanding road (k + j) (car_on l car)) (sym (ap (λ (xs : List LaneCar). get_or xs j no_car) is ∙ get_or-drop i cars j no_car))
+            subst (λ (car : LaneCar). IsNthCar road (k + j) (car_on l car)) (sym (ap (λ (xs : List LaneCar). get_or xs j no_car) is ∙ get_or-drop i cars j no_car))
             (found_standing n lists limit (k + j) l (i + j) s (found_later_on j (omega (arith, size, inside))));
         whole = omega (arith, size, low, order, before, whole);
       }

@@ -1,7 +1,7 @@
 -- From answers in standing order to the lane change.
 use Rattle.std.proofs.Common.{◌≡◌, ℕ, Bool, false, List, get_or, sym, ◌∙◌, ap}
 use Rattle.trlab_road.specs.Cells.{Cells, cell, lane_of}
-use Rattle.trlab_road.specs.LaneChange.{other_lane, crosses_at, MayCross, Crosses, CrossesToEmpty, CleanLaneChange}
+use Rattle.trlab_road.specs.LaneChange.{other_lane, crosses_at, MayCross, ChangesLanes, CrossesToEmpty, IsCleanLaneChange}
 use Rattle.trlab_road.specs.Gaps.{side}
 use Rattle.trlab_road.specs.Legal.{IsLegal}
 use Rattle.trlab_road.specs.Motion.{in_order}
@@ -22,17 +22,17 @@ allowed_free road answers allowed = record {
 }
 
 pub crosses_in_order : (road new : Cells) (answers : List Bool)
-    → Crosses (crosses_at road answers) road new
-    → (crosses : ℕ → ℕ → Bool) → answers ≡ in_order crosses road → Crosses crosses road new
+    → ChangesLanes (crosses_at road answers) road new
+    → (crosses : ℕ → ℕ → Bool) → answers ≡ in_order crosses road → ChangesLanes crosses road new
 crosses_in_order road new answers m crosses is =
     crosses_by (crosses_at road answers) crosses road new
     (λ car here. ap (λ (xs : List Bool). get_or xs (rank road car.lane car.place) false) is ∙ in_order_at crosses false road car.lane car.place car.number car.speed here) m
 
 -- where the answers are allowed, the road after the lane change is legal, and the lane change was clean
 pub cross_legal : (road new : Cells) (answers : List Bool) → IsLegal road → MayCross road answers
-    → Crosses (crosses_at road answers) road new → IsLegal new
+    → ChangesLanes (crosses_at road answers) road new → IsLegal new
 cross_legal road new answers legal allowed m = lane_change_legal (crosses_at road answers) road new legal m (allowed_free road answers allowed)
 
 pub cross_clean : (road new : Cells) (answers : List Bool) → IsLegal road → MayCross road answers
-    → Crosses (crosses_at road answers) road new → CleanLaneChange road new
+    → ChangesLanes (crosses_at road answers) road new → IsCleanLaneChange road new
 cross_clean road new answers legal allowed m = lane_change_clean (crosses_at road answers) road new legal m (allowed_free road answers allowed)

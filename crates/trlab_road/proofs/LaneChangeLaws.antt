@@ -6,15 +6,15 @@ use Rattle.std.proofs.lemmas.Bool.{cases_Bool, cond-true, cond-false, true≢fal
 use Rattle.std.proofs.lemmas.List.{ext_get_or, take_all}
 use Rattle.std.proofs.lemmas.List.FromFn.{length-map-range_with_len, get_or-map-range_with_len}
 use Rattle.std.proofs.lemmas.List.Sums.{sum_by-cons}
-use Rattle.trlab_road.specs.Cells.{Cell, Lane, Cells, at, cell, lane_of, cars, lane_cars, AgreeAtCars}
-use Rattle.trlab_road.specs.LaneChange.{other_lane, cell_after_change, Crosses, lane_after_change, road_after_change, CrossesToEmpty, StaysOrCrosses, CleanLaneChange}
+use Rattle.trlab_road.specs.Cells.{Cell, Lane, Cells, at, cell, lane_of, cars, lane_car_count, AgreeAtCars}
+use Rattle.trlab_road.specs.LaneChange.{other_lane, cell_after_change, ChangesLanes, lane_after_change, road_after_change, CrossesToEmpty, StaysOrCrosses, IsCleanLaneChange}
 use Rattle.trlab_road.specs.Legal.{IsLegal, LanesFit, LengthFits, LimitFits}
 use Rattle.trlab_road.specs.LaneChange.StaysOrCrosses.{on_own_lane, on_other_lane}
 use Rattle.trlab_road.proofs.Ring.{inside, car_in}
 use Rattle.trlab_road.proofs.MotionLaws.{on_lane}
 
 -- `road_after_change` is the lane change
-pub road_after_change_is : (crosses : ℕ → ℕ → Bool) (road : Cells) → Crosses crosses road (road_after_change crosses road)
+pub road_after_change_is : (crosses : ℕ → ℕ → Bool) (road : Cells) → ChangesLanes crosses road (road_after_change crosses road)
 road_after_change_is crosses road = record {
   same_limit = refl;
   same_lanes = length-map-range_with_len (lane_after_change crosses road) 0 (length road.lanes);
@@ -31,8 +31,8 @@ abbrev made : ℕ → List Lane → Cells
 made limit lanes = record { limit = limit; lanes = lanes }
 
 -- the lane change leaves one road only
-pub one_road_after_change : (crosses : ℕ → ℕ → Bool) (old new other : Cells) → Crosses crosses old new
-    → Crosses crosses old other → new ≡ other
+pub one_road_after_change : (crosses : ℕ → ℕ → Bool) (old new other : Cells) → ChangesLanes crosses old new
+    → ChangesLanes crosses old other → new ≡ other
 one_road_after_change crosses old new other m n =
     let lanes : new.lanes ≡ other.lanes =
     ext_get_or [] new.lanes other.lanes (m.same_lanes ∙ sym n.same_lanes)
@@ -96,7 +96,7 @@ comes false true (Some a) beside car e f h = absurd cc
 
 -- the cars of one more place
 pub lane_cars_suc : (lane : Lane) (x : ℕ) → x < length lane
-    → lane_cars (take (suc x) lane) ≡ lane_cars (take x lane) + cond (is_some (at lane x)) 1 0
+    → lane_car_count (take (suc x) lane) ≡ lane_car_count (take x lane) + cond (is_some (at lane x)) 1 0
 lane_cars_suc [] x h = absurd (omega arith)
 lane_cars_suc (c ∷ lane) zero h = let e = sum_by-cons (λ (d : Cell). cond (is_some d) 1 0) c [] in omega arith
 lane_cars_suc (c ∷ lane) (suc x) h =
@@ -106,12 +106,12 @@ lane_cars_suc (c ∷ lane) (suc x) h =
     omega arith
 
 two_sum : (lanes : List Lane) → length lanes ≡ 2
-    → sum_by lane_cars lanes ≡ lane_cars (get_or lanes 0 []) + lane_cars (get_or lanes 1 [])
+    → sum_by lane_car_count lanes ≡ lane_car_count (get_or lanes 0 []) + lane_car_count (get_or lanes 1 [])
 two_sum [] h = absurd (omega arith)
 two_sum (a ∷ []) h = absurd (omega arith)
 two_sum (a ∷ b ∷ []) h =
-    let e = sum_by-cons lane_cars a (b ∷ []) in
-    let f = sum_by-cons lane_cars b [] in
+    let e = sum_by-cons lane_car_count a (b ∷ []) in
+    let f = sum_by-cons lane_car_count b [] in
     omega arith
 two_sum (a ∷ b ∷ c ∷ rest) h = absurd (omega arith)
 
@@ -122,7 +122,7 @@ none_of : (c : Cell) → is_none c ≡ true → c ≡ None
 none_of None h = refl
 none_of (Some car) h = absurd cc
 
-module _ (crosses : ℕ → ℕ → Bool) (old new : Cells) (legal : IsLegal old) (m : Crosses crosses old new) where
+module _ (crosses : ℕ → ℕ → Bool) (old new : Cells) (legal : IsLegal old) (m : ChangesLanes crosses old new) where
   -- the car of a cell came from where its answer sent it
   pub came_from : (l x : ℕ) (car : ℕ × ℕ) → cell new l x ≡ Some car
       → (from : ℕ) × ((cell old from x ≡ Some car) × (l ≡ cond (crosses from x) (other_lane from) from))
@@ -171,7 +171,7 @@ module _ (crosses : ℕ → ℕ → Bool) (old new : Cells) (legal : IsLegal old
         ]
 
     taken_same : (x : ℕ) → x ≤ length (lane_of old 0)
-        → lane_cars (take x (lane_of new 0)) + lane_cars (take x (lane_of new 1)) ≡ lane_cars (take x (lane_of old 0)) + lane_cars (take x (lane_of old 1))
+        → lane_car_count (take x (lane_of new 0)) + lane_car_count (take x (lane_of new 1)) ≡ lane_car_count (take x (lane_of old 0)) + lane_car_count (take x (lane_of old 1))
     taken_same zero h = refl
     taken_same (suc x) h =
         let first = m.each_lane 0 (one_of 0 (omega arith)) in
@@ -199,15 +199,15 @@ module _ (crosses : ℕ → ℕ → Bool) (old new : Cells) (legal : IsLegal old
         let n1 = second.same_length in
         let o1 = equal 1 (omega arith) in
         let all = taken_same n (omega arith) in
-        let a = ap lane_cars (take_all n (lane_of new 0) (omega arith)) in
-        let b = ap lane_cars (take_all n (lane_of new 1) (omega arith)) in
-        let c = ap lane_cars (take_all n (lane_of old 0) (omega arith)) in
-        let d = ap lane_cars (take_all n (lane_of old 1) (omega arith)) in
+        let a = ap lane_car_count (take_all n (lane_of new 0) (omega arith)) in
+        let b = ap lane_car_count (take_all n (lane_of new 1) (omega arith)) in
+        let c = ap lane_car_count (take_all n (lane_of old 0) (omega arith)) in
+        let d = ap lane_car_count (take_all n (lane_of old 1) (omega arith)) in
         let x = two_sum old.lanes free.two_lanes in
         let y = two_sum new.lanes (m.same_lanes ∙ free.two_lanes) in
         omega (arith, all, a, b, c, d, x, y)
 
-    pub lane_change_clean : CleanLaneChange old new
+    pub lane_change_clean : IsCleanLaneChange old new
     lane_change_clean = record {
       same_count = lane_change_same_count;
       none_lost = λ car h. lane_change_none_lost car.lane car.place car.number car.speed h;
@@ -261,7 +261,7 @@ same_cell_after p q r s None None f g = none_first p r (cond q None None) ∙ ap
 
 pub crosses_by : (crosses others : ℕ → ℕ → Bool) (old new : Cells)
     → AgreeAtCars crosses others old
-    → Crosses crosses old new → Crosses others old new
+    → ChangesLanes crosses old new → ChangesLanes others old new
 crosses_by crosses others old new same m = record {
   same_limit = m.same_limit;
   same_lanes = m.same_lanes;

@@ -4,7 +4,7 @@ use Rattle.std.proofs.lemmas.Bool.{eq-eqb, ne_eqb, cond-true, cond-false}
 use Rattle.std.proofs.lemmas.List.{length_push, append-nil, at_drop_all}
 use Rattle.trlab_road.specs.LaneCars.{LaneCar}
 use Rattle.trlab_road.specs.Cells.{Lane}
-use Rattle.trlab_road.specs.Pictures.{point}
+use Rattle.trlab_road.specs.Pictures.{dot}
 use Rattle.trlab_road.specs.Stored.{cells_of, IsSortedFrom, speed_of_character, lane_of_picture}
 use Rattle.trlab_road.proofs.Lists.{rises_high}
 use Rattle.trlab_road.proofs.ListPush.{cells_none, cells_some, rises_more, rises_push}
@@ -32,17 +32,17 @@ module _ (from : ℕ) (picture : List ℕ) (cars : List LaneCar) (number i : ℕ
   rest : drop i picture ≡ get_or picture i 0 ∷ drop (i + 1) picture
   rest = rw (add-one, drop-cons picture i 0) refl
 
-  pub drawn_skip : get_or picture i 0 ≡ point → Drawn from picture cars number (i + 1)
+  pub drawn_skip : get_or picture i 0 ≡ dot → Drawn from picture cars number (i + 1)
   drawn_skip e = record {
     rises = rises_more 0 i (i + 1) cars (omega arith) d.rises;
     counted = d.counted;
     few = (let a = d.few in omega arith);
     whole = ap (λ (cs : Lane). cs ++ lane_of_picture number (drop (i + 1) picture)) (cells_none i cars d.rises) ∙ append_assoc (cells_of i cars) (None ∷ []) (lane_of_picture number (drop (i + 1) picture))
-        ∙ ap (λ (cs : Lane). cells_of i cars ++ cs) (sym (ap (lane_of_picture number) rest ∙ cond-true (eqb (get_or picture i 0) point) _ _ (eq-eqb _ _ e)))
+        ∙ ap (λ (cs : Lane). cells_of i cars ++ cs) (sym (ap (lane_of_picture number) rest ∙ cond-true (eqb (get_or picture i 0) dot) _ _ (eq-eqb _ _ e)))
         ∙ d.whole;
   }
 
-  pub drawn_more : (car : LaneCar) → get_or picture i 0 ≢ point → car ≡ record { number = number; place = i; speed = speed_of_character (get_or picture i 0) } → Drawn from picture (cars ++ car ∷ []) (number + 1) (i + 1)
+  pub drawn_more : (car : LaneCar) → get_or picture i 0 ≢ dot → car ≡ record { number = number; place = i; speed = speed_of_character (get_or picture i 0) } → Drawn from picture (cars ++ car ∷ []) (number + 1) (i + 1)
   drawn_more car e is =
       let at_i : car.place ≡ i = ap (λ (c : LaneCar). c.place) is in
       let size = length_push cars car in
@@ -53,6 +53,6 @@ module _ (from : ℕ) (picture : List ℕ) (cars : List LaneCar) (number i : ℕ
         whole = ap (λ (cs : Lane). cs ++ lane_of_picture (number + 1) (drop (i + 1) picture)) (cells_some i cars car d.rises at_i) ∙ append_assoc (cells_of i cars) (Some (car.number, car.speed) ∷ []) (lane_of_picture (number + 1) (drop (i + 1) picture))
             ∙ ap (λ (cs : Lane). cells_of i cars ++ cs) (ap (λ (c : LaneCar). Some (c.number, c.speed) ∷ lane_of_picture (number + 1) (drop (i + 1) picture)) is
             ∙ ap (λ m. Some (number, speed_of_character (get_or picture i 0)) ∷ lane_of_picture m (drop (i + 1) picture)) (add-one number)
-            ∙ sym (ap (lane_of_picture number) rest ∙ cond-false (eqb (get_or picture i 0) point) _ _ (ne_eqb _ _ e)))
+            ∙ sym (ap (lane_of_picture number) rest ∙ cond-false (eqb (get_or picture i 0) dot) _ _ (ne_eqb _ _ e)))
             ∙ d.whole;
       }

@@ -6,7 +6,7 @@ use Rattle.std.proofs.lemmas.Bool.{cases_lt, cases_eq, and_from}
 use Rattle.trlab_road.specs.LaneCars.{LaneCar}
 use Rattle.trlab_road.specs.Cells.{Lane, at}
 use Rattle.trlab_road.specs.Gaps.{ahead, behind, is_clear, clear_cells, gap}
-use Rattle.trlab_road.specs.Stored.{cells_of, IsSortedFrom, place_of, IsParted}
+use Rattle.trlab_road.specs.Stored.{cells_of, IsSortedFrom, place_of, IsFirstPast}
 use Rattle.trlab_road.proofs.Ring.{ring_cases, reach_earlier, ends_before, goes_round}
 use Rattle.trlab_road.proofs.Lists.{length_cells, cells_at, at_kth, empty_at, rises_high, rises_weakly}
 
@@ -34,7 +34,7 @@ gap_by n cars x = ap (λ m. clear_cells (cells_of n cars) (ahead m x)) (length_c
 
 module _ (n : ℕ) (cars : List LaneCar) (r : IsSortedFrom 0 n cars) (x : ℕ) (inside : x < n) where
   -- ahead of a place, where the cars from an index on stand further on
-  module _ (next : ℕ) (p : IsParted cars x next) where
+  module _ (next : ℕ) (p : IsFirstPast cars x next) where
     pub gap_next : next < length cars → gap (cells_of n cars) x ≡ place_of cars next - x - 1
     gap_next h =
         let past = p.after next (omega arith) h in

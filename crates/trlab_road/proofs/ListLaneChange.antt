@@ -5,7 +5,7 @@ use Rattle.std.proofs.lemmas.List.{length-take-le, drop_more, append-nil, append
 use Rattle.std.proofs.lemmas.List.FromFn.{take-map-range_with_len}
 use Rattle.std.specs.Int.{from_bool}
 use Rattle.trlab_road.specs.LaneCars.{LaneCar}
-use Rattle.trlab_road.specs.Cells.{Cell, at, lane_cars}
+use Rattle.trlab_road.specs.Cells.{Cell, at, lane_car_count}
 use Rattle.trlab_road.specs.LaneChange.{cell_after_change, LaneCrosses}
 use Rattle.trlab_road.specs.Stored.{cell_at, cells_of, IsSortedFrom, no_car, place_of, IsFirstFrom, lane_crosses_at}
 use Rattle.trlab_road.proofs.Lists.{length_cells, cells_at, cell_kth, empty_at, cars_of_list, rises_high, rises_order, rises_weakly}
@@ -93,10 +93,10 @@ rises_take y n x [] (suc i) r h = tt
 rises_take y n x (car ∷ cars) zero r h = tt
 rises_take y n x (car ∷ cars) (suc i) r h = (r.0, h 0 (omega arith) (omega arith), rises_take (suc car.place) n x cars i r.2 (λ k low on. h (suc k) (omega arith) (omega arith)))
 
-pub rank_sought : (n : ℕ) (cars : List LaneCar) (x i : ℕ) → IsSortedFrom 0 n cars → IsFirstFrom cars x i → x ≤ n → lane_cars (take x (cells_of n cars)) ≡ i
+pub rank_sought : (n : ℕ) (cars : List LaneCar) (x i : ℕ) → IsSortedFrom 0 n cars → IsFirstFrom cars x i → x ≤ n → lane_car_count (take x (cells_of n cars)) ≡ i
 rank_sought n cars x i r s le =
-    ap lane_cars (take-map-range_with_len (cell_at cars) 0 n x le)
-    ∙ ap lane_cars (map_range_below (cell_at cars) (cell_at (take i cars)) 0 x (λ y h. cell_take cars i y (λ k past low. let a = s.from k past low in omega arith)))
+    ap lane_car_count (take-map-range_with_len (cell_at cars) 0 n x le)
+    ∙ ap lane_car_count (map_range_below (cell_at cars) (cell_at (take i cars)) 0 x (λ y h. cell_take cars i y (λ k past low. let a = s.from k past low in omega arith)))
     ∙ cars_of_list x (take i cars) (rises_take 0 n x cars i r s.before)
     ∙ length-take-le i cars s.within
 

@@ -5,11 +5,11 @@ use Rattle.std.proofs.lemmas.Bool.{cases_eq}
 use Rattle.std.proofs.lemmas.List.{length-map, get_or-map, get_or_append_left, get_or_push, length_push}
 use Rattle.trlab_road.specs.declared.car.Car.{Car}
 use Rattle.trlab_road.specs.LaneCars.{LaneCar}
-use Rattle.trlab_road.specs.Cells.{at, lane_cars}
+use Rattle.trlab_road.specs.Cells.{at, lane_car_count}
 use Rattle.trlab_road.specs.Gaps.{ahead}
 use Rattle.trlab_road.specs.Standing.{standing_from}
 use Rattle.trlab_road.specs.Motion.{LaneFits, LaneMoves}
-use Rattle.trlab_road.specs.Stored.{cells_of, IsSortedFrom, no_car, place_of, IsParted, car_on, lane_answer}
+use Rattle.trlab_road.specs.Stored.{cells_of, IsSortedFrom, no_car, place_of, IsFirstPast, car_on, lane_answer}
 use Rattle.trlab_road.proofs.Ring.{inside}
 use Rattle.trlab_road.proofs.StandingOrder.{rank_is}
 use Rattle.trlab_road.proofs.Lists.{length_cells, cells_at, at_kth, list_car, kth_of_cell, standing_list, rises_high, rises_order, rises_weakly}
@@ -17,7 +17,7 @@ use Rattle.trlab_road.proofs.ListPush.{rises_push, rises_above}
 use Rattle.trlab_road.proofs.ListGaps.{gap_next, gap_round}
 
 -- as many cars as its index stand before the k-th car
-pub rank_kth : (n : ℕ) (cars : List LaneCar) (k : ℕ) → IsSortedFrom 0 n cars → k < length cars → lane_cars (take (place_of cars k) (cells_of n cars)) ≡ k
+pub rank_kth : (n : ℕ) (cars : List LaneCar) (k : ℕ) → IsSortedFrom 0 n cars → k < length cars → lane_car_count (take (place_of cars k) (cells_of n cars)) ≡ k
 rank_kth n cars k r h =
     let cells = cells_of n cars in
     let s = standing_list 0 n cars r in
@@ -25,13 +25,13 @@ rank_kth n cars k r h =
     let within : k < length (standing_from 0 0 cells) = rw (s, length-map) h in
     let e : (get_or (standing_from 0 0 cells) k d).place - 0 ≡ place_of cars k =
     ap (λ (cs : List Car). (get_or cs k d).place - 0) s ∙ ap (λ (c : Car). c.place - 0) (get_or-map (car_on 0) cars k no_car d h) ∙ (let z : place_of cars k - 0 ≡ place_of cars k = omega arith in z) in
-    subst (λ p. lane_cars (take p cells) ≡ k) e (rank_is 0 0 cells k d within)
+    subst (λ p. lane_car_count (take p cells) ≡ k) e (rank_is 0 0 cells k d within)
 
 pub answer_kth : (n : ℕ) (cars : List LaneCar) (answers : List ℕ) (from k : ℕ) → IsSortedFrom 0 n cars → k < length cars → get_or answers (from + k) 0 ≡ lane_answer (cells_of n cars) answers from (place_of cars k)
 answer_kth n cars answers from k r h = ap (λ i. get_or answers (from + i) 0) (sym (rank_kth n cars k r h))
 
 -- the cars up to the k-th stand no further than it
-pub parted_kth : (n : ℕ) (cars : List LaneCar) (k : ℕ) → IsSortedFrom 0 n cars → k < length cars → IsParted cars (place_of cars k) (k + 1)
+pub parted_kth : (n : ℕ) (cars : List LaneCar) (k : ℕ) → IsSortedFrom 0 n cars → k < length cars → IsFirstPast cars (place_of cars k) (k + 1)
 parted_kth n cars k r h = record {
   before = λ j low within. rises_weakly n cars j k r (omega arith) h;
   after = λ j low within. rises_order 0 n cars k j r (omega arith) within;

@@ -3,14 +3,14 @@ use Rattle.std.proofs.Common.{Some, ◌≡◌, ℕ, zero, suc, ◌+◌, ◌<◌,
 use Rattle.std.specs.List.{range_with_len}
 use Rattle.std.proofs.lemmas.List.{map-set, get_or-take, take_more, length-take-le}
 use Rattle.trlab_road.specs.LaneCars.{LaneCar}
-use Rattle.trlab_road.specs.Pictures.{character, point, speed_character, picture}
+use Rattle.trlab_road.specs.Pictures.{character, dot, speed_character, picture}
 use Rattle.trlab_road.specs.Stored.{cell_at, cells_of, IsSortedFrom, no_car, place_of}
 use Rattle.trlab_road.proofs.Lists.{rises_high, rises_order}
 use Rattle.trlab_road.proofs.ListPush.{cells_push}
 
-pub empty_picture : (a n : ℕ) → replicate n point ≡ map character (map (cell_at []) (range_with_len a n))
+pub empty_picture : (a n : ℕ) → replicate n dot ≡ map character (map (cell_at []) (range_with_len a n))
 empty_picture a zero = refl
-empty_picture a (suc n) = ap (λ bytes. point ∷ bytes) (empty_picture (a + 1) n)
+empty_picture a (suc n) = ap (λ bytes. dot ∷ bytes) (empty_picture (a + 1) n)
 
 -- the picture with one more car
 pub picture_more : (n : ℕ) (cars : List LaneCar) (k b : ℕ) → IsSortedFrom 0 n cars → k < length cars → b ≡ speed_character (get_or cars k no_car).speed

@@ -7,14 +7,14 @@ use Rattle.std.proofs.lemmas.Option.{slice_get-get_or}
 use Rattle.trlab_bounds.specs.declared.roads.TheConstants.{MAX_LENGTH, MAX_LIMIT, MAX_LANES}
 use Rattle.trlab_road.specs.declared.car.Car.{Car}
 use Rattle.trlab_road.specs.LaneCars.{LaneCar}
-use Rattle.trlab_road.specs.Cells.{Lane, Cells, at, cell, cars, lane_cars}
+use Rattle.trlab_road.specs.Cells.{Lane, Cells, at, cell, cars, lane_car_count}
 use Rattle.trlab_road.specs.Standing.{standing, standing_from, rank}
 use Rattle.trlab_road.specs.Motion.{in_order, MayMove, LaneFits, LaneMoves, Moves}
 use Rattle.trlab_road.proofs.MotionInOrder.{answer_at, allowed_fits}
 use Rattle.trlab_road.proofs.RoadCars.{in_order_kth, cars_more, cars_within}
-use Rattle.trlab_road.specs.LaneChange.{LaneCrosses, Crosses, crosses_at}
+use Rattle.trlab_road.specs.LaneChange.{LaneCrosses, ChangesLanes, crosses_at}
 use Rattle.trlab_road.specs.Stored.{lists_of, cells_of, IsSortedFrom, no_car, place_of, car_on, lanes_from, list_at, AreSorted, IsListedRoad, IsFoundAt, ListsFit, ListsMove, lane_answer, lane_crosses_at}
-use Rattle.trlab_road.proofs.StandingOrder.{car_of, standing_rank, rank_below_cars, length-standing_lanes}
+use Rattle.trlab_road.proofs.StandingOrder.{car_of, standing_rank, rank_below_cars, length-standing_from_lane}
 use Rattle.trlab_road.proofs.Lists.{length_cells, at_kth, cars_of_list, rises_high, standing_list}
 use Rattle.trlab_road.proofs.ListMotion.{rank_kth}
 use Rattle.trlab_road.proofs.Ring.{car_in}
@@ -29,21 +29,21 @@ pub sorted_rest : (n : ℕ) (v : Vec LaneCar Global) (lists : List (Vec LaneCar 
 sorted_rest n v lists s = record { rises = λ l h. s.rises (suc l) (omega arith) }
 
 -- as many cars as the lists have together, and so of the first lists
-pub counted : (n : ℕ) (lists : List (Vec LaneCar Global)) → AreSorted n lists → sum_by lane_cars (lanes_from n lists) ≡ sum_by length (lists_of lists)
+pub counted : (n : ℕ) (lists : List (Vec LaneCar Global)) → AreSorted n lists → sum_by lane_car_count (lanes_from n lists) ≡ sum_by length (lists_of lists)
 counted n [] s = refl
 counted n (v ∷ lists) s =
-    let a = sum_by-cons lane_cars (cells_of n v.items) (lanes_from n lists) in
+    let a = sum_by-cons lane_car_count (cells_of n v.items) (lanes_from n lists) in
     let b = cars_of_list n v.items (s.rises 0 (omega arith)) in
     let d = sum_by-cons length v.items (lists_of lists) in
     let e = counted n lists (sorted_rest n v lists s) in
     omega (arith, a, b, d, e)
 
-pub counted_before : (n : ℕ) (lists : List (Vec LaneCar Global)) (l : ℕ) → AreSorted n lists → sum_by lane_cars (take l (lanes_from n lists)) ≡ sum_by length (take l (lists_of lists))
+pub counted_before : (n : ℕ) (lists : List (Vec LaneCar Global)) (l : ℕ) → AreSorted n lists → sum_by lane_car_count (take l (lanes_from n lists)) ≡ sum_by length (take l (lists_of lists))
 counted_before n [] zero s = refl
 counted_before n [] (suc l) s = refl
 counted_before n (v ∷ lists) zero s = refl
 counted_before n (v ∷ lists) (suc l) s =
-    let a = sum_by-cons lane_cars (cells_of n v.items) (take l (lanes_from n lists)) in
+    let a = sum_by-cons lane_car_count (cells_of n v.items) (take l (lanes_from n lists)) in
     let b = cars_of_list n v.items (s.rises 0 (omega arith)) in
     let d = sum_by-cons length v.items (take l (lists_of lists)) in
     let e = counted_before n lists l (sorted_rest n v lists s) in
@@ -79,7 +79,7 @@ module _ (n : ℕ) (lists : List (Vec LaneCar Global)) (limit k l i : ℕ) (s : 
 
   found_rank : rank road l car.place ≡ k
   found_rank =
-      let e = ap (λ (lane : Lane). lane_cars (take car.place lane)) (lane_from n lists l f.on_lane) ∙ rank_kth n (list_at lists l) i (s.rises l f.on_lane) f.low in
+      let e = ap (λ (lane : Lane). lane_car_count (take car.place lane)) (lane_from n lists l f.on_lane) ∙ rank_kth n (list_at lists l) i (s.rises l f.on_lane) f.low in
       let o = f.order in
       let q = counted_before n lists l s in
       omega (arith, e, o, q)
@@ -88,7 +88,7 @@ module _ (n : ℕ) (lists : List (Vec LaneCar Global)) (limit k l i : ℕ) (s : 
   unfolding car_of
   found_standing =
       let below : k < cars road = subst (λ m. m < cars road) found_rank (rank_below_cars road l car.place (car.number, car.speed) found_cell) in
-      slice_get-get_or (standing road) k (car_on 0 no_car) (rw length-standing_lanes below)
+      slice_get-get_or (standing road) k (car_on 0 no_car) (rw length-standing_from_lane below)
       ∙ ap Some (ap (λ m. get_or (standing road) m (car_on 0 no_car)) (sym found_rank) ∙ standing_rank road l car.place car.number car.speed (car_on 0 no_car) found_cell)
 
 -- the list that an index of the lists reads
@@ -157,7 +157,7 @@ module _ (n : ℕ) (lists : List (Vec LaneCar Global)) (limit : ℕ) (kept : IsL
   pub few_cars : (l : ℕ) → l < length lists → length (list_at lists l) ≤ MAX_LENGTH
   few_cars l h = let a = rises_length 0 n (list_at lists l) (kept.sorted.rises l h) (omega arith) in let b = few_cells in omega (arith, a, b)
 
-  pub below_counted : (k : ℕ) → k < sum_by lane_cars (lanes_from n lists) → k < sum_by length (lists_of lists)
+  pub below_counted : (k : ℕ) → k < sum_by lane_car_count (lanes_from n lists) → k < sum_by length (lists_of lists)
   below_counted k low = let a = counted n lists kept.sorted in omega (arith, a, low)
 
 -- no car is faster than the greatest limit
@@ -182,16 +182,16 @@ module _ {X : Type 0} (F : ℕ → ℕ → X) (n : ℕ) (lists : List (Vec LaneC
   found_in_order e = is ∙ sym (in_order_kth F (record { limit = limit; lanes = lanes_from n lists }) k (car_on l (get_or (list_at lists l) i no_car)) e (found_standing n lists limit k l i s f))
 
 -- counts of cars, by the lengths of the lists
-pub list_count : (n : ℕ) (lists : List (Vec LaneCar Global)) (l : ℕ) → AreSorted n lists → l < length lists → lane_cars (get_or (lanes_from n lists) l []) ≡ length (list_at lists l)
-list_count n lists l s h = ap lane_cars (lane_from n lists l h) ∙ cars_of_list n (list_at lists l) (s.rises l h)
+pub list_count : (n : ℕ) (lists : List (Vec LaneCar Global)) (l : ℕ) → AreSorted n lists → l < length lists → lane_car_count (get_or (lanes_from n lists) l []) ≡ length (list_at lists l)
+list_count n lists l s h = ap lane_car_count (lane_from n lists l h) ∙ cars_of_list n (list_at lists l) (s.rises l h)
 
 on_lanes : (n : ℕ) (lists : List (Vec LaneCar Global)) (l : ℕ) → l < length lists → l < length (lanes_from n lists)
 on_lanes n lists l h = rw length-map h
 
-pub list_counted : (n : ℕ) (lists : List (Vec LaneCar Global)) (l : ℕ) → AreSorted n lists → l < length lists → sum_by lane_cars (take (l + 1) (lanes_from n lists)) ≡ sum_by lane_cars (take l (lanes_from n lists)) + length (list_at lists l)
+pub list_counted : (n : ℕ) (lists : List (Vec LaneCar Global)) (l : ℕ) → AreSorted n lists → l < length lists → sum_by lane_car_count (take (l + 1) (lanes_from n lists)) ≡ sum_by lane_car_count (take l (lanes_from n lists)) + length (list_at lists l)
 list_counted n lists l s h = let a = cars_more (lanes_from n lists) l (on_lanes n lists l h) in let b = list_count n lists l s h in omega (arith, a, b)
 
-pub list_within : (n : ℕ) (lists : List (Vec LaneCar Global)) (l : ℕ) → AreSorted n lists → l < length lists → sum_by lane_cars (take l (lanes_from n lists)) + length (list_at lists l) ≤ sum_by lane_cars (lanes_from n lists)
+pub list_within : (n : ℕ) (lists : List (Vec LaneCar Global)) (l : ℕ) → AreSorted n lists → l < length lists → sum_by lane_car_count (take l (lanes_from n lists)) + length (list_at lists l) ≤ sum_by lane_car_count (lanes_from n lists)
 list_within n lists l s h = let a = cars_within (lanes_from n lists) l (on_lanes n lists l h) in let b = list_count n lists l s h in omega (arith, a, b)
 
 -- lists after a push
@@ -218,9 +218,9 @@ two_lanes P a b (suc zero) h = b
 two_lanes P a b (suc (suc l)) h = absurd (omega arith)
 
 pub crosses_two : (n limit : ℕ) (lists : List (Vec LaneCar Global)) (a b : Vec LaneCar Global) (answers : List Bool) → length lists ≡ 2
-    → LaneCrosses (lane_crosses_at (cells_of n (list_at lists 0)) answers (sum_by lane_cars (take 0 (lanes_from n lists)))) (lane_crosses_at (cells_of n (list_at lists 1)) answers (sum_by lane_cars (take 1 (lanes_from n lists)))) (cells_of n (list_at lists 0)) (cells_of n (list_at lists 1)) (cells_of n a.items)
-    → LaneCrosses (lane_crosses_at (cells_of n (list_at lists 1)) answers (sum_by lane_cars (take 1 (lanes_from n lists)))) (lane_crosses_at (cells_of n (list_at lists 0)) answers (sum_by lane_cars (take 0 (lanes_from n lists)))) (cells_of n (list_at lists 1)) (cells_of n (list_at lists 0)) (cells_of n b.items)
-    → Crosses (crosses_at (record { limit = limit; lanes = lanes_from n lists }) answers) (record { limit = limit; lanes = lanes_from n lists }) (record { limit = limit; lanes = lanes_from n (a ∷ b ∷ []) })
+    → LaneCrosses (lane_crosses_at (cells_of n (list_at lists 0)) answers (sum_by lane_car_count (take 0 (lanes_from n lists)))) (lane_crosses_at (cells_of n (list_at lists 1)) answers (sum_by lane_car_count (take 1 (lanes_from n lists)))) (cells_of n (list_at lists 0)) (cells_of n (list_at lists 1)) (cells_of n a.items)
+    → LaneCrosses (lane_crosses_at (cells_of n (list_at lists 1)) answers (sum_by lane_car_count (take 1 (lanes_from n lists)))) (lane_crosses_at (cells_of n (list_at lists 0)) answers (sum_by lane_car_count (take 0 (lanes_from n lists)))) (cells_of n (list_at lists 1)) (cells_of n (list_at lists 0)) (cells_of n b.items)
+    → ChangesLanes (crosses_at (record { limit = limit; lanes = lanes_from n lists }) answers) (record { limit = limit; lanes = lanes_from n lists }) (record { limit = limit; lanes = lanes_from n (a ∷ b ∷ []) })
 crosses_two n limit [] a b answers two first second = absurd (omega arith)
 crosses_two n limit (v ∷ []) a b answers two first second = absurd (omega arith)
 crosses_two n limit (v ∷ w ∷ []) a b answers two first second = record { same_limit = refl; same_lanes = refl; each_lane = two_lanes _ first second }
@@ -229,7 +229,7 @@ crosses_two n limit (v ∷ w ∷ u ∷ lists) a b answers two first second = abs
 -- from the lists to the road: the motion
 pub lists_fit : (n limit : ℕ) (lists : List (Vec LaneCar Global)) (answers : List ℕ) → MayMove (record { limit = limit; lanes = lanes_from n lists }) answers → ListsFit n lists answers
 lists_fit n limit lists answers allowed = record {
-  each_lane = λ l h. subst (λ (lane : Lane). LaneFits (lane_answer lane answers (sum_by lane_cars (take l (lanes_from n lists)))) lane) (lane_from n lists l h)
+  each_lane = λ l h. subst (λ (lane : Lane). LaneFits (lane_answer lane answers (sum_by lane_car_count (take l (lanes_from n lists)))) lane) (lane_from n lists l h)
       ((allowed_fits (record { limit = limit; lanes = lanes_from n lists }) answers allowed).each_lane l (on_lanes n lists l h));
 }
 
@@ -239,11 +239,11 @@ lists_move n limit lists next answers m = record {
   same_limit = refl;
   same_lanes = rw (length-map, length-map) m.same_lanes;
   each_lane = λ l h. let on : l < length lists = rw length-map at h in
-      subst (λ (lane : Lane). LaneMoves (lane_answer (get_or (lanes_from n lists) l []) answers (sum_by lane_cars (take l (lanes_from n lists)))) (get_or (lanes_from n lists) l []) lane) (sym (lane_from n next l (let e = m.same_lanes in omega arith)))
-      (subst (λ (lane : Lane). LaneMoves (lane_answer lane answers (sum_by lane_cars (take l (lanes_from n lists)))) lane (cells_of n (list_at next l))) (sym (lane_from n lists l on)) (m.each_lane l on));
+      subst (λ (lane : Lane). LaneMoves (lane_answer (get_or (lanes_from n lists) l []) answers (sum_by lane_car_count (take l (lanes_from n lists)))) (get_or (lanes_from n lists) l []) lane) (sym (lane_from n next l (let e = m.same_lanes in omega arith)))
+      (subst (λ (lane : Lane). LaneMoves (lane_answer lane answers (sum_by lane_car_count (take l (lanes_from n lists)))) lane (cells_of n (list_at next l))) (sym (lane_from n lists l on)) (m.each_lane l on));
 }
 
-pub allowed_count : (n limit : ℕ) (lists : List (Vec LaneCar Global)) (answers : List ℕ) → MayMove (record { limit = limit; lanes = lanes_from n lists }) answers → sum_by lane_cars (lanes_from n lists) ≤ length answers
+pub allowed_count : (n limit : ℕ) (lists : List (Vec LaneCar Global)) (answers : List ℕ) → MayMove (record { limit = limit; lanes = lanes_from n lists }) answers → sum_by lane_car_count (lanes_from n lists) ≤ length answers
 allowed_count n limit lists answers allowed = let e = allowed.one_each in omega (arith, e)
 
 -- a sorted list is told by the cells that it makes

@@ -5,7 +5,7 @@ use Rattle.std.proofs.lemmas.Bool.{cases_eq, cond-true, cond-false}
 use Rattle.std.proofs.lemmas.Bool.Decides.{nat_tests}
 use Rattle.trlab_road.specs.LaneCars.{LaneCar}
 use Rattle.trlab_road.specs.Gaps.{ahead, behind, clear_cells, gap, side, sidegap, sideback}
-use Rattle.trlab_road.specs.Stored.{cells_of, IsSortedFrom, place_of, IsParted, IsFirstFrom}
+use Rattle.trlab_road.specs.Stored.{cells_of, IsSortedFrom, place_of, IsFirstPast, IsFirstFrom}
 use Rattle.trlab_road.proofs.ListGaps.{back_next, gap_next}
 use Rattle.trlab_road.proofs.Lists.{length_cells, cells_at, rises_order}
 use Rattle.trlab_road.proofs.ListLaneChange.{sought_here, sought_none}
@@ -40,7 +40,7 @@ module _ (n : ℕ) (cars : List LaneCar) (x k : ℕ) (r : IsSortedFrom 0 n cars)
           | inr more ↦ let a = s.from k (omega arith) (omega arith) in let b = rises_order 0 n cars k m r (omega arith) on in omega (arith, a, b)
         ]
 
-    pub free_parted : IsParted cars x k
+    pub free_parted : IsFirstPast cars x k
     free_parted = record { before = λ m h on. let a = s.before m h on in omega (arith, a); after = free_past }
 
 not_equal : (a b : ℕ) → a ≢ b → nat_eq a b ≡ false

@@ -8,7 +8,7 @@ use Rattle.std.proofs.lemmas.Option.{some_pair_parts}
 use Rattle.std.proofs.lemmas.List.FromFn.{length-map-range_with_len, get_or-map-range_with_len}
 use Rattle.trlab_road.specs.declared.car.Car.{Car}
 use Rattle.trlab_road.specs.LaneCars.{LaneCar}
-use Rattle.trlab_road.specs.Cells.{Cell, Lane, at, lane_cars}
+use Rattle.trlab_road.specs.Cells.{Cell, Lane, at, lane_car_count}
 use Rattle.trlab_road.specs.Standing.{standing_from}
 use Rattle.trlab_road.specs.Stored.{cell_at, cells_of, IsSortedFrom, no_car, place_of, car_on}
 use Rattle.trlab_road.proofs.StandingOrder.{length-standing_from}
@@ -77,7 +77,7 @@ pub standing_list : (l n : ℕ) (cars : List LaneCar) → IsSortedFrom 0 n cars 
 standing_list l n cars r = standing_cells l 0 n n cars (let e : 0 + n ≡ n = omega arith in e) r
 
 -- as many cars as the list has
-pub cars_of_list : (n : ℕ) (cars : List LaneCar) → IsSortedFrom 0 n cars → lane_cars (cells_of n cars) ≡ length cars
+pub cars_of_list : (n : ℕ) (cars : List LaneCar) → IsSortedFrom 0 n cars → lane_car_count (cells_of n cars) ≡ length cars
 cars_of_list n cars r = sym (length-standing_from 0 0 (cells_of n cars)) ∙ ap length (standing_list 0 n cars r) ∙ length-map cars (car_on 0)
 
 -- places of a sorted list

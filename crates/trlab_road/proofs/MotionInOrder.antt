@@ -4,7 +4,7 @@ use Rattle.std.specs.Prelude.{slice_index}
 use Rattle.trlab_road.specs.Cells.{Cells, lane_of, AgreeAtCars}
 use Rattle.trlab_road.specs.Gaps.{ahead, gap}
 use Rattle.trlab_road.specs.Legal.{IsLegal}
-use Rattle.trlab_road.specs.Motion.{in_order, MayMove, Fits, Moves, CleanMotion}
+use Rattle.trlab_road.specs.Motion.{in_order, MayMove, Fits, Moves, IsCleanMotion}
 use Rattle.trlab_road.specs.Standing.{rank}
 use Rattle.trlab_road.proofs.MotionLaws.{moved_legal, moves_clean}
 use Rattle.trlab_road.proofs.StandingOrder.{in_order_at, rank_below_cars}
@@ -56,5 +56,5 @@ pub allowed_legal : (road new : Cells) (answers : List ℕ) → IsLegal road →
 allowed_legal road new answers legal allowed m = moved_legal (answer_at road answers) road new legal m (allowed_fits road answers allowed)
 
 pub allowed_clean : (road new : Cells) (answers : List ℕ) → IsLegal road → MayMove road answers
-    → Moves (answer_at road answers) road new → CleanMotion road new
+    → Moves (answer_at road answers) road new → IsCleanMotion road new
 allowed_clean road new answers legal allowed m = moves_clean (answer_at road answers) road new legal m (allowed_fits road answers allowed)

@@ -5,10 +5,10 @@ use Rattle.std.proofs.lemmas.Bool.{cases_lt}
 use Rattle.std.proofs.lemmas.List.{get_or_past, ext_get_or, get_or-set_other}
 use Rattle.std.proofs.lemmas.List.Sums.{sum_by-set, sum_by-cons}
 use Rattle.trlab_road.proofs.Ring.{Apart, car_in}
-use Rattle.trlab_road.specs.Cells.{Cell, Lane, Cells, at, cell, lane_of, cars, lane_cars}
+use Rattle.trlab_road.specs.Cells.{Cell, Lane, Cells, at, cell, lane_of, cars, lane_car_count}
 use Rattle.trlab_road.specs.Gaps.{ahead}
 use Rattle.trlab_road.specs.Legal.{IsLegal, LanesFit, LengthFits, LimitFits}
-use Rattle.trlab_road.specs.Motion.{LaneMoves, Moves, LaneFits, Fits, CleanLaneMotion, CleanMotion}
+use Rattle.trlab_road.specs.Motion.{LaneMoves, Moves, LaneFits, Fits, IsCleanLaneMotion, IsCleanMotion}
 use Rattle.trlab_road.proofs.Ring.{inside, clear_within_gap, apart_within_gaps}
 
 -- the motion phase leaves one road only
@@ -37,7 +37,7 @@ one_lane_only answer old new other m n =
 pub fewer_cars : (xs ys : Lane) (R : ℕ → ℕ → Type 0) →
     ((x : ℕ) (a : ℕ × ℕ) → at xs x ≡ Some a → (y : ℕ) × ((b : ℕ × ℕ) × (at ys y ≡ Some b) × R x y)) →
     ((x z y : ℕ) → R x y → R z y → x ≡ z) →
-    lane_cars xs ≤ lane_cars ys
+    lane_car_count xs ≤ lane_car_count ys
 fewer_cars [] ys R partner own = omega arith
 fewer_cars (None ∷ xs) ys R partner own = fewer_cars xs ys (λ x y. R (suc x) y) (λ x a h. partner (suc x) a h) (λ x z y h k. let e = own (suc x) (suc z) y h k in omega arith)
 fewer_cars (Some a ∷ xs) ys R partner own =
@@ -56,14 +56,14 @@ fewer_cars (Some a ∷ xs) ys R partner own =
 
 -- the motion of a lane keeps the number of its cars
 pub lane_same_count : (answer : ℕ → ℕ) (old new : Lane) → LaneMoves answer old new → Apart answer old
-    → lane_cars new ≡ lane_cars old
+    → lane_car_count new ≡ lane_car_count old
 lane_same_count answer old new m far =
     let Goes : ℕ → ℕ → Type 0 = λ x y. (number : ℕ) × ((before : ℕ) × ((at old x ≡ Some (number, before)) × (y ≡ ahead (length old) x (answer x)))) in
-    let no_fewer : lane_cars old ≤ lane_cars new =
+    let no_fewer : lane_car_count old ≤ lane_car_count new =
     fewer_cars old new Goes
     (λ x a h. (ahead (length old) x (answer x), ((a.0, answer x), m.arrives x a.0 a.1 h, (a.0, (a.1, (h, refl))))))
     (λ x z y h k. far.apart x z h.0 k.0 h.1.0 k.1.0 h.1.1.0 k.1.1.0 (sym h.1.1.1 ∙ k.1.1.1)) in
-    let no_more : lane_cars new ≤ lane_cars old =
+    let no_more : lane_car_count new ≤ lane_car_count old =
     fewer_cars new old (λ y x. y ≡ ahead (length old) x (answer x))
     (λ y a h. let came = m.nothing_else y a.0 a.1 h in (came.0, ((a.0, came.1.0), came.1.1.was, came.1.1.reaches)))
     (λ y z x h k. h ∙ sym k) in
@@ -74,7 +74,7 @@ pair_path e f = cc
 
 -- the motion of a lane is clean where each answer is within its gap
 pub lane_clean : (answer : ℕ → ℕ) (old new : Lane) → LaneMoves answer old new → LaneFits answer old
-    → CleanLaneMotion old new
+    → IsCleanLaneMotion old new
 lane_clean answer old new m within = record {
   same_count = lane_same_count answer old new m (apart_within_gaps answer old within);
   none_lost = λ x number before h. (answer x, record { stands = m.arrives x number before h; over_empty = clear_within_gap old x (answer x) (within.gaps x number before h) });
@@ -91,20 +91,20 @@ on_lane road l x car h =
 
 -- two lists of lanes with the same cars on each lane have the same cars
 same_sum : (xs ys : List Lane) → length ys ≡ length xs
-    → ((l : ℕ) → l < length xs → lane_cars (get_or ys l []) ≡ lane_cars (get_or xs l []))
-    → sum_by lane_cars ys ≡ sum_by lane_cars xs
+    → ((l : ℕ) → l < length xs → lane_car_count (get_or ys l []) ≡ lane_car_count (get_or xs l []))
+    → sum_by lane_car_count ys ≡ sum_by lane_car_count xs
 same_sum [] [] e h = refl
 same_sum [] (y ∷ ys) e h = absurd (omega arith)
 same_sum (x ∷ xs) [] e h = absurd (omega arith)
 same_sum (x ∷ xs) (y ∷ ys) e h =
-    let first : lane_cars y ≡ lane_cars x = h 0 (omega arith) in
+    let first : lane_car_count y ≡ lane_car_count x = h 0 (omega arith) in
     let rest = same_sum xs ys (omega arith) (λ l k. h (suc l) (omega arith)) in
-    let a = sum_by-cons lane_cars x xs in
-    let b = sum_by-cons lane_cars y ys in
+    let a = sum_by-cons lane_car_count x xs in
+    let b = sum_by-cons lane_car_count y ys in
     omega arith
 
 module _ (answer : ℕ → ℕ → ℕ) (old new : Cells) (legal : IsLegal old) (m : Moves answer old new) (within : Fits answer old) where
-  pub moves_clean : CleanMotion old new
+  pub moves_clean : IsCleanMotion old new
   moves_clean = record {
     same_lanes = m.same_lanes;
     each_lane = λ l h. lane_clean (answer l) (lane_of old l) (lane_of new l) (m.each_lane l h) (within.each_lane l h);

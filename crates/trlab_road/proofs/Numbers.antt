@@ -5,48 +5,48 @@ use Rattle.std.proofs.lemmas.Bool.{cases_lt, cases_eq, cases_order}
 use Rattle.std.proofs.lemmas.List.{length-map, get_or-replicate, get_or_append_left, get_or-append_right}
 use Rattle.std.proofs.lemmas.List.Sums.{sum_by-cons}
 use Rattle.trlab_road.specs.declared.car.Car.{Car}
-use Rattle.trlab_road.specs.Cells.{HasNumber, Cell, Lane, Cells, cars, lane_cars}
+use Rattle.trlab_road.specs.Cells.{HasNumber, Cell, Lane, Cells, cars, lane_car_count}
 use Rattle.trlab_road.specs.Legal.{IsLegal}
-use Rattle.trlab_road.specs.Standing.{standing_from, standing_lanes, standing, rank}
+use Rattle.trlab_road.specs.Standing.{standing_from, standing_from_lane, standing, rank}
 use Rattle.trlab_road.proofs.Ring.{inside}
 use Rattle.trlab_road.proofs.MotionLaws.{fewer_cars}
-use Rattle.trlab_road.proofs.StandingOrder.{standing_on, standing_on_lanes, standing_cell, length-standing_from, length-standing_lanes}
-use Rattle.trlab_road.proofs.StandingOrder.{rank_is, lane_cars-some}
+use Rattle.trlab_road.proofs.StandingOrder.{standing_on, standing_on_lanes, standing_cell, length-standing_from, length-standing_from_lane}
+use Rattle.trlab_road.proofs.StandingOrder.{rank_is, lane_car_count-some}
 
 -- the cell that holds a car
 abbrev pub car_cell : Car → Cell
 car_cell car = Some (car.number, car.speed)
 
 -- cells of cars are all taken
-pub all_taken : (xs : List Car) → lane_cars (map car_cell xs) ≡ length xs
+pub all_taken : (xs : List Car) → lane_car_count (map car_cell xs) ≡ length xs
 all_taken [] = refl
-all_taken (x ∷ xs) = lane_cars-some (x.number, x.speed) (map car_cell xs) ∙ ap suc (all_taken xs)
+all_taken (x ∷ xs) = lane_car_count-some (x.number, x.speed) (map car_cell xs) ∙ ap suc (all_taken xs)
 
 -- a lane with a car in each cell
-pub full : (n : ℕ) → lane_cars (replicate n (Some (0, 0))) ≡ n
+pub full : (n : ℕ) → lane_car_count (replicate n (Some (0, 0))) ≡ n
 full zero = refl
-full (suc n) = lane_cars-some (0, 0) (replicate n (Some (0, 0))) ∙ ap suc (full n)
+full (suc n) = lane_car_count-some (0, 0) (replicate n (Some (0, 0))) ∙ ap suc (full n)
 
 abbrev pub no_one : Car
 no_one = record { number = 0; lane = 0; place = 0; speed = 0 }
 
 -- how many cars stand before a car of a list of lanes
 abbrev before : ℕ → List Lane → Car → ℕ
-before base lanes car = sum_by lane_cars (take (car.lane - base) lanes) + lane_cars (take car.place (get_or lanes (car.lane - base) []))
+before base lanes car = sum_by lane_car_count (take (car.lane - base) lanes) + lane_car_count (take car.place (get_or lanes (car.lane - base) []))
 
 first_before : (base : ℕ) (lane : Lane) (lanes : List Lane) (car : Car) (k : ℕ) → car.lane - base ≡ 0
-    → lane_cars (take car.place lane) ≡ k → before base (lane ∷ lanes) car ≡ k
-first_before base lane lanes car k e h = rw e (let z : 0 + lane_cars (take car.place lane) ≡ k = omega arith in z)
+    → lane_car_count (take car.place lane) ≡ k → before base (lane ∷ lanes) car ≡ k
+first_before base lane lanes car k e h = rw e (let z : 0 + lane_car_count (take car.place lane) ≡ k = omega arith in z)
 
 next_before : (base : ℕ) (lane : Lane) (lanes : List Lane) (car : Car) (k n : ℕ)
-    → car.lane - base ≡ suc (car.lane - suc base) → n ≡ lane_cars lane → n ≤ k
+    → car.lane - base ≡ suc (car.lane - suc base) → n ≡ lane_car_count lane → n ≤ k
     → before (suc base) lanes car ≡ k - n → before base (lane ∷ lanes) car ≡ k
 next_before base lane lanes car k n e size past rest =
-    let f = sum_by-cons lane_cars lane (take (car.lane - suc base) lanes) in
+    let f = sum_by-cons lane_car_count lane (take (car.lane - suc base) lanes) in
     rw e (omega (arith, f, size, rest))
 
-kth_before : (base : ℕ) (lanes : List Lane) (k : ℕ) → k < length (standing_lanes base lanes)
-    → before base lanes (get_or (standing_lanes base lanes) k no_one) ≡ k
+kth_before : (base : ℕ) (lanes : List Lane) (k : ℕ) → k < length (standing_from_lane base lanes)
+    → before base lanes (get_or (standing_from_lane base lanes) k no_one) ≡ k
 kth_before base [] k h = absurd (omega arith)
 kth_before base (lane ∷ lanes) k h =
     let n = length (standing_from base 0 lane) in
@@ -57,17 +57,17 @@ kth_before base (lane ∷ lanes) k h =
           let zeroth : car.lane - base ≡ 0 = let e = on.of_lane in omega arith in
           let r = rank_is base 0 lane k no_one below in
           let e : car.place - 0 ≡ car.place = omega arith in
-          rw (get_or_append_left (standing_from base 0 lane) (standing_lanes (suc base) lanes) no_one k below)
+          rw (get_or_append_left (standing_from base 0 lane) (standing_from_lane (suc base) lanes) no_one k below)
           (first_before base lane lanes car k zeroth (rw e at r))
       | inr past ↦
-          let total = length-append (standing_from base 0 lane) (standing_lanes (suc base) lanes) in
-          let car = get_or (standing_lanes (suc base) lanes) (k - n) no_one in
+          let total = length-append (standing_from base 0 lane) (standing_from_lane (suc base) lanes) in
+          let car = get_or (standing_from_lane (suc base) lanes) (k - n) no_one in
           let on = standing_on_lanes (suc base) lanes (k - n) no_one (omega arith) in
           let low = on.from in
           let rest = kth_before (suc base) lanes (k - n) (omega arith) in
           let later : car.lane - base ≡ suc (car.lane - suc base) = omega arith in
           let size = length-standing_from base 0 lane in
-          rw (get_or-append_right (standing_from base 0 lane) (standing_lanes (suc base) lanes) n k no_one refl past)
+          rw (get_or-append_right (standing_from base 0 lane) (standing_from_lane (suc base) lanes) n k no_one refl past)
           (next_before base lane lanes car k n later size past rest)
     ]
 
@@ -75,7 +75,7 @@ kth_before base (lane ∷ lanes) k h =
 pub rank_of_kth : (road : Cells) (k : ℕ) → k < cars road → let car = get_or (standing road) k no_one in rank road car.lane car.place ≡ k
 rank_of_kth road k h =
     let e : (get_or (standing road) k no_one).lane - 0 ≡ (get_or (standing road) k no_one).lane = omega arith in
-    rw e at (kth_before 0 road.lanes k (rw length-standing_lanes h))
+    rw e at (kth_before 0 road.lanes k (rw length-standing_from_lane h))
 
 module _ (road : Cells) (legal : IsLegal road) where
   -- the number of the k-th car
@@ -93,10 +93,10 @@ module _ (road : Cells) (legal : IsLegal road) where
       sym (rank_of_kth road k low) ∙ ap (λ i. rank road i a.place) c.0 ∙ ap (rank road b.lane) c.1 ∙ rank_of_kth road m high
 
   car_at : (k : ℕ) → k < length (map car_cell (standing road)) → k < cars road
-  car_at k h = let a = length-map (standing road) car_cell in let b = length-standing_lanes 0 road.lanes in omega arith
+  car_at k h = let a = length-map (standing road) car_cell in let b = length-standing_from_lane 0 road.lanes in omega arith
 
-  in_order : lane_cars (map car_cell (standing road)) ≡ cars road
-  in_order = all_taken (standing road) ∙ length-standing_lanes 0 road.lanes
+  in_order : lane_car_count (map car_cell (standing road)) ≡ cars road
+  in_order = all_taken (standing road) ∙ length-standing_from_lane 0 road.lanes
 
   -- where each number is below n, there are n cars at most
   pub no_more_cars : (n : ℕ) → ((k : ℕ) → k < cars road → number_at k < n) → cars road ≤ n

@@ -7,8 +7,8 @@ use Rattle.trlab_road.specs.declared.fault.RoadFault.TheVariants.{Lanes, Length,
 use Rattle.trlab_bounds.specs.declared.roads.TheConstants.{MAX_LENGTH, MAX_LIMIT, MAX_LANES}
 use Rattle.trlab_road.specs.Cells.{Cells}
 use Rattle.trlab_road.specs.Legal.{IsLegal, LanesFit, LengthFits, LimitFits}
-use Rattle.trlab_road.specs.Pictures.{HaveEqualLengths, IsFirstBad, IsFirstFault, AreGoodPictures, AreNumberedInOrder, Shows, ShowsCell, character_at, point, picture, picture_at}
-use Rattle.trlab_road.specs.Laws.{Says}
+use Rattle.trlab_road.specs.Pictures.{HaveEqualLengths, IsFirstBadCharacter, IsFirstPictureFault, AreValidPictures, AreNumberedInOrder, PicturesShow, ShowsCell, character_at, dot, picture, picture_at}
+use Rattle.trlab_road.specs.Laws.{PicturesMean}
 use Rattle.trlab_road.proofs.Characters.{shows_speed_or_not}
 use Rattle.trlab_road.proofs.PictureLaws.{draws, no_fault, one_fault, one_shown, pictures_good, shown_legal}
 use Rattle.trlab_road.specs.Stored.{lanes_of_pictures}
@@ -17,45 +17,45 @@ abbrev Answer : Type 0
 Answer = Result Cells RoadFault
 
 -- the pictures of a legal road have no fault
-pub no_fault_shown : (limit : ℕ) (ps : List (List ℕ)) (fault : RoadFault) → IsFirstFault limit ps fault
-    → (road : Cells) → IsLegal road → Shows limit ps road → fault ≡ Memory
+pub no_fault_shown : (limit : ℕ) (ps : List (List ℕ)) (fault : RoadFault) → IsFirstPictureFault limit ps fault
+    → (road : Cells) → IsLegal road → PicturesShow limit ps road → fault ≡ Memory
 no_fault_shown limit ps fault h road legal s =
-    let good = subst (λ (qs : List (List ℕ)). AreGoodPictures road.limit qs) s.drawn (pictures_good road legal) in
-    no_fault limit ps fault (subst (λ (k : ℕ). AreGoodPictures k ps) s.same_limit good) h
+    let good = subst (λ (qs : List (List ℕ)). AreValidPictures road.limit qs) s.drawn (pictures_good road legal) in
+    no_fault limit ps fault (subst (λ (k : ℕ). AreValidPictures k ps) s.same_limit good) h
 
 -- whether a fault is that memory runs out
 pub cases_memory : (f : RoadFault) → (f ≡ Memory) ⊎ (f ≢ Memory)
 cases_memory Memory = inl refl
 cases_memory _ = inr (λ e. cc)
 
-pub told_fault : (limit : ℕ) (ps : List (List ℕ)) (f : RoadFault) → IsFirstFault limit ps f → (g : RoadFault) → IsFirstFault limit ps g
+pub told_fault : (limit : ℕ) (ps : List (List ℕ)) (f : RoadFault) → IsFirstPictureFault limit ps f → (g : RoadFault) → IsFirstPictureFault limit ps g
     → g ≢ Memory → (◌≡◌ {A = Answer} (Err f) (Err g)) ⊎ (◌≡◌ {A = Answer} (Err f) (Err Memory))
 told_fault limit ps f first g other some =
     elim (cases_memory f) [ inl none ↦ inr (ap Err none) | inr not ↦ inl (ap Err (one_fault limit ps f g first other not some)) ]
 
-pub told_road : (limit : ℕ) (ps : List (List ℕ)) (road : Cells) → IsLegal road → Shows limit ps road → (g : RoadFault) → IsFirstFault limit ps g
+pub told_road : (limit : ℕ) (ps : List (List ℕ)) (road : Cells) → IsLegal road → PicturesShow limit ps road → (g : RoadFault) → IsFirstPictureFault limit ps g
     → g ≢ Memory → (◌≡◌ {A = Answer} (Ok road) (Err g)) ⊎ (◌≡◌ {A = Answer} (Ok road) (Err Memory))
 told_road limit ps road legal shows g first some = absurd (some (no_fault_shown limit ps g first road legal shows))
 
 -- one thing only
-pub one_thing : (limit : ℕ) (ps : List (List ℕ)) (said other : Answer) → Says limit ps said → Says limit ps other → said ≡ other
+pub one_thing : (limit : ℕ) (ps : List (List ℕ)) (said other : Answer) → PicturesMean limit ps said → PicturesMean limit ps other → said ≡ other
 one_thing limit ps (Ok road) (Ok other) s t = ap Ok (one_shown limit ps road other s.0 t.0)
 one_thing limit ps (Ok road) (Err f) s t = absurd (t.1 (no_fault_shown limit ps f t.0 road s.1 s.0))
 one_thing limit ps (Err f) (Ok road) s t = absurd (s.1 (no_fault_shown limit ps f s.0 road t.1 t.0))
 one_thing limit ps (Err f) (Err g) s t = ap Err (one_fault limit ps f g s.0 t.0 s.1 t.1)
 
 -- the road again
-pub same_again : (road : Cells) (said : Answer) → IsLegal road → AreNumberedInOrder road → Says road.limit (map picture road.lanes) said ↔ (said ≡ Ok road)
+pub same_again : (road : Cells) (said : Answer) → IsLegal road → AreNumberedInOrder road → PicturesMean road.limit (map picture road.lanes) said ↔ (said ≡ Ok road)
 same_again road said legal numbered =
-    let itself : Says road.limit (map picture road.lanes) (Ok road) = (record { same_limit = refl; drawn = refl; numbered = numbered }, legal) in
+    let itself : PicturesMean road.limit (map picture road.lanes) (Ok road) = (record { same_limit = refl; drawn = refl; numbered = numbered }, legal) in
     (λ s. one_thing road.limit (map picture road.lanes) said (Ok road) s itself, λ e. rw e itself)
 
 -- each of the conditions holds or not
 
 shows_cell_or_not : (limit byte : ℕ) → ShowsCell limit byte ⊎ (¬ (ShowsCell limit byte))
 shows_cell_or_not limit byte =
-    elim (eqb_tells byte point) [
-      | inl point ↦ inl (inl point.1)
+    elim (eqb_tells byte dot) [
+      | inl dot ↦ inl (inl dot.1)
       | inr other ↦ elim (shows_speed_or_not limit byte) [
         | inl digit ↦ inl (inr digit)
         | inr none ↦ inr (λ h. elim h [ inl e ↦ other.1 e | inr d ↦ none d ])
@@ -127,7 +127,7 @@ abbrev LanesShow : ℕ → List (List ℕ) → ℕ → Type 0
 LanesShow limit ps l = (m y : ℕ) → m < l → y < length (picture_at ps m) → ShowsCell limit (character_at ps m y)
 
 abbrev SomeBad : ℕ → List (List ℕ) → Type 0
-SomeBad limit ps = (l : ℕ) × ((x : ℕ) × IsFirstBad limit ps l x)
+SomeBad limit ps = (l : ℕ) × ((x : ℕ) × IsFirstBadCharacter limit ps l x)
 
 places_or_bad : (limit : ℕ) (ps : List (List ℕ)) (l : ℕ) → l < length ps → LanesShow limit ps l → (x : ℕ) → x ≤ length (picture_at ps l)
     → PlacesShow limit ps l x ⊎ SomeBad limit ps
@@ -158,12 +158,12 @@ lanes_or_bad limit ps (suc l) h =
       ]
     ]
 
-good_says : (limit : ℕ) (ps : List (List ℕ)) → AreGoodPictures limit ps → (said : Answer) × Says limit ps said
+good_says : (limit : ℕ) (ps : List (List ℕ)) → AreValidPictures limit ps → (said : Answer) × PicturesMean limit ps said
 good_says limit ps good =
     let road : Cells = record { limit = limit; lanes = lanes_of_pictures 0 ps } in
     (Ok road, (draws limit ps good, shown_legal limit ps road good (draws limit ps good)))
 
-pub something : (limit : ℕ) (ps : List (List ℕ)) → (said : Answer) × Says limit ps said
+pub something : (limit : ℕ) (ps : List (List ℕ)) → (said : Answer) × PicturesMean limit ps said
 something limit ps =
     elim (lanes_or_not (length ps)) [
       | inr not_few ↦ (Err Lanes, (not_few, λ e. cc))

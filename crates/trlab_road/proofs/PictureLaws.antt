@@ -11,14 +11,14 @@ use Rattle.trlab_road.specs.declared.fault.RoadFault.{RoadFault}
 use Rattle.trlab_road.specs.declared.fault.RoadFault.TheVariants.{Lanes, Length, Limit, Character, SpeedAboveLimit, Memory, TooManyCars}
 use Rattle.trlab_bounds.specs.declared.roads.TheConstants.{MAX_LIMIT}
 use Rattle.trlab_road.specs.declared.car.Car.{Car}
-use Rattle.trlab_road.specs.Cells.{Cell, Lane, Cells, cell, lane_of, cars, lane_cars}
+use Rattle.trlab_road.specs.Cells.{Cell, Lane, Cells, cell, lane_of, cars, lane_car_count}
 use Rattle.trlab_road.specs.Legal.{IsLegal, LanesFit, LengthFits, LimitFits}
-use Rattle.trlab_road.specs.Pictures.{ShowsSpeed, point, speed_character, character, picture, Shows, picture_at, character_at, ShowsCell, AreGoodPictures, IsFirstBad, IsFirstFault}
-use Rattle.trlab_road.specs.Standing.{standing_from, standing_lanes, standing, rank}
+use Rattle.trlab_road.specs.Pictures.{ShowsSpeed, dot, speed_character, character, picture, PicturesShow, picture_at, character_at, ShowsCell, AreValidPictures, IsFirstBadCharacter, IsFirstPictureFault}
+use Rattle.trlab_road.specs.Standing.{standing_from, standing_from_lane, standing, rank}
 use Rattle.trlab_road.proofs.Characters.{character_back, no_point, one_speed, speed_back}
 use Rattle.trlab_road.proofs.Ring.{inside, car_in}
 use Rattle.trlab_road.proofs.MotionLaws.{on_lane}
-use Rattle.trlab_road.proofs.StandingOrder.{get_or-map_in, standing_rank, rank_below_cars, length-standing_from, length-standing_lanes, lane_cars-some, car_of}
+use Rattle.trlab_road.proofs.StandingOrder.{get_or-map_in, standing_rank, rank_below_cars, length-standing_from, length-standing_from_lane, lane_car_count-some, car_of}
 use Rattle.trlab_road.specs.Stored.{speed_of_character, lane_of_picture, lanes_of_pictures}
 
 -- the picture at an index of a list of pictures
@@ -33,16 +33,16 @@ number_of car = car.number
 cons_path : {X : Type 0} {a b : X} {xs ys : List X} → a ≡ b → xs ≡ ys → a ∷ xs ≡ b ∷ ys
 cons_path e f = cc
 
--- a point draws an empty cell, any other byte a car
-drawn_point : (n byte : ℕ) (bytes : List ℕ) → nat_eq byte point ≡ true
+-- a dot draws an empty cell, any other byte a car
+drawn_point : (n byte : ℕ) (bytes : List ℕ) → nat_eq byte dot ≡ true
     → lane_of_picture n (byte ∷ bytes) ≡ None ∷ lane_of_picture n bytes
-drawn_point n byte bytes h = cond-true (nat_eq byte point) (None ∷ lane_of_picture n bytes) (Some (n, speed_of_character byte) ∷ lane_of_picture (suc n) bytes) h
+drawn_point n byte bytes h = cond-true (nat_eq byte dot) (None ∷ lane_of_picture n bytes) (Some (n, speed_of_character byte) ∷ lane_of_picture (suc n) bytes) h
 
-drawn_car : (n byte : ℕ) (bytes : List ℕ) → nat_eq byte point ≡ false
+drawn_car : (n byte : ℕ) (bytes : List ℕ) → nat_eq byte dot ≡ false
     → lane_of_picture n (byte ∷ bytes) ≡ Some (n, speed_of_character byte) ∷ lane_of_picture (suc n) bytes
-drawn_car n byte bytes h = cond-false (nat_eq byte point) (None ∷ lane_of_picture n bytes) (Some (n, speed_of_character byte) ∷ lane_of_picture (suc n) bytes) h
+drawn_car n byte bytes h = cond-false (nat_eq byte dot) (None ∷ lane_of_picture n bytes) (Some (n, speed_of_character byte) ∷ lane_of_picture (suc n) bytes) h
 
-back_again : (limit byte : ℕ) → ShowsCell limit byte → byte ≢ point → speed_character (speed_of_character byte) ≡ byte
+back_again : (limit byte : ℕ) → ShowsCell limit byte → byte ≢ dot → speed_character (speed_of_character byte) ≡ byte
 back_again limit byte (inl e) n = absurd (n e)
 back_again limit byte (inr d) n = character_back limit byte d
 
@@ -52,26 +52,26 @@ pub picture_drawn : (limit n : ℕ) (bytes : List ℕ)
     → picture (lane_of_picture n bytes) ≡ bytes
 picture_drawn limit n [] h = refl
 picture_drawn limit n (byte ∷ bytes) h =
-    elim (eqb_tells byte point) [
+    elim (eqb_tells byte dot) [
       | inl w ↦ ap picture (drawn_point n byte bytes w.0) ∙ cons_path (sym w.1) (picture_drawn limit n bytes (λ x k. h (suc x) (omega arith)))
       | inr w ↦ ap picture (drawn_car n byte bytes w.0) ∙ cons_path (back_again limit byte (h 0 (omega arith)) w.1) (picture_drawn limit (suc n) bytes (λ x k. h (suc x) (omega arith)))
     ]
 
 -- the cars of what is drawn are numbered in order
 numbers_from : (l x n : ℕ) (bytes : List ℕ)
-    → map number_of (standing_from l x (lane_of_picture n bytes)) ≡ range_with_len n (lane_cars (lane_of_picture n bytes))
+    → map number_of (standing_from l x (lane_of_picture n bytes)) ≡ range_with_len n (lane_car_count (lane_of_picture n bytes))
 numbers_from l x n [] = refl
 numbers_from l x n (byte ∷ bytes) =
-    elim (eqb_tells byte point) [
+    elim (eqb_tells byte dot) [
       | inl w ↦ let e = drawn_point n byte bytes w.0 in
-          ap (λ (lane : Lane). map number_of (standing_from l x lane)) e ∙ numbers_from l (suc x) n bytes ∙ ap (λ (lane : Lane). range_with_len n (lane_cars lane)) (sym e)
+          ap (λ (lane : Lane). map number_of (standing_from l x lane)) e ∙ numbers_from l (suc x) n bytes ∙ ap (λ (lane : Lane). range_with_len n (lane_car_count lane)) (sym e)
       | inr w ↦ let e = drawn_car n byte bytes w.0 in
           let rest = lane_of_picture (suc n) bytes in
           let one : suc n ≡ n + 1 = omega arith in
           ap (λ (lane : Lane). map number_of (standing_from l x lane)) e
-          ∙ cons_path refl (numbers_from l (suc x) (suc n) bytes ∙ ap (λ k. range_with_len k (lane_cars rest)) one)
-          ∙ ap (range_with_len n) (sym (lane_cars-some (n, speed_of_character byte) rest))
-          ∙ ap (λ (lane : Lane). range_with_len n (lane_cars lane)) (sym e)
+          ∙ cons_path refl (numbers_from l (suc x) (suc n) bytes ∙ ap (λ k. range_with_len k (lane_car_count rest)) one)
+          ∙ ap (range_with_len n) (sym (lane_car_count-some (n, speed_of_character byte) rest))
+          ∙ ap (λ (lane : Lane). range_with_len n (lane_car_count lane)) (sym e)
     ]
 
 range_append : (n c d : ℕ) → range_with_len n c ++ range_with_len (n + c) d ≡ range_with_len n (c + d)
@@ -85,17 +85,17 @@ range_append n (suc c) d =
     cons_path refl (ap (λ k. range_with_len (n + 1) c ++ range_with_len k d) e ∙ range_append (n + 1) c d) ∙ ap (range_with_len n) f
 
 numbers_lanes : (l n : ℕ) (ps : List (List ℕ))
-    → map number_of (standing_lanes l (lanes_of_pictures n ps)) ≡ range_with_len n (sum_by lane_cars (lanes_of_pictures n ps))
+    → map number_of (standing_from_lane l (lanes_of_pictures n ps)) ≡ range_with_len n (sum_by lane_car_count (lanes_of_pictures n ps))
 numbers_lanes l n [] = refl
 numbers_lanes l n (bytes ∷ ps) =
     let lane = lane_of_picture n bytes in
-    let c = lane_cars lane in
+    let c = lane_car_count lane in
     let rest = lanes_of_pictures (n + c) ps in
-    let e = sum_by-cons lane_cars lane rest in
-    map-append number_of (standing_from l 0 lane) (standing_lanes (suc l) rest)
-    ∙ ap (λ xs. xs ++ map number_of (standing_lanes (suc l) rest)) (numbers_from l 0 n bytes)
+    let e = sum_by-cons lane_car_count lane rest in
+    map-append number_of (standing_from l 0 lane) (standing_from_lane (suc l) rest)
+    ∙ ap (λ xs. xs ++ map number_of (standing_from_lane (suc l) rest)) (numbers_from l 0 n bytes)
     ∙ ap (λ xs. range_with_len n c ++ xs) (numbers_lanes (suc l) (n + c) ps)
-    ∙ range_append n c (sum_by lane_cars rest) ∙ ap (range_with_len n) (sym e)
+    ∙ range_append n c (sum_by lane_car_count rest) ∙ ap (range_with_len n) (sym e)
 
 picture_lanes : (limit n : ℕ) (ps : List (List ℕ))
     → ((l x : ℕ) → l < length ps → x < length (picture_at ps l) → ShowsCell limit (character_at ps l x))
@@ -103,10 +103,10 @@ picture_lanes : (limit n : ℕ) (ps : List (List ℕ))
 picture_lanes limit n [] h = refl
 picture_lanes limit n (bytes ∷ ps) h =
     cons_path (picture_drawn limit n bytes (λ x k. h 0 x (omega arith) k))
-    (picture_lanes limit (n + lane_cars (lane_of_picture n bytes)) ps (λ l x low k. h (suc l) x (omega arith) k))
+    (picture_lanes limit (n + lane_car_count (lane_of_picture n bytes)) ps (λ l x low k. h (suc l) x (omega arith) k))
 
 -- good pictures show what they draw
-pub draws : (limit : ℕ) (ps : List (List ℕ)) → AreGoodPictures limit ps → Shows limit ps (record { limit = limit; lanes = lanes_of_pictures 0 ps })
+pub draws : (limit : ℕ) (ps : List (List ℕ)) → AreValidPictures limit ps → PicturesShow limit ps (record { limit = limit; lanes = lanes_of_pictures 0 ps })
 draws limit ps good = record {
   same_limit = refl;
   drawn = picture_lanes limit 0 ps good.cells;
@@ -118,49 +118,49 @@ same_some e f = cc
 
 -- a lane whose cars are numbered in order is what its picture draws
 lane_back : (l x n : ℕ) (lane : Lane)
-    → map number_of (standing_from l x lane) ≡ range_with_len n (lane_cars lane)
+    → map number_of (standing_from l x lane) ≡ range_with_len n (lane_car_count lane)
     → lane_of_picture n (picture lane) ≡ lane
 lane_back l x n [] h = refl
 lane_back l x n (None ∷ lane) h = ap (λ (xs : Lane). None ∷ xs) (lane_back l (suc x) n lane h)
 lane_back l x n (Some car ∷ lane) h =
-    let h2 : car.0 ∷ map number_of (standing_from l (suc x) lane) ≡ n ∷ range_with_len (n + 1) (lane_cars lane) = h ∙ ap (range_with_len n) (lane_cars-some car lane) in
+    let h2 : car.0 ∷ map number_of (standing_from l (suc x) lane) ≡ n ∷ range_with_len (n + 1) (lane_car_count lane) = h ∙ ap (range_with_len n) (lane_car_count-some car lane) in
     let first : car.0 ≡ n = cc in
-    let rest : map number_of (standing_from l (suc x) lane) ≡ range_with_len (n + 1) (lane_cars lane) = cc in
+    let rest : map number_of (standing_from l (suc x) lane) ≡ range_with_len (n + 1) (lane_car_count lane) = cc in
     let one : n + 1 ≡ suc n = omega arith in
-    drawn_car n (speed_character car.1) (picture lane) (ne_eqb (speed_character car.1) point (no_point car.1))
-    ∙ cons_path (same_some (sym first) (speed_back car.1)) (lane_back l (suc x) (suc n) lane (rest ∙ ap (λ k. range_with_len k (lane_cars lane)) one))
+    drawn_car n (speed_character car.1) (picture lane) (ne_eqb (speed_character car.1) dot (no_point car.1))
+    ∙ cons_path (same_some (sym first) (speed_back car.1)) (lane_back l (suc x) (suc n) lane (rest ∙ ap (λ k. range_with_len k (lane_car_count lane)) one))
 
 lanes_back : (l n : ℕ) (lanes : List Lane)
-    → map number_of (standing_lanes l lanes) ≡ range_with_len n (sum_by lane_cars lanes)
+    → map number_of (standing_from_lane l lanes) ≡ range_with_len n (sum_by lane_car_count lanes)
     → lanes_of_pictures n (map picture lanes) ≡ lanes
 lanes_back l n [] h = refl
 lanes_back l n (lane ∷ lanes) h =
-    let c = lane_cars lane in
+    let c = lane_car_count lane in
     let mine = map number_of (standing_from l 0 lane) in
-    let others = map number_of (standing_lanes (suc l) lanes) in
-    let e : sum_by lane_cars (lane ∷ lanes) ≡ c + sum_by lane_cars lanes = sum_by-cons lane_cars lane lanes in
-    let whole : mine ++ others ≡ range_with_len n c ++ range_with_len (n + c) (sum_by lane_cars lanes) =
-    sym (map-append number_of (standing_from l 0 lane) (standing_lanes (suc l) lanes)) ∙ h ∙ ap (range_with_len n) e ∙ sym (range_append n c (sum_by lane_cars lanes)) in
+    let others = map number_of (standing_from_lane (suc l) lanes) in
+    let e : sum_by lane_car_count (lane ∷ lanes) ≡ c + sum_by lane_car_count lanes = sum_by-cons lane_car_count lane lanes in
+    let whole : mine ++ others ≡ range_with_len n c ++ range_with_len (n + c) (sum_by lane_car_count lanes) =
+    sym (map-append number_of (standing_from l 0 lane) (standing_from_lane (suc l) lanes)) ∙ h ∙ ap (range_with_len n) e ∙ sym (range_append n c (sum_by lane_car_count lanes)) in
     let size : length mine ≡ c = length-map (standing_from l 0 lane) number_of ∙ length-standing_from l 0 lane in
     let size_range : length (range_with_len n c) ≡ c = length-range_with_len n c in
-    let first : mine ≡ range_with_len n c = sym (take_at mine others c size) ∙ ap (take c) whole ∙ take_at (range_with_len n c) (range_with_len (n + c) (sum_by lane_cars lanes)) c size_range in
-    let rest : others ≡ range_with_len (n + c) (sum_by lane_cars lanes) = sym (drop_at mine others c size) ∙ ap (drop c) whole ∙ drop_at (range_with_len n c) (range_with_len (n + c) (sum_by lane_cars lanes)) c size_range in
+    let first : mine ≡ range_with_len n c = sym (take_at mine others c size) ∙ ap (take c) whole ∙ take_at (range_with_len n c) (range_with_len (n + c) (sum_by lane_car_count lanes)) c size_range in
+    let rest : others ≡ range_with_len (n + c) (sum_by lane_car_count lanes) = sym (drop_at mine others c size) ∙ ap (drop c) whole ∙ drop_at (range_with_len n c) (range_with_len (n + c) (sum_by lane_car_count lanes)) c size_range in
     let back = lane_back l 0 n lane first in
-    let count : n + lane_cars (lane_of_picture n (picture lane)) ≡ n + c = ap (λ (xs : Lane). n + lane_cars xs) back in
+    let count : n + lane_car_count (lane_of_picture n (picture lane)) ≡ n + c = ap (λ (xs : Lane). n + lane_car_count xs) back in
     cons_path back (ap (λ k. lanes_of_pictures k (map picture lanes)) count ∙ lanes_back (suc l) (n + c) lanes rest)
 
 abbrev made : ℕ → List Lane → Cells
 made limit lanes = record { limit = limit; lanes = lanes }
 
 -- pictures show one road only: what they draw
-pub shown_drawn : (limit : ℕ) (ps : List (List ℕ)) (road : Cells) → Shows limit ps road
+pub shown_drawn : (limit : ℕ) (ps : List (List ℕ)) (road : Cells) → PicturesShow limit ps road
     → road ≡ made limit (lanes_of_pictures 0 ps)
 shown_drawn limit ps road s =
     let lanes : road.lanes ≡ lanes_of_pictures 0 ps = sym (lanes_back 0 0 road.lanes s.numbered.numbers) ∙ ap (lanes_of_pictures 0) s.drawn in
     ap (λ (p : ℕ). made p road.lanes) s.same_limit ∙ ap (made limit) lanes
 
-pub one_shown : (limit : ℕ) (ps : List (List ℕ)) (road other : Cells) → Shows limit ps road
-    → Shows limit ps other → road ≡ other
+pub one_shown : (limit : ℕ) (ps : List (List ℕ)) (road other : Cells) → PicturesShow limit ps road
+    → PicturesShow limit ps other → road ≡ other
 one_shown limit ps road other s t = shown_drawn limit ps road s ∙ sym (shown_drawn limit ps other t)
 
 picture_of_at : (lanes : List Lane) (l : ℕ) → get_or (map picture lanes) l [] ≡ picture (get_or lanes l [])
@@ -172,7 +172,7 @@ within_speed : (limit v byte : ℕ) → byte ≡ speed_character v → ShowsCell
 within_speed limit v byte e (inl p) = absurd (no_point v (sym e ∙ p))
 within_speed limit v byte e (inr d) = let same = one_speed v d.speed (sym e ∙ d.shown) in let most = d.within in omega (arith, same, most)
 
-module _ (limit : ℕ) (ps : List (List ℕ)) (road : Cells) (good : AreGoodPictures limit ps) (s : Shows limit ps road) where
+module _ (limit : ℕ) (ps : List (List ℕ)) (road : Cells) (good : AreValidPictures limit ps) (s : PicturesShow limit ps road) where
   shown_lanes : length road.lanes ≡ length ps
   shown_lanes = sym (length-map road.lanes picture) ∙ ap length s.drawn
 
@@ -194,7 +194,7 @@ module _ (limit : ℕ) (ps : List (List ℕ)) (road : Cells) (good : AreGoodPict
       let d : Car = record { number = 0; lane = 0; place = 0; speed = 0 } in
       let r = rank road l x in
       let low = rank_below_cars road l x (number, speed) h in
-      let size : r < length (standing road) = rw length-standing_lanes low in
+      let size : r < length (standing road) = rw length-standing_from_lane low in
       let here = ap number_of (standing_rank road l x number speed d h) in
       let e : 0 + r ≡ r = omega arith in
       sym here ∙ sym (get_or-map_in number_of (standing road) r d 0 size) ∙ ap (λ (xs : List ℕ). get_or xs r 0) s.numbered.numbers ∙ get_or-range_with_len 0 (cars road) r 0 low ∙ e
@@ -236,7 +236,7 @@ cell_shows limit None h = inl refl
 cell_shows limit (Some car) h = inr (record { speed = car.1; within = h car refl; shown = refl })
 
 -- the pictures of a legal road are good
-pub pictures_good : (road : Cells) → IsLegal road → AreGoodPictures road.limit (map picture road.lanes)
+pub pictures_good : (road : Cells) → IsLegal road → AreValidPictures road.limit (map picture road.lanes)
 pictures_good road legal =
     let count = length-map road.lanes picture in
     let size : (l : ℕ) → length (picture_at (map picture road.lanes) l) ≡ length (lane_of road l) = λ l. ap length (picture_of_at road.lanes l) ∙ length-map (lane_of road l) character in
@@ -255,8 +255,8 @@ pictures_good road legal =
     }
 
 -- good pictures have no fault, unless an allocation fails
-pub no_fault : (limit : ℕ) (ps : List (List ℕ)) (fault : RoadFault) → AreGoodPictures limit ps
-    → IsFirstFault limit ps fault → fault ≡ Memory
+pub no_fault : (limit : ℕ) (ps : List (List ℕ)) (fault : RoadFault) → AreValidPictures limit ps
+    → IsFirstPictureFault limit ps fault → fault ≡ Memory
 no_fault limit ps Lanes good h = absurd (h good.shape.lanes)
 no_fault limit ps Length good h = absurd (h.1 good.shape.lengths)
 no_fault limit ps Limit good h = absurd (h.2 good.shape.limit_fits)
@@ -266,8 +266,8 @@ no_fault limit ps Memory good h = refl
 no_fault limit ps TooManyCars good h = absurd h
 
 -- one byte only is the first that shows no cell
-pub one_first_bad : (limit : ℕ) (ps : List (List ℕ)) (l x m y : ℕ) → IsFirstBad limit ps l x
-    → IsFirstBad limit ps m y → (l ≡ m) × (x ≡ y)
+pub one_first_bad : (limit : ℕ) (ps : List (List ℕ)) (l x m y : ℕ) → IsFirstBadCharacter limit ps l x
+    → IsFirstBadCharacter limit ps m y → (l ≡ m) × (x ≡ y)
 one_first_bad limit ps l x m y a b =
     elim (cases_order l m) [
       | inl same ↦ (
@@ -299,8 +299,8 @@ same_byte limit ps l x m y e h =
     subst (λ (k : ℕ). ShowsSpeed MAX_LIMIT (character_at ps m k)) e.1 (subst (λ (k : ℕ). ShowsSpeed MAX_LIMIT (character_at ps k x)) e.0 h)
 
 -- a limit and pictures have one first fault, unless an allocation fails
-pub one_fault : (limit : ℕ) (ps : List (List ℕ)) (fault other : RoadFault) → IsFirstFault limit ps fault
-    → IsFirstFault limit ps other → fault ≢ Memory → other ≢ Memory → fault ≡ other
+pub one_fault : (limit : ℕ) (ps : List (List ℕ)) (fault other : RoadFault) → IsFirstPictureFault limit ps fault
+    → IsFirstPictureFault limit ps other → fault ≢ Memory → other ≢ Memory → fault ≡ other
 one_fault limit ps Lanes Lanes f g p q = refl
 one_fault limit ps Lanes Length f g p q = absurd (f g.0)
 one_fault limit ps Lanes Limit f g p q = absurd (f g.0)
@@ -354,11 +354,11 @@ one_fault limit ps TooManyCars TooManyCars f g p q = absurd f
 pub length-lane_of_picture : (n : ℕ) (bytes : List ℕ) → length (lane_of_picture n bytes) ≡ length bytes
 length-lane_of_picture n [] = refl
 length-lane_of_picture n (byte ∷ bytes) =
-    elim (eqb_tells byte point) [
+    elim (eqb_tells byte dot) [
       | inl w ↦ ap length (drawn_point n byte bytes w.0) ∙ ap suc (length-lane_of_picture n bytes)
       | inr w ↦ ap length (drawn_car n byte bytes w.0) ∙ ap suc (length-lane_of_picture (suc n) bytes)
     ]
 
 -- a lane has no more cars than cells
-pub drawn_few : (n : ℕ) (bytes : List ℕ) → lane_cars (lane_of_picture n bytes) ≤ length bytes
+pub drawn_few : (n : ℕ) (bytes : List ℕ) → lane_car_count (lane_of_picture n bytes) ≤ length bytes
 drawn_few n bytes = let e = length-lane_of_picture n bytes in let k = count_by-le-length is_some (lane_of_picture n bytes) in omega arith

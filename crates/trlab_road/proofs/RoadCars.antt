@@ -5,7 +5,7 @@ use Rattle.std.proofs.lemmas.List.{take_more}
 use Rattle.std.proofs.lemmas.List.Sums.{sum_by-cons, sum_by_push}
 use Rattle.std.proofs.lemmas.Option.{slice_get_within, get_or_from_slice_get}
 use Rattle.trlab_road.specs.declared.car.Car.{Car}
-use Rattle.trlab_road.specs.Cells.{Lane, Cells, lane_cars}
+use Rattle.trlab_road.specs.Cells.{Lane, Cells, lane_car_count}
 use Rattle.trlab_road.specs.Motion.{in_order}
 use Rattle.trlab_road.specs.Standing.{standing}
 use Rattle.trlab_road.proofs.StandingOrder.{get_or-map_in}
@@ -20,15 +20,15 @@ in_order_kth {X = X} f road k car e there =
 
 -- the cars of the first lanes, and of one more
 pub cars_more : (lanes : List Lane) (l : ℕ) → l < length lanes
-    → sum_by lane_cars (take (l + 1) lanes) ≡ sum_by lane_cars (take l lanes) + lane_cars (get_or lanes l [])
-cars_more lanes l h = rw (take_more lanes l [] h) (sum_by_push lane_cars (take l lanes) (get_or lanes l []))
+    → sum_by lane_car_count (take (l + 1) lanes) ≡ sum_by lane_car_count (take l lanes) + lane_car_count (get_or lanes l [])
+cars_more lanes l h = rw (take_more lanes l [] h) (sum_by_push lane_car_count (take l lanes) (get_or lanes l []))
 
 pub cars_within : (lanes : List Lane) (l : ℕ) → l < length lanes
-    → sum_by lane_cars (take l lanes) + lane_cars (get_or lanes l []) ≤ sum_by lane_cars lanes
+    → sum_by lane_car_count (take l lanes) + lane_car_count (get_or lanes l []) ≤ sum_by lane_car_count lanes
 cars_within [] l h = absurd (omega arith)
-cars_within (lane ∷ lanes) zero h = let e = sum_by-cons lane_cars lane lanes in omega arith
+cars_within (lane ∷ lanes) zero h = let e = sum_by-cons lane_car_count lane lanes in omega arith
 cars_within (lane ∷ lanes) (suc l) h =
-    let e = sum_by-cons lane_cars lane lanes in
-    let f = sum_by-cons lane_cars lane (take l lanes) in
+    let e = sum_by-cons lane_car_count lane lanes in
+    let f = sum_by-cons lane_car_count lane (take l lanes) in
     let k = cars_within lanes l (omega arith) in
     omega arith

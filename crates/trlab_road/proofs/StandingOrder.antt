@@ -5,30 +5,30 @@ use Rattle.std.proofs.lemmas.Bool.{cases_lt}
 use Rattle.std.proofs.lemmas.List.{get_or_append_left, get_or-append-add, get_or-append_right}
 use Rattle.std.proofs.lemmas.List.Sums.{sum_by-cons}
 use Rattle.trlab_road.specs.declared.car.Car.{Car}
-use Rattle.trlab_road.specs.Cells.{Cell, Lane, Cells, at, cell, cars, lane_cars}
+use Rattle.trlab_road.specs.Cells.{Cell, Lane, Cells, at, cell, cars, lane_car_count}
 use Rattle.trlab_road.specs.Motion.{in_order}
-use Rattle.trlab_road.specs.Standing.{standing_from, standing_lanes, standing, rank}
+use Rattle.trlab_road.specs.Standing.{standing_from, standing_from_lane, standing, rank}
 
 one_if : Cell → ℕ
 one_if c = cond (is_some c) 1 0
 
-pub lane_cars-some : (car : ℕ × ℕ) (cells : Lane) → lane_cars (Some car ∷ cells) ≡ suc (lane_cars cells)
-lane_cars-some car cells = let e = sum_by-cons (λ (c : Cell). cond (is_some c) 1 0) (Some car) cells in omega arith
+pub lane_car_count-some : (car : ℕ × ℕ) (cells : Lane) → lane_car_count (Some car ∷ cells) ≡ suc (lane_car_count cells)
+lane_car_count-some car cells = let e = sum_by-cons (λ (c : Cell). cond (is_some c) 1 0) (Some car) cells in omega arith
 
 -- the standing order has each car of a lane once
-pub length-standing_from : (l s : ℕ) (lane : Lane) → length (standing_from l s lane) ≡ lane_cars lane
+pub length-standing_from : (l s : ℕ) (lane : Lane) → length (standing_from l s lane) ≡ lane_car_count lane
 length-standing_from l s [] = refl
 length-standing_from l s (None ∷ cells) = length-standing_from l (suc s) cells
-length-standing_from l s (Some car ∷ cells) = ap suc (length-standing_from l (suc s) cells) ∙ sym (lane_cars-some car cells)
+length-standing_from l s (Some car ∷ cells) = ap suc (length-standing_from l (suc s) cells) ∙ sym (lane_car_count-some car cells)
 
-pub length-standing_lanes : (l : ℕ) (lanes : List Lane)
-    → length (standing_lanes l lanes) ≡ sum_by lane_cars lanes
-length-standing_lanes l [] = refl
-length-standing_lanes l (lane ∷ lanes) =
-    let a = length-append (standing_from l 0 lane) (standing_lanes (suc l) lanes) in
+pub length-standing_from_lane : (l : ℕ) (lanes : List Lane)
+    → length (standing_from_lane l lanes) ≡ sum_by lane_car_count lanes
+length-standing_from_lane l [] = refl
+length-standing_from_lane l (lane ∷ lanes) =
+    let a = length-append (standing_from l 0 lane) (standing_from_lane (suc l) lanes) in
     let b = length-standing_from l 0 lane in
-    let d = length-standing_lanes (suc l) lanes in
-    let e = sum_by-cons lane_cars lane lanes in
+    let d = length-standing_from_lane (suc l) lanes in
+    let e = sum_by-cons lane_car_count lane lanes in
     omega arith
 
 -- a car by its parts
@@ -38,7 +38,7 @@ car_of number l x speed = record { number = number; lane = l; place = x; speed =
 -- the car of an occupied cell stands in the order after the cars before it
 pub standing_at : (l s : ℕ) (lane : Lane) (x number speed : ℕ) (d : Car)
     → at lane x ≡ Some (number, speed)
-    → get_or (standing_from l s lane) (lane_cars (take x lane)) d ≡ car_of number l (s + x) speed
+    → get_or (standing_from l s lane) (lane_car_count (take x lane)) d ≡ car_of number l (s + x) speed
 unfolding car_of
 standing_at l s [] x number speed d h = absurd cc
 standing_at l s (None ∷ cells) zero number speed d h = absurd cc
@@ -51,51 +51,51 @@ standing_at l s (Some car ∷ cells) zero number speed d h =
     ap (λ (c : ℕ × ℕ). car_of c.0 l s c.1) f ∙ ap (λ k. car_of number l k speed) e
 standing_at l s (Some car ∷ cells) (suc x) number speed d h =
     let e : suc s + x ≡ s + suc x = omega arith in
-    rw lane_cars-some (standing_at l (suc s) cells x number speed d h ∙ ap (λ k. car_of number l k speed) e)
+    rw lane_car_count-some (standing_at l (suc s) cells x number speed d h ∙ ap (λ k. car_of number l k speed) e)
 
 -- the place of a car in the order is below the number of cars
 pub rank_below : (lane : Lane) (x : ℕ) (car : ℕ × ℕ) → at lane x ≡ Some car
-    → lane_cars (take x lane) < lane_cars lane
+    → lane_car_count (take x lane) < lane_car_count lane
 rank_below [] x car h = absurd cc
 rank_below (None ∷ cells) zero car h = absurd cc
 rank_below (None ∷ cells) (suc x) car h = rank_below cells x car h
-rank_below (Some here ∷ cells) zero car h = rw lane_cars-some (omega arith)
+rank_below (Some here ∷ cells) zero car h = rw lane_car_count-some (omega arith)
 rank_below (Some here ∷ cells) (suc x) car h =
     let k = rank_below cells x car h in
-    let a = lane_cars-some here (take x cells) in
-    let b = lane_cars-some here cells in
+    let a = lane_car_count-some here (take x cells) in
+    let b = lane_car_count-some here cells in
     omega arith
 
 pub standing_lanes_at : (base : ℕ) (lanes : List Lane) (l x number speed : ℕ) (d : Car)
     → at (get_or lanes l []) x ≡ Some (number, speed)
-    → get_or (standing_lanes base lanes) (sum_by lane_cars (take l lanes) + lane_cars (take x (get_or lanes l []))) d ≡ car_of number (base + l) x speed
+    → get_or (standing_from_lane base lanes) (sum_by lane_car_count (take l lanes) + lane_car_count (take x (get_or lanes l []))) d ≡ car_of number (base + l) x speed
 standing_lanes_at base [] l x number speed d h = absurd cc
 standing_lanes_at base (lane ∷ lanes) zero x number speed d h =
     let k = rank_below lane x (number, speed) h in
-    let within : lane_cars (take x lane) < length (standing_from base 0 lane) = rw length-standing_from k in
-    let e : 0 + lane_cars (take x lane) ≡ lane_cars (take x lane) = omega arith in
+    let within : lane_car_count (take x lane) < length (standing_from base 0 lane) = rw length-standing_from k in
+    let e : 0 + lane_car_count (take x lane) ≡ lane_car_count (take x lane) = omega arith in
     let b : base ≡ base + 0 = omega arith in
-    rw e (get_or_append_left (standing_from base 0 lane) (standing_lanes (suc base) lanes) d (lane_cars (take x lane)) within
+    rw e (get_or_append_left (standing_from base 0 lane) (standing_from_lane (suc base) lanes) d (lane_car_count (take x lane)) within
     ∙ standing_at base 0 lane x number speed d h ∙ ap (λ p. car_of number base p speed) (let z : 0 + x ≡ x = omega arith in z) ∙ ap (λ p. car_of number p x speed) b)
 standing_lanes_at base (lane ∷ lanes) (suc l) x number speed d h =
-    let rest = sum_by lane_cars (take l lanes) + lane_cars (take x (get_or lanes l [])) in
-    let e = sum_by-cons lane_cars lane (take l lanes) in
+    let rest = sum_by lane_car_count (take l lanes) + lane_car_count (take x (get_or lanes l [])) in
+    let e = sum_by-cons lane_car_count lane (take l lanes) in
     let n = length-standing_from base 0 lane in
-    let at_rest : sum_by lane_cars (lane ∷ take l lanes) + lane_cars (take x (get_or lanes l [])) ≡ length (standing_from base 0 lane) + rest = omega arith in
+    let at_rest : sum_by lane_car_count (lane ∷ take l lanes) + lane_car_count (take x (get_or lanes l [])) ≡ length (standing_from base 0 lane) + rest = omega arith in
     let b : suc base + l ≡ base + suc l = omega arith in
-    ap (λ i. get_or (standing_from base 0 lane ++ standing_lanes (suc base) lanes) i d) at_rest
-    ∙ get_or-append-add (standing_from base 0 lane) (standing_lanes (suc base) lanes) rest d
+    ap (λ i. get_or (standing_from base 0 lane ++ standing_from_lane (suc base) lanes) i d) at_rest
+    ∙ get_or-append-add (standing_from base 0 lane) (standing_from_lane (suc base) lanes) rest d
     ∙ standing_lanes_at (suc base) lanes l x number speed d h ∙ ap (λ p. car_of number p x speed) b
 
 -- the place of a car in the order of the whole road is below the number of cars
 pub rank_in_road : (lanes : List Lane) (l x : ℕ) (car : ℕ × ℕ) → at (get_or lanes l []) x ≡ Some car
-    → sum_by lane_cars (take l lanes) + lane_cars (take x (get_or lanes l [])) < sum_by lane_cars lanes
+    → sum_by lane_car_count (take l lanes) + lane_car_count (take x (get_or lanes l [])) < sum_by lane_car_count lanes
 rank_in_road [] l x car h = absurd cc
-rank_in_road (lane ∷ lanes) zero x car h = let k = rank_below lane x car h in let e = sum_by-cons lane_cars lane lanes in omega arith
+rank_in_road (lane ∷ lanes) zero x car h = let k = rank_below lane x car h in let e = sum_by-cons lane_car_count lane lanes in omega arith
 rank_in_road (lane ∷ lanes) (suc l) x car h =
     let k = rank_in_road lanes l x car h in
-    let e = sum_by-cons lane_cars lane lanes in
-    let f = sum_by-cons lane_cars lane (take l lanes) in
+    let e = sum_by-cons lane_car_count lane lanes in
+    let f = sum_by-cons lane_car_count lane (take l lanes) in
     omega arith
 
 -- a car of the order stands in its cell
@@ -140,21 +140,21 @@ next_lane base lane lanes car on =
     record { from = omega arith; here = rw e on.here }
 
 pub standing_on_lanes : (base : ℕ) (lanes : List Lane) (k : ℕ) (d : Car)
-    → k < length (standing_lanes base lanes)
-    → OnRoad base lanes (get_or (standing_lanes base lanes) k d)
+    → k < length (standing_from_lane base lanes)
+    → OnRoad base lanes (get_or (standing_from_lane base lanes) k d)
 standing_on_lanes base [] k d h = absurd (omega arith)
 standing_on_lanes base (lane ∷ lanes) k d h =
     let n = length (standing_from base 0 lane) in
     elim (cases_lt k n) [
       | inl below ↦
           let on = standing_on base 0 lane k d below in
-          rw (get_or_append_left (standing_from base 0 lane) (standing_lanes (suc base) lanes) d k below)
+          rw (get_or_append_left (standing_from base 0 lane) (standing_from_lane (suc base) lanes) d k below)
           (first_lane base lane lanes (get_or (standing_from base 0 lane) k d) on)
       | inr past ↦
-          let total = length-append (standing_from base 0 lane) (standing_lanes (suc base) lanes) in
+          let total = length-append (standing_from base 0 lane) (standing_from_lane (suc base) lanes) in
           let on = standing_on_lanes (suc base) lanes (k - n) d (omega arith) in
-          rw (get_or-append_right (standing_from base 0 lane) (standing_lanes (suc base) lanes) n k d refl past)
-          (next_lane base lane lanes (get_or (standing_lanes (suc base) lanes) (k - n) d) on)
+          rw (get_or-append_right (standing_from base 0 lane) (standing_from_lane (suc base) lanes) n k d refl past)
+          (next_lane base lane lanes (get_or (standing_from_lane (suc base) lanes) (k - n) d) on)
     ]
 
 -- what a map has at an index
@@ -168,7 +168,7 @@ get_or-map_in g (x ∷ xs) (suc k) d e h = get_or-map_in g xs k d e (omega arith
 pub standing_cell : (road : Cells) (k : ℕ) (d : Car) → k < cars road → let car = get_or (standing road) k d in cell road car.lane car.place ≡ Some (car.number, car.speed)
 standing_cell road k d h =
     let car = get_or (standing road) k d in
-    let on = standing_on_lanes 0 road.lanes k d (rw length-standing_lanes h) in
+    let on = standing_on_lanes 0 road.lanes k d (rw length-standing_from_lane h) in
     let e : car.lane - 0 ≡ car.lane = omega arith in
     rw e at on.here
 
@@ -190,13 +190,13 @@ unfolding car_of
 in_order_at {X = X} f e road l x number speed h =
     let d : Car = record { number = 0; lane = 0; place = 0; speed = 0 } in
     let r = rank_below_cars road l x (number, speed) h in
-    let size : rank road l x < length (standing road) = rw length-standing_lanes r in
+    let size : rank road l x < length (standing road) = rw length-standing_from_lane r in
     let g : Car → X = λ car. f car.lane car.place in
     get_or-map_in g (standing road) (rank road l x) d e size ∙ ap g (standing_rank road l x number speed d h)
 
 -- the rank of the k-th car is k
 pub rank_is : (l s : ℕ) (lane : Lane) (k : ℕ) (d : Car) → k < length (standing_from l s lane)
-    → lane_cars (take ((get_or (standing_from l s lane) k d).place - s) lane) ≡ k
+    → lane_car_count (take ((get_or (standing_from l s lane) k d).place - s) lane) ≡ k
 rank_is l s [] k d h = absurd (omega arith)
 rank_is l s (None ∷ cells) k d h =
     let car = get_or (standing_from l (suc s) cells) k d in
@@ -209,4 +209,4 @@ rank_is l s (Some here ∷ cells) (suc k) d h =
     let car = get_or (standing_from l (suc s) cells) k d in
     let on = standing_on l (suc s) cells k d inner in
     let e : car.place - s ≡ suc (car.place - suc s) = let f = on.from in omega arith in
-    rw e (lane_cars-some here (take (car.place - suc s) cells) ∙ ap suc (rank_is l (suc s) cells k d inner))
+    rw e (lane_car_count-some here (take (car.place - suc s) cells) ∙ ap suc (rank_is l (suc s) cells k d inner))

@@ -1,33 +1,33 @@
--- Lines of cars: cars of one lane by rising place, each but the last followed by the next car ahead.
+-- Lines of cars: successive cars of one lane in order of place, so the next car ahead comes next in the list.
 use Rattle.std.specs.Prelude.{◌≡◌, ℕ, ◌+◌, ◌-◌, ◌<◌, slice_index, slice_index_or}
 use Rattle.std.specs.Prelude.{List, length, map, sum_by, take}
 use Rattle.trlab_road.specs.LaneCars.{LaneCar}
-use Rattle.trlab_road.specs.Cells.{Cells, IsAt, lane_cars, lane_of}
+use Rattle.trlab_road.specs.Cells.{Cells, IsAt, lane_car_count, lane_of}
 use Rattle.trlab_road.specs.Gaps.{gap, headspeed}
-use Rattle.trlab_road.specs.Motion.{IsOnOwnLane, gaps}
-use Rattle.trlab_road.specs.Standing.{IsStanding, standing_from}
+use Rattle.trlab_road.specs.Motion.{IsValueOnOwnLane, gaps}
+use Rattle.trlab_road.specs.Standing.{IsNthCar, standing_from}
 use Rattle.trlab_road.specs.Stored.{car_on, no_car}
 
--- the line of a lane: `line` lists all its cars by rising place
+-- `line` lists all cars of the lane, in order of place
 abbrev pub IsLineOf : Cells → ℕ → List LaneCar → Type 0
 IsLineOf road lane line = map (car_on lane) line ≡ standing_from lane 0 (lane_of road lane)
 
--- a line is not empty, begins with the k-th car in standing order, goes on in standing order, and ends with
--- the last car of that car's lane
+-- `line` lists the k-th car in standing order, which exists, and all cars after it on the same lane, in this
+-- order
 pub record IsLineFrom (road : Cells) (k : ℕ) (line : List LaneCar) : Type 0 where
   pub lane : ℕ
   pub some : 0 < length line
   pub standing : (j : ℕ) → j < length line
-      → IsStanding road (k + j) (car_on lane (slice_index_or line j no_car))
-  pub whole : k + length line ≡ sum_by lane_cars (take (lane + 1) road.lanes)
+      → IsNthCar road (k + j) (car_on lane (slice_index_or line j no_car))
+  pub whole : k + length line ≡ sum_by lane_car_count (take (lane + 1) road.lanes)
 
--- `car` is the k-th in standing order, and `next` is the next car ahead, at a later place of the same lane,
--- so the gap between them does not pass the end of the lane
+-- `car` is the k-th car in standing order, its gap ends right before `next.place`, a later place, and its
+-- headspeed is `next.speed`: `next` serves as its next car ahead
 pub record IsFollowed (road : Cells) (k : ℕ) (car next : LaneCar) : Type 0 where
   pub lane : ℕ
-  pub standing : IsStanding road k (car_on lane car)
+  pub standing : IsNthCar road k (car_on lane car)
   pub here : IsAt road (car_on lane car)
   pub past : car.place < next.place
-  pub ahead : IsOnOwnLane gap road k (next.place - car.place - 1)
+  pub ahead : IsValueOnOwnLane gap road k (next.place - car.place - 1)
   pub in_gaps : next.place - car.place - 1 ≡ slice_index (gaps road) k
-  pub head : IsOnOwnLane headspeed road k next.speed
+  pub head : IsValueOnOwnLane headspeed road k next.speed

@@ -8,9 +8,9 @@ use Rattle.trlab_road.specs.declared.car.Car.{Car}
 use Rattle.trlab_road.specs.Cells.{Cell, Lane, Cells, IsAt, at, cell, lane_of, cars}
 use Rattle.trlab_road.specs.Gaps.{side}
 use Rattle.trlab_road.specs.Motion.{in_order}
-use Rattle.trlab_road.specs.Standing.{IsStanding, rank}
+use Rattle.trlab_road.specs.Standing.{IsNthCar, rank}
 
--- the other of the lanes 0 and 1
+-- the other lane of a road with two lanes: 1 for lane 0, and 0 for lane 1
 abbrev pub other_lane : ℕ → ℕ
 other_lane l = 1 - l
 
@@ -27,37 +27,37 @@ pub record LaneCrosses (own_crosses beside_crosses : ℕ → Bool) (own beside n
   pub each_cell : (x : ℕ) → x < length own
       → at new x ≡ cell_after_change (own_crosses x) (beside_crosses x) (at own x) (at beside x)
 
--- road `new` is road `old` after the lane change, in which the car on lane l at place x crosses if `crosses l
--- x`
-pub record Crosses (crosses : ℕ → ℕ → Bool) (old new : Cells) : Type 0 where
+-- road `new` is road `old` after the lane change: the car on lane l at place x crosses if `crosses l x`;
+-- for example, if only the car at place 2 crosses, `1.0.` and `....` become `1...` and `..0.`
+pub record ChangesLanes (crosses : ℕ → ℕ → Bool) (old new : Cells) : Type 0 where
   pub same_limit : new.limit ≡ old.limit
   pub same_lanes : length new.lanes ≡ length old.lanes
   pub each_lane : (l : ℕ) → l < length old.lanes
       → LaneCrosses (crosses l) (crosses (other_lane l))
       (lane_of old l) (lane_of old (other_lane l)) (lane_of new l)
 
--- lane l of a road after the lane change, cell by cell, from the cells of both lanes
+-- lane l of a road after the lane change: each of its cells follows from the cells of both lanes at its place
 abbrev pub lane_after_change : (ℕ → ℕ → Bool) → Cells → ℕ → Lane
 lane_after_change crosses road l =
-    let m = other_lane l in
+    let other = other_lane l in
     let places = range_with_len 0 (length (lane_of road l)) in
-    map (λ x. cell_after_change (crosses l x) (crosses m x) (cell road l x) (cell road m x)) places
+    map (λ x. cell_after_change (crosses l x) (crosses other x) (cell road l x) (cell road other x)) places
 
--- a road after the lane change, lane by lane, with the same limit
+-- a road after the lane change, in which the car on lane l at place x crosses if `crosses l x`
 abbrev pub road_after_change : (ℕ → ℕ → Bool) → Cells → Cells
 road_after_change crosses road =
     let lanes = range_with_len 0 (length road.lanes) in
     record { limit = road.limit; lanes = map (lane_after_change crosses road) lanes }
 
--- the road has two lanes, and a car crosses only if its side cell is empty
+-- the road has two lanes, and a car for which `crosses` is true has an empty side cell
 pub record CrossesToEmpty (crosses : ℕ → ℕ → Bool) (road : Cells) : Type 0 where
   pub two_lanes : length road.lanes ≡ 2
   pub side_empty : (car : Car) → IsAt road car → crosses car.lane car.place ≡ true
       → cell road (other_lane car.lane) car.place ≡ None
 
 -- a car after it has crossed: at the same place on the other lane, with the same number and speed
-abbrev pub car_beside : Car → Car
-car_beside car = record {
+abbrev pub car_after_crossing : Car → Car
+car_after_crossing car = record {
   number = car.number;
   lane = other_lane car.lane;
   place = car.place;
@@ -68,39 +68,40 @@ car_beside car = record {
 -- its number and its speed are unchanged
 pub data StaysOrCrosses (old new : Cells) (car : Car) : Type 0 where
   on_own_lane : IsAt new car → StaysOrCrosses old new car
-  on_other_lane : cell old (other_lane car.lane) car.place ≡ None → IsAt new (car_beside car)
+  on_other_lane : cell old (other_lane car.lane) car.place ≡ None → IsAt new (car_after_crossing car)
       → StaysOrCrosses old new car
 
 -- the lane change from `old` to `new` loses and adds no car: each stays or crosses to an empty side cell, and
 -- each car of `new` was at the same place of some lane, with the same number and speed
-pub record CleanLaneChange (old new : Cells) : Type 0 where
+pub record IsCleanLaneChange (old new : Cells) : Type 0 where
   pub same_count : cars new ≡ cars old
   pub none_lost : (car : Car) → IsAt old car → StaysOrCrosses old new car
   pub none_made : (car : Car) → IsAt new car
       → (l : ℕ) × (cell old l car.place ≡ Some (car.number, car.speed))
 
--- `value` is the value of `look` on the other lane at the place of the k-th car in standing order
-abbrev pub IsOnOtherLane : {X : Type 0} → (Lane → ℕ → X) → Cells → ℕ → X → Type 0
-IsOnOtherLane look road k value = (car : Car) → IsStanding road k car
+-- `value` is the result of `look` for the other lane, at the place of the k-th car in standing order; any
+-- value if there is no k-th car
+abbrev pub IsValueOnOtherLane : {X : Type 0} → (Lane → ℕ → X) → Cells → ℕ → X → Type 0
+IsValueOnOtherLane look road k value = (car : Car) → IsNthCar road k car
     → value ≡ look (lane_of road (other_lane car.lane)) car.place
 
--- `gap` is the value of `look` on the other lane at the place of the k-th car in standing order, and it is
--- below the lane length
-pub record IsGapBeside (look : Lane → ℕ → ℕ) (road : Cells) (k gap : ℕ) : Type 0 where
-  pub of_car : IsOnOtherLane look road k gap
+-- `gap` is the result of `look` for the other lane, at the place of the k-th car in standing order, and below
+-- the lane length; `look` is `sidegap` or `sideback`
+pub record IsGapOnOtherLane (look : Lane → ℕ → ℕ) (road : Cells) (k gap : ℕ) : Type 0 where
+  pub of_car : IsValueOnOtherLane look road k gap
   pub below : gap < length (lane_of road 0)
 
--- for each car of a road, in standing order: is its side cell empty?
+-- for each car of a road with two lanes, in standing order: is its side cell empty?
 abbrev pub sides : Cells → List Bool
 sides road = in_order (λ l x. side (lane_of road (other_lane l)) x) road
 
--- does the car on lane l at place x cross, if answers are listed in standing order? false if the list is too
--- short
+-- does the car on lane l at place x cross? `answers` lists this for the cars in standing order; false if the
+-- list is too short
 abbrev pub crosses_at : Cells → List Bool → ℕ → ℕ → Bool
 crosses_at road answers l x = slice_index_or answers (rank road l x) false
 
--- the road has two lanes, `answers` has one answer per car in standing order, and a car crosses only if its
--- side cell is empty
+-- the road has two lanes, `answers` has one answer per car in standing order, and it is `true` only for cars
+-- whose side cell is empty
 pub record MayCross (road : Cells) (answers : List Bool) : Type 0 where
   pub two_lanes : length road.lanes ≡ 2
   pub one_each : length answers ≡ cars road

@@ -4,32 +4,32 @@ use Rattle.trlab_bounds.specs.declared.roads.TheConstants.{MAX_LIMIT, MAX_LENGTH
 use Rattle.trlab_road.specs.declared.car.Car.{Car}
 use Rattle.trlab_road.specs.Cells.{Cells, IsAt, lane_of, cars}
 
--- a number of lanes that a road may have: 1 to MAX_LANES
+-- a road may have this number of lanes: 1 to MAX_LANES
 pub record LanesFit (lanes : ℕ) : Type 0 where
   pub some_lane : 1 ≤ lanes
   pub few_lanes : lanes ≤ MAX_LANES
 
--- a number of cells that a lane may have: 1 to MAX_LENGTH
+-- a lane may have this number of cells: 1 to MAX_LENGTH
 pub record LengthFits (cells : ℕ) : Type 0 where
   pub some_cell : 1 ≤ cells
   pub few_cells : cells ≤ MAX_LENGTH
 
--- a limit that a road may have: 1 to MAX_LIMIT
+-- a road may have this speed limit: 1 to MAX_LIMIT cells per step
 pub record LimitFits (limit : ℕ) : Type 0 where
   pub some_limit : 1 ≤ limit
   pub low_limit : limit ≤ MAX_LIMIT
 
 -- all lanes of a road have the same length, and the number of lanes, their length and the limit are in range
-pub record HasShape (road : Cells) : Type 0 where
+pub record HasValidShape (road : Cells) : Type 0 where
   pub lanes : LanesFit (length road.lanes)
   pub cells : LengthFits (length (lane_of road 0))
   pub equal : (l : ℕ) → l < length road.lanes → length (lane_of road l) ≡ length (lane_of road 0)
   pub limit : LimitFits road.limit
 
 -- a legal road: lanes and limit are in range, no car is faster than the limit, each car number is below the
--- number of cars, and no two cars have the same number
+-- number of cars, and no two cars have the same number. So n cars have the numbers 0 to n - 1
 pub record IsLegal (road : Cells) : Type 0 where
-  pub shape : HasShape road
+  pub shape : HasValidShape road
   pub within_limit : (car : Car) → IsAt road car → car.speed ≤ road.limit
   pub numbered : (car : Car) → IsAt road car → car.number < cars road
   pub once : (car other : Car) → IsAt road car → IsAt road other → car.number ≡ other.number

@@ -2,9 +2,9 @@
 -- functions of a lane and a place: how many cells does the car there move?
 use Rattle.std.specs.Prelude.{◌≡◌, ℕ, ◌<◌, ◌≤◌, Some, None, List, length, map, slice_index}
 use Rattle.trlab_road.specs.declared.car.Car.{Car}
-use Rattle.trlab_road.specs.Cells.{Lane, Cells, IsAt, at, lane_of, cars, lane_cars}
+use Rattle.trlab_road.specs.Cells.{Lane, Cells, IsAt, at, lane_of, cars, lane_car_count}
 use Rattle.trlab_road.specs.Gaps.{ahead, gap}
-use Rattle.trlab_road.specs.Standing.{IsStanding, standing}
+use Rattle.trlab_road.specs.Standing.{IsNthCar, standing}
 
 -- the car with this number and speed, at y after the motion of lane `old`, was at x with the speed `before`
 -- and has moved `answer x` cells, its new speed
@@ -14,7 +14,7 @@ pub record ComesFrom (answer : ℕ → ℕ) (old : Lane) (y number speed x befor
   pub at_speed : speed ≡ answer x
 
 -- lane `new` is lane `old` after the motion: the car at x has moved `answer x` cells ahead, its new speed,
--- and no other cell holds a car
+-- and no other cell holds a car; for example, with the answers 2 and 1 the lane `1..0.` becomes `..2.1`
 pub record LaneMoves (answer : ℕ → ℕ) (old new : Lane) : Type 0 where
   pub same_length : length new ≡ length old
   pub arrives : (x number speed : ℕ)
@@ -45,16 +45,16 @@ pub record Fits (answer : ℕ → ℕ → ℕ) (road : Cells) : Type 0 where
 pub record IsClearAhead (lane : Lane) (x g : ℕ) : Type 0 where
   pub clear : (j : ℕ) → 1 ≤ j → j ≤ g → at lane (ahead (length lane) x j) ≡ None
 
--- the car that was at place x of lane `old` is `speed` cells ahead on lane `new`, with this number and speed,
--- and the cells on its way were empty
+-- the car from place x of lane `old` is `speed` cells ahead on lane `new`, with this number and speed, and it
+-- has moved over cells that were empty
 pub record GoesAhead (old new : Lane) (x number speed : ℕ) : Type 0 where
   pub stands : at new (ahead (length old) x speed) ≡ Some (number, speed)
   pub over_empty : IsClearAhead old x speed
 
 -- the motion of a lane from `old` to `new` is clean: no car is lost or added, and each has moved ahead over
 -- empty cells by its new speed
-pub record CleanLaneMotion (old new : Lane) : Type 0 where
-  pub same_count : lane_cars new ≡ lane_cars old
+pub record IsCleanLaneMotion (old new : Lane) : Type 0 where
+  pub same_count : lane_car_count new ≡ lane_car_count old
   pub none_lost : (x number before : ℕ)
       → at old x ≡ Some (number, before) → (speed : ℕ) × GoesAhead old new x number speed
   pub none_made : (y number speed : ℕ)
@@ -63,24 +63,25 @@ pub record CleanLaneMotion (old new : Lane) : Type 0 where
 
 -- the motion of a road from `old` to `new` is clean: on each lane no car is lost or added, and each has moved
 -- ahead over empty cells
-pub record CleanMotion (old new : Cells) : Type 0 where
+pub record IsCleanMotion (old new : Cells) : Type 0 where
   pub same_lanes : length new.lanes ≡ length old.lanes
-  pub each_lane : (l : ℕ) → l < length old.lanes → CleanLaneMotion (lane_of old l) (lane_of new l)
+  pub each_lane : (l : ℕ) → l < length old.lanes → IsCleanLaneMotion (lane_of old l) (lane_of new l)
 
--- the values of f, a function of a lane and a place, at the cars of a road in standing order
+-- the list of the answers of a road's cars in standing order, from `answer`, a function of a lane and a place
 abbrev pub in_order : {X : Type 0} → (ℕ → ℕ → X) → Cells → List X
-in_order f road = map (λ (car : Car). f car.lane car.place) (standing road)
+in_order answer road = map (λ (car : Car). answer car.lane car.place) (standing road)
 
--- `value` is the value of `look` on its own lane at the place of the k-th car in standing order
-abbrev pub IsOnOwnLane : {X : Type 0} → (Lane → ℕ → X) → Cells → ℕ → X → Type 0
-IsOnOwnLane look road k value = (car : Car) → IsStanding road k car
+-- `value` is the result of `look` for the lane and the place of the k-th car in standing order; any value if
+-- there is no k-th car
+abbrev pub IsValueOnOwnLane : {X : Type 0} → (Lane → ℕ → X) → Cells → ℕ → X → Type 0
+IsValueOnOwnLane look road k value = (car : Car) → IsNthCar road k car
     → value ≡ look (lane_of road car.lane) car.place
 
 -- the gap ahead of each car of a road, in standing order
 abbrev pub gaps : Cells → List ℕ
 gaps road = in_order (λ l x. gap (lane_of road l) x) road
 
--- `answers` has one answer per car in standing order, at most its gap and the limit
+-- `answers` has one answer per car in standing order, at most the car's gap and the limit
 pub record MayMove (road : Cells) (answers : List ℕ) : Type 0 where
   pub one_each : length answers ≡ cars road
   pub within_gaps : (k : ℕ) → k < cars road → slice_index answers k ≤ slice_index (gaps road) k

@@ -1,4 +1,5 @@
--- Pictures of roads: a point for an empty cell, the character of its speed for a car.
+-- Pictures of roads: `.` for an empty cell, the character of its speed for a car. A character is a number,
+-- its ASCII code.
 use Rattle.std.specs.Prelude.{◌≡◌, ℕ, ◌+◌, ◌-◌, ◌<◌, ◌≤◌, cond, nat_lt, Some, None, List, [], map, length, slice_index, slice_index_or, ◌⊎◌}
 use Rattle.std.specs.Borrow.{Bor}
 use Rattle.std.specs.List.{range_with_len}
@@ -10,20 +11,21 @@ use Rattle.trlab_road.specs.Cells.{Cell, Lane, Cells, cars}
 use Rattle.trlab_road.specs.Legal.{LanesFit, LengthFits, LimitFits}
 use Rattle.trlab_road.specs.Standing.{standing}
 
--- the character of an empty cell: a point
-abbrev pub point : ℕ
-point = 46
+-- the character of an empty cell, `.`
+abbrev pub dot : ℕ
+dot = 46
 
--- the character of a speed: a digit up to 9, then a small letter, `a` for 10
+-- the character of a speed: a digit up to 9, then a small letter, `a` for 10 up to `z` for 35
 abbrev pub speed_character : ℕ → ℕ
 speed_character speed = cond (nat_lt speed 10) (48 + speed) (97 + (speed - 10))
 
--- the character of a cell: a point if it is empty, otherwise the character of its car's speed
+-- the character of a cell: `.` if it is empty, otherwise the character of its car's speed
 abbrev pub character : Cell → ℕ
-character None = point
+character None = dot
 character (Some car) = speed_character car.1
 
--- the picture of a lane: the character of each cell
+-- the picture of a lane: the character of each cell; for example, `2..0` shows a car of speed 2, two empty
+-- cells and a stopped car
 abbrev pub picture : Lane → List ℕ
 picture lane = map character lane
 
@@ -33,12 +35,12 @@ pub record AreNumberedInOrder (road : Cells) : Type 0 where
 
 -- a limit and pictures show a road: it has this limit, its lanes have these pictures, and its cars are
 -- numbered in standing order
-pub record Shows (limit : ℕ) (pictures : List (List ℕ)) (road : Cells) : Type 0 where
+pub record PicturesShow (limit : ℕ) (pictures : List (List ℕ)) (road : Cells) : Type 0 where
   pub same_limit : road.limit ≡ limit
   pub drawn : map picture road.lanes ≡ pictures
   pub numbered : AreNumberedInOrder road
 
--- the pictures to which the references refer
+-- the pictures behind a list of references
 abbrev pub pictures_of : List (Bor (List ℕ)) → List (List ℕ)
 pictures_of references = map (λ picture. picture.now) references
 
@@ -46,7 +48,7 @@ pictures_of references = map (λ picture. picture.now) references
 abbrev pub picture_at : List (List ℕ) → ℕ → List ℕ
 picture_at pictures l = slice_index_or pictures l []
 
--- the character at place x in the picture of lane l
+-- the character at place x in the picture of lane l; 0 if there is none
 abbrev pub character_at : List (List ℕ) → ℕ → ℕ → ℕ
 character_at pictures l x = slice_index (picture_at pictures l) x
 
@@ -57,29 +59,30 @@ pub record HaveEqualLengths (pictures : List (List ℕ)) : Type 0 where
       → length (picture_at pictures l) ≡ length (picture_at pictures 0)
 
 -- the limit, the number of pictures and their common length are in range
-pub record HaveShape (limit : ℕ) (pictures : List (List ℕ)) : Type 0 where
+pub record HaveValidShape (limit : ℕ) (pictures : List (List ℕ)) : Type 0 where
   pub lanes : LanesFit (length pictures)
   pub lengths : HaveEqualLengths pictures
   pub limit_fits : LimitFits limit
 
--- a character shows a speed of at most `most`
+-- the character is that of some speed up to `most`
 pub record ShowsSpeed (most character : ℕ) : Type 0 where
   pub speed : ℕ
   pub within : speed ≤ most
   pub shown : character ≡ speed_character speed
 
--- a character shows a cell: it is a point, or the character of a speed of at most the limit
+-- the character is that of a cell: `.`, or the character of a speed of at most the limit
 abbrev pub ShowsCell : ℕ → ℕ → Type 0
-ShowsCell limit character = (character ≡ point) ⊎ ShowsSpeed limit character
+ShowsCell limit character = (character ≡ dot) ⊎ ShowsSpeed limit character
 
--- the limit, the number of pictures and their common length are in range, and each character shows a cell
-pub record AreGoodPictures (limit : ℕ) (pictures : List (List ℕ)) : Type 0 where
-  pub shape : HaveShape limit pictures
+-- the limit, the number of pictures and their common length are in range, and each character shows a cell:
+-- these are the pictures of some legal road
+pub record AreValidPictures (limit : ℕ) (pictures : List (List ℕ)) : Type 0 where
+  pub shape : HaveValidShape limit pictures
   pub cells : (l x : ℕ) → l < length pictures → x < length (picture_at pictures l)
       → ShowsCell limit (character_at pictures l x)
 
 -- the character of lane l at place x is the first that shows no cell, lane by lane and from left to right
-pub record IsFirstBad (limit : ℕ) (pictures : List (List ℕ)) (l x : ℕ) : Type 0 where
+pub record IsFirstBadCharacter (limit : ℕ) (pictures : List (List ℕ)) (l x : ℕ) : Type 0 where
   pub on_lane : l < length pictures
   pub inside : x < length (picture_at pictures l)
   pub bad : ¬ (ShowsCell limit (character_at pictures l x))
@@ -90,20 +93,22 @@ pub record IsFirstBad (limit : ℕ) (pictures : List (List ℕ)) (l x : ℕ) : T
 -- the limit and the number and length of the pictures are in range, and the first character that shows no
 -- cell is that of lane l at place x
 abbrev pub IsFaultAt : ℕ → List (List ℕ) → ℕ → ℕ → Type 0
-IsFaultAt limit pictures l x = HaveShape limit pictures × IsFirstBad limit pictures l x
+IsFaultAt limit pictures l x = HaveValidShape limit pictures × IsFirstBadCharacter limit pictures l x
 
--- the character of lane l at place x shows a speed of at most MAX_LIMIT, which may be above the road's limit
+-- the character of lane l at place x is that of some speed up to MAX_LIMIT, possibly above the road's limit
 abbrev pub ShowsAnySpeed : List (List ℕ) → ℕ → ℕ → Type 0
 ShowsAnySpeed pictures l x = ShowsSpeed MAX_LIMIT (character_at pictures l x)
 
 -- the first fault of a limit and pictures: first of the number of pictures, then of their lengths, the limit
--- and the characters; `Memory` is always possible, `TooManyCars` never
-abbrev pub IsFirstFault : ℕ → List (List ℕ) → RoadFault → Type 0
-IsFirstFault limit pictures Lanes = ¬ (LanesFit (length pictures))
-IsFirstFault limit pictures Length = LanesFit (length pictures) × ¬ (HaveEqualLengths pictures)
-IsFirstFault limit pictures Limit =
+-- and the characters; `Memory`, a failed allocation, is always possible, and `TooManyCars` never
+abbrev pub IsFirstPictureFault : ℕ → List (List ℕ) → RoadFault → Type 0
+IsFirstPictureFault limit pictures Lanes = ¬ (LanesFit (length pictures))
+IsFirstPictureFault limit pictures Length = LanesFit (length pictures) × ¬ (HaveEqualLengths pictures)
+IsFirstPictureFault limit pictures Limit =
     LanesFit (length pictures) × HaveEqualLengths pictures × ¬ (LimitFits limit)
-IsFirstFault limit pictures (Character l x) = IsFaultAt limit pictures l x × ¬ (ShowsAnySpeed pictures l x)
-IsFirstFault limit pictures (SpeedAboveLimit l x) = IsFaultAt limit pictures l x × ShowsAnySpeed pictures l x
-IsFirstFault limit pictures Memory = Unit {0}
-IsFirstFault limit pictures TooManyCars = ⊥
+IsFirstPictureFault limit pictures (Character l x) =
+    IsFaultAt limit pictures l x × ¬ (ShowsAnySpeed pictures l x)
+IsFirstPictureFault limit pictures (SpeedAboveLimit l x) =
+    IsFaultAt limit pictures l x × ShowsAnySpeed pictures l x
+IsFirstPictureFault limit pictures Memory = Unit {0}
+IsFirstPictureFault limit pictures TooManyCars = ⊥

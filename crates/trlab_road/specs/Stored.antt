@@ -1,35 +1,35 @@
--- How the code keeps a road: a lane as the list of its cars by rising place.
+-- How the code keeps a road: each lane as the list of its cars, by increasing place.
 use Rattle.std.specs.Prelude.{◌≡◌, ℕ, suc, ◌+◌, ◌<◌, ◌≤◌, cond, sum_by, take, Some, None, List, [], ◌∷◌, length, map, nat_eq, slice_index, slice_index_or, false, Bool, Vec}
 use Rattle.std.specs.Global.{Global}
 use Rattle.std.specs.List.{range_with_len}
 use Rattle.trlab_road.specs.declared.car.Car.{Car}
 use Rattle.trlab_road.specs.declared.gaps.Beside.{Beside}
 use Rattle.trlab_road.specs.LaneCars.{LaneCar}
-use Rattle.trlab_road.specs.Cells.{Cell, Lane, Cells, at, lane_cars}
+use Rattle.trlab_road.specs.Cells.{Cell, Lane, Cells, at, lane_car_count}
 use Rattle.trlab_road.specs.Gaps.{greatest, side, sideback, sidegap}
 use Rattle.trlab_road.specs.Legal.{IsLegal}
 use Rattle.trlab_road.specs.Motion.{LaneFits, LaneMoves}
-use Rattle.trlab_road.specs.Pictures.{point, speed_character}
+use Rattle.trlab_road.specs.Pictures.{dot, speed_character}
 
 -- the cell at place x of a lane with the listed cars: the first of them at x, or empty if none is at x
 abbrev pub cell_at : List LaneCar → ℕ → Cell
 cell_at [] x = None
 cell_at (car ∷ cars) x = cond (nat_eq car.place x) (Some (car.number, car.speed)) (cell_at cars x)
 
--- the lane of n cells with the listed cars
+-- the lane of n cells with the listed cars, all other cells empty
 abbrev pub cells_of : ℕ → List LaneCar → Lane
 cells_of n cars = map (cell_at cars) (range_with_len 0 n)
 
--- the places of the listed cars rise strictly, are at least x and below n
+-- the places of the listed cars strictly increase, are at least x and below n
 abbrev pub IsSortedFrom : ℕ → ℕ → List LaneCar → Type 0
 IsSortedFrom x n [] = Unit {0}
 IsSortedFrom x n (car ∷ cars) = (x ≤ car.place) × (car.place < n) × IsSortedFrom (suc car.place) n cars
 
--- the places of the listed cars rise strictly, below some end n
+-- the places of the listed cars strictly increase; so they are below some n
 abbrev pub IsRising : List LaneCar → Type 0
 IsRising cars = (n : ℕ) × IsSortedFrom 0 n cars
 
--- a placeholder for a car past the end of a list: number, place and speed are 0
+-- the default for a car past the end of a list: number, place and speed are 0
 abbrev pub no_car : LaneCar
 no_car = record { number = 0; place = 0; speed = 0 }
 
@@ -37,8 +37,8 @@ no_car = record { number = 0; place = 0; speed = 0 }
 abbrev pub place_of : List LaneCar → ℕ → ℕ
 place_of cars k = (slice_index_or cars k no_car).place
 
--- cars before the index `next` are at place x or before it, and cars from `next` on are past x
-pub record IsParted (cars : List LaneCar) (x next : ℕ) : Type 0 where
+-- the cars before the index `next` of the list are at place x or before it, and all others are past x
+pub record IsFirstPast (cars : List LaneCar) (x next : ℕ) : Type 0 where
   pub before : (k : ℕ) → k < next → k < length cars → place_of cars k ≤ x
   pub after : (k : ℕ) → next ≤ k → k < length cars → x < place_of cars k
 
@@ -46,11 +46,11 @@ pub record IsParted (cars : List LaneCar) (x next : ℕ) : Type 0 where
 abbrev pub car_on : ℕ → LaneCar → Car
 car_on l car = record { number = car.number; lane = l; place = car.place; speed = car.speed }
 
--- the cars of each vector as a list
+-- the list of cars of each lane, from the vectors in which the code keeps them
 abbrev pub lists_of : List (Vec LaneCar Global) → List (List LaneCar)
 lists_of lists = map (λ (v : Vec LaneCar Global). v.items) lists
 
--- the lanes of n cells with the cars of these vectors
+-- the lanes of n cells with the cars of these vectors, one vector per lane
 abbrev pub lanes_from : ℕ → List (Vec LaneCar Global) → List Lane
 lanes_from n lists = map (λ (v : Vec LaneCar Global). cells_of n v.items) lists
 
@@ -58,7 +58,7 @@ lanes_from n lists = map (λ (v : Vec LaneCar Global). cells_of n v.items) lists
 abbrev pub list_at : List (Vec LaneCar Global) → ℕ → List LaneCar
 list_at lists l = slice_index_or (lists_of lists) l []
 
--- in each list of cars the places rise strictly and are below n
+-- in the list of each lane the places strictly increase and are below n
 pub record AreSorted (n : ℕ) (lists : List (Vec LaneCar Global)) : Type 0 where
   pub rises : (l : ℕ) → l < length lists → IsSortedFrom 0 n (list_at lists l)
 
@@ -68,20 +68,20 @@ pub record IsListedRoad (n : ℕ) (lists : List (Vec LaneCar Global)) (road : Ce
   pub legal : IsLegal road
   pub sorted : AreSorted n lists
 
--- the k-th car in standing order is the car of lane l at index i of its list
+-- the k-th car in standing order is at index i in the list of lane l
 pub record IsFoundAt (lists : List (Vec LaneCar Global)) (k l i : ℕ) : Type 0 where
   pub on_lane : l < length lists
   pub low : i < length (list_at lists l)
   pub order : k ≡ sum_by length (take l (lists_of lists)) + i
 
--- cars before `index` are at places before x, and cars from `index` on are at x or past it
+-- the cars before `index` in the list are at places before x, and all others are at x or past it
 pub record IsFirstFrom (cars : List LaneCar) (x index : ℕ) : Type 0 where
   pub within : index ≤ length cars
   pub before : (k : ℕ) → k < index → k < length cars → place_of cars k < x
   pub from : (k : ℕ) → index ≤ k → k < length cars → x ≤ place_of cars k
 
--- `beside` describes place x of a lane of n cells with these cars as the other lane sees it: whether the cell
--- is empty, and the gaps ahead of it and behind it
+-- `beside` describes the cell at place x of a lane with n cells and these cars, the side cell of a car on the
+-- other lane: is it empty, and how many cells are empty ahead of it and behind it?
 pub record DescribesSideCell (n : ℕ) (cars : List LaneCar) (x : ℕ) (beside : Beside) : Type 0 where
   pub empty : beside.is_empty ≡ side (cells_of n cars) x
   pub ahead : beside.ahead ≡ sidegap (cells_of n cars) x
@@ -94,51 +94,52 @@ pub record HasLeavingCars (crosses : ℕ → Bool) (old leaving : Lane) : Type 0
   pub same_length : length leaving ≡ length old
   pub each_cell : (x : ℕ) → x < length old → at leaving x ≡ cond (crosses x) (at old x) None
 
--- the answer of the car at place x of a lane, whose answers are listed from the index `from` on
+-- the answer of the car at place x of a lane; the answers of the lane's cars begin at the index `from`
 abbrev pub lane_answer : Lane → List ℕ → ℕ → ℕ → ℕ
-lane_answer lane answers from x = slice_index answers (from + lane_cars (take x lane))
+lane_answer lane answers from x = slice_index answers (from + lane_car_count (take x lane))
 
--- does the car at place x of a lane cross, if the lane's answers are listed from the index `from` on? false
--- if the list is too short
+-- does the car at place x of a lane cross? The answers of the lane's cars begin at the index `from`; false if
+-- the list is too short
 abbrev pub lane_crosses_at : Lane → List Bool → ℕ → ℕ → Bool
-lane_crosses_at lane answers from x = slice_index_or answers (from + lane_cars (take x lane)) false
+lane_crosses_at lane answers from x = slice_index_or answers (from + lane_car_count (take x lane)) false
 
--- the answers of the cars of lane l, by place, if the answers of all cars are listed in standing order
+-- the answer of the car at each place of lane l, from a list of the answers of all cars in standing order
 abbrev pub list_answer : ℕ → List (Vec LaneCar Global) → List ℕ → ℕ → ℕ → ℕ
 list_answer n lists answers l =
-    let before = sum_by lane_cars (take l (lanes_from n lists)) in
+    let before = sum_by lane_car_count (take l (lanes_from n lists)) in
     lane_answer (cells_of n (list_at lists l)) answers before
 
--- the answer of each car is at most the gap ahead of it, on all lanes of n cells; answers are in standing
--- order
+-- on each lane of n cells, the answer of each car is at most the gap ahead of it; `answers` lists the answers
+-- of all cars in standing order
 pub record ListsFit (n : ℕ) (lists : List (Vec LaneCar Global)) (answers : List ℕ) : Type 0 where
   pub each_lane : (l : ℕ) → l < length lists
       → LaneFits (list_answer n lists answers l) (cells_of n (list_at lists l))
 
--- the lanes of n cells with the cars of `lists` have the cars of `next` after the motion; answers are in
--- standing order
+-- the lanes of n cells with the cars of `lists` have the cars of `next` after the motion by `answers`, which
+-- lists the answers of all cars in standing order
 pub record ListsMove (n : ℕ) (lists next : List (Vec LaneCar Global)) (answers : List ℕ) : Type 0 where
   pub same_lanes : length next ≡ length lists
   pub each_lane : (l : ℕ) → l < length lists
       → LaneMoves (list_answer n lists answers l)
       (cells_of n (list_at lists l)) (cells_of n (list_at next l))
 
--- the speed that a character shows; 0 if it shows no speed
+-- the speed that a character shows, for example 7 for `7` and 12 for `c`; 0 if it shows no speed
 abbrev pub speed_of_character : ℕ → ℕ
 speed_of_character character =
     greatest (λ speed. nat_eq (speed_character speed) character) character
 
--- the lane that a picture shows, with its cars numbered from n on
+-- the lane that a picture shows, with its cars numbered from n on; for example, `2.0` with n = 5 shows car 5
+-- of speed 2, an empty cell, and car 6 of speed 0
 abbrev pub lane_of_picture : ℕ → List ℕ → Lane
 lane_of_picture n [] = []
 lane_of_picture n (character ∷ picture) =
-    cond (nat_eq character point)
+    cond (nat_eq character dot)
     (None ∷ lane_of_picture n picture)
     (Some (n, speed_of_character character) ∷ lane_of_picture (suc n) picture)
 
--- the lanes that pictures show, with their cars numbered from n on
+-- the lanes that pictures show, with their cars numbered from n on, lane by lane
 abbrev pub lanes_of_pictures : ℕ → List (List ℕ) → List Lane
 lanes_of_pictures n [] = []
 lanes_of_pictures n (picture ∷ pictures) =
     let lane = lane_of_picture n picture in
-    lane ∷ lanes_of_pictures (n + lane_cars lane) pictures
+    lane ∷ lanes_of_pictures (n + lane_car_count lane) pictures

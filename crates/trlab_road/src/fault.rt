@@ -19,7 +19,7 @@ pub enum RoadFault {
     /// A speed limit of 0, or above the maximum.
     #[error("the speed limit is out of range")]
     Limit,
-    /// The character at a lane and a place is neither a point nor that of a speed.
+    /// The character at a lane and a place is neither a dot nor that of a speed.
     #[error("invalid character in lane {lane}, cell {place}")]
     Character { lane: u32, place: u32 },
     /// The speed at a lane and a place is above the limit.

@@ -6,7 +6,7 @@
 ghost use Rattle.std.specs.Prelude.{◌≡◌, ◌<◌, ◌≤◌, ℕ, length, IfSome, if◌then◌else◌, nat_lt};
 ghost use Rattle.trlab_bounds.specs.declared.roads.TheConstants.{MAX_LENGTH};
 ghost use Rattle.trlab_road.specs.Gaps.{behind, clear_cells, gap, headspeed};
-ghost use Rattle.trlab_road.specs.Stored.{IsParted, IsSortedFrom, cells_of, place_of, IsRising, IsFirstFrom, DescribesSideCell};
+ghost use Rattle.trlab_road.specs.Stored.{IsFirstPast, IsSortedFrom, cells_of, place_of, IsRising, IsFirstFrom, DescribesSideCell};
 ghost use Rattle.trlab_road.specs.Cells.{cars_before};
 
 use crate::car::{LaneCar, place_at, speed_at};
@@ -49,7 +49,7 @@ fn gap_ahead(cars: &[LaneCar], cells: usize, place: usize, next: usize) -> usize
     requires small { cells ≤ MAX_LENGTH }
     requires inside { place < cells }
     requires sorted { IsSortedFrom 0 cells cars.now }
-    requires parted { IsParted cars.now place next }
+    requires parted { IsFirstPast cars.now place next }
     ensures value { result ≡ gap (cells_of cells cars.now) place }
     ensures within { result < cells }
 {

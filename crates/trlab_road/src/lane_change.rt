@@ -4,8 +4,8 @@
 ghost use Rattle.std.specs.Prelude.{◌≡◌, ◌+◌, ◌<◌, ◌≤◌, ℕ, length, sum_by, IfOk, OnOk, true, false, None, slice_index_or};
 ghost use Rattle.std.specs.Int.{from_bool};
 ghost use Rattle.trlab_bounds.specs.declared.roads.TheConstants.{MAX_LENGTH};
-ghost use Rattle.trlab_road.specs.Cells.{Cells, lane_cars};
-ghost use Rattle.trlab_road.specs.LaneChange.{Crosses, LaneCrosses, crosses_at};
+ghost use Rattle.trlab_road.specs.Cells.{Cells, lane_car_count};
+ghost use Rattle.trlab_road.specs.LaneChange.{ChangesLanes, LaneCrosses, crosses_at};
 ghost use Rattle.trlab_road.specs.Stored.{IsSortedFrom, IsRising, AreSorted, IsFirstFrom, cell_at, cells_of, lanes_from, place_of, HasLeavingCars, lane_crosses_at};
 
 use crate::car::{LaneCar, car_at, place_at};
@@ -138,11 +138,11 @@ pub fn change_lanes(
     requires two { length lanes.now ≡ 2 }
     requires small { cells ≤ MAX_LENGTH }
     requires sorted { AreSorted cells lanes.now }
-    requires one_each { sum_by lane_cars (lanes_from cells lanes.now) ≤ length crosses.now }
+    requires one_each { sum_by lane_car_count (lanes_from cells lanes.now) ≤ length crosses.now }
     ensures sorted { IfOk result (λ next. AreSorted cells next.items) }
     ensures crosses { IfOk result (λ next. (limit : ℕ)
         → let old : Cells = record { limit = limit; lanes = lanes_from cells lanes.now } in
-        Crosses (crosses_at old crosses.now) old
+        ChangesLanes (crosses_at old crosses.now) old
         (record { limit = limit; lanes = lanes_from cells next.items })) }
 {
     let first = AnsweredLane {

@@ -6,9 +6,9 @@
 ghost use Rattle.trlab_road.specs.Laws.{GoodPicturesShowLegalRoads, GoodPicturesHaveNoFault, OneFirstFault, PicturesShowOneRoad};
 ghost use Rattle.trlab_road.specs.Laws.{PicturesOfLegalRoads, PicturesHaveOneMeaning, PicturesHaveMeaning, PicturesMeanTheRoad};
 ghost use Rattle.trlab_road.specs.Laws.{HeadspeedIsOfNextCar, HeadspeedOfLoneCar};
-ghost use Rattle.trlab_road.specs.Laws.{HasAllNumbers, MotionByCars, MotionIsClean, MotionKeepsCars};
-ghost use Rattle.trlab_road.specs.Laws.{MotionKeepsLegal, OneRoadAfterMotion, SomeRoadAfterMotion};
-ghost use Rattle.trlab_road.specs.Laws.{LaneChangeByCars, LaneChangeIsClean, LaneChangeKeepsLegal};
+ghost use Rattle.trlab_road.specs.Laws.{LegalRoadHasAllNumbers, MotionDependsOnlyOnCars, MotionIsClean, MotionKeepsCars};
+ghost use Rattle.trlab_road.specs.Laws.{MotionKeepsRoadLegal, OneRoadAfterMotion, SomeRoadAfterMotion};
+ghost use Rattle.trlab_road.specs.Laws.{LaneChangeDependsOnlyOnCars, LaneChangeIsClean, LaneChangeKeepsRoadLegal};
 ghost use Rattle.trlab_road.specs.Laws.{OneRoadAfterLaneChange};
 ghost use Rattle.trlab_road.specs.Laws.{EvenRoadHasAllCars, EvenRoadIsLegal, FittingCarsHaveNoFault, OneEvenFault, OneEvenRoad};
 ghost use Rattle.trlab_road.specs.Laws.{EvenCarsHaveOneMeaning, EvenCarsHaveMeaning};
@@ -46,29 +46,29 @@ pub fn headspeed_is_of_the_next_car()
 pub fn motion_gives_one_road()
     ensures some_road { SomeRoadAfterMotion }
     ensures one_road { OneRoadAfterMotion }
-    ensures by_cars { MotionByCars }
+    ensures by_cars { MotionDependsOnlyOnCars }
 {}
 
 /// If the answer of each car is at most its gap and the limit, the motion of a legal road is clean and gives a legal
 /// road with the same number of cars.
 pub fn motion_is_clean()
     ensures clean { MotionIsClean }
-    ensures legal { MotionKeepsLegal }
+    ensures legal { MotionKeepsRoadLegal }
     ensures same_cars { MotionKeepsCars }
 {}
 
 /// A legal road has a car of each number below its number of cars.
 pub fn road_has_all_numbers()
-    ensures { HasAllNumbers }
+    ensures { LegalRoadHasAllNumbers }
 {}
 
 /// The lane change leads to exactly one road, and only the answers at cars count. If cars cross only to empty
 /// cells, the lane change of a legal road is clean and gives a legal road.
 pub fn lane_change_is_clean()
     ensures one_road { OneRoadAfterLaneChange }
-    ensures by_cars { LaneChangeByCars }
+    ensures by_cars { LaneChangeDependsOnlyOnCars }
     ensures clean { LaneChangeIsClean }
-    ensures legal { LaneChangeKeepsLegal }
+    ensures legal { LaneChangeKeepsRoadLegal }
 {}
 
 /// At most one road has these evenly spaced cars. If lanes, cells and limit are in range and there is a cell for each

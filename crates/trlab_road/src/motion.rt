@@ -3,7 +3,7 @@
 
 ghost use Rattle.std.specs.Prelude.{◌≡◌, ◌+◌, ◌<◌, ◌≤◌, ℕ, length, slice_index, slice_index_or, sum_by};
 ghost use Rattle.trlab_bounds.specs.declared.roads.TheConstants.{MAX_LENGTH, MAX_LIMIT};
-ghost use Rattle.trlab_road.specs.Cells.{lane_cars};
+ghost use Rattle.trlab_road.specs.Cells.{lane_car_count};
 ghost use Rattle.trlab_road.specs.Motion.{LaneFits, LaneMoves};
 ghost use Rattle.trlab_road.specs.GoneOn.{HaveMovedAhead, moved_ahead};
 ghost use Rattle.trlab_road.specs.Stored.{no_car, place_of, ListsFit, ListsMove, IsSortedFrom, AreSorted, cells_of, lanes_from, lane_answer};
@@ -103,7 +103,7 @@ fn move_lane(cars: &mut Vec<LaneCar>, cells: u32, speeds: &[u8], from: usize)
 pub fn move_lanes(lanes: &mut [Vec<LaneCar>], cells: u32, speeds: &[u8])
     requires small { cells ≤ MAX_LENGTH }
     requires sorted { AreSorted cells lanes.old }
-    requires one_each { sum_by lane_cars (lanes_from cells lanes.old) ≤ length speeds.now }
+    requires one_each { sum_by lane_car_count (lanes_from cells lanes.old) ≤ length speeds.now }
     requires within { ListsFit cells lanes.old speeds.now }
     requires slow { (k : ℕ) → k < length speeds.now → slice_index speeds.now k ≤ MAX_LIMIT }
     ensures sorted { AreSorted cells lanes.new }

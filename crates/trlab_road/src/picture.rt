@@ -1,10 +1,10 @@
-//! Pictures of lanes: a point for an empty cell, a digit or a letter for the speed of a car. They are checked first,
+//! Pictures of lanes: a dot for an empty cell, a digit or a letter for the speed of a car. They are checked first,
 //! and then read into the lists of the lanes.
 
 ghost use Rattle.std.specs.Prelude.{◌≡◌, ◌<◌, ◌≤◌, ◌↔◌, ℕ, ◌++◌, OnErr, OnOk, IfSome, IsNone, IsTrue, length, slice_index_or, ◌*◌, IfOk, MatchResult, slice_index, EachIndex};
 ghost use Rattle.trlab_bounds.specs.declared.roads.TheConstants.{MAX_LIMIT, MAX_LENGTH, MAX_LANES};
 ghost use Rattle.trlab_road.specs.Stored.{IsSortedFrom, cells_of, no_car, AreSorted, lanes_from, lane_of_picture, lanes_of_pictures};
-ghost use Rattle.trlab_road.specs.Pictures.{ShowsCell, ShowsSpeed, picture, speed_character, HaveEqualLengths, IsFirstFault, AreGoodPictures, picture_at, pictures_of};
+ghost use Rattle.trlab_road.specs.Pictures.{ShowsCell, ShowsSpeed, picture, speed_character, HaveEqualLengths, IsFirstPictureFault, AreValidPictures, picture_at, pictures_of};
 ghost use Rattle.trlab_road.specs.Legal.{LanesFit};
 
 use crate::car::{LaneCar, place_at, speed_at};
@@ -51,7 +51,7 @@ fn shows_speed(most: u32, character: u8) -> bool
     }
 }
 
-/// Does a character show a cell: a point, or a speed within the limit?
+/// Does a character show a cell: a dot, or a speed within the limit?
 fn shows_cell(limit: u32, character: u8) -> bool
     requires { limit ≤ MAX_LIMIT }
     ensures { IsTrue result ↔ ShowsCell limit character }
@@ -59,7 +59,7 @@ fn shows_cell(limit: u32, character: u8) -> bool
     character == POINT || shows_speed(limit, character)
 }
 
-/// Appends the picture of a lane: a point for an empty cell, the character of the speed for a car. If allocation fails,
+/// Appends the picture of a lane: a dot for an empty cell, the character of the speed for a car. If allocation fails,
 /// the bytes are unchanged.
 pub fn push_picture(out: &mut Vec<u8>, cars: &[LaneCar], cells: u32) -> Result<(), AllocError>
     requires sorted { IsSortedFrom 0 cells cars.now }
@@ -107,8 +107,8 @@ fn has_equal_lanes(pictures: &[&[u8]]) -> bool
 /// Checks a limit and pictures, and returns their first fault.
 pub fn check_pictures(limit: u32, pictures: &[&[u8]]) -> Result<(), RoadFault>
     ensures { MatchResult result
-        (λ _. AreGoodPictures limit (pictures_of pictures.now))
-        (λ fault. IsFirstFault limit (pictures_of pictures.now) fault) }
+        (λ _. AreValidPictures limit (pictures_of pictures.now))
+        (λ fault. IsFirstPictureFault limit (pictures_of pictures.now) fault) }
 {
     if pictures.is_empty() || pictures.len() > MAX_LANES as usize {
         return Err(RoadFault::Lanes);
@@ -162,7 +162,7 @@ pub fn draw_lanes(
     pictures: &[&[u8]],
     cells: usize,
 ) -> Result<Vec<Vec<LaneCar>>, AllocError>
-    requires good { AreGoodPictures MAX_LIMIT (pictures_of pictures.now) }
+    requires good { AreValidPictures MAX_LIMIT (pictures_of pictures.now) }
     requires first { cells ≡ length (picture_at (pictures_of pictures.now) 0) }
     ensures sorted { IfOk result (λ lanes. AreSorted cells lanes.items) }
     ensures drawn { IfOk result (λ lanes.

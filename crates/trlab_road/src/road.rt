@@ -4,16 +4,16 @@ ghost use Rattle.std.specs.Prelude.{◌≡◌, ◌≢◌, ◌⊎◌, ◌<◌, �
 ghost use Rattle.trlab_road.specs.declared.fault.RoadFault.{RoadFault};
 ghost use Rattle.trlab_road.specs.Cells.{Cells, cars, lane_of, IsAt, cars_before};
 ghost use Rattle.trlab_road.specs.Legal.{IsLegal};
-ghost use Rattle.trlab_road.specs.Pictures.{IsFirstFault, Shows, picture, pictures_of};
-ghost use Rattle.trlab_road.specs.Spreading.{CanSpread, IsEven, IsEvenFault};
+ghost use Rattle.trlab_road.specs.Pictures.{IsFirstPictureFault, PicturesShow, picture, pictures_of};
+ghost use Rattle.trlab_road.specs.Spreading.{CanSpread, IsEvenlySpaced, IsEvenSpacingFault};
 ghost use Rattle.trlab_bounds.specs.declared.roads.TheConstants.{MAX_LENGTH, MAX_LIMIT, MAX_LANES};
 ghost use Rattle.trlab_road.specs.declared.car.Car.{Car};
 ghost use Rattle.trlab_road.specs.Gaps.{gap, headspeed, side, sideback, sidegap};
 ghost use Rattle.trlab_road.specs.InLine.{IsFollowed, IsLineFrom, IsLineOf};
-ghost use Rattle.trlab_road.specs.Standing.{IsStanding};
+ghost use Rattle.trlab_road.specs.Standing.{IsNthCar};
 ghost use Rattle.trlab_road.specs.Stored.{no_car};
-ghost use Rattle.trlab_road.specs.LaneChange.{IsOnOtherLane, IsGapBeside, sides, CleanLaneChange, Crosses, MayCross};
-ghost use Rattle.trlab_road.specs.Motion.{IsOnOwnLane, gaps, MayMove, CleanMotion, Moves, in_order};
+ghost use Rattle.trlab_road.specs.LaneChange.{IsValueOnOtherLane, IsGapOnOtherLane, sides, IsCleanLaneChange, ChangesLanes, MayCross};
+ghost use Rattle.trlab_road.specs.Motion.{IsValueOnOwnLane, gaps, MayMove, IsCleanMotion, Moves, in_order};
 
 use crate::car::{Car, LaneCar, place_at};
 use crate::fault::RoadFault;
@@ -65,7 +65,7 @@ impl Road {
     /// The road that pictures show, one for each lane, with its cars numbered in standing order. The limit is 1
     /// to 35 cells per step.
     ///
-    /// A picture has one character per cell: a point for an empty cell, and for a car its speed, as a digit
+    /// A picture has one character per cell: a dot for an empty cell, and for a car its speed, as a digit
     /// from 0 to 9 or, for 10 to 35, as a letter from `a` to `z`.
     ///
     /// # Errors
@@ -74,16 +74,16 @@ impl Road {
     /// invalid character, lane by lane and from left to right; or `Memory` if allocation fails.
     pub fn parse(alloc: Global, limit: u32, lanes: &[&[u8]]) -> Result<Road, RoadFault>
         ensures shown { MatchResult result
-            (λ road. Shows limit (pictures_of lanes.now) road)
-            (λ fault. IsFirstFault limit (pictures_of lanes.now) fault) }
+            (λ road. PicturesShow limit (pictures_of lanes.now) road)
+            (λ fault. IsFirstPictureFault limit (pictures_of lanes.now) fault) }
         ensures legal { IfOk result (λ road. IsLegal road) }
 
         // each legal road whose cars are numbered in standing order is read from its pictures
-        ensures back { (road : Cells) → IsLegal road → Shows limit (pictures_of lanes.now) road
+        ensures back { (road : Cells) → IsLegal road → PicturesShow limit (pictures_of lanes.now) road
             → MatchResult result (λ next. next ≡ road) (λ fault. fault ≡ RoadFault.Memory) }
 
         // each fault is reported, unless allocation fails
-        ensures told { (fault : RoadFault) → IsFirstFault limit (pictures_of lanes.now) fault
+        ensures told { (fault : RoadFault) → IsFirstPictureFault limit (pictures_of lanes.now) fault
             → fault ≢ RoadFault.Memory → (result ≡ Err fault) ⊎ (result ≡ Err RoadFault.Memory) }
     {
         check_pictures(limit, lanes)?;
@@ -115,11 +115,11 @@ impl Road {
     ) -> Result<Road, RoadFault>
         ensures fits { MatchResult result
             (λ _. CanSpread lanes cells limit count)
-            (λ fault. IsEvenFault lanes cells limit count fault) }
-        ensures even { IfOk result (λ road. IsEven lanes cells limit count road) }
+            (λ fault. IsEvenSpacingFault lanes cells limit count fault) }
+        ensures even { IfOk result (λ road. IsEvenlySpaced lanes cells limit count road) }
 
         // each fault is reported, unless allocation fails
-        ensures told { (fault : RoadFault) → IsEvenFault lanes cells limit count fault
+        ensures told { (fault : RoadFault) → IsEvenSpacingFault lanes cells limit count fault
             → fault ≢ RoadFault.Memory → (result ≡ Err fault) ⊎ (result ≡ Err RoadFault.Memory) }
         ensures counted { IfOk result (λ road. cars road ≡ count) }
         ensures legal { IfOk result (λ road. IsLegal road) }
@@ -168,7 +168,7 @@ impl Road {
             && same_lanes(&self.lanes, &other.lanes)
     }
 
-    /// The picture of a lane, one character per cell: a point, or a digit or a letter for the car's speed.
+    /// The picture of a lane, one character per cell: a dot, or a digit or a letter for the car's speed.
     ///
     /// # Errors
     ///
@@ -243,7 +243,7 @@ impl Road {
     /// The k-th car in standing order, counted from 0.
     pub fn standing(&self, k: u32) -> Car
         requires { k < cars self.now }
-        ensures order { IsStanding self.now k result }
+        ensures order { IsNthCar self.now k result }
         ensures cell { IsAt self.now result }
         ensures lane { result.lane < length self.now.lanes }
         ensures place { result.place < length (lane_of self.now 0) }
@@ -257,7 +257,7 @@ impl Road {
     pub fn gap(&self, k: u32) -> u32
         requires { k < cars self.now }
         ensures value { result ≡ slice_index (gaps self.now) k }
-        ensures of_car { IsOnOwnLane gap self.now k result }
+        ensures of_car { IsValueOnOwnLane gap self.now k result }
         ensures below { result < length (lane_of self.now 0) }
     {
         self.ahead(k).gap
@@ -267,7 +267,7 @@ impl Road {
     /// cells per step; its own speed if there is no other car.
     pub fn headspeed(&self, k: u32) -> u32
         requires { k < cars self.now }
-        ensures of_car { IsOnOwnLane headspeed self.now k result }
+        ensures of_car { IsValueOnOwnLane headspeed self.now k result }
         ensures within { result ≤ self.now.limit }
     {
         self.ahead(k).headspeed
@@ -277,8 +277,8 @@ impl Road {
     pub fn ahead(&self, k: u32) -> Ahead
         requires { k < cars self.now }
         ensures value { result.gap ≡ slice_index (gaps self.now) k }
-        ensures gap { IsOnOwnLane gap self.now k result.gap }
-        ensures headspeed { IsOnOwnLane headspeed self.now k result.headspeed }
+        ensures gap { IsValueOnOwnLane gap self.now k result.gap }
+        ensures headspeed { IsValueOnOwnLane headspeed self.now k result.headspeed }
         ensures below { result.gap < length (lane_of self.now 0) }
         ensures within { result.headspeed ≤ self.now.limit }
     {
@@ -315,7 +315,7 @@ impl Road {
         requires below { k < cars self.now }
         requires two { length self.now.lanes ≡ 2 }
         ensures value { result ≡ slice_index_or (sides self.now) k false }
-        ensures of_car { IsOnOtherLane side self.now k result }
+        ensures of_car { IsValueOnOtherLane side self.now k result }
     {
         self.beside(k, 0).is_empty
     }
@@ -328,10 +328,10 @@ impl Road {
         requires below { k < cars self.now }
         requires two { length self.now.lanes ≡ 2 }
         ensures value { result.is_empty ≡ slice_index_or (sides self.now) k false }
-        ensures empty { IsOnOtherLane side self.now k result.is_empty }
-        ensures ahead { IsGapBeside sidegap self.now k result.ahead }
-        ensures behind { IsGapBeside sideback self.now k result.behind }
-        ensures next { IsOnOtherLane cars_before self.now k result.next }
+        ensures empty { IsValueOnOtherLane side self.now k result.is_empty }
+        ensures ahead { IsGapOnOtherLane sidegap self.now k result.ahead }
+        ensures behind { IsGapOnOtherLane sideback self.now k result.behind }
+        ensures next { IsValueOnOtherLane cars_before self.now k result.next }
     {
         let index = k as usize;
         let first = list_of(&self.lanes, 0);
@@ -350,7 +350,7 @@ impl Road {
     pub fn sidegap(&self, k: u32) -> u32
         requires below { k < cars self.now }
         requires two { length self.now.lanes ≡ 2 }
-        ensures { IsGapBeside sidegap self.now k result }
+        ensures { IsGapOnOtherLane sidegap self.now k result }
     {
         self.beside(k, 0).ahead
     }
@@ -360,7 +360,7 @@ impl Road {
     pub fn sideback(&self, k: u32) -> u32
         requires below { k < cars self.now }
         requires two { length self.now.lanes ≡ 2 }
-        ensures { IsGapBeside sideback self.now k result }
+        ensures { IsGapOnOtherLane sideback self.now k result }
     {
         self.beside(k, 0).behind
     }
@@ -372,7 +372,7 @@ impl Road {
         requires { MayMove self.old speeds.now }
         ensures moves { (answer : ℕ → ℕ → ℕ)
             → speeds.now ≡ in_order answer self.old → Moves answer self.old self.new }
-        ensures clean { CleanMotion self.old self.new }
+        ensures clean { IsCleanMotion self.old self.new }
         ensures legal { IsLegal self.new }
     {
         move_lanes(&mut self.lanes, self.cells, speeds);
@@ -393,8 +393,8 @@ impl Road {
     ) -> Result<Road, AllocError>
         requires { MayCross self.now crosses.now }
         ensures crosses { IfOk result (λ next. (answer : ℕ → ℕ → Bool)
-            → crosses.now ≡ in_order answer self.now → Crosses answer self.now next) }
-        ensures clean { IfOk result (λ next. CleanLaneChange self.now next) }
+            → crosses.now ≡ in_order answer self.now → ChangesLanes answer self.now next) }
+        ensures clean { IfOk result (λ next. IsCleanLaneChange self.now next) }
         ensures legal { IfOk result (λ next. IsLegal next) }
     {
         let lanes = change_lanes(alloc, room, &self.lanes, self.cells, crosses)?;

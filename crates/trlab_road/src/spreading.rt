@@ -3,7 +3,7 @@
 ghost use Rattle.std.specs.Prelude.{◌≡◌, ◌*◌, ◌/◌, ◌<◌, ◌≤◌, ℕ, length, IfOk, MatchResult};
 ghost use Rattle.trlab_bounds.specs.declared.roads.TheConstants.{MAX_LENGTH, MAX_LANES};
 ghost use Rattle.trlab_road.specs.Stored.{AreSorted, cells_of, list_at};
-ghost use Rattle.trlab_road.specs.Spreading.{CanSpread, IsEvenFault, IsEvenLane};
+ghost use Rattle.trlab_road.specs.Spreading.{CanSpread, IsEvenSpacingFault, IsEvenlySpacedLane};
 
 use crate::car::LaneCar;
 use crate::fault::RoadFault;
@@ -15,7 +15,7 @@ use trlab_bounds::roads::{MAX_LANES, MAX_LENGTH, MAX_LIMIT};
 pub fn check_even(lanes: u32, cells: u32, limit: u32, count: u32) -> Result<(), RoadFault>
     ensures { MatchResult result
         (λ _. CanSpread lanes cells limit count)
-        (λ fault. IsEvenFault lanes cells limit count fault) }
+        (λ fault. IsEvenSpacingFault lanes cells limit count fault) }
 {
     if lanes == 0 || lanes > MAX_LANES {
         return Err(RoadFault::Lanes);
@@ -56,7 +56,7 @@ pub fn even_lanes(
     ensures same_lanes { IfOk result (λ next. length next.items ≡ lanes) }
     ensures sorted { IfOk result (λ next. AreSorted cells next.items) }
     ensures each_lane { IfOk result (λ next. (l : ℕ) → l < lanes
-        → IsEvenLane lanes cells count l (cells_of cells (list_at next.items l))) }
+        → IsEvenlySpacedLane lanes cells count l (cells_of cells (list_at next.items l))) }
 {
     let mut next = empty_lanes(alloc, lanes)?;
     for number in 0..count {

@@ -11,7 +11,7 @@ use Rattle.trlab_code.specs.declared.instruction.Variable.TheVariants as variabl
 use Rattle.trlab_code.specs.Machine.{update}
 use Rattle.trlab_notes.specs.declared.note.AbstractValue.{AbstractValue}
 use Rattle.trlab_notes.specs.declared.note.AbstractValue.TheVariants.{Nothing, Between, Implies}
-use Rattle.trlab_notes.specs.Notes.{said_with_side, known_level, entry}
+use Rattle.trlab_notes.specs.Notes.{value_with_side, known_level, entry}
 use Rattle.trlab_notes.specs.Transfer.{assign, refine_order, refine_flag}
 use Rattle.trlab_verify.specs.Verdict.{IsAccepted}
 use Rattle.trlab_rules.specs.Standard.{nasch_program, vdr_program, rickert_program}
@@ -80,7 +80,7 @@ nasch_table =
     ∷ []
 
 pub nasch_accepted : (p : ℕ) → IsAccepted Motion (nasch_program p)
-unfolding said_with_side known_level entry assign refine_order refine_flag update
+unfolding value_with_side known_level entry assign refine_order refine_flag update
 nasch_accepted p = accepted_by Motion (nasch_program p) nasch_table refl refl
 
 abbrev vdr_table : List Known
@@ -103,7 +103,7 @@ vdr_table =
     ∷ []
 
 pub vdr_accepted : (p p0 : ℕ) → IsAccepted Motion (vdr_program p p0)
-unfolding said_with_side known_level entry assign refine_order refine_flag update
+unfolding value_with_side known_level entry assign refine_order refine_flag update
 vdr_accepted p p0 = accepted_by Motion (vdr_program p p0) vdr_table refl refl
 
 abbrev rickert_table : List Known
@@ -127,5 +127,5 @@ rickert_table =
     ∷ []
 
 pub rickert_accepted : (c : ℕ) → IsAccepted Change (rickert_program c)
-unfolding said_with_side known_level entry assign refine_order refine_flag update
+unfolding value_with_side known_level entry assign refine_order refine_flag update
 rickert_accepted c = accepted_by Change (rickert_program c) rickert_table refl refl

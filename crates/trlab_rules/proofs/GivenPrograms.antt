@@ -10,7 +10,7 @@ use Rattle.trlab_code.specs.Program.{Program}
 use Rattle.trlab_verify.specs.CheckedProgram.{CheckedProgram}
 use Rattle.trlab_verify.specs.Verdict.{IsAccepted}
 use Rattle.trlab_rules.specs.Laws.{ComputesSpeed, ComputesCrossing}
-use Rattle.trlab_rules.specs.StandardRules.{IsMotion, IsChange}
+use Rattle.trlab_rules.specs.StandardRules.{IsMotionComputing, IsChangeComputing}
 
 -- a program of these instructions
 abbrev pub program_of : Kind → List Instr → Program
@@ -20,7 +20,7 @@ module _ {E : Type 0} (result : Result CheckedProgram E) (instrs list : List Ins
   -- what is accepted of such instructions is a motion that answers a rule's speed, where the program of the
   -- list does
   pub motion_given : (speed : View → List ℕ → ℕ) → ComputesSpeed speed (program_of Motion list) →
-      IfOk result (λ motion. (motion.program ≡ program_of Motion instrs) × IsAccepted Motion (program_of Motion instrs)) → IfOk result (IsMotion speed (program_of Motion list))
+      IfOk result (λ motion. (motion.program ≡ program_of Motion instrs) × IsAccepted Motion (program_of Motion instrs)) → IfOk result (IsMotionComputing speed (program_of Motion list))
   motion_given speed moves =
       IfOk-weaker result _ _
       (λ motion is. let program : motion.program ≡ program_of Motion list = is.0 ∙ ap (program_of Motion) same in
@@ -28,7 +28,7 @@ module _ {E : Type 0} (result : Result CheckedProgram E) (instrs list : List Ins
 
   -- the same of a change and who crosses
   pub change_given : (crosses : View → List ℕ → Bool) → ComputesCrossing crosses (program_of Change list) →
-      IfOk result (λ change. (change.program ≡ program_of Change instrs) × IsAccepted Change (program_of Change instrs)) → IfOk result (IsChange crosses (program_of Change list))
+      IfOk result (λ change. (change.program ≡ program_of Change instrs) × IsAccepted Change (program_of Change instrs)) → IfOk result (IsChangeComputing crosses (program_of Change list))
   change_given crosses changes =
       IfOk-weaker result _ _
       (λ change is. let program : change.program ≡ program_of Change list = is.0 ∙ ap (program_of Change) same in

@@ -15,7 +15,7 @@ use Rattle.trlab_code.specs.Flow.{target, falls, on_target}
 use Rattle.trlab_notes.specs.declared.note.AbstractValue.{AbstractValue}
 use Rattle.trlab_notes.specs.declared.note.AbstractValue.TheVariants.{Nothing, Between, Implies}
 use Rattle.trlab_notes.specs.declared.reasons.Reason.{Reason}
-use Rattle.trlab_notes.specs.Notes.{Note, same_variable, said_with_side, known_level, entry_said, entry}
+use Rattle.trlab_notes.specs.Notes.{Note, same_variable, value_with_side, known_level, entry_said, entry}
 use Rattle.trlab_notes.specs.Order.{IsNoMorePrecise, IsNoStronger}
 use Rattle.trlab_notes.specs.Reasons.{reason_against}
 use Rattle.trlab_notes.specs.Transfer.{next_note, jump_note}
@@ -106,16 +106,16 @@ facts_hold n (fact ∷ facts) h x y =
 -- a row is no stronger than a note
 abbrev is_no_stronger : Kind → Known → Note → Bool
 is_no_stronger kind known n =
-    list_all (λ x. says_no_more (said_with_side (note_of kind known) x) (said_with_side n x)) variables
+    list_all (λ x. says_no_more (value_with_side (note_of kind known) x) (value_with_side n x)) variables
     && (are_known n known.facts && (not known.side || n.side))
 
 no_stronger : (kind : Kind) (known : Known) (n : Note) → is_no_stronger kind known n ≡ true → IsNoStronger (note_of kind known) n
-unfolding said_with_side known_level
+unfolding value_with_side known_level
 no_stronger kind known n h =
-    let first = and_parts (list_all (λ x. says_no_more (said_with_side (note_of kind known) x) (said_with_side n x)) variables) (are_known n known.facts && (not known.side || n.side)) h in
+    let first = and_parts (list_all (λ x. says_no_more (value_with_side (note_of kind known) x) (value_with_side n x)) variables) (are_known n known.facts && (not known.side || n.side)) h in
     let second = and_parts (are_known n known.facts) (not known.side || n.side) first.1 in
-    let says : (x : Variable) → IsNoMorePrecise (said_with_side (note_of kind known) x) (said_with_side n x) =
-    λ x. no_more (said_with_side (note_of kind known) x) (said_with_side n x) (of_each (λ z. says_no_more (said_with_side (note_of kind known) z) (said_with_side n z)) first.0 x) in
+    let says : (x : Variable) → IsNoMorePrecise (value_with_side (note_of kind known) x) (value_with_side n x) =
+    λ x. no_more (value_with_side (note_of kind known) x) (value_with_side n x) (of_each (λ z. says_no_more (value_with_side (note_of kind known) z) (value_with_side n z)) first.0 x) in
     record {
       said = says;
       order = λ x y. (known_from (said_by kind known.said x) (said_by kind known.said y) (n.said x) (n.said y) (same_variable x y) (level_by known.facts x y) (n.level x y)

@@ -4,7 +4,7 @@ use Rattle.trlab_code.specs.declared.program.Kind.TheVariants.{Motion}
 use Rattle.trlab_code.specs.declared.instruction.Register.TheVariants.{R0, R1, R2, R3}
 use Rattle.trlab_code.specs.declared.instruction.Input.TheVariants.{Speed, Limit, Gap}
 use Rattle.trlab_code.specs.declared.view.View.{View}
-use Rattle.trlab_code.specs.Views.{IsView}
+use Rattle.trlab_code.specs.Views.{IsViewInRange}
 use Rattle.trlab_code.specs.Machine.{At, Goes, start, update}
 use Rattle.trlab_rules.specs.Published.{safe_speed, brake, happens_at, nasch_speed}
 use Rattle.trlab_rules.specs.Standard.{nasch_program}
@@ -12,14 +12,14 @@ use Rattle.trlab_rules.specs.Laws.{ComputesSpeed}
 use Rattle.trlab_rules.proofs.Rows.{Run, num, get, draw, add, sub, smaller, if_false-jumps, if_false-falls, go}
 
 -- a speed that is seen can be raised by one
-pub one_more : (view : View) → IsView view → view.speed + 1 < 2 ^ 32
+pub one_more : (view : View) → IsViewInRange view → view.speed + 1 < 2 ^ 32
 one_more view seen = omega (arith, seen.speed, seen.limit)
 
 -- the smaller of 1 and a speed is no more than the speed, which is one less without it
 pub one_off : (v : ℕ) → v - min 1 v ≡ v - 1
 one_off v = omega arith
 
-module _ (p : ℕ) (view : View) (words : List ℕ) (seen : IsView view) where
+module _ (p : ℕ) (view : View) (words : List ℕ) (seen : IsViewInRange view) where
   abbrev safe : ℕ
   safe = safe_speed view.speed view.limit view.gap
 

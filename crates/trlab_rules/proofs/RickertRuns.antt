@@ -6,7 +6,7 @@ use Rattle.trlab_code.specs.declared.instruction.Register.TheVariants.{R0, R1, R
 use Rattle.trlab_code.specs.declared.instruction.Variable.TheVariants as variable
 use Rattle.trlab_code.specs.declared.instruction.Input.TheVariants.{Speed, Limit, Gap, SideGap, SideBack}
 use Rattle.trlab_code.specs.declared.view.View.{View}
-use Rattle.trlab_code.specs.Views.{IsView}
+use Rattle.trlab_code.specs.Views.{IsViewInRange}
 use Rattle.trlab_code.specs.Machine.{Store, Number, Flag, Answer, Crosses, Stays, At, start, update}
 use Rattle.trlab_rules.specs.Published.{happens_at, rickert_crosses}
 use Rattle.trlab_rules.specs.Standard.{rickert_program}
@@ -22,7 +22,7 @@ not_least m n below = lt-leb n m (ltb-true m n below)
 least : (m n : ℕ) → nat_lt m n ≡ false → nat_le n m ≡ true
 least m n not_below = le-leb n m (ltb-false m n not_below)
 
-module _ (c : ℕ) (view : View) (words : List ℕ) (seen : IsView view) where
+module _ (c : ℕ) (view : View) (words : List ℕ) (seen : IsViewInRange view) where
   -- from an instruction with these values it comes to an end with this answer
   abbrev Ends : ℕ → Store → Answer → Type 0
   Ends pc s answer = Run Change (rickert_program c).instrs view words (At pc s) answer

@@ -11,7 +11,7 @@ use Rattle.trlab_code.specs.declared.instruction.Variable.TheVariants as variabl
 use Rattle.trlab_code.specs.declared.instruction.Instr.{Instr}
 use Rattle.trlab_code.specs.declared.instruction.Instr.TheVariants.{Num, Get, Side, Draw, Add, Sub, Min, Jump, JumpAtMost, JumpFalse, Go, Cross, Stay}
 use Rattle.trlab_code.specs.declared.view.View.{View}
-use Rattle.trlab_code.specs.Machine.{Value, Number, Flag, Store, Answer, Goes, Crosses, Stays, MachineState, At, Done, Stuck, update, on_any, on_number, on_flag, write_sized, jump_if, Writes, Ends, Sticks, effect, allows, allows_input, state_after, execute, step, EndsFrom}
+use Rattle.trlab_code.specs.Machine.{Value, Number, Flag, Store, Answer, Goes, Crosses, Stays, MachineState, At, Done, Stuck, update, on_any, on_number, on_flag, write_u32, jump_if, Writes, Ends, Sticks, effect, allows, allows_input, state_after, execute, step, EndsFrom}
 
 -- from a state a program comes to an end with this answer
 pub record Run (kind : Kind) (code : List Instr) (view : View) (words : List ℕ) (state : MachineState) (answer : Answer) : Type 0 where
@@ -47,7 +47,7 @@ module _ {kind : Kind} {code : List Instr} {view : View} {words : List ℕ} {pc 
 
   pub add : (d a b : Register) (m n : ℕ) → slice_get code pc ≡ Some (Add d a b) → s (variable.Register a) ≡ Number m → s (variable.Register b) ≡ Number n → m + n < 2 ^ 32 → Run kind code view words (At (suc pc) (update s (variable.Register d) (Number (m + n)))) answer → Run kind code view words (At pc s) answer
   add d a b m n here first second sized rest =
-      let after : Value → Value → MachineState = λ v w. state_after pc s (on_number v (λ x. on_number w (λ y. write_sized d (x + y)))) in
+      let after : Value → Value → MachineState = λ v w. state_after pc s (on_number v (λ x. on_number w (λ y. write_u32 d (x + y)))) in
       row (Add d a b) _ here refl
       (ap (λ v. after v (s (variable.Register b))) first ∙ (ap (λ w. after (Number m) w) second
       ∙ ap (λ t. state_after pc s (cond t (Writes d (Number (m + n))) Sticks)) (lt-ltb (m + n) (2 ^ 32) sized))) rest

@@ -6,7 +6,7 @@ use Rattle.trlab_code.specs.declared.instruction.Register.TheVariants.{R0, R1, R
 use Rattle.trlab_code.specs.declared.instruction.Variable.TheVariants as variable
 use Rattle.trlab_code.specs.declared.instruction.Input.TheVariants.{Speed, Limit, Gap}
 use Rattle.trlab_code.specs.declared.view.View.{View}
-use Rattle.trlab_code.specs.Views.{IsView}
+use Rattle.trlab_code.specs.Views.{IsViewInRange}
 use Rattle.trlab_code.specs.Machine.{Store, Number, Flag, At, Goes, start, update}
 use Rattle.trlab_rules.specs.Published.{safe_speed, brake, happens_at, vdr_chance, vdr_speed}
 use Rattle.trlab_rules.specs.Standard.{vdr_program}
@@ -14,7 +14,7 @@ use Rattle.trlab_rules.specs.Laws.{ComputesSpeed}
 use Rattle.trlab_rules.proofs.Rows.{Run, num, get, draw, add, sub, smaller, jump, at_most-jumps, at_most-falls, if_false-jumps, if_false-falls, go}
 use Rattle.trlab_rules.proofs.NaschRuns.{one_more, one_off}
 
-module _ (p p0 : ℕ) (view : View) (words : List ℕ) (seen : IsView view) where
+module _ (p p0 : ℕ) (view : View) (words : List ℕ) (seen : IsViewInRange view) where
   abbrev safe : ℕ
   safe = safe_speed view.speed view.limit view.gap
 

@@ -6,7 +6,8 @@ use Rattle.std.specs.Prelude.{ℕ, ◌+◌, ◌-◌, ◌&&◌, min, List, Bool, 
 use Rattle.trlab_words.specs.Chances.{happens_on}
 use Rattle.trlab_code.specs.declared.view.View.{View}
 
--- the speed after acceleration and slowing down: one cell per step faster, at most the limit and the gap
+-- the speed after acceleration and slowing down: one cell per step faster, but at most the limit and the gap;
+-- for example, 4 for speed 3, limit 5 and gap 7, and 2 for gap 2
 abbrev pub safe_speed : ℕ → ℕ → ℕ → ℕ
 safe_speed speed limit gap = min (min (speed + 1) limit) gap
 
@@ -19,39 +20,40 @@ brake false speed = speed
 abbrev pub happens_at : ℕ → List ℕ → ℕ → Bool
 happens_at chance words k = happens_on chance (slice_index words k)
 
--- the speed by the rule of 1992: acceleration, slowing down, and braking with probability p / 2 ^ 31 on word
--- 0
+-- the speed by the rule of 1992 (Nagel and Schreckenberg): acceleration, slowing down, and braking with
+-- probability p / 2 ^ 31 on random word 0
 abbrev pub nasch_speed : ℕ → View → List ℕ → ℕ
 nasch_speed p view words = brake (happens_at p words 0) (safe_speed view.speed view.limit view.gap)
 
--- the probability of braking with slow starts, times 2 ^ 31, from the speed before acceleration: p0 if the
--- car is stopped, otherwise p
+-- the probability of braking, times 2 ^ 31, with slow starts: p0 for a car that is stopped before it
+-- accelerates, p for a moving one
 abbrev pub vdr_chance : ℕ → ℕ → ℕ → ℕ
 vdr_chance p p0 speed = if nat_eq speed 0 then p0 else p
 
--- the speed by the rule of 1998: that of 1992, with p0 for stopped cars and p for others as probability of
--- braking
+-- the speed by the rule of 1998 (Barlovic and others), which adds slow starts to the rule of 1992: stopped
+-- cars brake with probability p0 / 2 ^ 31, moving cars with p / 2 ^ 31
 abbrev pub vdr_speed : ℕ → ℕ → View → List ℕ → ℕ
 vdr_speed p p0 view words = nasch_speed (vdr_chance p p0 view.speed) view words
 
--- the lane change of 1996: a car crosses if its side cell is empty, gap < speed + 1, speed + 1 < sidegap,
--- limit < sideback, and an event of probability c / 2 ^ 31 happens on word 1
+-- the lane change of 1996 (Rickert and others): a car crosses if its side cell is empty, gap < speed + 1,
+-- speed + 1 < sidegap, limit < sideback, and an event of probability c / 2 ^ 31 happens on random word 1
 abbrev pub rickert_crosses : ℕ → View → List ℕ → Bool
 rickert_crosses c view words =
     view.side && nat_lt view.gap (view.speed + 1) && nat_lt (view.speed + 1) view.sidegap
     && nat_lt view.limit view.sideback
     && happens_at c words 1
 
--- acceleration as worded in 1992: a speed below the limit grows by one if the distance to the car ahead is
--- above speed + 1; otherwise it is unchanged
+-- acceleration as worded in 1992: a speed below the limit grows by one if the distance to the next car ahead
+-- is above speed + 1; otherwise it is unchanged
 abbrev pub acceleration_1992 : ℕ → ℕ → ℕ → ℕ
 acceleration_1992 speed limit distance =
     if nat_lt speed limit && nat_lt (speed + 1) distance then speed + 1 else speed
 
--- slowing down as worded in 1992: the speed becomes distance - 1 if the distance is at most the speed
+-- slowing down as worded in 1992: if the distance to the next car ahead is at most the speed, the speed
+-- becomes distance - 1; otherwise it is unchanged
 abbrev pub slowing_down_1992 : ℕ → ℕ → ℕ
 slowing_down_1992 speed distance = if nat_le distance speed then distance - 1 else speed
 
--- acceleration and then slowing down as worded in 1992, where the distance to the next car is gap + 1
+-- acceleration, then slowing down, as worded in 1992; the distance to the next car ahead is gap + 1
 abbrev pub wording_1992 : ℕ → ℕ → ℕ → ℕ
 wording_1992 speed limit gap = slowing_down_1992 (acceleration_1992 speed limit (gap + 1)) (gap + 1)

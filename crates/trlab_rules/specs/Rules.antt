@@ -8,7 +8,7 @@ pub record Programs : Type 0 where
   pub motion : CheckedProgram
   pub change : Option CheckedProgram
 
--- the motion program and the change program, if the rule has one, are accepted as programs of their kind
+-- the programs of the rule are valid programs of their kind, and safe within their budgets
 pub record IsRule (rule : Programs) : Type 0 where
   pub motion : IsChecked Motion rule.motion
   pub change : IfSome rule.change (IsChecked Change)

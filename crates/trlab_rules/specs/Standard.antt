@@ -1,4 +1,4 @@
--- The programs of the standard rules. A jump names the index of an instruction, counted from 0.
+-- The programs of the standard rules. The target of a jump is the index of an instruction, counted from 0.
 use Rattle.std.specs.Prelude.{ℕ, List, [], ◌∷◌, ◌++◌}
 use Rattle.trlab_code.specs.declared.program.Kind.TheVariants.{Motion, Change}
 use Rattle.trlab_code.specs.declared.instruction.Register.TheVariants.{R0, R1, R2, R3}
@@ -15,17 +15,17 @@ accelerate = Add R0 R0 R1 ∷ Get R2 Limit ∷ Min R0 R0 R2 ∷ []
 abbrev pub slow_down : List Instr
 slow_down = Get R2 Gap ∷ Min R0 R0 R2 ∷ []
 
--- randomization: the speed in R0 falls by the 1 in R1 if the flag in R3 is true, but not below 0; otherwise a
--- jump to `go`
+-- randomization: if the flag in R3 is true, the speed in R0 is lowered by the 1 in R1, but not below 0;
+-- otherwise a jump to the index `go`
 abbrev pub randomize : ℕ → List Instr
 randomize go = JumpFalse R3 go ∷ Min R1 R1 R0 ∷ Sub R0 R0 R1 ∷ []
 
 -- slow starts: the flag in R3 is drawn with probability p0 / 2 ^ 31 if the speed in R0 is below the 1 in R1,
--- and otherwise with p / 2 ^ 31
+-- so 0, and otherwise with p / 2 ^ 31; these are instructions 2 to 5 of the program
 abbrev pub draw_by_speed : ℕ → ℕ → List Instr
 draw_by_speed p p0 = JumpAtMost R1 R0 5 ∷ Draw R3 0 p0 ∷ Jump 6 ∷ Draw R3 0 p ∷ []
 
--- the motion of 1992 with probability p / 2 ^ 31 of braking
+-- the motion program of 1992, with probability p / 2 ^ 31 of braking; instruction 11 is `Go`
 abbrev pub nasch_program : ℕ → Program
 nasch_program p = record {
   kind = Motion;
@@ -33,8 +33,8 @@ nasch_program p = record {
       Get R0 Speed ∷ Num R1 1 ∷ accelerate ++ slow_down ++ Draw R3 0 p ∷ randomize 11 ++ Go R0 ∷ [];
 }
 
--- the motion of 1998, with the probability of braking p0 / 2 ^ 31 for a stopped car and p / 2 ^ 31 for a
--- moving one
+-- the motion program of 1998, with probability p0 / 2 ^ 31 of braking for a stopped car and p / 2 ^ 31 for a
+-- moving one; instruction 14 is `Go`
 abbrev pub vdr_program : ℕ → ℕ → Program
 vdr_program p p0 = record {
   kind = Motion;
@@ -42,17 +42,17 @@ vdr_program p p0 = record {
       Get R0 Speed ∷ Num R1 1 ∷ draw_by_speed p p0 ++ accelerate ++ slow_down ++ randomize 14 ++ Go R0 ∷ [];
 }
 
--- a jump to `stay` if the gap is at least speed + 1, which is then in R1
+-- puts speed + 1 into R1, and jumps to the index `stay` if the gap is at least speed + 1
 abbrev pub stay_unless_hindered : ℕ → List Instr
 stay_unless_hindered stay =
     Get R1 Speed ∷ Num R2 1 ∷ Add R1 R1 R2 ∷ Get R2 Gap ∷ JumpAtMost R1 R2 stay ∷ []
 
--- a jump to `stay` if the sidegap is at most the speed + 1 in R1, or the sideback is at most the limit
+-- jumps to the index `stay` if the sidegap is at most the speed + 1 in R1, or the sideback at most the limit
 abbrev pub stay_unless_free : ℕ → List Instr
 stay_unless_free stay =
     Get R2 SideGap ∷ JumpAtMost R2 R1 stay ∷ Get R2 SideBack ∷ Get R3 Limit ∷ JumpAtMost R2 R3 stay ∷ []
 
--- the lane change of 1996 with probability c / 2 ^ 31
+-- the change program of 1996, with probability c / 2 ^ 31 of a lane change; instruction 15 is `Stay`
 abbrev pub rickert_program : ℕ → Program
 rickert_program c = record {
   kind = Change;

@@ -3,7 +3,7 @@
 //! distances of this project's own. A jump names the index of an instruction, counted from 0.
 
 ghost use Rattle.std.specs.Prelude.{◌≡◌, IfOk};
-ghost use Rattle.trlab_code.specs.Program.{IsProgram};
+ghost use Rattle.trlab_code.specs.Program.{IsValidProgram};
 ghost use Rattle.trlab_rules.specs.Standard.{nasch_program, vdr_program, rickert_program};
 
 use std::alloc::{AllocError, Global};
@@ -21,7 +21,7 @@ use trlab_words::Chance;
 /// If an allocation fails.
 pub fn nasch_instrs(alloc: Global, p: Chance) -> Result<Vec<Instr>, AllocError>
     ensures value { IfOk result (λ instrs. instrs.items ≡ (nasch_program p).instrs) }
-    ensures program { IsProgram (nasch_program p) }
+    ensures program { IsValidProgram (nasch_program p) }
 {
     let instrs = vec![in alloc;
         Get(R0, Speed),
@@ -48,7 +48,7 @@ pub fn nasch_instrs(alloc: Global, p: Chance) -> Result<Vec<Instr>, AllocError>
 /// If an allocation fails.
 pub fn vdr_instrs(alloc: Global, p: Chance, p0: Chance) -> Result<Vec<Instr>, AllocError>
     ensures value { IfOk result (λ instrs. instrs.items ≡ (vdr_program p p0).instrs) }
-    ensures program { IsProgram (vdr_program p p0) }
+    ensures program { IsValidProgram (vdr_program p p0) }
 {
     let instrs = vec![in alloc;
         Get(R0, Speed),
@@ -77,7 +77,7 @@ pub fn vdr_instrs(alloc: Global, p: Chance, p0: Chance) -> Result<Vec<Instr>, Al
 /// If an allocation fails.
 pub fn rickert_instrs(alloc: Global, c: Chance) -> Result<Vec<Instr>, AllocError>
     ensures value { IfOk result (λ instrs. instrs.items ≡ (rickert_program c).instrs) }
-    ensures program { IsProgram (rickert_program c) }
+    ensures program { IsValidProgram (rickert_program c) }
 {
     let instrs = vec![in alloc;
         Side(R0),

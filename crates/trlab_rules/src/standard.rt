@@ -3,8 +3,8 @@
 ghost use Rattle.std.specs.Prelude.{◌≡◌, IfOk, IfErr, ◌≤◌};
 ghost use Rattle.trlab_rules.specs.declared.standard.StandardFault.TheVariants.{Memory};
 ghost use Rattle.trlab_rules.specs.Rules.{IsRule};
-ghost use Rattle.trlab_rules.specs.StandardRules.{IsNasch, IsVdr, IsRickert, IsMotion, IsChange};
-ghost use Rattle.trlab_code.specs.Program.{Program, IsProgram};
+ghost use Rattle.trlab_rules.specs.StandardRules.{IsNasch, IsVdr, IsRickert, IsMotionComputing, IsChangeComputing};
+ghost use Rattle.trlab_code.specs.Program.{Program, IsValidProgram};
 ghost use Rattle.trlab_verify.specs.Verdict.{IsAccepted};
 ghost use Rattle.trlab_rules.specs.Published.{nasch_speed, vdr_speed, rickert_crosses, safe_speed, wording_1992};
 ghost use Rattle.trlab_rules.specs.Standard.{nasch_program, vdr_program, rickert_program};
@@ -97,7 +97,7 @@ fn checked<K: ProgramKind>(
     alloc: Global,
     instrs: Vec<Instr>,
 ) -> Result<AcceptedProgram<K>, AllocError>
-    requires program { IsProgram (record { kind = K.KIND; instrs = instrs.items }) }
+    requires program { IsValidProgram (record { kind = K.KIND; instrs = instrs.items }) }
     requires accepted { IsAccepted K.KIND (record { kind = K.KIND; instrs = instrs.items }) }
     ensures { let program : Program = record { kind = K.KIND; instrs = instrs.items } in
         IfOk result (λ accepted. (accepted.program ≡ program) × IsAccepted K.KIND program) }
@@ -118,7 +118,7 @@ fn checked<K: ProgramKind>(
 ///
 /// If an allocation fails.
 fn nasch_motion(alloc: Global, p: Chance) -> Result<Motion, AllocError>
-    ensures { IfOk result (IsMotion (nasch_speed p) (nasch_program p)) }
+    ensures { IfOk result (IsMotionComputing (nasch_speed p) (nasch_program p)) }
 {
     checked(alloc, nasch_instrs(alloc, p)?)
 }
@@ -130,7 +130,7 @@ fn nasch_motion(alloc: Global, p: Chance) -> Result<Motion, AllocError>
 ///
 /// If an allocation fails.
 fn vdr_motion(alloc: Global, p: Chance, p0: Chance) -> Result<Motion, AllocError>
-    ensures { IfOk result (IsMotion (vdr_speed p p0) (vdr_program p p0)) }
+    ensures { IfOk result (IsMotionComputing (vdr_speed p p0) (vdr_program p p0)) }
 {
     checked(alloc, vdr_instrs(alloc, p, p0)?)
 }
@@ -141,7 +141,7 @@ fn vdr_motion(alloc: Global, p: Chance, p0: Chance) -> Result<Motion, AllocError
 ///
 /// If an allocation fails.
 fn rickert_change(alloc: Global, c: Chance) -> Result<Change, AllocError>
-    ensures { IfOk result (IsChange (rickert_crosses c) (rickert_program c)) }
+    ensures { IfOk result (IsChangeComputing (rickert_crosses c) (rickert_program c)) }
 {
     checked(alloc, rickert_instrs(alloc, c)?)
 }

@@ -3,7 +3,7 @@ use Rattle.std.proofs.Common.{◌≡◌, Bool, true, false, List, [], ◌++◌, 
 use Rattle.std.proofs.lemmas.List.{map-append}
 use Rattle.std.proofs.lemmas.List.Elements.{All-append}
 use Rattle.trlab_segments.specs.Answered.{HasParts, ticket_of}
-use Rattle.trlab_segments.specs.Drawers.{IsFrom, IsJoined, IsNew, Joins, is_ended, tickets_of}
+use Rattle.trlab_segments.specs.Drawers.{IsDrawerOf, IsJoined, HasDrawnNone, Joins, is_ended, tickets_of}
 use Rattle.trlab_segments.specs.declared.tickets.Drawer.{Drawer}
 use Rattle.trlab_segments.specs.declared.tickets.Tickets.{Tickets}
 use Rattle.trlab_segments.specs.declared.parts.Part.{Part}
@@ -47,22 +47,22 @@ module _ {A : Type 0} (Fits : Part A → Type 0) (t : Tickets) where
 
   -- earlier deposits, and the parts of a worker
   pub all_told : {B E : Type 0} (before : Option Drawer) (e f : Drawer) (some more all : Result (Vec (Part A) B) E)
-      → MatchOption before (IfOk some (λ parts. parts.items ≡ [])) (λ d. IsFrom t d × IfOk some (λ parts. HasParts Fits d parts.items))
-      → IsFrom t e × IfOk more (λ parts. HasParts Fits e parts.items)
+      → MatchOption before (IfOk some (λ parts. parts.items ≡ [])) (λ d. IsDrawerOf t d × IfOk some (λ parts. HasParts Fits d parts.items))
+      → IsDrawerOf t e × IfOk more (λ parts. HasParts Fits e parts.items)
       → IfOk all (λ v. IsOkAnd some (λ a. IsOkAnd more (λ b. v.items ≡ a.items ++ b.items)))
-      → IsJoined t before e f → IsFrom t f × IfOk all (λ parts. HasParts Fits f parts.items)
+      → IsJoined t before e f → IsDrawerOf t f × IfOk all (λ parts. HasParts Fits f parts.items)
   all_told None e f some more all none done items same =
-      subst (λ d. IsFrom t d × IfOk all (λ parts. HasParts Fits d parts.items)) (sym same)
+      subst (λ d. IsDrawerOf t d × IfOk all (λ parts. HasParts Fits d parts.items)) (sym same)
       (done.0, first_told e some more all none done.1 items)
   all_told (Some d) e f some more all deposited done items joins =
       (joins.from, told_parts d e f some more all deposited.1 done.1 items joins)
 
   -- a drawer that drew nothing changes no parts
-  pub with_reserve : {B E : Type 0} (reserve : Option Drawer) (e f : Drawer) (told : Result (Vec (Part A) B) E) → IfSome reserve (IsNew t)
-      → IsFrom t e × IfOk told (λ parts. HasParts Fits e parts.items) → IsJoined t reserve e f
-      → IsFrom t f × IfOk told (λ parts. HasParts Fits f parts.items)
+  pub with_reserve : {B E : Type 0} (reserve : Option Drawer) (e f : Drawer) (told : Result (Vec (Part A) B) E) → IfSome reserve (HasDrawnNone t)
+      → IsDrawerOf t e × IfOk told (λ parts. HasParts Fits e parts.items) → IsJoined t reserve e f
+      → IsDrawerOf t f × IfOk told (λ parts. HasParts Fits f parts.items)
   with_reserve None e f told new done same =
-      subst (λ d. IsFrom t d × IfOk told (λ parts. HasParts Fits d parts.items)) (sym same) done
+      subst (λ d. IsDrawerOf t d × IfOk told (λ parts. HasParts Fits d parts.items)) (sym same) done
   with_reserve (Some d) e f (Err x) new done joins = (joins.from, tt)
   with_reserve (Some d) e f (Ok parts) new done joins = (
     joins.from,
@@ -75,16 +75,16 @@ module _ {A : Type 0} (Fits : Part A → Type 0) (t : Tickets) where
 
 -- a deposit came from these tickets
 pub deposited_from : (t : Tickets) (before : Option Drawer) (Empty : Type 0) (Has : Drawer → Type 0)
-    → MatchOption before Empty (λ d. IsFrom t d × Has d) → IfSome before (IsFrom t)
+    → MatchOption before Empty (λ d. IsDrawerOf t d × Has d) → IfSome before (IsDrawerOf t)
 deposited_from t None Empty Has deposited = tt
 deposited_from t (Some d) Empty Has deposited = deposited.0
 
 -- a joined drawer came from these tickets
-pub joined_from : (t : Tickets) (before : Option Drawer) (d all : Drawer) → IsFrom t d → IsJoined t before d all → IsFrom t all
-joined_from t None d all from same = subst (IsFrom t) (sym same) from
+pub joined_from : (t : Tickets) (before : Option Drawer) (d all : Drawer) → IsDrawerOf t d → IsJoined t before d all → IsDrawerOf t all
+joined_from t None d all from same = subst (IsDrawerOf t) (sym same) from
 joined_from t (Some b) d all from joins = joins.from
 
 -- a reserve came from these tickets
-pub new_from : (t : Tickets) (reserve : Option Drawer) → IfSome reserve (IsNew t) → IfSome reserve (IsFrom t)
+pub new_from : (t : Tickets) (reserve : Option Drawer) → IfSome reserve (HasDrawnNone t) → IfSome reserve (IsDrawerOf t)
 new_from t None new = tt
 new_from t (Some d) new = new.0

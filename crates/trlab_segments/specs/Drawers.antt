@@ -4,66 +4,70 @@ use Rattle.std.specs.Prelude.{Option, MatchOption}
 use Rattle.trlab_segments.specs.declared.tickets.Tickets.{Tickets}
 use Rattle.trlab_segments.specs.declared.tickets.Drawer.{Drawer}
 
--- the number of tickets: each is a number below it
-abbrev pub count_of : Tickets → ℕ
-count_of t = t.plan.count
+-- the number of tickets; for example, 3 tickets have the numbers 0, 1 and 2
+abbrev pub ticket_count : Tickets → ℕ
+ticket_count tickets = tickets.plan.count
 
--- the maximum number of drawers of these tickets, which is the number of passes
+-- the maximum number of drawers of these tickets, which is also the number of their passes
 abbrev pub drawers_of : Tickets → ℕ
-drawers_of t = t.plan.drawers
+drawers_of tickets = tickets.plan.drawers
 
--- the number of passes of a drawer
+-- the number of passes of a drawer, which are its rights to draw; a drawer with two or more can be split
 abbrev pub passes_of : Drawer → ℕ
-passes_of d = d.passes
+passes_of drawer = drawer.passes
 
--- the tickets that a drawer drew, in order
+-- the tickets that a drawer drew, in order. If it was gathered from two drawers, it has the tickets of both,
+-- first those of one and then those of the other
 abbrev pub tickets_of : Drawer → List ℕ
-tickets_of d = d.seat.me.0.tickets
+tickets_of drawer = drawer.seat.me.0.tickets
 
 -- the smallest number that the next ticket of a drawer may have
-abbrev pub least_of : Drawer → ℕ
-least_of d = d.seat.me.0.least
+abbrev pub least_next_ticket : Drawer → ℕ
+least_next_ticket drawer = drawer.seat.me.0.least
 
 -- has a drawer found that no ticket is left?
 abbrev pub is_ended : Drawer → Bool
-is_ended d = d.ended
+is_ended drawer = drawer.ended
 
--- the drawer belongs to these tickets, and has their plan
-abbrev pub IsFrom : Tickets → Drawer → Type 0
-IsFrom t d = (d.seat.table_id ≡ t.table.shared.table_id) × (d.seat.me.0.plan ≡ t.plan)
+-- the drawer belongs to these tickets: it draws from their counter, and has their plan
+abbrev pub IsDrawerOf : Tickets → Drawer → Type 0
+IsDrawerOf tickets drawer =
+    (drawer.seat.table_id ≡ tickets.table.shared.table_id) × (drawer.seat.me.0.plan ≡ tickets.plan)
 
 -- the drawer has drawn no ticket, and has not found that none is left
 abbrev pub IsUnused : Drawer → Type 0
-IsUnused d = (tickets_of d ≡ []) × (is_ended d ≡ false)
+IsUnused drawer = (tickets_of drawer ≡ []) × (is_ended drawer ≡ false)
 
--- the drawer belongs to these tickets, and has drawn none of them
-abbrev pub IsNew : Tickets → Drawer → Type 0
-IsNew tickets d = IsFrom tickets d × (tickets_of d ≡ [])
+-- the drawer belongs to these tickets, and has drawn none of them; it may have found that none is left
+abbrev pub HasDrawnNone : Tickets → Drawer → Type 0
+HasDrawnNone tickets drawer = IsDrawerOf tickets drawer × (tickets_of drawer ≡ [])
 
 -- the drawer has all passes of these tickets
-abbrev pub HasAll : Tickets → Drawer → Type 0
-HasAll t d = passes_of d ≡ drawers_of t
+abbrev pub HasAllPasses : Tickets → Drawer → Type 0
+HasAllPasses tickets drawer = passes_of drawer ≡ drawers_of tickets
 
--- the drawer `old` has drawn ticket i, and is now `new`, which has not ended; the ticket is below the count
--- and above all earlier ones of the drawer
+-- the drawer `old` has drawn this ticket, and is now `new`, which has not ended. The ticket is below the
+-- number of tickets, and not below the smallest that the drawer could draw; the next one will be above it
 abbrev pub HasDrawn : Tickets → Drawer → ℕ → Drawer → Type 0
-HasDrawn t old i new =
-    (i < count_of t) × (least_of old ≤ i)
-    × (tickets_of new ≡ tickets_of old ++ i ∷ []) × (least_of new ≡ i + 1) × (is_ended new ≡ false)
+HasDrawn tickets old ticket new =
+    (ticket < ticket_count tickets) × (least_next_ticket old ≤ ticket)
+    × (tickets_of new ≡ tickets_of old ++ ticket ∷ []) × (least_next_ticket new ≡ ticket + 1)
+    × (is_ended new ≡ false)
 
--- the drawer has the same tickets, knowledge, passes and end as before
+-- both are the same drawer: they belong to the same tickets, and have the same knowledge, passes and end
 abbrev pub IsSameDrawer : Drawer → Drawer → Type 0
-IsSameDrawer d e =
-    (d.seat.table_id ≡ e.seat.table_id) × (d.seat.me ≡ e.seat.me)
-    × (d.passes ≡ e.passes) × (d.ended ≡ e.ended)
+IsSameDrawer one other =
+    (one.seat.table_id ≡ other.seat.table_id) × (one.seat.me ≡ other.seat.me)
+    × (one.passes ≡ other.passes) × (one.ended ≡ other.ended)
 
--- the drawer `all` has the tickets of `one`, then those of `other`, and has ended if one of them has
+-- the drawer `all` has the drawn tickets of `one`, then those of `other`, and has ended if either of them has
 pub record Joins (t : Tickets) (one other all : Drawer) : Type 0 where
-  pub from : IsFrom t all
+  pub from : IsDrawerOf t all
   pub tickets : tickets_of all ≡ tickets_of one ++ tickets_of other
   pub ended : is_ended all ≡ (is_ended one || is_ended other)
 
--- the drawer `all` has the tickets of the drawer `before`, then those of `d`; if `before` is `None`, it is
--- `d`
+-- the drawer `all` is `drawer`, joined to an earlier drawer if there is one: it has the tickets of the
+-- earlier one, then those of `drawer`. For `None` it is `drawer`
 abbrev pub IsJoined : Tickets → Option Drawer → Drawer → Drawer → Type 0
-IsJoined tickets before d all = MatchOption before (all ≡ d) (λ b. Joins tickets b d all)
+IsJoined tickets before drawer all =
+    MatchOption before (all ≡ drawer) (λ earlier. Joins tickets earlier drawer all)

@@ -1,4 +1,5 @@
--- The rule of a lock with one word and one slot: while the word is 0, the value is in the slot.
+-- The rule of a lock with one word and one slot: while the word is 0, no thread has the value, and it is in
+-- the slot. The lock guarantees that `Fits` holds for the value.
 use Rattle.std.specs.Prelude.{◌≡◌, ℕ, ◌∷◌, [], Option, Some, slice_index, length}
 use mathlib.Core.Option.{some}
 use lib.ListN.{get_elem?}
@@ -6,22 +7,25 @@ use Rattle.atomic_table.specs.Table.{State, Me}
 
 module _ {T K : Type 0} where
   -- the slot of the lock holds a value for which `Fits` holds
-  abbrev pub HasAtHome : (T → Type 0) → State (Option T) K → Type 0
-  HasAtHome Fits s = (value : T) × (get_elem? s.homes 0 ≡ some (some (Some value))) × Fits value
+  abbrev pub HoldsFittingValue : (T → Type 0) → State (Option T) K → Type 0
+  HoldsFittingValue Fits state =
+      (value : T) × (get_elem? state.homes 0 ≡ some (some (Some value))) × Fits value
 
   -- the rule of the lock: it has one word, and while this word is 0, the slot holds a value for which `Fits`
   -- holds
-  abbrev pub Guarded : (T → Type 0) → State (Option T) K → Type 0
-  Guarded Fits s = (length s.words ≡ 1) × (slice_index s.words 0 ≡ 0 → HasAtHome Fits s)
+  abbrev pub ObeysLockRule : (T → Type 0) → State (Option T) K → Type 0
+  ObeysLockRule Fits state =
+      (length state.words ≡ 1) × (slice_index state.words 0 ≡ 0 → HoldsFittingValue Fits state)
 
-  -- a thread has taken the slot, with a value for which `Fits` holds, and no other slot
-  abbrev pub Seized : (T → Type 0) → Me (Option T) K → Type 0
-  Seized Fits m = (value : T) × (m.1 ≡ (0, Some value) ∷ []) × Fits value
+  -- a thread has taken the slot, with a value in it for which `Fits` holds, and no other slot
+  abbrev pub HasTakenValue : (T → Type 0) → Me (Option T) K → Type 0
+  HasTakenValue Fits thread = (value : T) × (thread.1 ≡ (0, Some value) ∷ []) × Fits value
 
-  -- to take the value: a thread that finds 0 has the slot, with a value that fits
+  -- a thread that finds 0 in the word takes the slot, with a value for which `Fits` holds; a thread that
+  -- finds another number must try again
   abbrev pub Acquires : (T → Type 0) → ℕ → Me (Option T) K → Type 0
-  Acquires Fits found m = found ≡ 0 → Seized Fits m
+  Acquires Fits found thread = found ≡ 0 → HasTakenValue Fits thread
 
-  -- a thread has taken the slot, which may be empty now, and no other slot
-  abbrev pub HasOnly : Me (Option T) K → Type 0
-  HasOnly m = (held : Option T) × (m.1 ≡ (0, held) ∷ [])
+  -- a thread has taken the slot, which may be empty by now, and no other slot
+  abbrev pub HasTakenSlot : Me (Option T) K → Type 0
+  HasTakenSlot thread = (held : Option T) × (thread.1 ≡ (0, held) ∷ [])

@@ -8,11 +8,12 @@ use Rattle.trlab_segments.specs.declared.ticket_rule.TicketKnowledge.{TicketKnow
 
 -- how often the number x occurs in a list of tickets
 abbrev pub occurrences : ℕ → List ℕ → ℕ
-occurrences x tickets = count_by (λ y. eqb y x) tickets
+occurrences x tickets = count_by (λ ticket. eqb ticket x) tickets
 
--- the list has each number below `count` exactly once, and no other number
-abbrev pub IsWhole : List ℕ → ℕ → Type 0
-IsWhole tickets count = (x : ℕ) → occurrences x tickets ≡ once_below x count
+-- the list is a permutation of the numbers below `count`: it has each of them exactly once, and no other
+-- number. An example with `count` 3 is [2, 0, 1]
+abbrev pub IsPermutation : List ℕ → ℕ → Type 0
+IsPermutation tickets count = (x : ℕ) → occurrences x tickets ≡ once_below x count
 
 -- the knowledge of a drawer: the plan of its tickets, its passes, the tickets that it drew, the smallest
 -- number that its next ticket may have, and whether it has found that no ticket is left
@@ -20,7 +21,8 @@ abbrev pub ticket_knowledge : Plan → ℕ → List ℕ → ℕ → Bool → Tic
 ticket_knowledge plan passes tickets least ended =
     record { plan = plan; passes = passes; tickets = tickets; least = least; ended = ended }
 
--- the knowledge that is left at the seat of a drawer that was gathered into another
+-- the knowledge that is left at the seat of a drawer that was joined to another: no pass, no ticket and the
+-- plan of no tickets
 abbrev pub no_knowledge : TicketKnowledge
 no_knowledge = ticket_knowledge (record { count = 0; drawers = 0 }) 0 [] 0 false
 
@@ -28,29 +30,31 @@ no_knowledge = ticket_knowledge (record { count = 0; drawers = 0 }) 0 [] 0 false
 abbrev pub first_drawer : Plan → TicketKnowledge
 first_drawer plan = ticket_knowledge plan plan.drawers [] 0 false
 
--- the knowledge of a drawer that has drawn ticket i
+-- the knowledge of a drawer that has drawn this ticket; its next one is above it
 abbrev pub with_ticket : TicketKnowledge → ℕ → TicketKnowledge
-with_ticket k i = ticket_knowledge k.plan k.passes (k.tickets ++ i ∷ []) (i + 1) k.ended
+with_ticket old ticket =
+    ticket_knowledge old.plan old.passes (old.tickets ++ ticket ∷ []) (ticket + 1) old.ended
 
 -- the knowledge of a drawer that has found that no ticket is left
 abbrev pub at_end : TicketKnowledge → TicketKnowledge
-at_end k = ticket_knowledge k.plan k.passes k.tickets k.least true
+at_end old = ticket_knowledge old.plan old.passes old.tickets old.least true
 
 -- the knowledge of a drawer that has given one pass away
 abbrev pub less_a_pass : TicketKnowledge → TicketKnowledge
-less_a_pass k = ticket_knowledge k.plan (k.passes - 1) k.tickets k.least k.ended
+less_a_pass old = ticket_knowledge old.plan (old.passes - 1) old.tickets old.least old.ended
 
--- the knowledge of a new drawer with the one pass that another has given away: it has no ticket, and has
--- ended if the other has
+-- the knowledge of a new drawer that got one pass from the drawer `old`: it has no ticket, and has ended if
+-- `old` has
 abbrev pub one_pass : TicketKnowledge → TicketKnowledge
-one_pass k = ticket_knowledge k.plan 1 [] 0 k.ended
+one_pass old = ticket_knowledge old.plan 1 [] 0 old.ended
 
--- the knowledge of two drawers, gathered into one: the passes and tickets of both; it has ended if one of
--- them has, and nothing is known of its next ticket
+-- the knowledge of two drawers that were joined: the passes and the tickets of both. The drawer has ended if
+-- one of them has, and its next ticket may have any number
 abbrev pub both_drawers : TicketKnowledge → TicketKnowledge → TicketKnowledge
-both_drawers k l =
-    ticket_knowledge k.plan (k.passes + l.passes) (k.tickets ++ l.tickets) 0 (k.ended || l.ended)
+both_drawers one other =
+    ticket_knowledge one.plan (one.passes + other.passes) (one.tickets ++ other.tickets) 0
+    (one.ended || other.ended)
 
 -- the number of passes of a drawer if it has found that no ticket is left, otherwise 0
 abbrev pub passes_at_end : TicketKnowledge → ℕ
-passes_at_end k = cond k.ended k.passes 0
+passes_at_end drawer = cond drawer.ended drawer.passes 0

@@ -7,39 +7,42 @@ use Rattle.atomic_table.specs.Table.{State}
 use Rattle.trlab_bounds.specs.declared.runs.TheConstants.{MAX_WORKERS}
 use Rattle.trlab_segments.specs.declared.ticket_rule.Plan.{Plan}
 use Rattle.trlab_segments.specs.declared.ticket_rule.TicketKnowledge.{TicketKnowledge}
-use Rattle.trlab_segments.specs.Knowledge.{IsWhole}
-use Rattle.trlab_segments.specs.Rule.{KeepsTickets, counter_of}
+use Rattle.trlab_segments.specs.Knowledge.{IsPermutation}
+use Rattle.trlab_segments.specs.Rule.{ObeysTicketRule, counter_of}
 use Rattle.trlab_segments.specs.Segments.{segment_count, first_car, segment}
 
--- the counter is at most the number of tickets plus the maximum number of workers
+-- if the rule of tickets holds, the counter is at most the number of tickets plus the maximum number of
+-- workers
 abbrev pub CounterIsBounded : Type 0
-CounterIsBounded = (plan : Plan) (s : State ℕ TicketKnowledge)
-    → KeepsTickets plan s → counter_of s ≤ plan.count + MAX_WORKERS
+CounterIsBounded = (plan : Plan) (state : State ℕ TicketKnowledge)
+    → ObeysTicketRule plan state → counter_of state ≤ plan.count + MAX_WORKERS
 
--- a drawer with all passes has each ticket exactly once, if and only if the counter has reached the number of
--- tickets
+-- if the rule of tickets holds, a drawer with all passes has drawn each ticket exactly once, if and only if
+-- the counter has reached the number of tickets
 abbrev pub AllPassesHaveAllTickets : Type 0
-AllPassesHaveAllTickets = (plan : Plan) (s : State ℕ TicketKnowledge) (seat : ℕ) (mine : TicketKnowledge)
-    → KeepsTickets plan s → get_elem? s.views seat ≡ some mine → mine.passes ≡ plan.drawers
-    → IsWhole mine.tickets plan.count ↔ (plan.count ≤ counter_of s)
+AllPassesHaveAllTickets = (plan : Plan) (state : State ℕ TicketKnowledge) (seat : ℕ) (mine : TicketKnowledge)
+    → ObeysTicketRule plan state → get_elem? state.views seat ≡ some mine → mine.passes ≡ plan.drawers
+    → IsPermutation mine.tickets plan.count ↔ (plan.count ≤ counter_of state)
 
--- the first of `count` segments begins with the first car, and the last ends with the last car
+-- the first of `count` segments begins with the first car, and the last one ends with the last car
 abbrev pub SegmentsBeginAndEnd : Type 0
 SegmentsBeginAndEnd = (cars count : ℕ) → 0 < count
     → (first_car cars count 0 ≡ 0) × (first_car cars count count ≡ cars)
 
--- each segment has a car, if there are at most as many segments as cars
+-- no segment is empty if there are at most as many segments as cars
 abbrev pub SegmentsHaveCars : Type 0
 SegmentsHaveCars = (cars count i : ℕ) → 0 < count → count ≤ cars
     → first_car cars count i < first_car cars count (i + 1)
 
--- the segments for any number of workers, one after the other, are all cars in standing order, each once
+-- the cars of all segments, one segment after the other, are all cars in standing order, each once; the
+-- number of workers may be any but 0
 abbrev pub SegmentsAreAllCars : Type 0
 SegmentsAreAllCars = (cars workers : ℕ) → 0 < workers
     → flat_map (segment cars (segment_count cars workers)) (range_with_len 0 (segment_count cars workers))
     ≡ range_with_len 0 cars
 
--- the answers of the segments, one after the other, are the answers of all cars in standing order
+-- the answers of all segments, one segment after the other, are the answers of all cars in standing order;
+-- the car with index k has the answer `answer k`
 abbrev pub AnswersJoin : Type 0 → Type 0
 AnswersJoin A = (cars workers : ℕ) (answer : ℕ → A) → 0 < workers
     → let count = segment_count cars workers in

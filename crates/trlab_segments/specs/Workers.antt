@@ -1,4 +1,4 @@
--- The number of workers.
+-- The number of workers of a crew and of a pool.
 use Rattle.std.specs.Prelude.{ℕ}
 use Rattle.trlab_segments.specs.declared.crew.Crew.{Crew}
 use Rattle.trlab_segments.specs.declared.pool.Pool.{Pool}

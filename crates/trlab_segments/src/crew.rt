@@ -5,8 +5,8 @@ ghost use Rattle.std.specs.Prelude.{◌≡◌, ◌<◌, ◌≤◌, [], IfOk};
 ghost use Rattle.std.specs.Thread.{IsSend, IsSync};
 ghost use Rattle.trlab_bounds.specs.declared.runs.TheConstants.{MAX_WORKERS};
 ghost use Rattle.trlab_road.specs.Cells.{cars};
-ghost use Rattle.trlab_segments.specs.Answered.{HasTwoLanes, HasWorked, IsPart, ReturnsCrossings, ReturnsSpeeds};
-ghost use Rattle.trlab_segments.specs.Drawers.{IsFrom, count_of, tickets_of};
+ghost use Rattle.trlab_segments.specs.Answered.{HasTwoLanes, HasWorked, IsPartOfPhase, ReturnsCrossings, ReturnsSpeeds};
+ghost use Rattle.trlab_segments.specs.Drawers.{IsDrawerOf, ticket_count, tickets_of};
 ghost use Rattle.trlab_step.specs.Answers.{IsCrossingsPart, IsSpeedsPart, dice_of};
 ghost use Rattle.trlab_step.specs.Next.{IsStepResult};
 
@@ -194,10 +194,10 @@ fn share<A: Drop + Send, P: Asked<A> + Sync, R: Threads + Sync, G: Gate + Sync>(
     drawer: Drawer,
     gate: &G,
 ) -> (Drawer, Result<Vec<Part<A>>, AllocError>)
-    requires from { IsFrom tickets.now drawer }
+    requires from { IsDrawerOf tickets.now drawer }
     requires fresh { tickets_of drawer ≡ [] }
     requires lanes { P.can_ask phase.now.road.now }
-    ensures { HasWorked (IsPart P.answers phase.now (count_of tickets.now)) tickets.now drawer result }
+    ensures { HasWorked (IsPartOfPhase P.answers phase.now (ticket_count tickets.now)) tickets.now drawer result }
 {
     let mut drawer = drawer;
     let worker = drawer.passes() - 1;
@@ -209,8 +209,8 @@ fn share<A: Drop + Send, P: Asked<A> + Sync, R: Threads + Sync, G: Gate + Sync>(
     let ((theirs, some), (mine, more)) = join(
         rt,
         move || -> (Drawer, Result<Vec<Part<A>>, AllocError>)
-            requires { IsFrom tickets.now theirs × (tickets_of theirs ≡ []) × P.can_ask phase.now.road.now }
-            ensures { HasWorked (IsPart P.answers phase.entry.now (count_of tickets.entry.now))
+            requires { IsDrawerOf tickets.now theirs × (tickets_of theirs ≡ []) × P.can_ask phase.now.road.now }
+            ensures { HasWorked (IsPartOfPhase P.answers phase.entry.now (ticket_count tickets.entry.now))
                 tickets.entry.now theirs result }
         {
             let parts = work(alloc, phase, tickets, &mut theirs, worker, gate);
@@ -218,8 +218,8 @@ fn share<A: Drop + Send, P: Asked<A> + Sync, R: Threads + Sync, G: Gate + Sync>(
         },
         move || -> (Drawer, Result<Vec<Part<A>>, AllocError>)
             requires { IsSync R.row × IsSync G.row × IsSync P.row × IsSend A.row
-                × IsFrom tickets.now drawer × (tickets_of drawer ≡ []) × P.can_ask phase.now.road.now }
-            ensures { HasWorked (IsPart P.answers phase.entry.now (count_of tickets.entry.now))
+                × IsDrawerOf tickets.now drawer × (tickets_of drawer ≡ []) × P.can_ask phase.now.road.now }
+            ensures { HasWorked (IsPartOfPhase P.answers phase.entry.now (ticket_count tickets.entry.now))
                 tickets.entry.now drawer result }
         { share(rt, alloc, phase, tickets, drawer, gate) },
     );

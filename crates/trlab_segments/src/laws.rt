@@ -14,7 +14,7 @@ pub fn counter_says_what_was_drawn()
     ensures all { AllPassesHaveAllTickets }
 {}
 
-/// Segments are adjacent, from the first car to the last, and none is empty.
+/// Segments are adjacent, from the first car to the last. None is empty if there are at most as many as cars.
 pub fn segments_are_all_cars()
     ensures ends { SegmentsBeginAndEnd }
     ensures some { SegmentsHaveCars }

@@ -3,9 +3,9 @@
 
 ghost use Rattle.std.specs.Prelude.{◌≡◌, ◌<◌, ◌++◌, [], ◌∷◌, All, IfOk, IsOkAnd, OnOk, map};
 ghost use Rattle.trlab_road.specs.Cells.{cars};
-ghost use Rattle.trlab_segments.specs.Answered.{IsPlaceOf, HasParts, IsPart, ticket_of};
-ghost use Rattle.trlab_segments.specs.Drawers.{IsFrom, count_of, passes_of, tickets_of};
-ghost use Rattle.trlab_segments.specs.Knowledge.{IsWhole, occurrences};
+ghost use Rattle.trlab_segments.specs.Answered.{IsIndexOfTicket, HasParts, IsPartOfPhase, ticket_of};
+ghost use Rattle.trlab_segments.specs.Drawers.{IsDrawerOf, ticket_count, passes_of, tickets_of};
+ghost use Rattle.trlab_segments.specs.Knowledge.{IsPermutation, occurrences};
 ghost use Rattle.trlab_segments.specs.Segments.{first_car};
 
 use crate::phase::{Asked, Phase};
@@ -36,8 +36,8 @@ fn add_part<A: Drop, P: Asked<A>>(
     requires lanes { P.can_ask phase.now.road.now }
     ensures numbers { OnOk result (
         map ticket_of parts.new.items ≡ map ticket_of parts.old.items ++ number ∷ []) }
-    ensures right { OnOk result (All (IsPart P.answers phase.now count) parts.old.items
-        → All (IsPart P.answers phase.now count) parts.new.items) }
+    ensures right { OnOk result (All (IsPartOfPhase P.answers phase.now count) parts.old.items
+        → All (IsPartOfPhase P.answers phase.now count) parts.new.items) }
 {
     let mut answers = Vec::new(alloc);
     let segment = Segment::of(phase.road.cars(), count, number);
@@ -59,13 +59,13 @@ pub fn work<A: Drop, P: Asked<A>, G: Gate>(
     worker: u32,
     gate: &G,
 ) -> Result<Vec<Part<A>>, AllocError>
-    requires from { IsFrom tickets.now drawer.old }
+    requires from { IsDrawerOf tickets.now drawer.old }
     requires fresh { tickets_of drawer.old ≡ [] }
     requires lanes { P.can_ask phase.now.road.now }
-    ensures from { IsFrom tickets.now drawer.new }
+    ensures from { IsDrawerOf tickets.now drawer.new }
     ensures passes { passes_of drawer.new ≡ passes_of drawer.old }
     ensures parts { IfOk result (λ parts.
-        HasParts (IsPart P.answers phase.now (count_of tickets.now)) drawer.new parts.items) }
+        HasParts (IsPartOfPhase P.answers phase.now (ticket_count tickets.now)) drawer.new parts.items) }
 {
     let mut parts = Vec::new(alloc);
     while let Some(number) = tickets.draw(drawer) {
@@ -99,7 +99,7 @@ pub fn joined<A: Drop>(
 /// The index of the part with this number.
 fn place_of<A>(parts: &[Part<A>], number: u32) -> usize
     requires { 0 < occurrences number (map ticket_of parts.now) }
-    ensures { IsPlaceOf parts.now result number }
+    ensures { IsIndexOfTicket parts.now result number }
 {
     for place in 0..parts.len() {
         if parts[place].number == number {
@@ -121,8 +121,8 @@ pub fn line_up<A: Copy, P: Asked<A>>(
     count: u32,
     parts: &[Part<A>],
 ) -> Result<(), AllocError>
-    requires right { All (IsPart P.answers phase.now count) parts.now }
-    requires whole { IsWhole (map ticket_of parts.now) count }
+    requires right { All (IsPartOfPhase P.answers phase.now count) parts.now }
+    requires whole { IsPermutation (map ticket_of parts.now) count }
     ensures { OnOk result (P.answers phase.now.program.now phase.now.dice.now
         phase.now.road.now 0 (first_car (cars phase.now.road.now) count count) answers.new.items) }
 {
@@ -163,9 +163,9 @@ pub fn collect<A: Copy, P: Asked<A>>(
     parts: &[Part<A>],
 ) -> Result<(), AllocError>
     requires lanes { P.can_ask phase.now.road.now }
-    requires from { IsFrom tickets drawer }
-    requires parts { HasParts (IsPart P.answers phase.now (count_of tickets)) drawer parts.now }
-    requires cut { first_car (cars phase.now.road.now) (count_of tickets) (count_of tickets)
+    requires from { IsDrawerOf tickets drawer }
+    requires parts { HasParts (IsPartOfPhase P.answers phase.now (ticket_count tickets)) drawer parts.now }
+    requires cut { first_car (cars phase.now.road.now) (ticket_count tickets) (ticket_count tickets)
         ≡ cars phase.now.road.now }
     ensures { OnOk result (P.answers phase.now.program.now phase.now.dice.now
         phase.now.road.now 0 (cars phase.now.road.now) answers.new.items) }

@@ -4,7 +4,7 @@
 ghost use Rattle.std.specs.Prelude.{◌≡◌, ◌≤◌, ◌++◌, [], ℕ, IfOk, OnOk, List, length};
 ghost use Rattle.trlab_machine.specs.declared.dice.Dice.{Dice as TheDice};
 ghost use Rattle.trlab_road.specs.Cells.{Cells, cars};
-ghost use Rattle.trlab_segments.specs.Answered.{HasTwoLanes, HasLanes};
+ghost use Rattle.trlab_segments.specs.Answered.{HasTwoLanes, IsAnyRoad};
 ghost use Rattle.trlab_step.proofs.Joined.{crosses_begin, crosses_join, speeds_begin, speeds_join};
 ghost use Rattle.trlab_step.specs.Answers.{IsCrossingsPart, IsSpeedsPart};
 
@@ -67,7 +67,7 @@ pub trait Asked<A>: Sized {
 impl Asked<u8> for Motion {
     const PHASE: u32 = 1;
 
-    ghost can_ask = { HasLanes };
+    ghost can_ask = { IsAnyRoad };
 
     ghost answers = { IsSpeedsPart };
 

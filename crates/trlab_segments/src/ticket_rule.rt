@@ -25,10 +25,10 @@ pub struct TicketKnowledge {
 pub struct OncePerTicket;
 
 impl TableRule<u8, TicketKnowledge, Plan> for OncePerTicket {
-    ghost use Rattle.trlab_segments.specs.Rule.{KeepsTickets};
+    ghost use Rattle.trlab_segments.specs.Rule.{ObeysTicketRule};
     ghost use Rattle.trlab_segments.specs.Knowledge.{first_drawer};
 
-    ghost holds = { KeepsTickets };
+    ghost holds = { ObeysTicketRule };
 
     ghost first = { first_drawer };
 }

@@ -36,9 +36,9 @@ pub struct Drawer {
 
 impl Tickets {
     ghost use Rattle.trlab_bounds.specs.declared.runs.TheConstants.{MAX_WORKERS};
-    ghost use Rattle.trlab_segments.specs.Drawers.{IsFrom, IsUnused, HasAll, HasDrawn, IsSameDrawer};
-    ghost use Rattle.trlab_segments.specs.Drawers.{count_of, drawers_of, passes_of, tickets_of, is_ended};
-    ghost use Rattle.trlab_segments.specs.Knowledge.{IsWhole};
+    ghost use Rattle.trlab_segments.specs.Drawers.{IsDrawerOf, IsUnused, HasAllPasses, HasDrawn, IsSameDrawer};
+    ghost use Rattle.trlab_segments.specs.Drawers.{ticket_count, drawers_of, passes_of, tickets_of, is_ended};
+    ghost use Rattle.trlab_segments.specs.Knowledge.{IsPermutation};
 
     /// The tickets from 0 up to, but not including, `count`, and their first drawer, with a pass for each of 1 to 16
     /// drawers.
@@ -48,8 +48,8 @@ impl Tickets {
     /// If the counter cannot be allocated.
     pub fn start(alloc: Global, count: u32, drawers: u32) -> Result<(Tickets, Drawer), AllocError>
         requires { (0 < drawers) × (drawers ≤ MAX_WORKERS) }
-        ensures from { IfOk result (λ r. IsFrom r.0 r.1) }
-        ensures count { IfOk result (λ r. count_of r.0 ≡ count) }
+        ensures from { IfOk result (λ r. IsDrawerOf r.0 r.1) }
+        ensures count { IfOk result (λ r. ticket_count r.0 ≡ count) }
         ensures drawers { IfOk result (λ r. (drawers_of r.0 ≡ drawers) × (passes_of r.1 ≡ drawers)) }
         ensures fresh { IfOk result (λ r. IsUnused r.1) }
     {
@@ -67,8 +67,8 @@ impl Tickets {
     /// The next ticket, which no drawer drew before; `None` if all are drawn. The drawer has then
     /// ended: from then on it returns `None` without an atomic step.
     pub fn draw(&self, drawer: &mut Drawer) -> Option<u32>
-        requires { IsFrom self.now drawer.old }
-        ensures from { IsFrom self.now drawer.new }
+        requires { IsDrawerOf self.now drawer.old }
+        ensures from { IsDrawerOf self.now drawer.new }
         ensures passes { passes_of drawer.new ≡ passes_of drawer.old }
         ensures some { IfSome result (λ i. HasDrawn self.now drawer.old i drawer.new) }
         ensures none { IfNone result (
@@ -93,9 +93,9 @@ impl Tickets {
     /// Takes one pass from a drawer with two or more, and returns it as a new drawer. The old drawer keeps its tickets;
     /// if it has ended, so has the new one.
     pub fn split(&self, drawer: &mut Drawer) -> Drawer
-        requires from { IsFrom self.now drawer.old }
+        requires from { IsDrawerOf self.now drawer.old }
         requires more { 1 < passes_of drawer.old }
-        ensures from { IsFrom self.now drawer.new × IsFrom self.now result }
+        ensures from { IsDrawerOf self.now drawer.new × IsDrawerOf self.now result }
         ensures passes { (passes_of drawer.new + 1 ≡ passes_of drawer.old) × (passes_of result ≡ 1) }
         ensures tickets { (tickets_of drawer.new ≡ tickets_of drawer.old) × (tickets_of result ≡ []) }
         ensures ended { (is_ended drawer.new ≡ is_ended drawer.old)
@@ -112,8 +112,8 @@ impl Tickets {
 
     /// One drawer with the passes and tickets of both, ended if one of them has.
     pub fn gather(&self, one: Drawer, other: Drawer) -> Drawer
-        requires { IsFrom self.now one × IsFrom self.now other }
-        ensures from { IsFrom self.now result }
+        requires { IsDrawerOf self.now one × IsDrawerOf self.now other }
+        ensures from { IsDrawerOf self.now result }
         ensures passes { passes_of result ≡ passes_of one + passes_of other }
         ensures tickets { tickets_of result ≡ tickets_of one ++ tickets_of other }
         ensures ended { is_ended result ≡ (is_ended one || is_ended other) }
@@ -148,10 +148,10 @@ impl Tickets {
     ///
     /// Returns tickets and drawer if the drawer does not have all passes, or a ticket is left.
     pub fn finish(self, drawer: Drawer) -> Result<(), (Tickets, Drawer)>
-        requires { IsFrom self drawer }
-        ensures ok { IsOk result ↔ HasAll self drawer × IsWhole (tickets_of drawer) (count_of self) }
+        requires { IsDrawerOf self drawer }
+        ensures ok { IsOk result ↔ HasAllPasses self drawer × IsPermutation (tickets_of drawer) (ticket_count self) }
         ensures err { IfErr result (λ r. (r.0 ≡ self) × IsSameDrawer r.1 drawer) }
-        ensures ended { HasAll self drawer → is_ended drawer ≡ true → IsOk result }
+        ensures ended { HasAllPasses self drawer → is_ended drawer ≡ true → IsOk result }
     {
         let mut drawer = drawer;
         let next = self

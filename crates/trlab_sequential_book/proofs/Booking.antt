@@ -7,14 +7,14 @@ use Rattle.std.specs.Prelude.{if◌then◌else◌}
 use Rattle.std.specs.List.{position}
 use Rattle.trlab_road.specs.Cells.{Cells}
 use Rattle.trlab_step.specs.declared.tally.StepTally.{StepTally}
-use Rattle.trlab_step.specs.Progress.{IsUnderway, Progress}
+use Rattle.trlab_step.specs.Progress.{IsReachedByRun, Progress}
 use Rattle.trlab_sequential_book.specs.declared.event.Call.{Call}
 use Rattle.trlab_sequential_book.specs.declared.event.Offered.{Offered}
-use Rattle.trlab_sequential_book.specs.Answers.{back_reply, done_reply, number_reply, order_reply, seen_reply}
+use Rattle.trlab_sequential_book.specs.Answers.{give_back_reply, done_reply, number_reply, order_reply, read_reply}
 use Rattle.trlab_sequential_book.specs.declared.lease.ExecutedStep.{ExecutedStep}
 use Rattle.trlab_step.proofs.RunLaws.{road_at_is_one}
-use Rattle.trlab_sequential_book.specs.Jobs.{run_of, run_start}
-use Rattle.trlab_sequential_book.specs.Sheets.{AreInForce}
+use Rattle.trlab_sequential_book.specs.Jobs.{progress_of, run_start}
+use Rattle.trlab_sequential_book.specs.Sheets.{RanUnderSheet}
 use Rattle.trlab_sequential_book.specs.Leases.{LeaseState}
 use Rattle.trlab_sequential_book.specs.declared.fault.BookFault.{BookFault}
 use Rattle.trlab_sequential_book.specs.declared.fault.BookFault.TheVariants.{HistoryFull, NoSuchJob, StrangerLease}
@@ -22,22 +22,22 @@ use Rattle.trlab_sequential_book.specs.declared.event.Reply.{Reply}
 use Rattle.trlab_sequential_book.specs.declared.event.Reply.TheVariants.{Done, Leased, NoLease, Refused, Seen}
 use Rattle.trlab_sequential_book.specs.declared.order.Order.{Order}
 use Rattle.trlab_step.specs.Run.{IsRoadAt, Sheet, in_force}
-use Rattle.trlab_sequential_book.specs.Comparison.{IsFresh, IsLent, IsOwnRun, IsRuleAt, IsSame, IsSeen, IsSnapshotOf, LeaseCall}
-use Rattle.trlab_sequential_book.specs.Machine.{JobState, Outcome, Served, BookState, after, is_free, is_full, is_out, is_own, giving_back, leasing, next_after, on_free, on_job, reading, refused, reply_of, served}
+use Rattle.trlab_sequential_book.specs.Comparison.{IsFresh, IsFreshIfLent, RunsRoadOfJob, HasRuleInForce, RunsRoadOfItsJob, ShowsJob, IsSnapshotOf, LeaseCall}
+use Rattle.trlab_sequential_book.specs.Machine.{JobState, JobOutcome, JobsOutcome, BookState, after, is_free, is_full, is_out, accepts_lease, giving_back, leasing, next_after, on_free, on_job, reading, refused, reply_of, outcome_of_call}
 
 -- a job that exists
 pub found : (jobs : List JobState) (i : ℕ) (j : JobState) → i < length jobs → j ≡ slice_index_or jobs i j → slice_get jobs i ≡ Some j
 found jobs i j h e = slice_get-get_or jobs i j h ∙ sym (ap Some e)
 
-pub on_found : (jobs : List JobState) (i : ℕ) (j : JobState) (f : JobState → Outcome) → slice_get jobs i ≡ Some j → on_job jobs i f ≡ record { reply = (f j).reply; jobs = slice_set jobs i (f j).job }
+pub on_found : (jobs : List JobState) (i : ℕ) (j : JobState) (f : JobState → JobOutcome) → slice_get jobs i ≡ Some j → on_job jobs i f ≡ record { reply = (f j).reply; jobs = slice_set jobs i (f j).job }
 on_found jobs i j f e =
-    let t : Option JobState → Served = λ o. elim o [ None ↦ record { reply = Refused NoSuchJob; jobs = jobs } | Some k ↦ record { reply = (f k).reply; jobs = slice_set jobs i (f k).job } ] in
+    let t : Option JobState → JobsOutcome = λ o. elim o [ None ↦ record { reply = Refused NoSuchJob; jobs = jobs } | Some k ↦ record { reply = (f k).reply; jobs = slice_set jobs i (f k).job } ] in
     ap t e
 
 -- a job that does not exist
-pub on_none : (jobs : List JobState) (i : ℕ) (f : JobState → Outcome) → length jobs ≤ i → on_job jobs i f ≡ record { reply = Refused NoSuchJob; jobs = jobs }
+pub on_none : (jobs : List JobState) (i : ℕ) (f : JobState → JobOutcome) → length jobs ≤ i → on_job jobs i f ≡ record { reply = Refused NoSuchJob; jobs = jobs }
 on_none jobs i f h =
-    let t : Option JobState → Served = λ o. elim o [ None ↦ record { reply = Refused NoSuchJob; jobs = jobs } | Some k ↦ record { reply = (f k).reply; jobs = slice_set jobs i (f k).job } ] in
+    let t : Option JobState → JobsOutcome = λ o. elim o [ None ↦ record { reply = Refused NoSuchJob; jobs = jobs } | Some k ↦ record { reply = (f k).reply; jobs = slice_set jobs i (f k).job } ] in
     ap t (none_there jobs i h)
   where
     none_there : (others : List JobState) (k : ℕ) → length others ≤ k → slice_get others k ≡ None
@@ -45,13 +45,13 @@ on_none jobs i f h =
     none_there (x ∷ others) zero h = absurd (omega arith)
     none_there (x ∷ others) (suc k) h = none_there others k (omega arith)
 
-pub jobs_made : (jobs : List JobState) (i : ℕ) (old new : JobState) (f : JobState → Outcome) (m : Bool) → i < length jobs → old ≡ slice_index_or jobs i old → MatchBool m (new ≡ old) (new ≡ (f old).job) → MatchBool m (slice_set jobs i new ≡ jobs) (slice_set jobs i new ≡ (on_job jobs i f).jobs)
+pub jobs_made : (jobs : List JobState) (i : ℕ) (old new : JobState) (f : JobState → JobOutcome) (m : Bool) → i < length jobs → old ≡ slice_index_or jobs i old → MatchBool m (new ≡ old) (new ≡ (f old).job) → MatchBool m (slice_set jobs i new ≡ jobs) (slice_set jobs i new ≡ (on_job jobs i f).jobs)
 jobs_made jobs i old new f true h e n = ap (slice_set jobs i) (n ∙ e) ∙ set-get_or jobs i old
 jobs_made jobs i old new f false h e n = ap (slice_set jobs i) n ∙ sym (ap (λ s. s.jobs) (on_found jobs i old f (found jobs i old h e)))
 
 stays : (jobs : List JobState) (i : ℕ) (o : Option JobState) → slice_get jobs i ≡ o → (on_job jobs i reading).jobs ≡ jobs
 stays jobs i None e =
-    let t : Option JobState → Served = λ o. elim o [ None ↦ record { reply = Refused NoSuchJob; jobs = jobs } | Some k ↦ record { reply = (reading k).reply; jobs = slice_set jobs i (reading k).job } ] in
+    let t : Option JobState → JobsOutcome = λ o. elim o [ None ↦ record { reply = Refused NoSuchJob; jobs = jobs } | Some k ↦ record { reply = (reading k).reply; jobs = slice_set jobs i (reading k).job } ] in
     ap (λ s. s.jobs) (ap t e)
 stays jobs i (Some j) e =
     ap (λ s. s.jobs) (on_found jobs i j reading e) ∙ sym (ap (slice_set jobs i) (get_or_from_slice_get jobs i j j e)) ∙ set-get_or jobs i j
@@ -60,7 +60,7 @@ stays jobs i (Some j) e =
 pub reading_stays : (jobs : List JobState) (i : ℕ) → (on_job jobs i reading).jobs ≡ jobs
 reading_stays jobs i = stays jobs i (slice_get jobs i) refl
 
-pub rule_found : (jobs : List JobState) (i : ℕ) (j : JobState) (r : Result Order BookFault) → i < length jobs → j ≡ slice_index_or jobs i j → IfOk r (λ o. o.job ≡ i) → IfOk r (λ o. in_force j.sheet o.step ≡ Some o.rule) → IfOk r (λ o. IsRuleAt jobs o)
+pub rule_found : (jobs : List JobState) (i : ℕ) (j : JobState) (r : Result Order BookFault) → i < length jobs → j ≡ slice_index_or jobs i j → IfOk r (λ o. o.job ≡ i) → IfOk r (λ o. in_force j.sheet o.step ≡ Some o.rule) → IfOk r (λ o. HasRuleInForce jobs o)
 rule_found jobs i j (Err f) h e at k = tt
 rule_found jobs i j (Ok o) h e at k =
     let here : slice_get jobs o.job ≡ Some j = ap (slice_get jobs) at ∙ found jobs i j h e in
@@ -68,18 +68,18 @@ rule_found jobs i j (Ok o) h e at k =
     subst P (sym here) k
 
 -- the reply to a call on a job that exists, and the jobs after it
-pub reply_found : (jobs : List JobState) (i : ℕ) (j : JobState) (f : JobState → Outcome) → i < length jobs → j ≡ slice_index_or jobs i j → (f j).reply ≡ (on_job jobs i f).reply
+pub reply_found : (jobs : List JobState) (i : ℕ) (j : JobState) (f : JobState → JobOutcome) → i < length jobs → j ≡ slice_index_or jobs i j → (f j).reply ≡ (on_job jobs i f).reply
 reply_found jobs i j f h e = sym (ap (λ s. s.reply) (on_found jobs i j f (found jobs i j h e)))
 
-pub reply_made : (jobs : List JobState) (i : ℕ) (old : JobState) (f : JobState → Outcome) (m : Bool) (told : Reply) → i < length jobs → old ≡ slice_index_or jobs i old → MatchBool m (Unit {0}) (told ≡ (f old).reply) → MatchBool m (Unit {0}) (told ≡ (on_job jobs i f).reply)
+pub reply_made : (jobs : List JobState) (i : ℕ) (old : JobState) (f : JobState → JobOutcome) (m : Bool) (told : Reply) → i < length jobs → old ≡ slice_index_or jobs i old → MatchBool m (Unit {0}) (told ≡ (f old).reply) → MatchBool m (Unit {0}) (told ≡ (on_job jobs i f).reply)
 reply_made jobs i old f true told h e n = tt
 reply_made jobs i old f false told h e n = n ∙ reply_found jobs i old f h e
 
-pub jobs_found : (jobs : List JobState) (i : ℕ) (j : JobState) (f : JobState → Outcome) → i < length jobs → j ≡ slice_index_or jobs i j → slice_set jobs i (f j).job ≡ (on_job jobs i f).jobs
+pub jobs_found : (jobs : List JobState) (i : ℕ) (j : JobState) (f : JobState → JobOutcome) → i < length jobs → j ≡ slice_index_or jobs i j → slice_set jobs i (f j).job ≡ (on_job jobs i f).jobs
 jobs_found jobs i j f h e = sym (ap (λ s. s.jobs) (on_found jobs i j f (found jobs i j h e)))
 
 -- a snapshot of a job that exists
-pub seen_found : (jobs : List JobState) (i : ℕ) (j : JobState) (seen : Progress) → i < length jobs → j ≡ slice_index_or jobs i j → IsSnapshotOf j seen → IsSeen jobs i seen
+pub seen_found : (jobs : List JobState) (i : ℕ) (j : JobState) (seen : Progress) → i < length jobs → j ≡ slice_index_or jobs i j → IsSnapshotOf j seen → ShowsJob jobs i seen
 seen_found jobs i j seen h e is =
     let P : Option JobState → Type 0 = λ o. MatchOption o ⊥ (λ k. IsSnapshotOf k seen) in
     subst P (sym (found jobs i j h e)) is
@@ -89,22 +89,22 @@ seen_told jobs i j seen h e is =
     ap (λ n. Seen n (length seen.sheet)) is.step ∙ ap (λ (s : Sheet). Seen j.done (length s)) is.sheet ∙ reply_found jobs i j reading h e
 
 -- the lease of a job that exists runs its road
-pub own_found : (jobs : List JobState) (i : ℕ) (j : JobState) (lease : LeaseState) → i < length jobs → j ≡ slice_index_or jobs i j → lease.job ≡ i → IsSame jobs lease → IsOwnRun j lease
+pub own_found : (jobs : List JobState) (i : ℕ) (j : JobState) (lease : LeaseState) → i < length jobs → j ≡ slice_index_or jobs i j → lease.job ≡ i → RunsRoadOfItsJob jobs lease → RunsRoadOfJob j lease
 own_found jobs i j lease h e job same =
     let here : slice_get jobs lease.job ≡ Some j = ap (slice_get jobs) job ∙ found jobs i j h e in
-    let P : Option JobState → Type 0 = λ o. MatchOption o ⊥ (λ k. IsOwnRun k lease) in
+    let P : Option JobState → Type 0 = λ o. MatchOption o ⊥ (λ k. RunsRoadOfJob k lease) in
     subst P here same
 
 -- the call `lease` of a book in which a job is free
 served_free : (s : BookState) (i : ℕ) (j : JobState) → position is_free s.jobs ≡ Some i → i < length s.jobs → j ≡ slice_index_or s.jobs i j
-    → served s LeaseCall ≡ record { reply = Leased i s.next j.done j.steps; jobs = slice_set s.jobs i (leasing i s.next j).job }
+    → outcome_of_call s LeaseCall ≡ record { reply = Leased i s.next j.done j.steps; jobs = slice_set s.jobs i (leasing i s.next j).job }
 served_free s i j free h e = ap (on_free s.jobs s.next) free ∙ on_found s.jobs i j (leasing i s.next) (found s.jobs i j h e)
 
 pub lease_told : (s now : BookState) (i : ℕ) (j : JobState) (lease : LeaseState) → s ≡ now → is_full now ≡ false → position is_free s.jobs ≡ Some i → i < length s.jobs → j ≡ slice_index_or s.jobs i j
     → lease.job ≡ i → IsFresh j s.next lease → Leased lease.job lease.number lease.step lease.steps ≡ reply_of now LeaseCall
 lease_told s now i j lease view room free h e job fresh =
     let told : reply_of s LeaseCall ≡ Leased i s.next j.done j.steps =
-    cond-false (is_full s) (Refused HistoryFull) (served s LeaseCall).reply (ap is_full view ∙ room) ∙ ap (λ r. r.reply) (served_free s i j free h e) in
+    cond-false (is_full s) (Refused HistoryFull) (outcome_of_call s LeaseCall).reply (ap is_full view ∙ room) ∙ ap (λ r. r.reply) (served_free s i j free h e) in
     let number = fresh.number_is in
     let step = fresh.step in
     let steps = fresh.steps in
@@ -115,20 +115,20 @@ pub lease_leads : (s now : BookState) (i : ℕ) (j new : JobState) → s ≡ now
     → new ≡ (leasing i s.next j).job → record { count = s.count + 1; next = s.next + 1; jobs = slice_set s.jobs i new } ≡ after now LeaseCall
 lease_leads s now i j new view room free h e made =
     let with : JobState → BookState = λ k. record { count = s.count + 1; next = s.next + 1; jobs = slice_set s.jobs i k } in
-    let by : Served → BookState = λ r. record { count = s.count + 1; next = next_after s.next r.reply; jobs = r.jobs } in
+    let by : JobsOutcome → BookState = λ r. record { count = s.count + 1; next = next_after s.next r.reply; jobs = r.jobs } in
     let leads : after s LeaseCall ≡ with (leasing i s.next j).job =
-    cond-false (is_full s) s (by (served s LeaseCall)) (ap is_full view ∙ room) ∙ ap by (served_free s i j free h e) in
+    cond-false (is_full s) s (by (outcome_of_call s LeaseCall)) (ap is_full view ∙ room) ∙ ap by (served_free s i j free h e) in
     ap with made ∙ sym leads ∙ ap (λ (t : BookState). after t LeaseCall) view
 
 pub lease_lent : (s now : BookState) (i : ℕ) (j : JobState) (lease : LeaseState) → s ≡ now → i < length s.jobs → j ≡ slice_index_or s.jobs i j
-    → lease.job ≡ i → IsFresh j s.next lease → IsLent now.jobs now.next (Some lease)
+    → lease.job ≡ i → IsFresh j s.next lease → IsFreshIfLent now.jobs now.next (Some lease)
 lease_lent s now i j lease view h e job fresh =
     let here : slice_get s.jobs lease.job ≡ Some j = ap (slice_get s.jobs) job ∙ found s.jobs i j h e in
     let P : Option JobState → Type 0 = λ o. MatchOption o ⊥ (λ k. IsFresh k s.next lease) in
-    subst (λ (t : BookState). IsLent t.jobs t.next (Some lease)) view (subst P (sym here) fresh)
+    subst (λ (t : BookState). IsFreshIfLent t.jobs t.next (Some lease)) view (subst P (sym here) fresh)
 
--- the parts of `is_own`
-pub own_parts : (lease : Offered) (job : JobState) → is_own lease job ≡ true → (lease.base ≡ job.done) × (lease.step ≤ job.high) × (lease.same ≡ true)
+-- the parts of `accepts_lease`
+pub own_parts : (lease : Offered) (job : JobState) → accepts_lease lease job ≡ true → (lease.base ≡ job.done) × (lease.step ≤ job.high) × (lease.same ≡ true)
 own_parts lease job h =
     let a = (and_parts (is_out lease.number job.out) ((lease.base == job.done) && (not (ltb job.high lease.step) && lease.same)) h).1 in
     let b = and_parts (lease.base == job.done) (not (ltb job.high lease.step) && lease.same) a in
@@ -140,12 +140,12 @@ own_parts lease job h =
     not_true false h = refl
 
 -- the run of a job, seen from inside
-of_job : (job now : JobState) (road : Cells) (sum : StepTally) → job ≡ now → IsUnderway (run_of now.seed now.sheet now.done road sum) → IsUnderway (run_of job.seed job.sheet job.done road sum)
-of_job job now road sum view run = subst (λ (s : JobState). IsUnderway (run_of s.seed s.sheet s.done road sum)) (sym view) run
+of_job : (job now : JobState) (road : Cells) (sum : StepTally) → job ≡ now → IsReachedByRun (progress_of now.seed now.sheet now.done road sum) → IsReachedByRun (progress_of job.seed job.sheet job.done road sum)
+of_job job now road sum view run = subst (λ (s : JobState). IsReachedByRun (progress_of s.seed s.sheet s.done road sum)) (sym view) run
 
 -- a lease that has just gone out runs the road of its job
-pub fresh_run : (job : JobState) (lease : LeaseState) (road : Cells) (sum : StepTally) → IsUnderway (run_of job.seed job.sheet job.done road sum)
-    → lease.key ≡ job.seed.key → lease.road_number ≡ job.seed.number → lease.base.road ≡ road → lease.applied ≡ [] → IsOwnRun job lease
+pub fresh_run : (job : JobState) (lease : LeaseState) (road : Cells) (sum : StepTally) → IsReachedByRun (progress_of job.seed job.sheet job.done road sum)
+    → lease.key ≡ job.seed.key → lease.road_number ≡ job.seed.number → lease.base.road ≡ road → lease.applied ≡ [] → RunsRoadOfJob job lease
 fresh_run job lease road sum run key number base none = record {
   key = key;
   number = number;
@@ -157,7 +157,7 @@ fresh_run job lease road sum run key number base none = record {
     no_run k ran at = cc
 
 -- a lease that goes out is fresh
-pub lent : (job now : JobState) (number : ℕ) (lease : LeaseState) (road : Cells) (sum : StepTally) → job ≡ now → IsUnderway (run_of now.seed now.sheet now.done road sum)
+pub lent : (job now : JobState) (number : ℕ) (lease : LeaseState) (road : Cells) (sum : StepTally) → job ≡ now → IsReachedByRun (progress_of now.seed now.sheet now.done road sum)
     → lease.key ≡ job.seed.key → lease.road_number ≡ job.seed.number → lease.base.road ≡ road → lease.applied ≡ []
     → lease.number ≡ number → lease.steps ≡ job.steps → lease.base.step ≡ job.done → lease.step ≡ job.done → IsFresh now number lease
 lent job now number lease road sum view run key own base none number_is steps base_step step =
@@ -170,30 +170,30 @@ lent job now number lease road sum view run key own base none number_is steps ba
     })
 
 -- a lease that began at the job's road, under its key and number, runs the road if its rules are in force
-pub runs_where : (job now : JobState) (lease : LeaseState) (road : Cells) (sum : StepTally) (b : Bool) → job ≡ now → IsUnderway (run_of now.seed now.sheet now.done road sum)
+pub runs_where : (job now : JobState) (lease : LeaseState) (road : Cells) (sum : StepTally) (b : Bool) → job ≡ now → IsReachedByRun (progress_of now.seed now.sheet now.done road sum)
     → lease.key ≡ job.seed.key → lease.road_number ≡ job.seed.number → lease.base.road ≡ road
-    → IsTrue b ↔ AreInForce job.sheet lease.base.step lease.applied → IsTrue b ↔ IsOwnRun now lease
+    → IsTrue b ↔ RanUnderSheet job.sheet lease.base.step lease.applied → IsTrue b ↔ RunsRoadOfJob now lease
 runs_where job now lease road sum b view run key number base same =
     let B : Cells → Type 0 = λ r. IsRoadAt (run_start job.seed) job.sheet job.done r in
     let mine = of_job job now road sum view run in
-    subst (λ (s : JobState). IsTrue b ↔ IsOwnRun s lease) view
+    subst (λ (s : JobState). IsTrue b ↔ RunsRoadOfJob s lease) view
     (λ h. record { key = key; number = number; base = subst B (sym base) (sum, mine.comes); rules = same.0 h }, λ own. same.1 own.rules)
 
 -- one that began at another road does not run the job's
-pub runs_not : (job now : JobState) (lease : LeaseState) (road : Cells) (sum : StepTally) → job ≡ now → IsUnderway (run_of now.seed now.sheet now.done road sum)
-    → (lease.base.road ≡ road → ⊥) → IsOwnRun now lease → ⊥
+pub runs_not : (job now : JobState) (lease : LeaseState) (road : Cells) (sum : StepTally) → job ≡ now → IsReachedByRun (progress_of now.seed now.sheet now.done road sum)
+    → (lease.base.road ≡ road → ⊥) → RunsRoadOfJob now lease → ⊥
 runs_not job now lease road sum view run other own =
     other (road_at_is_one (run_start now.seed) now.sheet now.done lease.base.road road own.base (sum, run.comes))
 
 -- a lease that is given back is refused if it is not the one that is out, and accepted if it is
-pub back_refused : (lease : Offered) (job : JobState) → is_own lease job ≡ false → giving_back lease job ≡ refused StrangerLease job
+pub back_refused : (lease : Offered) (job : JobState) → accepts_lease lease job ≡ false → giving_back lease job ≡ refused StrangerLease job
 back_refused lease job other = ap (λ own. if own then record { reply = Done; job = record job { done = lease.step; out = None } } else refused StrangerLease job) other
 
-pub back_taken : (lease : Offered) (job : JobState) → is_own lease job ≡ true → Done ≡ (giving_back lease job).reply
+pub back_taken : (lease : Offered) (job : JobState) → accepts_lease lease job ≡ true → Done ≡ (giving_back lease job).reply
 back_taken lease job own =
     sym (ap (λ own. (if own then record { reply = Done; job = record job { done = lease.step; out = None } } else refused StrangerLease job).reply) own)
 
-pub back_made : (lease : Offered) (job now : JobState) (step : ℕ) → job ≡ now → is_own lease now ≡ true → step ≡ lease.step
+pub back_made : (lease : Offered) (job now : JobState) (step : ℕ) → job ≡ now → accepts_lease lease now ≡ true → step ≡ lease.step
     → record job { done = step; out = None } ≡ (giving_back lease now).job
 back_made lease job now step view own at =
     ap (λ (n : ℕ). record job { done = n; out = None }) at
@@ -202,34 +202,34 @@ back_made lease job now step view own at =
 
 -- the reply to a call, and the state after it, of a book that is full
 pub full_told : (s : BookState) (call : Call) → is_full s ≡ true → Refused HistoryFull ≡ reply_of s call
-full_told s call full = sym (cond-true (is_full s) (Refused HistoryFull) (served s call).reply full)
+full_told s call full = sym (cond-true (is_full s) (Refused HistoryFull) (outcome_of_call s call).reply full)
 
 pub full_stays : (s : BookState) (call : Call) → is_full s ≡ true → s ≡ after s call
 full_stays s call full =
-    let next : BookState = record { count = s.count + 1; next = next_after s.next (served s call).reply; jobs = (served s call).jobs } in
+    let next : BookState = record { count = s.count + 1; next = next_after s.next (outcome_of_call s call).reply; jobs = (outcome_of_call s call).jobs } in
     sym (cond-true (is_full s) s next full)
 
 -- the same for a book that is not full, and a call that lends nothing and in which an allocation may have failed
 pub told_made : (s now : BookState) (m : Bool) (call : Call) (told : Reply) → s ≡ now → is_full now ≡ false
-    → MatchBool m (Unit {0}) (told ≡ (served s call).reply) → MatchBool m (Unit {0}) (told ≡ reply_of now call)
+    → MatchBool m (Unit {0}) (told ≡ (outcome_of_call s call).reply) → MatchBool m (Unit {0}) (told ≡ reply_of now call)
 told_made s now true call told view room made = tt
 told_made s now false call told view room made =
-    made ∙ sym (cond-false (is_full s) (Refused HistoryFull) (served s call).reply (ap is_full view ∙ room)) ∙ ap (λ (t : BookState). reply_of t call) view
+    made ∙ sym (cond-false (is_full s) (Refused HistoryFull) (outcome_of_call s call).reply (ap is_full view ∙ room)) ∙ ap (λ (t : BookState). reply_of t call) view
 
 pub leads_made : (s now : BookState) (m : Bool) (call : Call) (told : Reply) (jobs : List JobState) → s ≡ now → is_full now ≡ false → m ≡ false → next_after s.next told ≡ s.next
-    → MatchBool m (Unit {0}) (told ≡ (served s call).reply) → MatchBool m (jobs ≡ s.jobs) (jobs ≡ (served s call).jobs)
+    → MatchBool m (Unit {0}) (told ≡ (outcome_of_call s call).reply) → MatchBool m (jobs ≡ s.jobs) (jobs ≡ (outcome_of_call s call).jobs)
     → MatchBool m (record { count = s.count + 1; next = s.next; jobs = jobs } ≡ now) (record { count = s.count + 1; next = s.next; jobs = jobs } ≡ after now call)
 leads_made s now true call told jobs view room kept next made put = absurd (false≢true (sym kept))
 leads_made s now false call told jobs view room kept next made put =
     let by : ℕ → List JobState → BookState = λ n xs. record { count = s.count + 1; next = n; jobs = xs } in
-    ap (by s.next) put ∙ ap (λ n. by n (served s call).jobs) (sym next ∙ ap (next_after s.next) made)
-    ∙ sym (cond-false (is_full s) s (by (next_after s.next (served s call).reply) (served s call).jobs) (ap is_full view ∙ room))
+    ap (by s.next) put ∙ ap (λ n. by n (outcome_of_call s call).jobs) (sym next ∙ ap (next_after s.next) made)
+    ∙ sym (cond-false (is_full s) s (by (next_after s.next (outcome_of_call s call).reply) (outcome_of_call s call).jobs) (ap is_full view ∙ room))
     ∙ ap (λ (t : BookState). after t call) view
 
 -- a call that lends nothing is counted, unless an allocation fails
 pub counted : (s now : BookState) (m : Bool) (call : Call) (told : Reply) (jobs : List JobState) (count : ℕ) → s ≡ now → is_full now ≡ false → next_after s.next told ≡ s.next
     → MatchBool m (count ≡ s.count) (count ≡ s.count + 1)
-    → MatchBool m (Unit {0}) (told ≡ (served s call).reply) → MatchBool m (jobs ≡ s.jobs) (jobs ≡ (served s call).jobs)
+    → MatchBool m (Unit {0}) (told ≡ (outcome_of_call s call).reply) → MatchBool m (jobs ≡ s.jobs) (jobs ≡ (outcome_of_call s call).jobs)
     → MatchBool m (record { count = count; next = s.next; jobs = jobs } ≡ now) (record { count = count; next = s.next; jobs = jobs } ≡ after now call)
 counted s now true call told jobs count view room next more made put =
     let by : ℕ → List JobState → BookState = λ n xs. record { count = n; next = s.next; jobs = xs } in
@@ -247,7 +247,7 @@ pub next_order : (next : ℕ) (answer : Result Order BookFault) → next_after n
 next_order next (Ok order) = refl
 next_order next (Err fault) = refl
 
-pub next_seen : (next : ℕ) (answer : Result Progress BookFault) → next_after next (seen_reply answer) ≡ next
+pub next_seen : (next : ℕ) (answer : Result Progress BookFault) → next_after next (read_reply answer) ≡ next
 next_seen next (Ok seen) = refl
 next_seen next (Err fault) = refl
 
@@ -255,7 +255,7 @@ pub next_done : (next : ℕ) (answer : Result (Unit {0}) BookFault) → next_aft
 next_done next (Ok done) = refl
 next_done next (Err fault) = refl
 
-pub next_back : (next : ℕ) (answer : Result (Unit {0}) (LeaseState × BookFault)) → next_after next (back_reply answer) ≡ next
+pub next_back : (next : ℕ) (answer : Result (Unit {0}) (LeaseState × BookFault)) → next_after next (give_back_reply answer) ≡ next
 next_back next (Ok done) = refl
 next_back next (Err handed) = refl
 

@@ -6,12 +6,12 @@ use Rattle.std.specs.Prelude.{Option, Some, None, All, filter, nat_le, unwrap_or
 use Rattle.trlab_rules.specs.Rules.{Programs}
 use Rattle.trlab_road.specs.Cells.{Cells}
 use Rattle.trlab_step.specs.declared.tally.StepTally.{StepTally}
-use Rattle.trlab_step.specs.Run.{Seed, Sheet, IsSheet, Rises, in_force, ComesTo}
+use Rattle.trlab_step.specs.Run.{Seed, Sheet, IsSheet, StepsIncreaseFrom, in_force, ComesTo}
 use Rattle.trlab_step.specs.Laws.{IsRuleFor}
-use Rattle.trlab_step.specs.Progress.{IsUnderway}
-use Rattle.trlab_sequential_book.specs.Sheets.{BeginBy, IsBookSheet, entered}
+use Rattle.trlab_step.specs.Progress.{IsReachedByRun}
+use Rattle.trlab_sequential_book.specs.Sheets.{BeginBy, IsBookSheet, with_rule_from}
 use Rattle.trlab_sequential_book.specs.Leases.{suits}
-use Rattle.trlab_sequential_book.specs.Machine.{JobState, Outcome, refused, replacing}
+use Rattle.trlab_sequential_book.specs.Machine.{JobState, JobOutcome, refused, replacing}
 use Rattle.trlab_sequential_book.specs.declared.event.Reply.TheVariants.{Number}
 use Rattle.trlab_sequential_book.specs.declared.fault.BookFault.TheVariants.{Ended, LanesMismatch, SheetFull}
 use Rattle.trlab_sequential_book.proofs.InForce.{rises_from_0, none_in_force}
@@ -20,14 +20,14 @@ begin_last : (from : ℕ) (xs : Sheet) (last : ℕ × Programs) → BeginBy from
 begin_last from [] last begin = begin.0
 begin_last from (x ∷ xs) last begin = begin_last from xs last begin.1
 
-rises_last : (low : ℕ) (xs : Sheet) (last : ℕ × Programs) → Rises low (xs ++ last ∷ []) → low ≤ last.0
+rises_last : (low : ℕ) (xs : Sheet) (last : ℕ × Programs) → StepsIncreaseFrom low (xs ++ last ∷ []) → low ≤ last.0
 rises_last low [] last rises = rises.0
 rises_last low (x ∷ xs) last rises =
     let here = rises.0 in
     let there = rises_last (x.0 + 1) xs last rises.1 in
     omega arith
 
-all_below : (low : ℕ) (xs : Sheet) (last : ℕ × Programs) (from : ℕ) → Rises low (xs ++ last ∷ []) → last.0 ≤ from → filter (λ (entry : ℕ × Programs). ltb entry.0 from) xs ≡ xs
+all_below : (low : ℕ) (xs : Sheet) (last : ℕ × Programs) (from : ℕ) → StepsIncreaseFrom low (xs ++ last ∷ []) → last.0 ≤ from → filter (λ (entry : ℕ × Programs). ltb entry.0 from) xs ≡ xs
 all_below low [] last from rises by = refl
 all_below low (x ∷ xs) last from rises by =
     let there = rises_last (x.0 + 1) xs last rises.1 in
@@ -36,24 +36,24 @@ all_below low (x ∷ xs) last from rises by =
     cond-true (ltb x.0 from) (x ∷ rest) rest one ∙ ap (λ v. x ∷ v) (all_below (x.0 + 1) xs last from rises.1 by)
 
 -- a sheet whose last entry begins there
-pub entered_at : (xs : Sheet) (last : ℕ × Programs) (from : ℕ) (rule : Programs) → IsSheet (xs ++ last ∷ []) → last.0 ≡ from → entered (xs ++ last ∷ []) from rule ≡ xs ++ (from, rule) ∷ []
+pub entered_at : (xs : Sheet) (last : ℕ × Programs) (from : ℕ) (rule : Programs) → IsSheet (xs ++ last ∷ []) → last.0 ≡ from → with_rule_from (xs ++ last ∷ []) from rule ≡ xs ++ (from, rule) ∷ []
 entered_at xs last from rule is e =
     let before : ℕ × Programs → Bool = λ (entry : ℕ × Programs). ltb entry.0 from in
     let none : filter before (last ∷ []) ≡ [] = cond-false (ltb last.0 from) (last ∷ []) [] (le-ltb last.0 from (omega arith)) in
     ap (λ v. v ++ (from, rule) ∷ []) (filter-append before xs (last ∷ []) ∙ ap (λ v. v ++ filter before (last ∷ [])) (all_below 0 xs last from (rises_from_0 (xs ++ last ∷ []) is) (omega arith)) ∙ ap (λ v. xs ++ v) none ∙ append-nil xs)
 
 -- a sheet whose last entry begins before
-pub entered_after : (xs : Sheet) (last : ℕ × Programs) (from : ℕ) (rule : Programs) → IsSheet (xs ++ last ∷ []) → last.0 < from → entered (xs ++ last ∷ []) from rule ≡ (xs ++ last ∷ []) ++ (from, rule) ∷ []
+pub entered_after : (xs : Sheet) (last : ℕ × Programs) (from : ℕ) (rule : Programs) → IsSheet (xs ++ last ∷ []) → last.0 < from → with_rule_from (xs ++ last ∷ []) from rule ≡ (xs ++ last ∷ []) ++ (from, rule) ∷ []
 entered_after xs last from rule is e =
     let before : ℕ × Programs → Bool = λ (entry : ℕ × Programs). ltb entry.0 from in
     let one : filter before (last ∷ []) ≡ last ∷ [] = cond-true (ltb last.0 from) (last ∷ []) [] (lt-ltb last.0 from e) in
     ap (λ v. v ++ (from, rule) ∷ []) (filter-append before xs (last ∷ []) ∙ ap (λ v. v ++ filter before (last ∷ [])) (all_below 0 xs last from (rises_from_0 (xs ++ last ∷ []) is) (omega arith)) ∙ ap (λ v. xs ++ v) one)
 
-rises_at : (low : ℕ) (xs : Sheet) (a b : ℕ × Programs) → a.0 ≡ b.0 → Rises low (xs ++ a ∷ []) → Rises low (xs ++ b ∷ [])
+rises_at : (low : ℕ) (xs : Sheet) (a b : ℕ × Programs) → a.0 ≡ b.0 → StepsIncreaseFrom low (xs ++ a ∷ []) → StepsIncreaseFrom low (xs ++ b ∷ [])
 rises_at low [] a b e rises = let here = rises.0 in (omega arith, tt)
 rises_at low (x ∷ xs) a b e rises = (rises.0, rises_at (x.0 + 1) xs a b e rises.1)
 
-rises_after : (low : ℕ) (xs : Sheet) (a b : ℕ × Programs) → a.0 < b.0 → Rises low (xs ++ a ∷ []) → Rises low ((xs ++ a ∷ []) ++ b ∷ [])
+rises_after : (low : ℕ) (xs : Sheet) (a b : ℕ × Programs) → a.0 < b.0 → StepsIncreaseFrom low (xs ++ a ∷ []) → StepsIncreaseFrom low ((xs ++ a ∷ []) ++ b ∷ [])
 rises_after low [] a b e rises = (rises.0, (omega arith, tt))
 rises_after low (x ∷ xs) a b e rises = (rises.0, rises_after (x.0 + 1) xs a b e rises.1)
 
@@ -83,7 +83,7 @@ begin_before from xs last begin other =
     omega arith
 
 -- after a rule has entered, all entries begin at its step or before
-pub begin_entered : (from : ℕ) (rule : Programs) (sheet : Sheet) → BeginBy from (entered sheet from rule)
+pub begin_entered : (from : ℕ) (rule : Programs) (sheet : Sheet) → BeginBy from (with_rule_from sheet from rule)
 begin_entered from rule [] = (omega arith, tt)
 begin_entered from rule (x ∷ sheet) =
     let rest = filter (λ (entry : ℕ × Programs). ltb entry.0 from) sheet in
@@ -97,7 +97,7 @@ begin_more a b [] h begin = tt
 begin_more a b (x ∷ sheet) h begin = let here = begin.0 in (omega arith, begin_more a b sheet h begin.1)
 
 -- below its step a rule that was entered changes nothing
-in_force_entered : (sheet : Sheet) (least from step : ℕ) (rule : Programs) → Rises least sheet → step < from → in_force (entered sheet from rule) step ≡ in_force sheet step
+in_force_entered : (sheet : Sheet) (least from step : ℕ) (rule : Programs) → StepsIncreaseFrom least sheet → step < from → in_force (with_rule_from sheet from rule) step ≡ in_force sheet step
 in_force_entered [] least from step rule rises h = rw (lt-leb from step h) refl
 in_force_entered (x ∷ sheet) least from step rule rises h =
     let rest = filter (λ (entry : ℕ × Programs). ltb entry.0 from) sheet in
@@ -108,8 +108,8 @@ in_force_entered (x ∷ sheet) least from step rule rises h =
     (λ late. let high = ltb-false x.0 from late in
     same ∙ none_in_force sheet (x.0 + 1) step rises.1 (omega arith) ∙ sym (rw (lt-leb x.0 step (omega arith)) refl))
 
-comes_entered : (seed : Seed) (sheet : Sheet) (from : ℕ) (rule : Programs) (step : ℕ) (road : Cells) (sum : StepTally) → step ≤ from → Rises 0 sheet → IsSheet (entered sheet from rule)
-    → ComesTo seed sheet step road sum → ComesTo seed (entered sheet from rule) step road sum
+comes_entered : (seed : Seed) (sheet : Sheet) (from : ℕ) (rule : Programs) (step : ℕ) (road : Cells) (sum : StepTally) → step ≤ from → StepsIncreaseFrom 0 sheet → IsSheet (with_rule_from sheet from rule)
+    → ComesTo seed sheet step road sum → ComesTo seed (with_rule_from sheet from rule) step road sum
 comes_entered seed sheet from rule zero road sum h rises is comes = (is, comes.1, comes.2)
 comes_entered seed sheet from rule (suc step) road sum h rises is comes = (
   comes.0,
@@ -125,9 +125,9 @@ comes_entered seed sheet from rule (suc step) road sum h rises is comes = (
 )
 
 -- a rule for the lanes that enters at the steps done or later does not change the run
-pub underway_entered : (seed : Seed) (sheet : Sheet) (from : ℕ) (rule : Programs) (step : ℕ) (road : Cells) (sum : StepTally) → step ≤ from → IsRuleFor (length seed.road.lanes) rule → IsSheet (entered sheet from rule)
-    → IsUnderway (record { seed = seed; sheet = sheet; step = step; road = road; sum = sum })
-    → IsUnderway (record { seed = seed; sheet = entered sheet from rule; step = step; road = road; sum = sum })
+pub underway_entered : (seed : Seed) (sheet : Sheet) (from : ℕ) (rule : Programs) (step : ℕ) (road : Cells) (sum : StepTally) → step ≤ from → IsRuleFor (length seed.road.lanes) rule → IsSheet (with_rule_from sheet from rule)
+    → IsReachedByRun (record { seed = seed; sheet = sheet; step = step; road = road; sum = sum })
+    → IsReachedByRun (record { seed = seed; sheet = with_rule_from sheet from rule; step = step; road = road; sum = sum })
 underway_entered seed sheet from rule step road sum h suits is on =
     let before : ℕ × Programs → Bool = λ (entry : ℕ × Programs). ltb entry.0 from in
     let P : ℕ × Programs → Type 0 = λ (entry : ℕ × Programs). IsRuleFor (length seed.road.lanes) entry.1 in
@@ -142,7 +142,7 @@ underway_entered seed sheet from rule step road sum h suits is on =
     }
 
 -- the reply to a replacement, and the job after it
-pub rule_taken : (job now : JobState) (rule : Programs) (sheet : Sheet) → job ≡ now → (now.cancelled || (now.high == now.steps)) ≡ false → suits rule now.seed.road ≡ true → sheet ≡ entered job.sheet job.high rule → length sheet ≤ 1024
+pub rule_taken : (job now : JobState) (rule : Programs) (sheet : Sheet) → job ≡ now → (now.cancelled || (now.high == now.steps)) ≡ false → suits rule now.seed.road ≡ true → sheet ≡ with_rule_from job.sheet job.high rule → length sheet ≤ 1024
     → record { reply = Number job.high; job = record job { sheet = sheet } } ≡ replacing rule now
 rule_taken job now rule sheet view under suit put few =
     let P : JobState → Type 0 = λ s. (s.cancelled || (s.high == s.steps)) ≡ false → suits rule s.seed.road ≡ true → record { reply = Number job.high; job = record job { sheet = sheet } } ≡ replacing rule s in
@@ -151,10 +151,10 @@ rule_taken job now rule sheet view under suit put few =
     taken : (job.cancelled || (job.high == job.steps)) ≡ false → suits rule job.seed.road ≡ true → record { reply = Number job.high; job = record job { sheet = sheet } } ≡ replacing rule job
     taken a b =
         let most = ap length put in
-        let made : Outcome = record { reply = Number job.high; job = record job { sheet = entered job.sheet job.high rule } } in
-        let full : Outcome = if ltb 1024 (length (entered job.sheet job.high rule)) then refused SheetFull job else made in
-        let lanes : Outcome = if not (suits rule job.seed.road) then refused LanesMismatch job else full in
+        let made : JobOutcome = record { reply = Number job.high; job = record job { sheet = with_rule_from job.sheet job.high rule } } in
+        let full : JobOutcome = if ltb 1024 (length (with_rule_from job.sheet job.high rule)) then refused SheetFull job else made in
+        let lanes : JobOutcome = if not (suits rule job.seed.road) then refused LanesMismatch job else full in
         ap (λ (v : Sheet). (record { reply = Number job.high; job = record job { sheet = v } })) put
         ∙ sym (cond-false (job.cancelled || (job.high == job.steps)) (refused Ended job) lanes a
         ∙ cond-false (not (suits rule job.seed.road)) (refused LanesMismatch job) full (ap not b)
-        ∙ cond-false (ltb 1024 (length (entered job.sheet job.high rule))) (refused SheetFull job) made (le-ltb 1024 (length (entered job.sheet job.high rule)) (omega (arith, most, few))))
+        ∙ cond-false (ltb 1024 (length (with_rule_from job.sheet job.high rule))) (refused SheetFull job) made (le-ltb 1024 (length (with_rule_from job.sheet job.high rule)) (omega (arith, most, few))))

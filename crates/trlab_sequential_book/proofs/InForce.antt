@@ -6,13 +6,13 @@ use Rattle.std.proofs.Math.Nat.{eq-or-lt_of_le}
 use Rattle.std.specs.Prelude.{All, slice_get, Option, Some, None, nat_le, unwrap_or, option_map, if◌then◌else◌}
 use Rattle.std.specs.List.{AllWithin}
 use Rattle.trlab_rules.specs.Rules.{Programs}
-use Rattle.trlab_step.specs.Run.{Sheet, Rises, IsSheet, in_force}
+use Rattle.trlab_step.specs.Run.{Sheet, StepsIncreaseFrom, IsSheet, in_force}
 use Rattle.trlab_sequential_book.specs.declared.lease.ExecutedStep.{ExecutedStep}
 use Rattle.trlab_sequential_book.specs.Leases.{IsSteady}
-use Rattle.trlab_sequential_book.specs.Sheets.{AreInForce, entry_in_force}
+use Rattle.trlab_sequential_book.specs.Sheets.{RanUnderSheet, entry_in_force}
 
 -- the steps of a sheet rise from 0 on
-pub rises_from_0 : (sheet : Sheet) → IsSheet sheet → Rises 0 sheet
+pub rises_from_0 : (sheet : Sheet) → IsSheet sheet → StepsIncreaseFrom 0 sheet
 rises_from_0 [] is = absurd is
 rises_from_0 (first ∷ later) is = (omega arith, rw is.0 is.1)
 
@@ -59,7 +59,7 @@ rule_in_force (entry ∷ sheet) step =
     ∙ ap (λ (others : Option Programs). if nat_le entry.0 step then Some (unwrap_or others entry.1) else None) (rule_in_force sheet step)
 
 -- below the steps of a sheet no rule is in force
-pub none_in_force : (sheet : Sheet) (least step : ℕ) → Rises least sheet → step < least → in_force sheet step ≡ None
+pub none_in_force : (sheet : Sheet) (least step : ℕ) → StepsIncreaseFrom least sheet → step < least → in_force sheet step ≡ None
 none_in_force [] least step rises below = refl
 none_in_force (entry ∷ sheet) least step rises below =
     let here = rises.0 in
@@ -88,7 +88,7 @@ one_more_in_force sheet step applied i item before h e here = record {
 }
 
 -- all of them
-pub all_in_force : (sheet : Sheet) (step : ℕ) (applied : List ExecutedStep) (count : ℕ) → FirstInForce sheet step applied count → length applied ≤ count → AreInForce sheet step applied
+pub all_in_force : (sheet : Sheet) (step : ℕ) (applied : List ExecutedStep) (count : ℕ) → FirstInForce sheet step applied count → length applied ≤ count → RanUnderSheet sheet step applied
 all_in_force sheet step applied count first all k ran at = first.each k ran (within applied k ran count at all) at
   where
     within : (applied : List ExecutedStep) (k : ℕ) (ran : ExecutedStep) (count : ℕ) → slice_get applied k ≡ Some ran → length applied ≤ count → k < count
@@ -105,7 +105,7 @@ pub record IsLastIn (least : ℕ) (sheet : Sheet) (step : ℕ) (entry : ℕ × P
 one_entry : {a b : ℕ × Programs} → Some a ≡ Some b → a ≡ b
 one_entry e = cc
 
-pub last_in_force : (least : ℕ) (sheet : Sheet) (step n : ℕ) (entry : ℕ × Programs) → Rises least sheet
+pub last_in_force : (least : ℕ) (sheet : Sheet) (step n : ℕ) (entry : ℕ × Programs) → StepsIncreaseFrom least sheet
     → slice_get sheet n ≡ Some entry → length sheet ≡ suc n → IsLastIn least sheet step entry
 last_in_force least [] step n entry rises at long = absurd cc
 last_in_force least (x ∷ []) step zero entry rises at long =
@@ -128,7 +128,7 @@ last_in_force least (x ∷ y ∷ more) step (suc n) entry rises at long =
 -- one rule is in force from a step on, and all steps have one rule: all are in force if the first is
 pub steady_in_force : (sheet : Sheet) (step n : ℕ) (entry : ℕ × Programs) (ran : ExecutedStep) (applied : List ExecutedStep) → IsSheet sheet
     → slice_get sheet n ≡ Some entry → length sheet ≡ suc n → entry.0 ≤ step → IsSteady applied
-    → slice_get applied 0 ≡ Some ran → entry.1 ≡ ran.rule → AreInForce sheet step applied
+    → slice_get applied 0 ≡ Some ran → entry.1 ≡ ran.rule → RanUnderSheet sheet step applied
 steady_in_force sheet step n entry ran [] is at long come steady begins same k other found = absurd cc
 steady_in_force sheet step n entry ran (x ∷ more) is at long come steady begins same zero other found =
     let here : other ≡ ran = one_ran (sym found ∙ begins) in
@@ -147,7 +147,7 @@ steady_in_force sheet step n entry ran (x ∷ more) is at long come steady begin
 -- the converse
 pub first_in_force : (sheet : Sheet) (step n : ℕ) (entry : ℕ × Programs) (ran : ExecutedStep) (applied : List ExecutedStep) → IsSheet sheet
     → slice_get sheet n ≡ Some entry → length sheet ≡ suc n → entry.0 ≤ step
-    → slice_get applied 0 ≡ Some ran → AreInForce sheet step applied → entry.1 ≡ ran.rule
+    → slice_get applied 0 ≡ Some ran → RanUnderSheet sheet step applied → entry.1 ≡ ran.rule
 first_in_force sheet step n entry ran applied is at long come begins all =
     let here = (last_in_force 0 sheet (step + 0) n entry (rises_from_0 sheet is) at long).in_force_there (omega arith) in
     one_rule (sym here ∙ all 0 ran begins)

@@ -12,13 +12,13 @@ use Rattle.trlab_step.specs.Next.{IsNext}
 use Rattle.trlab_step.specs.Run.{Seed, Sheet, ComesTo, in_force, tally_sum}
 use Rattle.trlab_step.specs.declared.tally.StepTally.{StepTally}
 use Rattle.trlab_step.proofs.RunLaws.{run_goes_on, road_at_is_one}
-use Rattle.trlab_step.specs.Progress.{IsUnderway}
+use Rattle.trlab_step.specs.Progress.{IsReachedByRun}
 use Rattle.trlab_step.proofs.OnTheWay.{IsSmallSum, like_start, room_for}
 use Rattle.trlab_sequential_book.specs.declared.lease.ExecutedStep.{ExecutedStep}
-use Rattle.trlab_sequential_book.specs.Sheets.{AreInForce}
-use Rattle.trlab_sequential_book.specs.Leases.{LeadsTo, LeaseState, IsLease, one_more}
-use Rattle.trlab_sequential_book.specs.Comparison.{IsOwnRun}
-use Rattle.trlab_sequential_book.specs.Jobs.{run_start, run_of}
+use Rattle.trlab_sequential_book.specs.Sheets.{RanUnderSheet}
+use Rattle.trlab_sequential_book.specs.Leases.{LeadsTo, LeaseState, IsLease, with_executed_step}
+use Rattle.trlab_sequential_book.specs.Comparison.{RunsRoadOfJob}
+use Rattle.trlab_sequential_book.specs.Jobs.{run_start, progress_of}
 use Rattle.trlab_sequential_book.specs.Machine.{JobState}
 
 -- one more step
@@ -37,9 +37,9 @@ leads_push key number step road last next (x ∷ xs) ran leads is =
 -- a run on its way, and steps that lead it on under the rules in force, to a last road
 pub record WayOn (seed : Seed) (sheet : Sheet) (step : ℕ) (sum : StepTally) (ran : List ExecutedStep) (last : Cells) : Type 0 where
   pub road : Cells
-  pub run : IsUnderway (record { seed = seed; sheet = sheet; step = step; road = road; sum = sum })
+  pub run : IsReachedByRun (record { seed = seed; sheet = sheet; step = step; road = road; sum = sum })
   pub leads : LeadsTo seed.key seed.number step road ran last
-  pub rules : AreInForce sheet step ran
+  pub rules : RanUnderSheet sheet step ran
 
 -- after one of these steps the sum is still small, and the others lead on
 pub record GoneOn (seed : Seed) (sheet : Sheet) (step : ℕ) (sum : StepTally) (ran : ExecutedStep) (more : List ExecutedStep) (last : Cells) : Type 0 where
@@ -67,7 +67,7 @@ go_on seed sheet step sum ran more last way =
     }
 
 -- a lease of a job's road, from the job's step on
-pub way_of_lease : (job : JobState) (lease : LeaseState) (road : Cells) (sum : StepTally) → IsUnderway (run_of job.seed job.sheet job.done road sum) → IsLease lease → IsOwnRun job lease → lease.base.step ≡ job.done
+pub way_of_lease : (job : JobState) (lease : LeaseState) (road : Cells) (sum : StepTally) → IsReachedByRun (progress_of job.seed job.sheet job.done road sum) → IsLease lease → RunsRoadOfJob job lease → lease.base.step ≡ job.done
     → WayOn (run_start job.seed) job.sheet job.done sum lease.applied lease.road
 way_of_lease job lease road sum run is own base =
     let same : lease.base.road ≡ road = road_at_is_one (run_start job.seed) job.sheet job.done lease.base.road road own.base (sum, run.comes) in
@@ -79,14 +79,14 @@ way_of_lease job lease road sum run is own base =
       road = road;
       run = run;
       leads = subst R same (subst S base (subst N own.number (subst K own.key is.leads)));
-      rules = subst (λ s. AreInForce job.sheet s lease.applied) base own.rules;
+      rules = subst (λ s. RanUnderSheet job.sheet s lease.applied) base own.rules;
     }
 
 -- the same for a job that is seen through its model
-pub way_begins : (state now : JobState) (lease : LeaseState) (road : Cells) (sum : StepTally) → state ≡ now → IsUnderway (run_of state.seed state.sheet state.done road sum) → IsLease lease
-    → IsOwnRun now lease → lease.base.step ≡ now.done → WayOn (run_start now.seed) now.sheet state.done sum lease.applied lease.road
+pub way_begins : (state now : JobState) (lease : LeaseState) (road : Cells) (sum : StepTally) → state ≡ now → IsReachedByRun (progress_of state.seed state.sheet state.done road sum) → IsLease lease
+    → RunsRoadOfJob now lease → lease.base.step ≡ now.done → WayOn (run_start now.seed) now.sheet state.done sum lease.applied lease.road
 way_begins state now lease road sum view run is own base =
-    let P : JobState → Type 0 = λ s. IsOwnRun s lease → lease.base.step ≡ s.done → WayOn (run_start s.seed) s.sheet state.done sum lease.applied lease.road in
+    let P : JobState → Type 0 = λ s. RunsRoadOfJob s lease → lease.base.step ≡ s.done → WayOn (run_start s.seed) s.sheet state.done sum lease.applied lease.road in
     subst P view (λ mine at. way_of_lease state lease road sum run is mine at) own base
 
 -- one step of a list of them
@@ -98,7 +98,7 @@ go_on_at seed sheet step sum xs i ran last h e way =
 
 -- a lease that runs one more step stays a lease
 lease_goes_on : (lease : LeaseState) (rule : Programs) (tally : StepTally) (next : Cells) (dice : Dice) → dice.key ≡ lease.key.0 → dice.road ≡ lease.road_number → dice.step ≡ lease.step
-    → IsNext rule dice lease.road next tally → IsLease lease → IsLease (one_more lease rule tally next)
+    → IsNext rule dice lease.road next tally → IsLease lease → IsLease (with_executed_step lease rule tally next)
 lease_goes_on lease rule tally next dice a b d is on =
     let ran : ExecutedStep = record { rule = rule; tally = tally } in
     let more = length-append lease.applied (ran ∷ []) in
@@ -114,11 +114,11 @@ lease_goes_on lease rule tally next dice a b d is on =
 pub has_stepped : (lease old : LeaseState) (under rule : Programs) (tally : StepTally) (next : Cells) (dice : Dice) (applied : List ExecutedStep) → lease ≡ old → rule ≡ under → dice.key ≡ lease.key.0 → dice.road ≡ lease.road_number → dice.step ≡ lease.step
     → IsNext rule dice lease.road next tally → applied ≡ lease.applied ++ record { rule = rule; tally = tally } ∷ []
     → (sum : StepTally) × IsNext under (dice_of old.key.0 old.road_number old.step) old.road next sum
-    × (record lease { step = lease.step + 1; road = next; applied = applied } ≡ one_more old under sum next)
+    × (record lease { step = lease.step + 1; road = next; applied = applied } ≡ with_executed_step old under sum next)
 has_stepped lease old under rule tally next dice applied view copied a b d is pushed =
     let here : IsNext rule (dice_of lease.key.0 lease.road_number lease.step) lease.road next tally = subst (λ (one : Dice). IsNext rule one lease.road next tally) (same_dice dice lease.key.0 lease.road_number lease.step a b d) is in
     let P : LeaseState → Type 0 = λ l. (sum : StepTally) × IsNext under (dice_of l.key.0 l.road_number l.step) l.road next sum
-    × (record lease { step = lease.step + 1; road = next; applied = applied } ≡ one_more l under sum next) in
+    × (record lease { step = lease.step + 1; road = next; applied = applied } ≡ with_executed_step l under sum next) in
     subst P view (
       tally,
       subst (λ (r : Programs). IsNext r (dice_of lease.key.0 lease.road_number lease.step) lease.road next tally) copied here,

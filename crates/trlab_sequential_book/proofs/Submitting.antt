@@ -17,10 +17,10 @@ use Rattle.trlab_sequential_book.specs.declared.event.Reply.TheVariants as reply
 use Rattle.trlab_sequential_book.specs.declared.fault.BookFault.TheVariants as fault
 use Rattle.trlab_sequential_book.specs.Comparison.{IsSnapshotOf}
 use Rattle.trlab_sequential_book.specs.Leases.{suits}
-use Rattle.trlab_sequential_book.specs.Machine.{JobState, Outcome, Served, BookState, after, cancelling, giving_back, is_free, is_full, is_own, leasing, new_job, next_after, on_free, on_job, ordering, reading, replacing, reply_of, revoking, served, empty_book}
+use Rattle.trlab_sequential_book.specs.Machine.{JobState, JobOutcome, JobsOutcome, BookState, after, cancelling, giving_back, is_free, is_full, accepts_lease, leasing, new_job, next_after, on_free, on_job, ordering, reading, replacing, reply_of, revoking, outcome_of_call, empty_book}
 use Rattle.trlab_sequential_book.specs.Replay.{Replays, call_of, event, replies_from, state_from, reply_of_event}
-use Rattle.trlab_sequential_book.specs.Sheets.{entered}
-use Rattle.trlab_sequential_book.specs.Submits.{IsSubmitted, JobsAreSubmitted, SnapshotsAreOfSubmits, SubmitsHaveTheirNumbers}
+use Rattle.trlab_sequential_book.specs.Sheets.{with_rule_from}
+use Rattle.trlab_sequential_book.specs.Submits.{IsSubmitted, JobsAreSubmitted, SnapshotsAreOfSubmits, SubmitNumbersAreUnique}
 use Rattle.trlab_sequential_book.proofs.Booking.{on_found}
 
 -- a job keeps its seed and its number of steps
@@ -34,33 +34,33 @@ same_job job = record { seed = refl; steps = refl }
 keeps_on : (a b c : JobState) → Keeps a b → Keeps b c → Keeps a c
 keeps_on a b c first second = record { seed = second.seed ∙ first.seed; steps = second.steps ∙ first.steps }
 
-by_if : (P : Outcome → Type 0) (b : Bool) (x y : Outcome) → P x → P y → P (if b then x else y)
+by_if : (P : JobOutcome → Type 0) (b : Bool) (x y : JobOutcome) → P x → P y → P (if b then x else y)
 by_if P true x y h k = h
 by_if P false x y h k = k
 
 -- a call on a job keeps them
-abbrev Leaves : (JobState → Outcome) → Type 0
+abbrev Leaves : (JobState → JobOutcome) → Type 0
 Leaves outcome = (job : JobState) → Keeps job (outcome job).job
 
 replacing_keeps : (rule : Programs) → Leaves (replacing rule)
 replacing_keeps rule job =
-    let P : Outcome → Type 0 = λ (o : Outcome). Keeps job o.job in
+    let P : JobOutcome → Type 0 = λ (o : JobOutcome). Keeps job o.job in
     let same = same_job job in
-    by_if P (job.cancelled || (job.high == job.steps)) _ _ same (by_if P (not (suits rule job.seed.road)) _ _ same (by_if P (ltb 1024 (length (entered job.sheet job.high rule))) _ _ same (record { seed = refl; steps = refl })))
+    by_if P (job.cancelled || (job.high == job.steps)) _ _ same (by_if P (not (suits rule job.seed.road)) _ _ same (by_if P (ltb 1024 (length (with_rule_from job.sheet job.high rule))) _ _ same (record { seed = refl; steps = refl })))
 
 ordering_keeps : (lease : Offered) → Leaves (ordering lease)
 ordering_keeps lease job =
-    let P : Outcome → Type 0 = λ (o : Outcome). Keeps job o.job in
-    by_if P (job.cancelled || (lease.step == job.steps)) _ _ (same_job job) (by_if P (is_own lease job) _ _ (record { seed = refl; steps = refl }) (same_job job))
+    let P : JobOutcome → Type 0 = λ (o : JobOutcome). Keeps job o.job in
+    by_if P (job.cancelled || (lease.step == job.steps)) _ _ (same_job job) (by_if P (accepts_lease lease job) _ _ (record { seed = refl; steps = refl }) (same_job job))
 
 giving_back_keeps : (lease : Offered) → Leaves (giving_back lease)
-giving_back_keeps lease job = by_if (λ (o : Outcome). Keeps job o.job) (is_own lease job) _ _ (record { seed = refl; steps = refl }) (same_job job)
+giving_back_keeps lease job = by_if (λ (o : JobOutcome). Keeps job o.job) (accepts_lease lease job) _ _ (record { seed = refl; steps = refl }) (same_job job)
 
 revoking_keeps : Leaves revoking
-revoking_keeps job = by_if (λ (o : Outcome). Keeps job o.job) (is_some job.out) _ _ (record { seed = refl; steps = refl }) (same_job job)
+revoking_keeps job = by_if (λ (o : JobOutcome). Keeps job o.job) (is_some job.out) _ _ (record { seed = refl; steps = refl }) (same_job job)
 
 cancelling_keeps : Leaves cancelling
-cancelling_keeps job = by_if (λ (o : Outcome). Keeps job o.job) (job.cancelled || (job.done == job.steps)) _ _ (same_job job) (record { seed = refl; steps = refl })
+cancelling_keeps job = by_if (λ (o : JobOutcome). Keeps job o.job) (job.cancelled || (job.done == job.steps)) _ _ (same_job job) (record { seed = refl; steps = refl })
 
 -- a job of this number was there before
 record Was (jobs : List JobState) (number : ℕ) (job : JobState) : Type 0 where
@@ -90,19 +90,19 @@ record AfterOne (jobs now : List JobState) : Type 0 where
   was : (number : ℕ) (job : JobState) → slice_get now number ≡ Some job → Was jobs number job
   size : length now ≡ length jobs
 
-after_one : (jobs : List JobState) (index : ℕ) (outcome : JobState → Outcome) → Leaves outcome → (found : Option JobState) → slice_get jobs index ≡ found → AfterOne jobs (on_job jobs index outcome).jobs
+after_one : (jobs : List JobState) (index : ℕ) (outcome : JobState → JobOutcome) → Leaves outcome → (found : Option JobState) → slice_get jobs index ≡ found → AfterOne jobs (on_job jobs index outcome).jobs
 after_one jobs index outcome leaves None none =
-    let t : Option JobState → Served = λ o. elim o [ None ↦ record { reply = reply.Refused fault.NoSuchJob; jobs = jobs } | Some k ↦ record { reply = (outcome k).reply; jobs = slice_set jobs index (outcome k).job } ] in
-    let same : (on_job jobs index outcome).jobs ≡ jobs = ap (λ (s : Served). s.jobs) (ap t none) in
+    let t : Option JobState → JobsOutcome = λ o. elim o [ None ↦ record { reply = reply.Refused fault.NoSuchJob; jobs = jobs } | Some k ↦ record { reply = (outcome k).reply; jobs = slice_set jobs index (outcome k).job } ] in
+    let same : (on_job jobs index outcome).jobs ≡ jobs = ap (λ (s : JobsOutcome). s.jobs) (ap t none) in
     subst (AfterOne jobs) (sym same) (record { was = still jobs; size = refl })
 after_one jobs index outcome leaves (Some job) here =
-    let same : (on_job jobs index outcome).jobs ≡ slice_set jobs index (outcome job).job = ap (λ (s : Served). s.jobs) (on_found jobs index job outcome here) in
+    let same : (on_job jobs index outcome).jobs ≡ slice_set jobs index (outcome job).job = ap (λ (s : JobsOutcome). s.jobs) (on_found jobs index job outcome here) in
     subst (AfterOne jobs) (sym same) (record {
       was = λ number new at. set_was jobs index number (outcome job).job new job here (leaves job) at;
       size = length-set jobs index (outcome job).job;
     })
 
-on_one : (jobs : List JobState) (index : ℕ) (outcome : JobState → Outcome) → Leaves outcome → AfterOne jobs (on_job jobs index outcome).jobs
+on_one : (jobs : List JobState) (index : ℕ) (outcome : JobState → JobOutcome) → Leaves outcome → AfterOne jobs (on_job jobs index outcome).jobs
 on_one jobs index outcome leaves = after_one jobs index outcome leaves (slice_get jobs index) refl
 
 after_lease : (jobs : List JobState) (next : ℕ) (free : Option ℕ) → AfterOne jobs (on_free jobs next free).jobs
@@ -175,13 +175,13 @@ not_any : (number : ℕ) → reply.Refused fault.HistoryFull ≡ reply.Number nu
 not_any number h = cc
 
 submit_by : (b c : Bool) (jobs : List JobState) (seed : Seed) (rule : Programs) (steps : ℕ)
-    → let ended : Served = if b then record { reply = reply.Refused fault.LanesMismatch; jobs = jobs } else if c then record { reply = reply.Number (length jobs); jobs = jobs ++ new_job seed rule steps ∷ [] } else record { reply = reply.Refused fault.Full; jobs = jobs } in
+    → let ended : JobsOutcome = if b then record { reply = reply.Refused fault.LanesMismatch; jobs = jobs } else if c then record { reply = reply.Number (length jobs); jobs = jobs ++ new_job seed rule steps ∷ [] } else record { reply = reply.Refused fault.Full; jobs = jobs } in
     Left jobs (call.Submit seed rule steps) ended.reply ended.jobs
 submit_by true c jobs seed rule steps = nothing_done jobs (call.Submit seed rule steps) (reply.Refused fault.LanesMismatch) no_number
 submit_by false true jobs seed rule steps = pushed jobs seed rule steps
 submit_by false false jobs seed rule steps = nothing_done jobs (call.Submit seed rule steps) (reply.Refused fault.Full) not_full
 
-served_left : (book : BookState) (asked : Call) → Left book.jobs asked (served book asked).reply (served book asked).jobs
+served_left : (book : BookState) (asked : Call) → Left book.jobs asked (outcome_of_call book asked).reply (outcome_of_call book asked).jobs
 served_left book (call.Submit seed rule steps) = submit_by (not (suits rule seed.road)) (ltb (length book.jobs) 256) book.jobs seed rule steps
 served_left book (call.Replace job rule) = left_one _ _ _ _ (λ s r n is. absurd cc) (on_one book.jobs job (replacing rule) (replacing_keeps rule))
 served_left book call.Lease = left_one _ _ _ _ (λ s r n is. absurd cc) (after_lease book.jobs book.next (position is_free book.jobs))
@@ -197,8 +197,8 @@ full_by false book next asked told left = left
 
 call_left : (book : BookState) (asked : Call) → Left book.jobs asked (reply_of book asked) (after book asked).jobs
 call_left book asked =
-    let later : BookState = record { count = book.count + 1; next = next_after book.next (served book asked).reply; jobs = (served book asked).jobs } in
-    full_by (is_full book) book later asked (served book asked).reply (served_left book asked)
+    let later : BookState = record { count = book.count + 1; next = next_after book.next (outcome_of_call book asked).reply; jobs = (outcome_of_call book asked).jobs } in
+    full_by (is_full book) book later asked (outcome_of_call book asked).reply (served_left book asked)
 
 -- one of the calls submitted this job, and was answered with its number
 record SubmitsAmong (calls : List Call) (replies : List Reply) (number : ℕ) (job : JobState) : Type 0 where
@@ -286,7 +286,7 @@ call_at (first ∷ history) zero asked told at =
     (ap (λ (e : Event). Some e.call) same, ap (λ (e : Event). Some e.reply) same)
 call_at (first ∷ history) (suc k) asked told at = call_at history k asked told at
 
-pub submits_have_their_numbers : SubmitsHaveTheirNumbers
+pub submits_have_their_numbers : SubmitNumbersAreUnique
 submits_have_their_numbers history book j k number seed other rule another steps more replays a b =
     let first = call_at history j _ _ a in
     let second = call_at history k _ _ b in

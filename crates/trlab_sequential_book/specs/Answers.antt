@@ -1,4 +1,5 @@
--- The replies that correspond to the results of calls.
+-- The replies of the history, computed from the results of calls. The replies have numbers where the results
+-- have leases, orders and snapshots.
 use Rattle.std.specs.Prelude.{◌≡◌, ℕ, Bool, true, false, Result, Ok, Err, length, Option, Some, None, MatchBool}
 use Rattle.trlab_step.specs.Progress.{Progress}
 use Rattle.trlab_sequential_book.specs.declared.fault.BookFault.{BookFault}
@@ -10,7 +11,7 @@ use Rattle.trlab_sequential_book.specs.declared.order.Order.{Order}
 use Rattle.trlab_sequential_book.specs.Leases.{LeaseState}
 use Rattle.trlab_sequential_book.specs.Machine.{BookState, reply_of, after}
 
--- was a call refused because an allocation failed?
+-- is the result of a call the fault `Memory`, because an allocation failed?
 abbrev pub is_memory : {A : Type 0} → Result A BookFault → Bool
 is_memory (Err Memory) = true
 is_memory _ = false
@@ -31,15 +32,15 @@ abbrev pub order_reply : Result Order BookFault → Reply
 order_reply (Ok order) = Ordered order.job order.lease order.step order.from
 order_reply (Err fault) = Refused fault
 
--- the reply for a result of `give_back`: `Done`, or the fault; the error of the call also has the lease
-abbrev pub back_reply : Result (Unit {0}) (LeaseState × BookFault) → Reply
-back_reply (Ok done) = Done
-back_reply (Err handed) = Refused handed.1
+-- the reply for a result of `give_back`: `Done`, or the fault, which the result has together with the lease
+abbrev pub give_back_reply : Result (Unit {0}) (LeaseState × BookFault) → Reply
+give_back_reply (Ok done) = Done
+give_back_reply (Err lease_and_fault) = Refused lease_and_fault.1
 
 -- the reply for a result of `read`: the steps done and the number of entries of the sheet, or the fault
-abbrev pub seen_reply : Result Progress BookFault → Reply
-seen_reply (Ok seen) = Seen seen.step (length seen.sheet)
-seen_reply (Err fault) = Refused fault
+abbrev pub read_reply : Result Progress BookFault → Reply
+read_reply (Ok snapshot) = Seen snapshot.step (length snapshot.sheet)
+read_reply (Err fault) = Refused fault
 
 -- the reply for a result of `lease`: `NoLease` if no job is free; otherwise the job, the number of the lease,
 -- its next step and the steps of the job; or the fault
@@ -48,7 +49,8 @@ lease_reply (Ok None) = NoLease
 lease_reply (Ok (Some lease)) = Leased lease.job lease.number lease.step lease.steps
 lease_reply (Err fault) = Refused fault
 
--- is a call with this reply an event? Not if it was refused as `Memory` or `HistoryFull`
+-- is a call with this reply an event of the history? Each is, even if it was refused, except one refused as
+-- `Memory` or `HistoryFull`
 abbrev pub is_event : Reply → Bool
 is_event (Refused Memory) = false
 is_event (Refused HistoryFull) = false
@@ -59,10 +61,12 @@ abbrev pub is_history_full : Reply → Bool
 is_history_full (Refused HistoryFull) = true
 is_history_full _ = false
 
--- `told` is the machine's reply to the call; if an allocation failed (`ran_out`), it may be any reply
+-- the reply is the machine's reply to the call on this book. If an allocation failed (`out_of_memory`), it
+-- may be any reply
 abbrev pub RepliesAs : Bool → Reply → BookState → Call → Type 0
-RepliesAs ran_out told book call = MatchBool ran_out (Unit {0}) (told ≡ reply_of book call)
+RepliesAs out_of_memory reply book call = MatchBool out_of_memory (Unit {0}) (reply ≡ reply_of book call)
 
--- `new` is the machine's state after the call; if an allocation failed (`ran_out`), it is the state before it
+-- the book `new` is the machine's after the call on the book `old`. If an allocation failed
+-- (`out_of_memory`), it is `old`
 abbrev pub LeadsAs : Bool → BookState → Call → BookState → Type 0
-LeadsAs ran_out book call new = MatchBool ran_out (new ≡ book) (new ≡ after book call)
+LeadsAs out_of_memory old call new = MatchBool out_of_memory (new ≡ old) (new ≡ after old call)

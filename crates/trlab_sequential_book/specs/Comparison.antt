@@ -9,7 +9,7 @@ use Rattle.trlab_sequential_book.specs.declared.order.Order.{Order}
 use Rattle.trlab_sequential_book.specs.Leases.{LeaseState}
 use Rattle.trlab_sequential_book.specs.Machine.{JobState}
 use Rattle.trlab_sequential_book.specs.Jobs.{run_start}
-use Rattle.trlab_sequential_book.specs.Sheets.{AreInForce}
+use Rattle.trlab_sequential_book.specs.Sheets.{RanUnderSheet}
 
 -- the summary of a lease in a call: its job, its number, the step of its base, its next step, and `same`,
 -- whether it runs the road of its job
@@ -24,51 +24,52 @@ offered lease same = record {
 
 -- the lease runs the job's road: it has the key and the number of the job's seed, its base is the job's road
 -- at the steps done, and its steps were run under the rules in force in the job's sheet
-pub record IsOwnRun (job : JobState) (lease : LeaseState) : Type 0 where
+pub record RunsRoadOfJob (job : JobState) (lease : LeaseState) : Type 0 where
   pub key : lease.key ≡ job.seed.key
   pub number : lease.road_number ≡ job.seed.number
   pub base : IsRoadAt (run_start job.seed) job.sheet job.done lease.base.road
-  pub rules : AreInForce job.sheet lease.base.step lease.applied
+  pub rules : RanUnderSheet job.sheet lease.base.step lease.applied
 
 -- the job of the lease exists, and the lease runs this job's road: the meaning of `same` in an offered lease
-abbrev pub IsSame : List JobState → LeaseState → Type 0
-IsSame jobs lease = MatchOption (slice_get jobs lease.job) ⊥ (λ job. IsOwnRun job lease)
+abbrev pub RunsRoadOfItsJob : List JobState → LeaseState → Type 0
+RunsRoadOfItsJob jobs lease = MatchOption (slice_get jobs lease.job) ⊥ (λ job. RunsRoadOfJob job lease)
 
 -- the job of the order exists, and the order's rule is in force at the order's step in this job's sheet
-abbrev pub IsRuleAt : List JobState → Order → Type 0
-IsRuleAt jobs order =
+abbrev pub HasRuleInForce : List JobState → Order → Type 0
+HasRuleInForce jobs order =
     MatchOption (slice_get jobs order.job) ⊥ (λ job. in_force job.sheet order.step ≡ Some order.rule)
 
--- a snapshot of the job: it has the job's seed and sheet, and its step is the number of steps done. The type
--- of snapshots guarantees its road and its tally
-pub record IsSnapshotOf (job : JobState) (seen : Progress) : Type 0 where
-  pub seed : seen.seed ≡ run_start job.seed
-  pub sheet : seen.sheet ≡ job.sheet
-  pub step : seen.step ≡ job.done
+-- a snapshot of the job: it has the job's seed and sheet, and its step is the number of steps done. Its road
+-- and its tally follow from these, as the type `Snapshot` guarantees
+pub record IsSnapshotOf (job : JobState) (snapshot : Progress) : Type 0 where
+  pub seed : snapshot.seed ≡ run_start job.seed
+  pub sheet : snapshot.sheet ≡ job.sheet
+  pub step : snapshot.step ≡ job.done
 
--- the job with number `index` exists, and `seen` is a snapshot of it
-abbrev pub IsSeen : List JobState → ℕ → Progress → Type 0
-IsSeen jobs index seen = MatchOption (slice_get jobs index) ⊥ (λ job. IsSnapshotOf job seen)
+-- the job with this number exists, and the snapshot is one of this job
+abbrev pub ShowsJob : List JobState → ℕ → Progress → Type 0
+ShowsJob jobs number snapshot = MatchOption (slice_get jobs number) ⊥ (λ job. IsSnapshotOf job snapshot)
 
--- a lease of the job that has just gone out under this number: it begins at the job's road and its steps
--- done, has as many steps as the job, and has run none
+-- a lease of the job that has just gone out, with this number: it begins at the job's road after the steps
+-- done, has the job's number of steps, and has run none
 pub record IsFresh (job : JobState) (number : ℕ) (lease : LeaseState) : Type 0 where
   pub number_is : lease.number ≡ number
   pub steps : lease.steps ≡ job.steps
   pub base_step : lease.base.step ≡ job.done
   pub step : lease.step ≡ job.done
-  pub own : IsOwnRun job lease
+  pub own : RunsRoadOfJob job lease
 
--- the job of the lease that went out exists, and the lease is a fresh one of this job, with this number; for
--- `None`, if no lease went out, nothing is required
-abbrev pub IsLent : List JobState → ℕ → Option LeaseState → Type 0
-IsLent jobs number None = Unit {0}
-IsLent jobs number (Some lease) = MatchOption (slice_get jobs lease.job) ⊥ (λ job. IsFresh job number lease)
+-- if a lease went out, its job exists, and the lease is a fresh one of this job, with this number; for `None`
+-- no lease went out, and this is always true
+abbrev pub IsFreshIfLent : List JobState → ℕ → Option LeaseState → Type 0
+IsFreshIfLent jobs number None = Unit {0}
+IsFreshIfLent jobs number (Some lease) =
+    MatchOption (slice_get jobs lease.job) ⊥ (λ job. IsFresh job number lease)
 
--- the call `lease`, under another name than the type `Lease` of its result
+-- the call `lease`; it has this name because `Lease` is the type of its result
 abbrev pub LeaseCall : Call
 LeaseCall = call.Lease
 
--- the call `order` with this lease, under another name than the type `Order` of its result
+-- the call `order` with this lease; it has this name because `Order` is the type of its result
 abbrev pub OrderCall : Offered → Call
 OrderCall lease = call.Order lease

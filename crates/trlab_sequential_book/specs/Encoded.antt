@@ -1,4 +1,4 @@
--- The bytes by which rules are compared.
+-- The bytes by which rules are compared: the same bytes mean the same rule.
 use Rattle.std.specs.Prelude.{◌≡◌, ℕ, List, [], Option, Some, None}
 use Rattle.trlab_code.specs.Encoding.{encoding}
 use Rattle.trlab_verify.specs.CheckedProgram.{CheckedProgram}
@@ -9,9 +9,9 @@ abbrev pub change_bytes : Option CheckedProgram → List ℕ
 change_bytes None = []
 change_bytes (Some change) = encoding change.program
 
--- `first` is the encoding of the rule's motion program, and `second` that of its change program, or no bytes
--- if it has none; both programs are accepted, each as one of its kind
-pub record IsEncoded (rule : Programs) (first second : List ℕ) : Type 0 where
+-- the bytes are the encodings of the rule's motion program and of its change program, or no bytes if it has
+-- none; both programs are accepted, each as one of its kind
+pub record IsEncoded (rule : Programs) (motion_code change_code : List ℕ) : Type 0 where
   pub is_rule : IsRule rule
-  pub motion : first ≡ encoding rule.motion.program
-  pub change : second ≡ change_bytes rule.change
+  pub motion : motion_code ≡ encoding rule.motion.program
+  pub change : change_code ≡ change_bytes rule.change

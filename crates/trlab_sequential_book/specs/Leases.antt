@@ -1,4 +1,4 @@
--- Leases: the steps that they have run, and one more step.
+-- Leases: the steps that they have run outside the book, and how a lease runs one more.
 use Rattle.std.specs.Prelude.{◌≡◌, ℕ, ◌+◌, ◌==◌, ◌&&◌, not, is_some, Bool, true, List, [], ◌∷◌, ◌++◌, length, All}
 use Rattle.trlab_road.specs.Cells.{Cells}
 use Rattle.trlab_rules.specs.Rules.{Programs}
@@ -9,21 +9,22 @@ use Rattle.trlab_step.specs.declared.tally.StepTally.{StepTally}
 use Rattle.trlab_sequential_book.specs.declared.lease.ExecutedStep.{ExecutedStep}
 use Rattle.trlab_sequential_book.specs.declared.order.Order.{Order}
 
--- steps that were run, the first of them step `step`, lead from `road` to `last`, each under its rule, with
--- the random words of `key` and of the road with number `number`; no steps lead from a road to itself
+-- the steps that were run, the first of them step `step`, lead from `road` to `last`, each under its rule and
+-- with its tally. `key` and `road_number` determine the random words. Without any steps `last` is `road`
 abbrev pub LeadsTo : List ℕ → ℕ → ℕ → Cells → List ExecutedStep → Cells → Type 0
-LeadsTo key number step road [] last = last ≡ road
-LeadsTo key number step road (ran ∷ more) last =
-    (next : Cells) × IsNext ran.rule (dice_of key number step) road next ran.tally
-    × LeadsTo key number (step + 1) next more last
+LeadsTo key road_number step road [] last = last ≡ road
+LeadsTo key road_number step road (ran ∷ more) last =
+    (next : Cells) × IsNext ran.rule (dice_of key road_number step) road next ran.tally
+    × LeadsTo key road_number (step + 1) next more last
 
 -- the base of a lease: the step of its job at which it went out, and the road there
 pub record Base : Type 0 where
   pub step : ℕ
   pub road : Cells
 
--- a lease: its job, its own number, the steps of the job, the key and the number of the road, which determine
--- the random words, its base, its next step, the road before this step, and the steps that it has run
+-- a lease: the number of its job, its own number, how many steps the job has, the key and the number of the
+-- road, which determine the random words, its base, its next step, the road before this step, and the steps
+-- that it has run since its base
 pub record LeaseState : Type 0 where
   pub job : ℕ
   pub number : ℕ
@@ -54,7 +55,7 @@ pub record IsLease (lease : LeaseState) : Type 0 where
   pub steps_run : lease.step ≡ lease.base.step + length lease.applied
   pub leads : LeadsTo lease.key.0 lease.road_number lease.base.step lease.base.road lease.applied lease.road
 
--- all these steps were run under the same rule, or there is no step
+-- all these steps were run under the rule of the first one; also true if there is no step
 abbrev pub IsSteady : List ExecutedStep → Type 0
 IsSteady [] = Unit {0}
 IsSteady (first ∷ more) = All (λ (ran : ExecutedStep). ran.rule ≡ first.rule) more
@@ -63,7 +64,8 @@ IsSteady (first ∷ more) = All (λ (ran : ExecutedStep). ran.rule ≡ first.rul
 abbrev pub suits : Programs → Cells → Bool
 suits rule road = not (is_some rule.change && length road.lanes == 1)
 
--- the order is for the next step of this lease, and its rule suits the road of the lease
+-- the order fits the lease: it is for this lease of this job and for its next step, and its rule suits the
+-- road of the lease
 pub record FitsOrder (lease : LeaseState) (order : Order) : Type 0 where
   pub job : order.job ≡ lease.job
   pub number : order.lease ≡ lease.number
@@ -71,8 +73,8 @@ pub record FitsOrder (lease : LeaseState) (order : Order) : Type 0 where
   pub rule : suits order.rule lease.road ≡ true
 
 -- the lease after one more step under `rule`, with this tally, to the road `next`
-abbrev pub one_more : LeaseState → Programs → StepTally → Cells → LeaseState
-one_more lease rule tally next = record lease {
+abbrev pub with_executed_step : LeaseState → Programs → StepTally → Cells → LeaseState
+with_executed_step lease rule tally next = record lease {
   step = lease.step + 1;
   road = next;
   applied = lease.applied ++ record { rule = rule; tally = tally } ∷ [];
@@ -83,4 +85,4 @@ pub record HasRun (old : LeaseState) (order : Order) (new : LeaseState) : Type 0
   pub fits : FitsOrder old order
   pub tally : StepTally
   pub next : IsNext order.rule (dice_of old.key.0 old.road_number old.step) old.road new.road tally
-  pub grown : new ≡ one_more old order.rule tally new.road
+  pub grown : new ≡ with_executed_step old order.rule tally new.road

@@ -1,5 +1,5 @@
--- The book of jobs as a machine: the reply to each call, and the state after it. Its only roads are
--- the roads of seeds.
+-- The book of jobs as a machine: the reply to each call, and the state after it. It has no roads but those of
+-- the seeds, because the road of a job follows from its seed, its sheet and its steps done.
 use Rattle.std.specs.Prelude.{ℕ, ◌+◌, ◌==◌, max, Bool, true, false, ◌&&◌, ◌||◌, not, ltb, List, [], ◌∷◌, ◌++◌, length, slice_get, slice_set, Option, Some, None, is_some, if◌then◌else◌}
 use Rattle.std.specs.List.{position}
 use Rattle.trlab_rules.specs.Rules.{Programs}
@@ -13,10 +13,11 @@ use Rattle.trlab_sequential_book.specs.declared.event.Call.TheVariants as call
 use Rattle.trlab_sequential_book.specs.declared.event.Reply.{Reply}
 use Rattle.trlab_sequential_book.specs.declared.event.Reply.TheVariants as reply
 use Rattle.trlab_sequential_book.specs.Leases.{suits}
-use Rattle.trlab_sequential_book.specs.Sheets.{begin_in_force, entered}
+use Rattle.trlab_sequential_book.specs.Sheets.{begin_in_force, with_rule_from}
 
 -- a job: its seed and its sheet, how many steps it has, how many were ever ordered (`high`) and how many are
--- done, whether it was cancelled, and the number of the lease that is out, if one is
+-- done, whether it was cancelled, and the number of the lease that is out, if one is. For example, with
+-- `high` 5 and `done` 3 the steps 0 to 2 are done, and steps 3 and 4 are ordered but not done
 pub record JobState : Type 0 where
   pub seed : Seed
   pub sheet : Sheet
@@ -49,12 +50,12 @@ abbrev pub empty_book : BookState
 empty_book = record { count = 0; next = 0; jobs = [] }
 
 -- the outcome of a call on one job: the reply, and the job after the call
-pub record Outcome : Type 0 where
+pub record JobOutcome : Type 0 where
   pub reply : Reply
   pub job : JobState
 
 -- the call is refused with this fault, and the job stays as it is
-abbrev pub refused : BookFault → JobState → Outcome
+abbrev pub refused : BookFault → JobState → JobOutcome
 refused fault job = record { reply = reply.Refused fault; job = job }
 
 -- a job that was just submitted: its rule is in force from step 0 on, no step is ordered or done, and no
@@ -62,17 +63,18 @@ refused fault job = record { reply = reply.Refused fault; job = job }
 abbrev pub new_job : Seed → Programs → ℕ → JobState
 new_job seed rule steps = job_state seed ((0, rule) ∷ []) steps 0 0 false None
 
--- the rule enters at step `high`, the first that was never ordered, and the reply has this step. The first
--- fault that applies is `Ended` if the job was cancelled or all its steps were ordered, `LanesMismatch` if
--- the rule does not suit the road, and `SheetFull` if the sheet would have more than 1024 entries
-abbrev pub replacing : Programs → JobState → Outcome
+-- the rule is in force from step `high` on, the first that was never ordered, and the reply has this step.
+-- The fault is the first that applies: `Ended` if the job was cancelled or all its steps were ordered,
+-- `LanesMismatch` if the rule does not suit the road, `SheetFull` if the sheet would have more than 1024
+-- entries
+abbrev pub replacing : Programs → JobState → JobOutcome
 replacing rule job =
     if job.cancelled || (job.high == job.steps) then refused fault.Ended job
     else if not (suits rule job.seed.road) then refused fault.LanesMismatch job
-    else if ltb 1024 (length (entered job.sheet job.high rule)) then refused fault.SheetFull job
+    else if ltb 1024 (length (with_rule_from job.sheet job.high rule)) then refused fault.SheetFull job
     else record {
       reply = reply.Number job.high;
-      job = record job { sheet = entered job.sheet job.high rule };
+      job = record job { sheet = with_rule_from job.sheet job.high rule };
     }
 
 -- is a lease out, and does it have this number?
@@ -80,113 +82,119 @@ abbrev pub is_out : ℕ → Option ℕ → Bool
 is_out number None = false
 is_out number (Some out) = out == number
 
--- does the job accept the lease as its own? It is the one that is out, began at the steps done, has run no
--- step that was not ordered, and runs the job's road
-abbrev pub is_own : Offered → JobState → Bool
-is_own lease job =
+-- does the job accept the lease as its own? The lease must be the one that is out, begin at the steps done,
+-- have run no step that was not ordered, and run the job's road
+abbrev pub accepts_lease : Offered → JobState → Bool
+accepts_lease lease job =
     is_out lease.number job.out && ((lease.base == job.done) && (not (ltb job.high lease.step) && lease.same))
 
--- the lease's next step is ordered, so `high` is above it, and the reply has the step from which its rule is
+-- the lease's next step is ordered: `high` is now above it, and the reply has the step from which its rule is
 -- in force. The fault is `Ended` if the job was cancelled or the lease has run all its steps, otherwise
 -- `StrangerLease` if the job does not accept the lease as its own
-abbrev pub ordering : Offered → JobState → Outcome
+abbrev pub ordering : Offered → JobState → JobOutcome
 ordering lease job =
     if job.cancelled || (lease.step == job.steps) then refused fault.Ended job
-    else if is_own lease job then record {
+    else if accepts_lease lease job then record {
       reply = reply.Ordered lease.job lease.number lease.step (begin_in_force job.sheet lease.step);
       job = record job { high = max job.high (lease.step + 1) };
     } else refused fault.StrangerLease job
 
--- the job takes over the steps of the lease, and no lease is out; the fault is `StrangerLease` if the job
--- does not accept the lease as its own
-abbrev pub giving_back : Offered → JobState → Outcome
+-- the job takes over the steps of the lease, which are now done, and no lease is out. The fault is
+-- `StrangerLease` if the job does not accept the lease as its own
+abbrev pub giving_back : Offered → JobState → JobOutcome
 giving_back lease job =
-    if is_own lease job then record { reply = reply.Done; job = record job { done = lease.step; out = None } }
+    if accepts_lease lease job
+    then record { reply = reply.Done; job = record job { done = lease.step; out = None } }
     else refused fault.StrangerLease job
 
--- the lease that is out ends; the fault is `StrangerLease` if none is out
-abbrev pub revoking : JobState → Outcome
+-- the lease that is out ends, and its steps are lost. The fault is `StrangerLease` if none is out
+abbrev pub revoking : JobState → JobOutcome
 revoking job =
     if is_some job.out then record { reply = reply.Done; job = record job { out = None } }
     else refused fault.StrangerLease job
 
--- the job is cancelled, and no lease is out; the fault is `Ended` if it was cancelled before or all its steps
+-- the job is cancelled, and no lease is out. The fault is `Ended` if it was cancelled before or all its steps
 -- are done
-abbrev pub cancelling : JobState → Outcome
+abbrev pub cancelling : JobState → JobOutcome
 cancelling job =
     if job.cancelled || (job.done == job.steps) then refused fault.Ended job
     else record { reply = reply.Done; job = record job { cancelled = true; out = None } }
 
 -- the reply has the steps done and the number of entries of the sheet, and the job stays as it is
-abbrev pub reading : JobState → Outcome
+abbrev pub reading : JobState → JobOutcome
 reading job = record { reply = reply.Seen job.done (length job.sheet); job = job }
 
--- can the job be leased? No lease is out, it was not cancelled, and not all its steps are done
+-- can the job be leased? It can if no lease is out, it was not cancelled, and not all its steps are done
 abbrev pub is_free : JobState → Bool
 is_free job = not (is_some job.out) && (not job.cancelled && ltb job.done job.steps)
 
--- the job with number `index` is leased; `number` is that of the lease, and the reply has both, the steps
--- done and all steps
-abbrev pub leasing : ℕ → ℕ → JobState → Outcome
-leasing index number job =
-    record { reply = reply.Leased index number job.done job.steps; job = record job { out = Some number } }
+-- the job is leased: it is job number `job_number`, and lease number `lease_number` is out. The reply has
+-- both numbers, the steps done, which is the lease's next step, and the number of all steps
+abbrev pub leasing : ℕ → ℕ → JobState → JobOutcome
+leasing job_number lease_number job = record {
+  reply = reply.Leased job_number lease_number job.done job.steps;
+  job = record job { out = Some lease_number };
+}
 
 -- the outcome of a call on the jobs of a book: the reply, and the jobs after the call
-pub record Served : Type 0 where
+pub record JobsOutcome : Type 0 where
   pub reply : Reply
   pub jobs : List JobState
 
--- the call on the job with number `index` has this outcome; the fault is `NoSuchJob` if there is no such job
-abbrev pub on_job : List JobState → ℕ → (JobState → Outcome) → Served
+-- a call on the job with number `index`, whose effect on this job is `outcome`; the other jobs stay as they
+-- are. The fault is `NoSuchJob` if there is no such job
+abbrev pub on_job : List JobState → ℕ → (JobState → JobOutcome) → JobsOutcome
 on_job jobs index outcome = elim (slice_get jobs index) [
   | None ↦ record { reply = reply.Refused fault.NoSuchJob; jobs = jobs }
   | Some job ↦ record { reply = (outcome job).reply; jobs = slice_set jobs index (outcome job).job }
 ]
 
--- the free job that was found is leased under this number; for `None`, if no job is free, the reply is
--- `NoLease`
-abbrev pub on_free : List JobState → ℕ → Option ℕ → Served
+-- the call `lease`, if the next lease has this number: the free job with number `index` is leased; for `None`
+-- no job is free, and the reply is `NoLease`
+abbrev pub on_free : List JobState → ℕ → Option ℕ → JobsOutcome
 on_free jobs number None = record { reply = reply.NoLease; jobs = jobs }
 on_free jobs number (Some index) = on_job jobs index (leasing index number)
 
--- a job is added, and the reply is its number. The fault is `LanesMismatch` if its rule does not suit its
--- road, otherwise `Full` if there are 256 jobs
-abbrev pub submitting : List JobState → Seed → Programs → ℕ → Served
+-- a job is added as the last one, and the reply is its number, counted from 0. The fault is `LanesMismatch`
+-- if its rule does not suit its road, otherwise `Full` if there are 256 jobs
+abbrev pub submitting : List JobState → Seed → Programs → ℕ → JobsOutcome
 submitting jobs seed rule steps =
     if not (suits rule seed.road) then record { reply = reply.Refused fault.LanesMismatch; jobs = jobs }
     else if ltb (length jobs) 256
     then record { reply = reply.Number (length jobs); jobs = jobs ++ new_job seed rule steps ∷ [] }
     else record { reply = reply.Refused fault.Full; jobs = jobs }
 
--- the outcome of a call on the jobs of a book: `submit` adds a job, `lease` lends the first free job, and
--- each other call is on the job with the number that it names
-abbrev pub served : BookState → Call → Served
-served book (call.Submit seed rule steps) = submitting book.jobs seed rule steps
-served book (call.Replace job rule) = on_job book.jobs job (replacing rule)
-served book call.Lease = on_free book.jobs book.next (position is_free book.jobs)
-served book (call.Order lease) = on_job book.jobs lease.job (ordering lease)
-served book (call.GiveBack lease) = on_job book.jobs lease.job (giving_back lease)
-served book (call.Revoke job) = on_job book.jobs job revoking
-served book (call.Cancel job) = on_job book.jobs job cancelling
-served book (call.Read job) = on_job book.jobs job reading
+-- the outcome of a call on the jobs of a book: `submit` adds a job, `lease` lends the free job with the
+-- smallest number, and each other call is on the job with the number that it names
+abbrev pub outcome_of_call : BookState → Call → JobsOutcome
+outcome_of_call book (call.Submit seed rule steps) = submitting book.jobs seed rule steps
+outcome_of_call book (call.Replace job rule) = on_job book.jobs job (replacing rule)
+outcome_of_call book call.Lease = on_free book.jobs book.next (position is_free book.jobs)
+outcome_of_call book (call.Order lease) = on_job book.jobs lease.job (ordering lease)
+outcome_of_call book (call.GiveBack lease) = on_job book.jobs lease.job (giving_back lease)
+outcome_of_call book (call.Revoke job) = on_job book.jobs job revoking
+outcome_of_call book (call.Cancel job) = on_job book.jobs job cancelling
+outcome_of_call book (call.Read job) = on_job book.jobs job reading
 
 -- the number of the next lease after a reply: one more if a lease went out
 abbrev pub next_after : ℕ → Reply → ℕ
 next_after next (reply.Leased job number step steps) = next + 1
 next_after next _ = next
 
--- is the history of a book full? It is after 1000000 events, and the book then refuses each call
+-- is the history of a book full? It is after 1000000 events; the book then refuses each call as `HistoryFull`
 abbrev pub is_full : BookState → Bool
 is_full book = not (ltb book.count 1000000)
 
 -- the reply of a book to a call: `HistoryFull` if its history is full
 abbrev pub reply_of : BookState → Call → Reply
-reply_of book call = if is_full book then reply.Refused fault.HistoryFull else (served book call).reply
+reply_of book call =
+    if is_full book then reply.Refused fault.HistoryFull else (outcome_of_call book call).reply
 
--- the book after a call, which counts as an event; a book with a full history stays as it is
+-- the book after a call, which is one more event, also if it was refused; a book with a full history stays as
+-- it is
 abbrev pub after : BookState → Call → BookState
 after book call = if is_full book then book else record {
   count = book.count + 1;
-  next = next_after book.next (served book call).reply;
-  jobs = (served book call).jobs;
+  next = next_after book.next (outcome_of_call book call).reply;
+  jobs = (outcome_of_call book call).jobs;
 }

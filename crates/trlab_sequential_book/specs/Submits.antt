@@ -1,24 +1,25 @@
--- Which event of a history submitted a job of the book.
+-- Which event of a history submitted a job of the book, and what follows for snapshots of this job.
 use Rattle.std.specs.Prelude.{◌≡◌, ℕ, List, Some, slice_get}
 use Rattle.trlab_road.specs.Cells.{Cells}
 use Rattle.trlab_rules.specs.Rules.{Programs}
-use Rattle.trlab_step.specs.Progress.{Progress, IsUnderway}
+use Rattle.trlab_step.specs.Progress.{Progress, IsReachedByRun}
 use Rattle.trlab_step.specs.Driven.{IsDriven}
 use Rattle.trlab_sequential_book.specs.declared.seed.Seed.{Seed}
 use Rattle.trlab_sequential_book.specs.declared.event.Event.{Event}
 use Rattle.trlab_sequential_book.specs.declared.event.Call.TheVariants as call
 use Rattle.trlab_sequential_book.specs.declared.event.Reply.TheVariants as reply
 use Rattle.trlab_sequential_book.specs.Machine.{JobState, BookState}
-use Rattle.trlab_sequential_book.specs.Comparison.{IsSeen, IsSnapshotOf}
+use Rattle.trlab_sequential_book.specs.Comparison.{ShowsJob, IsSnapshotOf}
 use Rattle.trlab_sequential_book.specs.Replay.{Replays, event}
 
--- the k-th event of a history is a submit of this seed, this rule and these steps, and its reply is `number`
+-- event k of a history, counted from 0, is a submit with this seed, this rule and this number of steps, and
+-- its reply is the job's number `number`
 abbrev pub IsSubmit : List Event → ℕ → Seed → Programs → ℕ → ℕ → Type 0
 IsSubmit history k seed rule steps number =
     slice_get history k ≡ Some (event (call.Submit seed rule steps) (reply.Number number))
 
--- an event of the history submitted the job with this number: it is a submit with the seed and the steps of
--- the job, and its reply is the number
+-- event k of the history submitted the job with this number: it is a submit with the seed and the number of
+-- steps of the job, and with some rule, and its reply is this number
 pub record IsSubmitted (history : List Event) (number : ℕ) (job : JobState) : Type 0 where
   pub k : ℕ
   pub rule : Programs
@@ -30,23 +31,25 @@ JobsAreSubmitted =
     (history : List Event) (book : BookState) (number : ℕ) (job : JobState) → Replays history book
     → slice_get book.jobs number ≡ Some job → IsSubmitted history number job
 
--- no two submits of a history have the same number as their reply
-abbrev pub SubmitsHaveTheirNumbers : Type 0
-SubmitsHaveTheirNumbers =
-    (history : List Event) (book : BookState) (j k number : ℕ) (seed other : Seed) (rule another : Programs)
-    (steps more : ℕ) → Replays history book → IsSubmit history j seed rule steps number
-    → IsSubmit history k other another more number → j ≡ k
+-- if a history replays to a book, no two of its submits have the same number as their reply
+abbrev pub SubmitNumbersAreUnique : Type 0
+SubmitNumbersAreUnique =
+    (history : List Event) (book : BookState) (j k number : ℕ) (seed other_seed : Seed)
+    (rule other_rule : Programs) (steps other_steps : ℕ) → Replays history book
+    → IsSubmit history j seed rule steps number
+    → IsSubmit history k other_seed other_rule other_steps number → j ≡ k
 
--- if a history replays to a book, a snapshot of one of its jobs has the seed of an event that submitted a job
--- with this number
+-- if a history replays to a book, a snapshot of the job with this number is one of a job that an event of the
+-- history submitted: it has the seed that was submitted
 abbrev pub SnapshotsAreOfSubmits : Type 0
 SnapshotsAreOfSubmits =
     (history : List Event) (book : BookState) (number : ℕ) (seen : Progress) → Replays history book
-    → IsSeen book.jobs number seen
+    → ShowsJob book.jobs number seen
     → (job : JobState) × IsSubmitted history number job × IsSnapshotOf job seen
 
--- the snapshot `seen` of the job with this number shows the last road of a driven run: one worker runs the
--- steps done, from the seed that was submitted and under the job's sheet
+-- the snapshot `seen` of the job with this number shows the last road of a driven run, in which one worker
+-- runs the steps done, from the seed that was submitted and under the job's sheet; `roads` is the road at
+-- each step
 pub record IsDrivenRead (history : List Event) (number : ℕ) (seen : Progress) : Type 0 where
   pub job : JobState
   pub submitted : IsSubmitted history number job
@@ -60,4 +63,4 @@ pub record IsDrivenRead (history : List Event) (number : ℕ) (seen : Progress) 
 abbrev pub ReadsAreDriven : Type 0
 ReadsAreDriven =
     (history : List Event) (book : BookState) (number : ℕ) (seen : Progress) → Replays history book
-    → IsSeen book.jobs number seen → IsUnderway seen → IsDrivenRead history number seen
+    → ShowsJob book.jobs number seen → IsReachedByRun seen → IsDrivenRead history number seen

@@ -4,8 +4,8 @@ ghost use Rattle.std.specs.Prelude.{◌≡◌, ◌↔◌, ◌+◌, ◌<◌, ◌�
 ghost use Rattle.std.specs.List.{position};
 ghost use Rattle.trlab_road.specs.Legal.{IsLegal};
 ghost use Rattle.trlab_step.specs.Laws.{IsRuleFor};
-ghost use Rattle.trlab_sequential_book.specs.Answers.{LeadsAs, RepliesAs, back_reply, done_reply, is_memory, lease_reply, number_reply, order_reply, seen_reply};
-ghost use Rattle.trlab_sequential_book.specs.Comparison.{IsLent, IsRuleAt, IsSame, IsSeen, LeaseCall, OrderCall, offered};
+ghost use Rattle.trlab_sequential_book.specs.Answers.{LeadsAs, RepliesAs, give_back_reply, done_reply, is_memory, lease_reply, number_reply, order_reply, read_reply};
+ghost use Rattle.trlab_sequential_book.specs.Comparison.{IsFreshIfLent, HasRuleInForce, RunsRoadOfItsJob, ShowsJob, LeaseCall, OrderCall, offered};
 ghost use Rattle.trlab_sequential_book.specs.Leases.{suits};
 ghost use Rattle.trlab_sequential_book.specs.Machine.{after, cancelling, giving_back, is_free, is_full, on_job, ordering, reading, replacing, reply_of, revoking, empty_book, submitting};
 ghost use Rattle.trlab_sequential_book.specs.declared.event.Call.TheVariants.{Cancel, GiveBack, Read, Replace, Revoke, Submit};
@@ -174,7 +174,7 @@ impl Book {
         ensures reply { RepliesAs (is_memory result) (lease_reply result) self.old LeaseCall }
         ensures state { LeadsAs (is_memory result) self.old LeaseCall self.new }
         ensures full { is_full self.old ≡ true → result ≡ Err HistoryFull }
-        ensures lent { IfOk result (λ lent. IsLent self.old.jobs self.old.next lent) }
+        ensures lent { IfOk result (λ lent. IsFreshIfLent self.old.jobs self.old.next lent) }
     {
         if self.is_full() {
             return Err(BookFault::HistoryFull);
@@ -193,7 +193,7 @@ impl Book {
     /// Whether a lease runs the road of its job: with the key and the number of the job, from the job's road,
     /// under the rules in force.
     pub fn is_same(&self, lease: &Lease) -> bool
-        ensures { IsTrue result ↔ IsSame self.now.jobs lease.now }
+        ensures { IsTrue result ↔ RunsRoadOfItsJob self.now.jobs lease.now }
     {
         let Some(found) = self.jobs.get(lease.job() as usize) else {
             return false;
@@ -208,12 +208,12 @@ impl Book {
     ///
     /// `HistoryFull`, `NoSuchJob`, `Ended`, `StrangerLease` or `Memory`.
     pub fn order(&mut self, _: Global, lease: &Lease) -> Result<Order, BookFault>
-        ensures reply { (same : Bool) → (IsTrue same ↔ IsSame self.old.jobs lease.now)
+        ensures reply { (same : Bool) → (IsTrue same ↔ RunsRoadOfItsJob self.old.jobs lease.now)
             → RepliesAs (is_memory result) (order_reply result) self.old (OrderCall (offered lease.now same)) }
-        ensures state { (same : Bool) → (IsTrue same ↔ IsSame self.old.jobs lease.now)
+        ensures state { (same : Bool) → (IsTrue same ↔ RunsRoadOfItsJob self.old.jobs lease.now)
             → LeadsAs (is_memory result) self.old (OrderCall (offered lease.now same)) self.new }
         ensures full { is_full self.old ≡ true → result ≡ Err HistoryFull }
-        ensures rule { IfOk result (λ order. IsRuleAt self.old.jobs order) }
+        ensures rule { IfOk result (λ order. HasRuleInForce self.old.jobs order) }
     {
         let same = self.is_same(lease);
         self.order_as(lease, same)
@@ -225,12 +225,12 @@ impl Book {
     ///
     /// Those of `order`.
     pub fn order_as(&mut self, lease: &Lease, same: bool) -> Result<Order, BookFault>
-        requires { IsTrue same ↔ IsSame self.old.jobs lease.now }
+        requires { IsTrue same ↔ RunsRoadOfItsJob self.old.jobs lease.now }
         ensures reply { RepliesAs (is_memory result) (order_reply result) self.old
             (OrderCall (offered lease.now same)) }
         ensures state { LeadsAs (is_memory result) self.old (OrderCall (offered lease.now same)) self.new }
         ensures full { is_full self.old ≡ true → result ≡ Err HistoryFull }
-        ensures rule { IfOk result (λ order. IsRuleAt self.old.jobs order) }
+        ensures rule { IfOk result (λ order. HasRuleInForce self.old.jobs order) }
     {
         if self.is_full() {
             return Err(BookFault::HistoryFull);
@@ -246,9 +246,9 @@ impl Book {
     ///
     /// `HistoryFull`, `NoSuchJob` or `StrangerLease`, with the lease.
     pub fn give_back(&mut self, lease: Lease) -> Result<(), (Lease, BookFault)>
-        ensures reply { (same : Bool) → (IsTrue same ↔ IsSame self.old.jobs lease)
-            → back_reply result ≡ reply_of self.old (GiveBack (offered lease same)) }
-        ensures state { (same : Bool) → (IsTrue same ↔ IsSame self.old.jobs lease)
+        ensures reply { (same : Bool) → (IsTrue same ↔ RunsRoadOfItsJob self.old.jobs lease)
+            → give_back_reply result ≡ reply_of self.old (GiveBack (offered lease same)) }
+        ensures state { (same : Bool) → (IsTrue same ↔ RunsRoadOfItsJob self.old.jobs lease)
             → self.new ≡ after self.old (GiveBack (offered lease same)) }
         ensures handed { IfErr result (λ handed. handed.0 ≡ lease) }
     {
@@ -262,8 +262,8 @@ impl Book {
     ///
     /// Those of `give_back`.
     pub fn give_back_as(&mut self, lease: Lease, same: bool) -> Result<(), (Lease, BookFault)>
-        requires { IsTrue same ↔ IsSame self.old.jobs lease }
-        ensures reply { back_reply result ≡ reply_of self.old (GiveBack (offered lease same)) }
+        requires { IsTrue same ↔ RunsRoadOfItsJob self.old.jobs lease }
+        ensures reply { give_back_reply result ≡ reply_of self.old (GiveBack (offered lease same)) }
         ensures state { self.new ≡ after self.old (GiveBack (offered lease same)) }
         ensures handed { IfErr result (λ handed. handed.0 ≡ lease) }
     {
@@ -312,10 +312,10 @@ impl Book {
     ///
     /// `HistoryFull`, `NoSuchJob` or `Memory`.
     pub fn read(&mut self, alloc: Global, job: u32) -> Result<Snapshot, BookFault>
-        ensures reply { RepliesAs (is_memory result) (seen_reply result) self.old (Read job) }
+        ensures reply { RepliesAs (is_memory result) (read_reply result) self.old (Read job) }
         ensures state { LeadsAs (is_memory result) self.old (Read job) self.new }
         ensures full { is_full self.old ≡ true → result ≡ Err HistoryFull }
-        ensures seen { IfOk result (λ seen. IsSeen self.old.jobs job seen) }
+        ensures seen { IfOk result (λ seen. ShowsJob self.old.jobs job seen) }
     {
         if self.is_full() {
             return Err(BookFault::HistoryFull);
@@ -439,7 +439,7 @@ fn order_in(jobs: &mut Vec<JobRecord>, lease: &Lease, same: bool) -> Result<Orde
     ensures jobs { MatchBool (is_memory result) (jobs.new.items ≡ jobs.old.items)
         (jobs.new.items ≡ (on_job jobs.old.items lease.now.job (ordering (offered lease.now same))).jobs) }
     ensures len { length jobs.new.items ≡ length jobs.old.items }
-    ensures rule { IfOk result (λ order. IsRuleAt jobs.old.items order) }
+    ensures rule { IfOk result (λ order. HasRuleInForce jobs.old.items order) }
 {
     let index = lease.job() as usize;
     if index >= jobs.len() {
@@ -454,8 +454,8 @@ fn give_back_in(
     lease: Lease,
     same: bool,
 ) -> Result<(), (Lease, BookFault)>
-    requires { IsTrue same → IsSame jobs.old.items lease }
-    ensures reply { back_reply result
+    requires { IsTrue same → RunsRoadOfItsJob jobs.old.items lease }
+    ensures reply { give_back_reply result
         ≡ (on_job jobs.old.items lease.job (giving_back (offered lease same))).reply }
     ensures jobs { jobs.new.items ≡ (on_job jobs.old.items lease.job (giving_back (offered lease same))).jobs }
     ensures len { length jobs.new.items ≡ length jobs.old.items }
@@ -471,8 +471,8 @@ fn give_back_in(
 
 fn read_in(jobs: &[JobRecord], alloc: Global, index: u32) -> Result<Snapshot, BookFault>
     ensures reply { MatchBool (is_memory result) (Unit {0})
-        (seen_reply result ≡ (on_job jobs.now index reading).reply) }
-    ensures seen { IfOk result (λ seen. IsSeen jobs.now index seen) }
+        (read_reply result ≡ (on_job jobs.now index reading).reply) }
+    ensures seen { IfOk result (λ seen. ShowsJob jobs.now index seen) }
     ensures jobs { (on_job jobs.now index reading).jobs ≡ jobs.now }
 {
     if index as usize >= jobs.len() {

@@ -22,7 +22,7 @@ pub enum BookFault {
     /// The rule has a change program, and the road has one lane.
     #[error("a change program needs two lanes")]
     LanesMismatch,
-    /// The job's sheet has 1024 entries.
+    /// The job's sheet would have more than 1024 entries.
     #[error("the sheet is full")]
     SheetFull,
     /// The lease is not the one that is out, or does not run this job's road under its rules. For `revoke`: no lease is

@@ -2,14 +2,14 @@
 
 ghost use Rattle.std.specs.Prelude.{◌≡◌, ◌==◌, ◌||◌, true, false, IsTrue, IfOk, IfErr, OnErr, Some, length, ◌↔◌, MatchBool};
 ghost use Rattle.trlab_road.specs.Legal.{IsLegal};
-ghost use Rattle.trlab_step.specs.Progress.{IsUnderway};
+ghost use Rattle.trlab_step.specs.Progress.{IsReachedByRun};
 ghost use Rattle.trlab_step.specs.Laws.{IsRuleFor};
 ghost use Rattle.trlab_step.specs.Run.{in_force};
-ghost use Rattle.trlab_sequential_book.specs.Answers.{back_reply, done_reply, is_memory, number_reply, order_reply};
-ghost use Rattle.trlab_sequential_book.specs.Comparison.{IsFresh, IsOwnRun, IsSnapshotOf, offered};
-ghost use Rattle.trlab_sequential_book.specs.Jobs.{run_of};
+ghost use Rattle.trlab_sequential_book.specs.Answers.{give_back_reply, done_reply, is_memory, number_reply, order_reply};
+ghost use Rattle.trlab_sequential_book.specs.Comparison.{IsFresh, RunsRoadOfJob, IsSnapshotOf, offered};
+ghost use Rattle.trlab_sequential_book.specs.Jobs.{progress_of};
 ghost use Rattle.trlab_sequential_book.specs.Leases.{suits};
-ghost use Rattle.trlab_sequential_book.specs.Machine.{cancelling, giving_back, is_free, is_own, leasing, new_job, ordering, refused, replacing, revoking};
+ghost use Rattle.trlab_sequential_book.specs.Machine.{cancelling, giving_back, is_free, accepts_lease, leasing, new_job, ordering, refused, replacing, revoking};
 
 use crate::fault::BookFault;
 use crate::lease::Lease;
@@ -111,7 +111,7 @@ impl JobRecord {
         Ok(self.high)
     }
 
-    /// Tests that the job has steps that were never ordered, and that a rule suits its road.
+    /// Tests that the job is not cancelled and has steps that were never ordered, and that a rule suits its road.
     fn admits(&self, rule: &Rule) -> Result<(), BookFault>
         ensures ok { IfOk result (λ _. (self.now.cancelled || (self.now.high == self.now.steps) ≡ false)
             × (suits rule.now self.now.seed.road ≡ true)) }
@@ -188,7 +188,7 @@ impl JobRecord {
 
     /// Whether a lease runs this job's road.
     pub fn runs(&self, lease: &Lease) -> bool
-        ensures { IsTrue result ↔ IsOwnRun self.now lease.now }
+        ensures { IsTrue result ↔ RunsRoadOfJob self.now lease.now }
     {
         // For the proof: the lease's step is a `u32`, so no step up to it overflows.
         let _end = lease.step();
@@ -205,7 +205,7 @@ impl JobRecord {
 
     /// Whether a lease is the one that is out, and may be ordered or given back. `same`: the lease runs the job's road.
     fn owns(&self, lease: &Lease, same: bool) -> bool
-        ensures { result ≡ is_own (offered lease.now same) self.now }
+        ensures { result ≡ accepts_lease (offered lease.now same) self.now }
     {
         match self.out {
             Some(number) => {
@@ -250,8 +250,8 @@ impl JobRecord {
     /// The job's tally plus those of a lease's steps. Steps before the seed's `warm` are not counted.
     fn tally_with(&self, lease: &Lease) -> StepTally
         requires base { lease.now.base.step ≡ self.now.done }
-        requires own { IsOwnRun self.now lease.now }
-        ensures { IsUnderway (run_of self.now.seed self.now.sheet lease.now.step lease.now.road result) }
+        requires own { RunsRoadOfJob self.now lease.now }
+        ensures { IsReachedByRun (progress_of self.now.seed self.now.sheet lease.now.step lease.now.road result) }
     {
         // For the proof: the lease's step is a `u32`, so no step up to it overflows.
         let _end = lease.step();
@@ -269,8 +269,8 @@ impl JobRecord {
 
     /// Gives the job the road and the step of its lease.
     pub fn give_back(&mut self, lease: Lease, same: bool) -> Result<(), (Lease, BookFault)>
-        requires { IsTrue same → IsOwnRun self.old lease }
-        ensures reply { back_reply result ≡ (giving_back (offered lease same) self.old).reply }
+        requires { IsTrue same → RunsRoadOfJob self.old lease }
+        ensures reply { give_back_reply result ≡ (giving_back (offered lease same) self.old).reply }
         ensures job { self.new ≡ (giving_back (offered lease same) self.old).job }
         ensures handed { IfErr result (λ handed. handed.0 ≡ lease) }
     {

@@ -4,7 +4,7 @@
 
 ghost use Rattle.std.specs.Prelude.{◌≡◌};
 ghost use Rattle.trlab_sequential_book.specs.Submits.{JobsAreSubmitted, ReadsAreDriven, SnapshotsAreOfSubmits};
-ghost use Rattle.trlab_sequential_book.specs.Submits.{SubmitsHaveTheirNumbers};
+ghost use Rattle.trlab_sequential_book.specs.Submits.{SubmitNumbersAreUnique};
 
 use crate::book::{MAX_EVENTS, MAX_JOBS};
 use crate::sheet::MAX_ENTRIES;
@@ -20,7 +20,7 @@ pub fn limits()
 /// with this number. A snapshot of the job has the seed of that submit.
 pub fn jobs_are_of_submits()
     ensures submitted { JobsAreSubmitted }
-    ensures one { SubmitsHaveTheirNumbers }
+    ensures one { SubmitNumbersAreUnique }
     ensures seen { SnapshotsAreOfSubmits }
 {}
 

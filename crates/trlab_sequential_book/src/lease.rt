@@ -6,7 +6,7 @@ ghost use Rattle.trlab_step.specs.Answers.{dice_of};
 ghost use Rattle.trlab_step.specs.Laws.{IsRuleFor};
 ghost use Rattle.trlab_step.specs.Next.{IsNext};
 ghost use Rattle.trlab_step.specs.declared.tally.StepTally.{StepTally};
-ghost use Rattle.trlab_sequential_book.specs.Leases.{FitsOrder, HasRun, IsLease, IsSteady, one_more};
+ghost use Rattle.trlab_sequential_book.specs.Leases.{FitsOrder, HasRun, IsLease, IsSteady, with_executed_step};
 ghost use Rattle.trlab_sequential_book.specs.declared.lease.LeaseFault.TheVariants.{Memory, WrongOrder};
 
 use crate::order::Order;
@@ -231,7 +231,7 @@ impl Lease {
         ensures ok { OnOk result ((tally : StepTally)
             × IsNext rule.now (dice_of self.old.key.0 self.old.road_number self.old.step)
             self.old.road self.new.road tally
-            × (self.new ≡ one_more self.old rule.now tally self.new.road)) }
+            × (self.new ≡ with_executed_step self.old rule.now tally self.new.road)) }
         ensures err { OnErr result (self.new ≡ self.old) }
     {
         self.applied.reserve(1)?;

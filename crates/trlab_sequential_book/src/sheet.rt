@@ -3,7 +3,7 @@
 ghost use Rattle.std.specs.Prelude.{◌≡◌, ◌≤◌, ◌<◌, ◌↔◌, ◌+◌, ◌^◌, ◌∷◌, ◌++◌, [], IsTrue, IfOk, IfErr, OnOk, OnErr, length, Some, slice_get, vec_len, vec_capacity};
 ghost use Rattle.trlab_step.specs.Run.{IsSheet, in_force};
 ghost use Rattle.trlab_sequential_book.specs.Leases.{IsSteady};
-ghost use Rattle.trlab_sequential_book.specs.Sheets.{AreInForce, BeginBy, IsBookSheet, MayRefuse, entered, entry_in_force};
+ghost use Rattle.trlab_sequential_book.specs.Sheets.{RanUnderSheet, BeginBy, IsBookSheet, MayRefuse, with_rule_from, entry_in_force};
 ghost use Rattle.trlab_rules.specs.Rules.{Programs};
 
 use crate::fault::BookFault;
@@ -103,7 +103,7 @@ impl Sheet {
     pub(crate) fn are_in_force(&self, first: u32, applied: &[ExecutedStep], is_steady: bool) -> bool
         requires steps { first + length applied.now < 2 ^ 32 }
         requires steady { IsTrue is_steady → IsSteady applied.now }
-        ensures { IsTrue result ↔ AreInForce self.now first applied.now }
+        ensures { IsTrue result ↔ RanUnderSheet self.now first applied.now }
     {
         let Some(ran) = applied.first() else {
             return true;
@@ -119,7 +119,7 @@ impl Sheet {
     /// `are_in_force`, by comparing the rule of each step.
     fn are_each_in_force(&self, first: u32, applied: &[ExecutedStep]) -> bool
         requires { first + length applied.now < 2 ^ 32 }
-        ensures { IsTrue result ↔ AreInForce self.now first applied.now }
+        ensures { IsTrue result ↔ RanUnderSheet self.now first applied.now }
     {
         let mut step = first;
         for ran in applied {
@@ -141,8 +141,8 @@ impl Sheet {
     pub(crate) fn enter(&mut self, from: u32, rule: Rule) -> Result<(), BookFault>
         requires { BeginBy from self.old }
         ensures ok { OnOk result
-            ((self.new ≡ entered self.old from rule) × (length self.new ≤ 1024) × IsSheet self.new) }
-        ensures err { IfErr result (λ fault. MayRefuse fault (entered self.old from rule)) }
+            ((self.new ≡ with_rule_from self.old from rule) × (length self.new ≤ 1024) × IsSheet self.new) }
+        ensures err { IfErr result (λ fault. MayRefuse fault (with_rule_from self.old from rule)) }
         ensures unchanged { OnErr result (self.new ≡ self.old) }
     {
         let alloc = *self.entries.allocator();
@@ -158,10 +158,11 @@ fn make_way(entries: &mut Vec<(u32, BoxedRule)>, from: u32) -> Result<(), BookFa
     requires sheet { IsBookSheet entries.old.items }
     requires begin { BeginBy from entries.old.items }
     ensures ok { (rule : Programs) → OnOk result
-        (entries.new.items ++ (from, rule) ∷ [] ≡ entered entries.old.items from rule) }
+        (entries.new.items ++ (from, rule) ∷ [] ≡ with_rule_from entries.old.items from rule) }
     ensures sheet { (rule : Programs) → OnOk result (IsBookSheet (entries.new.items ++ (from, rule) ∷ [])) }
     ensures room { OnOk result (vec_len entries.new < vec_capacity entries.new) }
-    ensures err { (rule : Programs) → IfErr result (λ fault. MayRefuse fault (entered entries.old.items from rule)) }
+    ensures err { (rule : Programs)
+        → IfErr result (λ fault. MayRefuse fault (with_rule_from entries.old.items from rule)) }
     ensures unchanged { OnErr result (entries.new.items ≡ entries.old.items) }
 {
     let Some(last) = entries.pop() else {

@@ -36,14 +36,14 @@ impl Drop for Snapshot {
 }
 
 impl Model for Snapshot {
-    ghost use Rattle.trlab_step.specs.Progress.{IsUnderway, Progress};
-    ghost use Rattle.trlab_sequential_book.specs.Jobs.{run_of};
+    ghost use Rattle.trlab_step.specs.Progress.{IsReachedByRun, Progress};
+    ghost use Rattle.trlab_sequential_book.specs.Jobs.{progress_of};
 
     ghost Value = { Progress };
 
-    ghost view = { λ seen. run_of seen.seed seen.sheet seen.step seen.road seen.tally };
+    ghost view = { λ seen. progress_of seen.seed seen.sheet seen.step seen.road seen.tally };
 
-    ghost invariant = { λ seen. IsUnderway (run_of seen.seed seen.sheet seen.step seen.road seen.tally) };
+    ghost invariant = { λ seen. IsReachedByRun (progress_of seen.seed seen.sheet seen.step seen.road seen.tally) };
 }
 
 impl Snapshot {

@@ -4,7 +4,7 @@ use Rattle.trlab_bounds.specs.declared.roads.TheConstants.{MAX_LENGTH}
 use Rattle.std.specs.Prelude.{is_none}
 use Rattle.trlab_words.proofs.RandomWords.{length-random_words}
 use Rattle.trlab_code.specs.declared.program.Kind.TheVariants.{Motion, Change}
-use Rattle.trlab_code.specs.Views.{IsView}
+use Rattle.trlab_code.specs.Views.{IsViewInRange}
 use Rattle.trlab_verify.specs.CheckedProgram.{CheckedProgram, IsChecked}
 use Rattle.trlab_road.specs.Cells.{Cell, Cells, Lane, cell, lane_of, IsAt}
 use Rattle.trlab_road.specs.LaneChange.{other_lane, CrossesToEmpty}
@@ -59,7 +59,7 @@ seen_within road l way legal on =
     short_run (clear_cells (lane_of road l) way) (length (lane_of road l)) (length (lane_of road 0)) (clear_within (lane_of road l) way) (legal.shape.equal l on) legal.shape.cells.few_cells
 
 -- what the motion program of a car of a legal road sees is in range
-pub motion_view_is_view : (road : Cells) (car : Car) → IsLegal road → IsAt road car → IsView (motion_view_of road car)
+pub motion_view_is_view : (road : Cells) (car : Car) → IsLegal road → IsAt road car → IsViewInRange (motion_view_of road car)
 motion_view_is_view road car legal here = record {
   speed = legal.within_limit car here;
   some_limit = legal.shape.limit.some_limit;
@@ -72,7 +72,7 @@ motion_view_is_view road car legal here = record {
 }
 
 -- what the change program of a car of a legal road of two lanes sees is in range
-pub change_view_is_view : (road : Cells) (car : Car) → IsLegal road → length road.lanes ≡ 2 → IsAt road car → IsView (change_view_of road car)
+pub change_view_is_view : (road : Cells) (car : Car) → IsLegal road → length road.lanes ≡ 2 → IsAt road car → IsViewInRange (change_view_of road car)
 change_view_is_view road car legal two here =
     let l = car.lane in
     let x = car.place in

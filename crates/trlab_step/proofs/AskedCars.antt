@@ -4,8 +4,8 @@ use Rattle.std.specs.Prelude.{slice_index, slice_index_or}
 use Rattle.trlab_code.specs.declared.program.Kind.TheVariants.{Motion, Change}
 use Rattle.trlab_code.specs.declared.view.View.{View}
 use Rattle.trlab_code.specs.Machine.{EndsWith, Goes}
-use Rattle.trlab_code.specs.Views.{IsView, motion_view}
-use Rattle.trlab_machine.specs.Blocks.{CrossesWith, MovesWith, with_beside}
+use Rattle.trlab_code.specs.Views.{IsViewInRange, motion_view}
+use Rattle.trlab_machine.specs.Blocks.{CrossesWith, MovesWith, with_other_lane}
 use Rattle.trlab_machine.specs.Crossings.{crossing_answer}
 use Rattle.trlab_road.specs.declared.car.Car.{Car}
 use Rattle.trlab_road.specs.Cells.{Cells, lane_of, IsAt}
@@ -13,11 +13,11 @@ use Rattle.trlab_road.specs.LaneChange.{other_lane, sides}
 use Rattle.trlab_road.specs.Gaps.{gap, headspeed, side, sidegap, sideback}
 use Rattle.trlab_road.specs.Legal.{IsLegal}
 use Rattle.trlab_road.specs.Motion.{gaps}
-use Rattle.trlab_road.specs.Standing.{IsStanding}
+use Rattle.trlab_road.specs.Standing.{IsNthCar}
 use Rattle.trlab_machine.specs.declared.dice.Dice.{Dice}
 use Rattle.trlab_machine.specs.Blocks.{words_of}
 use Rattle.trlab_step.specs.Answers.{AnswersCrossing, AnswersSpeed, change_view_of, dice_of, motion_view_of}
-use Rattle.trlab_step.specs.Block.{IsAsked}
+use Rattle.trlab_step.specs.Block.{DescribesCar}
 use Rattle.trlab_verify.specs.CheckedProgram.{CheckedProgram}
 use Rattle.trlab_step.proofs.AnswersExist.{change_view_is_view, motion_view_is_view}
 use Rattle.trlab_step.proofs.Parts.{same_beside, same_view}
@@ -26,21 +26,21 @@ some_same : {a b : Car} → Some a ≡ Some b → a ≡ b
 some_same h = cc
 
 -- one car stands at an index of the standing order
-same : (road : Cells) (k : ℕ) (told : Car) → IsStanding road k told → (car : Car) → IsStanding road k car → told ≡ car
+same : (road : Cells) (k : ℕ) (told : Car) → IsNthCar road k told → (car : Car) → IsNthCar road k car → told ≡ car
 same road k told order car here = some_same (sym order ∙ here)
 
 not_change : Motion ≡ Change → ⊥
 not_change h = cc
 
-module _ (road : Cells) (k : ℕ) (told : Car) (order : IsStanding road k told) (limit gap_ahead speed_ahead : ℕ) (limited : limit ≡ road.limit)
-    (gap_is : gap_ahead ≡ slice_index (gaps road) k) (gap_of : (car : Car) → IsStanding road k car → gap_ahead ≡ gap (lane_of road car.lane) car.place)
-    (speed_of : (car : Car) → IsStanding road k car → speed_ahead ≡ headspeed (lane_of road car.lane) car.place) where
-  pub motion_asked : IsLegal road → IsAt road told → IsAsked Motion road k (motion_view told.speed limit gap_ahead speed_ahead) told.number
+module _ (road : Cells) (k : ℕ) (told : Car) (order : IsNthCar road k told) (limit gap_ahead speed_ahead : ℕ) (limited : limit ≡ road.limit)
+    (gap_is : gap_ahead ≡ slice_index (gaps road) k) (gap_of : (car : Car) → IsNthCar road k car → gap_ahead ≡ gap (lane_of road car.lane) car.place)
+    (speed_of : (car : Car) → IsNthCar road k car → speed_ahead ≡ headspeed (lane_of road car.lane) car.place) where
+  pub motion_asked : IsLegal road → IsAt road told → DescribesCar Motion road k (motion_view told.speed limit gap_ahead speed_ahead) told.number
   motion_asked legal at =
-      let own : (car : Car) → IsStanding road k car → motion_view told.speed limit gap_ahead speed_ahead ≡ motion_view_of road car =
+      let own : (car : Car) → IsNthCar road k car → motion_view told.speed limit gap_ahead speed_ahead ≡ motion_view_of road car =
       λ car here. same_view _ _ _ _ _ _ _ _ (ap (λ (one : Car). one.speed) (same road k told order car here)) limited (gap_of car here) (speed_of car here) in
       record {
-        is_view = subst IsView (sym (own told order)) (motion_view_is_view road told legal at);
+        is_view = subst IsViewInRange (sym (own told order)) (motion_view_is_view road told legal at);
         seen = own;
         number_of = λ car here. ap (λ (one : Car). one.number) (same road k told order car here);
         limit = limited;
@@ -49,17 +49,17 @@ module _ (road : Cells) (k : ℕ) (told : Car) (order : IsStanding road k told) 
       }
 
 -- what is seen of a car beside what a motion program sees of it
-module _ (road : Cells) (k : ℕ) (told : Car) (order : IsStanding road k told) (view : View) (number : ℕ) (own : IsAsked Motion road k view number) where
+module _ (road : Cells) (k : ℕ) (told : Car) (order : IsNthCar road k told) (view : View) (number : ℕ) (own : DescribesCar Motion road k view number) where
   pub beside_asked : IsLegal road → length road.lanes ≡ 2 → IsAt road told → (empty : Bool) (ahead behind : ℕ) → empty ≡ slice_index_or (sides road) k false
-      → ((car : Car) → IsStanding road k car → empty ≡ side (lane_of road (other_lane car.lane)) car.place)
-      → ((car : Car) → IsStanding road k car → ahead ≡ sidegap (lane_of road (other_lane car.lane)) car.place)
-      → ((car : Car) → IsStanding road k car → behind ≡ sideback (lane_of road (other_lane car.lane)) car.place)
-      → IsAsked Change road k (with_beside view told.lane empty ahead behind) number
+      → ((car : Car) → IsNthCar road k car → empty ≡ side (lane_of road (other_lane car.lane)) car.place)
+      → ((car : Car) → IsNthCar road k car → ahead ≡ sidegap (lane_of road (other_lane car.lane)) car.place)
+      → ((car : Car) → IsNthCar road k car → behind ≡ sideback (lane_of road (other_lane car.lane)) car.place)
+      → DescribesCar Change road k (with_other_lane view told.lane empty ahead behind) number
   beside_asked legal two at empty ahead behind side_is side_of ahead_of behind_of =
-      let all : (car : Car) → IsStanding road k car → with_beside view told.lane empty ahead behind ≡ change_view_of road car =
+      let all : (car : Car) → IsNthCar road k car → with_other_lane view told.lane empty ahead behind ≡ change_view_of road car =
       λ car here. same_beside road view told car empty ahead behind (own.seen car here) (same road k told order car here) (side_of car here) (ahead_of car here) (behind_of car here) in
       record {
-        is_view = subst IsView (sym (all told order)) (change_view_is_view road told legal two at);
+        is_view = subst IsViewInRange (sym (all told order)) (change_view_is_view road told legal two at);
         seen = all;
         number_of = own.number_of;
         limit = own.limit;
@@ -73,18 +73,18 @@ same_dice dice key road step a b d = ap (λ k. dice_of k dice.road dice.step) a 
 
 -- a motion program answers this speed to the k-th car in standing order, within its gap and the limit
 pub record GoesBy (motion : CheckedProgram) (dice : Dice) (road : Cells) (k speed : ℕ) : Type 0 where
-  pub answer : (car : Car) → IsStanding road k car → AnswersSpeed motion dice road car speed
+  pub answer : (car : Car) → IsNthCar road k car → AnswersSpeed motion dice road car speed
   pub gap : speed ≤ slice_index (gaps road) k
   pub limit : speed ≤ road.limit
 
 -- a change program answers so whether the k-th car in standing order crosses, and only to an empty cell
 pub record CrossesBy (change : CheckedProgram) (dice : Dice) (road : Cells) (k : ℕ) (crosses : Bool)
     : Type 0 where
-  pub answer : (car : Car) → IsStanding road k car → AnswersCrossing change dice road car crosses
+  pub answer : (car : Car) → IsNthCar road k car → AnswersCrossing change dice road car crosses
   pub side : crosses ≡ true → slice_index_or (sides road) k false ≡ true
 
 -- what a block answers to a car is what its motion program answers
-pub goes_by : (motion : CheckedProgram) (dice : Dice) (road : Cells) (k : ℕ) (view : View) (number speed : ℕ) → IsAsked Motion road k view number
+pub goes_by : (motion : CheckedProgram) (dice : Dice) (road : Cells) (k : ℕ) (view : View) (number speed : ℕ) → DescribesCar Motion road k view number
     → MovesWith motion.program.instrs view (words_of dice number) motion.budget speed → GoesBy motion dice road k speed
 goes_by motion dice road k view number speed asked moves = record {
   answer = λ car here. (
@@ -97,7 +97,7 @@ goes_by motion dice road k view number speed asked moves = record {
 }
 
 -- the same of whether it crosses
-pub crosses_by : (change : CheckedProgram) (dice : Dice) (road : Cells) (k : ℕ) (view : View) (number : ℕ) (crosses : Bool) → IsAsked Change road k view number
+pub crosses_by : (change : CheckedProgram) (dice : Dice) (road : Cells) (k : ℕ) (view : View) (number : ℕ) (crosses : Bool) → DescribesCar Change road k view number
     → CrossesWith change.program.instrs view (words_of dice number) change.budget crosses → CrossesBy change dice road k crosses
 crosses_by change dice road k view number crosses asked chooses = record {
   answer = λ car here. (

@@ -8,7 +8,7 @@ use Rattle.trlab_machine.specs.declared.views.Views.{Views}
 use Rattle.trlab_machine.specs.Blocks.{CrossesWith, MovesWith, car_words, view_of}
 use Rattle.trlab_road.specs.Cells.{Cells}
 use Rattle.trlab_step.specs.Answers.{AnswersCrossing, AnswersCrossingsPart, AnswersSpeed, AnswersSpeedsPart, CrossingsFitPart, SpeedsFitPart}
-use Rattle.trlab_step.specs.Block.{IsAsked}
+use Rattle.trlab_step.specs.Block.{DescribesCar}
 use Rattle.trlab_step.proofs.AskedCars.{CrossesBy, GoesBy, crosses_by, goes_by}
 use Rattle.trlab_step.proofs.PartLaws.{more_answers}
 use Rattle.trlab_step.proofs.Parts.{more_fits, more_free}
@@ -28,7 +28,7 @@ module _ {n : ℕ} (size : ℕ) (few : size ≤ n) where
     byte_same speed limit within low = omega (arith, within, low)
 
     -- the speeds of a block, each in a byte, are those that its cars take
-    pub block_goes : (column bytes : List ℕ) → ((j : ℕ) → j < size → IsAsked Motion road (begin + j) (view_of views j) (slice_index views.number j))
+    pub block_goes : (column bytes : List ℕ) → ((j : ℕ) → j < size → DescribesCar Motion road (begin + j) (view_of views j) (slice_index views.number j))
         → ((j : ℕ) → j < n → j < views.cars → MovesWith program.program.instrs (view_of views j) (car_words dice views j) program.budget (slice_index column j))
         → ((j : ℕ) → j < n → slice_index bytes j ≡ slice_index column j % 256)
         → (j : ℕ) → j < length (take size bytes) → GoesBy program dice road (begin + j) (get_or (take size bytes) j 0)
@@ -41,7 +41,7 @@ module _ {n : ℕ} (size : ℕ) (few : size ≤ n) where
         subst (GoesBy program dice road (begin + j)) (sym is) (goes_by program dice road (begin + j) (view_of views j) (slice_index views.number j) (slice_index column j) seen moved)
 
     -- whether the cars of a block cross
-    pub block_crosses : (flags : List Bool) → ((j : ℕ) → j < size → IsAsked Change road (begin + j) (view_of views j) (slice_index views.number j))
+    pub block_crosses : (flags : List Bool) → ((j : ℕ) → j < size → DescribesCar Change road (begin + j) (view_of views j) (slice_index views.number j))
         → ((j : ℕ) → j < n → j < views.cars → CrossesWith program.program.instrs (view_of views j) (car_words dice views j) program.budget (slice_index_or flags j false))
         → (j : ℕ) → j < length (take size flags) → CrossesBy program dice road (begin + j) (get_or (take size flags) j false)
     block_crosses flags asked chooses j below =

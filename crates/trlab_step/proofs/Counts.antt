@@ -4,10 +4,10 @@ use Rattle.std.proofs.lemmas.List.Sums.{sum_by-cons}
 use Rattle.std.specs.Prelude.{Option, Some, None, sum_by, count_by, is_some, nat_eq}
 use Rattle.trlab_bounds.specs.declared.roads.TheConstants.{MAX_LIMIT}
 use Rattle.trlab_road.specs.declared.car.Car.{Car}
-use Rattle.trlab_road.specs.Cells.{Cells, Lane, cars, lane_cars}
+use Rattle.trlab_road.specs.Cells.{Cells, Lane, cars, lane_car_count}
 use Rattle.trlab_road.specs.Legal.{IsLegal}
 use Rattle.trlab_road.specs.Standing.{standing}
-use Rattle.trlab_road.proofs.StandingOrder.{standing_cell, length-standing_lanes}
+use Rattle.trlab_road.proofs.StandingOrder.{standing_cell, length-standing_from_lane}
 use Rattle.trlab_rules.specs.Rules.{Programs}
 use Rattle.trlab_verify.specs.CheckedProgram.{CheckedProgram}
 use Rattle.trlab_machine.specs.declared.dice.Dice.{Dice}
@@ -36,20 +36,20 @@ small_sum f (x ∷ xs) small =
     let rest = small_sum f xs (λ k d below. small (suc k) d (omega arith)) in
     omega arith
 
-few_on_lanes : (limit : ℕ) (lanes : List Lane) → IsLegal (record { limit = limit; lanes = lanes }) → sum_by lane_cars lanes ≤ 200000
+few_on_lanes : (limit : ℕ) (lanes : List Lane) → IsLegal (record { limit = limit; lanes = lanes }) → sum_by lane_car_count lanes ≤ 200000
 few_on_lanes limit [] legal = omega arith
 few_on_lanes limit (a ∷ []) legal =
     let long : length a ≤ 100000 = legal.shape.cells.few_cells in
-    let few : lane_cars a ≤ length a = few_counted is_some a in
-    let one = sum_by-cons lane_cars a [] in
+    let few : lane_car_count a ≤ length a = few_counted is_some a in
+    let one = sum_by-cons lane_car_count a [] in
     omega arith
 few_on_lanes limit (a ∷ b ∷ []) legal =
     let long : length a ≤ 100000 = legal.shape.cells.few_cells in
     let same : length b ≡ length a = legal.shape.equal 1 (omega arith) in
-    let few : lane_cars a ≤ length a = few_counted is_some a in
-    let also : lane_cars b ≤ length b = few_counted is_some b in
-    let one = sum_by-cons lane_cars a (b ∷ []) in
-    let two = sum_by-cons lane_cars b [] in
+    let few : lane_car_count a ≤ length a = few_counted is_some a in
+    let also : lane_car_count b ≤ length b = few_counted is_some b in
+    let one = sum_by-cons lane_car_count a (b ∷ []) in
+    let two = sum_by-cons lane_car_count b [] in
     omega arith
 few_on_lanes limit (a ∷ b ∷ c ∷ lanes) legal =
     let many = legal.shape.lanes.few_lanes in
@@ -60,7 +60,7 @@ pub few_cars : (road : Cells) → IsLegal road → cars road ≤ 200000
 few_cars road legal = few_on_lanes road.limit road.lanes legal
 
 all_in_order : (road : Cells) → length (standing road) ≡ cars road
-all_in_order road = length-standing_lanes 0 road.lanes
+all_in_order road = length-standing_from_lane 0 road.lanes
 
 -- a tally that is that of one step at most
 pub record IsSmall (tally : StepTally) : Type 0 where

@@ -5,10 +5,10 @@ use Rattle.std.specs.Prelude.{Some, None, nat_le}
 use Rattle.std.specs.List.{AllWithin}
 use Rattle.std.specs.List.Sorted.{IsNonDecreasingBy}
 use Rattle.trlab_rules.specs.Rules.{Programs}
-use Rattle.trlab_step.specs.Run.{Sheet, Rises, in_force}
+use Rattle.trlab_step.specs.Run.{Sheet, StepsIncreaseFrom, in_force}
 
 -- no later rule is before the first of them
-all_late : (least : ℕ) (later : Sheet) (k : ℕ) (d : ℕ × Programs) → Rises least later → k < length later → least ≤ (get_or later k d).0
+all_late : (least : ℕ) (later : Sheet) (k : ℕ) (d : ℕ × Programs) → StepsIncreaseFrom least later → k < length later → least ≤ (get_or later k d).0
 all_late least [] k d rises below = absurd (omega arith)
 all_late least (entry ∷ later) zero d rises below = rises.0
 all_late least (entry ∷ later) (suc k) d rises below =
@@ -17,7 +17,7 @@ all_late least (entry ∷ later) (suc k) d rises below =
     omega arith
 
 -- the steps of later rules rise
-pub steps_rise : (least : ℕ) (later : Sheet) → Rises least later → IsNonDecreasingBy (λ (entry : ℕ × Programs). entry.0) later
+pub steps_rise : (least : ℕ) (later : Sheet) → StepsIncreaseFrom least later → IsNonDecreasingBy (λ (entry : ℕ × Programs). entry.0) later
 steps_rise least [] rises i j d up below = absurd (omega arith)
 steps_rise least (entry ∷ later) rises zero zero d up below = omega arith
 steps_rise least (entry ∷ later) rises zero (suc j) d up below =

@@ -6,16 +6,16 @@ use Rattle.trlab_code.specs.declared.program.Kind.TheVariants.{Motion, Change}
 use Rattle.trlab_verify.specs.CheckedProgram.{CheckedProgram, IsChecked}
 use Rattle.trlab_road.specs.declared.car.Car.{Car}
 use Rattle.trlab_road.specs.Cells.{Cells, AgreeAtCars}
-use Rattle.trlab_road.specs.LaneChange.{CleanLaneChange, road_after_change}
+use Rattle.trlab_road.specs.LaneChange.{IsCleanLaneChange, road_after_change}
 use Rattle.trlab_road.specs.LaneChange.StaysOrCrosses.{on_own_lane}
 use Rattle.trlab_road.specs.Standing.{standing}
 use Rattle.trlab_road.specs.Legal.{IsLegal}
-use Rattle.trlab_road.specs.Motion.{CleanMotion}
+use Rattle.trlab_road.specs.Motion.{IsCleanMotion}
 use Rattle.trlab_road.proofs.MotionLaws.{moves_clean, moves_same_count, moved_legal, one_road_only}
 use Rattle.trlab_road.proofs.MotionExists.{road_moves_somewhere}
 use Rattle.trlab_road.proofs.MotionInOrder.{moves_by}
 use Rattle.trlab_road.proofs.LaneChangeLaws.{crosses_by, road_after_change_is, lane_change_clean, lane_change_legal, lane_change_same_count, one_road_after_change}
-use Rattle.trlab_road.proofs.StandingOrder.{standing_cell, length-standing_lanes}
+use Rattle.trlab_road.proofs.StandingOrder.{standing_cell, length-standing_from_lane}
 use Rattle.trlab_step.specs.declared.tally.StepTally.{StepTally}
 use Rattle.trlab_machine.specs.declared.dice.Dice.{Dice}
 use Rattle.trlab_step.specs.Answers.{AnswersSpeeds, AnswersCrossings}
@@ -38,7 +38,7 @@ like_next old middle new a b = record {
 }
 
 -- where no car crosses, the lane change is clean
-pub no_change_clean : (road : Cells) → CleanLaneChange road road
+pub no_change_clean : (road : Cells) → IsCleanLaneChange road road
 no_change_clean road = record { same_count = refl; none_lost = λ car here. on_own_lane here; none_made = λ car here. (car.lane, here) }
 
 -- the lane change leads to a road
@@ -46,7 +46,7 @@ pub record LaneChangeSomewhere (change : Option CheckedProgram) (dice : Dice) (r
   pub middle : Cells
   pub changes : ℕ
   pub lane_change : IsLaneChangePhase change dice road middle changes
-  pub clean : CleanLaneChange road middle
+  pub clean : IsCleanLaneChange road middle
   pub like : IsLegalLike road middle
 
 pub lane_change_somewhere : (change : Option CheckedProgram) (dice : Dice) (road : Cells) → IfSome change (λ c. IsChecked Change c) → (IsSome change → length road.lanes ≡ 2) → IsLegal road → LaneChangeSomewhere change dice road
@@ -75,7 +75,7 @@ lane_change_somewhere (Some change) dice road checked two legal =
 pub record MotionSomewhere (motion : CheckedProgram) (dice : Dice) (road : Cells) : Type 0 where
   pub next : Cells
   pub motion_phase : IsMotionPhase motion dice road next
-  pub clean : CleanMotion road next
+  pub clean : IsCleanMotion road next
   pub like : IsLegalLike road next
 
 pub motion_somewhere : (motion : CheckedProgram) (dice : Dice) (road : Cells) → IsChecked Motion motion → IsLegal road → MotionSomewhere motion dice road
@@ -152,7 +152,7 @@ crossing_cars_same : (road : Cells) (crosses others : ℕ → ℕ → Bool) → 
 crossing_cars_same road crosses others same =
     count_same (λ car. crosses car.lane car.place) (λ car. others car.lane car.place) (standing road) no_one
     (λ k h. let car = get_or (standing road) k no_one in
-    same car (standing_cell road k no_one (rw length-standing_lanes at h)))
+    same car (standing_cell road k no_one (rw length-standing_from_lane at h)))
 
 -- the lane change leads to one road only, and one count of crossing cars
 pub lane_change_is_one : (change : Option CheckedProgram) (dice : Dice) (road middle other : Cells) (m n : ℕ) → IsLaneChangePhase change dice road middle m → IsLaneChangePhase change dice road other n → (middle ≡ other) × (m ≡ n)

@@ -10,7 +10,7 @@ use Rattle.trlab_step.specs.Run.{Seed, Sheet, in_force, tally_sum, dice_at, Come
 use Rattle.trlab_step.specs.Next.{IsNext}
 use Rattle.trlab_step.specs.declared.tally.StepTally.{StepTally}
 use Rattle.trlab_step.proofs.RunLaws.{force_all, run_comes_to_road, road_is_one}
-use Rattle.trlab_step.specs.Progress.{Progress, IsUnderway}
+use Rattle.trlab_step.specs.Progress.{Progress, IsReachedByRun}
 use Rattle.trlab_step.proofs.Counts.{IsSmall, small_tally}
 
 -- the road to which a run comes is like the one from which it started
@@ -21,7 +21,7 @@ like_start seed sheet step road sum legal suits comes =
     subst (λ (r : Cells). IsLegalLike seed.road r) (road_is_one seed sheet step at.0 road at.1 sum at.2 comes).0 at.3
 
 -- the rule in force is one for the lanes of the road that is there
-pub rule_here : (run : Progress) (rule : Programs) → IsUnderway run → in_force run.sheet run.step ≡ Some rule → IsRuleFor (length run.road.lanes) rule
+pub rule_here : (run : Progress) (rule : Programs) → IsReachedByRun run → in_force run.sheet run.step ≡ Some rule → IsRuleFor (length run.road.lanes) rule
 rule_here run rule on under =
     let like = like_start run.seed run.sheet run.step run.road run.sum on.legal on.suits on.comes in
     subst (λ lanes. IsRuleFor lanes rule) (sym like.same_lanes)
@@ -54,7 +54,7 @@ small_sum seed sheet (suc step) road sum legal suits comes =
     (small_tally comes.2 (dice_at seed step) comes.0 road comes.3 before.legal after.legal comes.5.next) comes.5.counted
 
 -- and what it has counted with the tally of its next step
-pub room_for : (run : Progress) (rule : Programs) (next : Cells) (tally : StepTally) → IsUnderway run → IsLegal next → IsNext rule (dice_at run.seed run.step) run.road next tally
+pub room_for : (run : Progress) (rule : Programs) (next : Cells) (tally : StepTally) → IsReachedByRun run → IsLegal next → IsNext rule (dice_at run.seed run.step) run.road next tally
     → IsSmallSum (suc run.step) (tally_sum run.sum tally)
 room_for run rule next tally on legal is =
     let like = like_start run.seed run.sheet run.step run.road run.sum on.legal on.suits on.comes in

@@ -11,8 +11,8 @@ use Rattle.trlab_machine.proofs.Answers.{one_answer}
 use Rattle.trlab_verify.specs.CheckedProgram.{CheckedProgram}
 use Rattle.trlab_road.specs.declared.car.Car.{Car}
 use Rattle.trlab_road.specs.Cells.{Cells, cars}
-use Rattle.trlab_road.specs.Standing.{IsStanding, rank, standing}
-use Rattle.trlab_road.proofs.StandingOrder.{car_of, length-standing_lanes, rank_below_cars, standing_rank}
+use Rattle.trlab_road.specs.Standing.{IsNthCar, rank, standing}
+use Rattle.trlab_road.proofs.StandingOrder.{car_of, length-standing_from_lane, rank_below_cars, standing_rank}
 use Rattle.trlab_machine.specs.declared.dice.Dice.{Dice}
 use Rattle.trlab_machine.specs.Blocks.{words_of}
 use Rattle.trlab_step.specs.Answers.{motion_view_of, change_view_of, AnswersSpeed, AnswersCrossing, AreAnswers, AreAnswersPart}
@@ -43,14 +43,14 @@ no_one = record { number = 0; lane = 0; place = 0; speed = 0 }
 module _ {X : Type 0} (none : X) (IsAnswer : Car → X → Type 0) (road : Cells) where
   -- the answer at an index of a part
   part_at : (from to : ℕ) (answers : List X) → AreAnswersPart IsAnswer road from to answers → (k : ℕ) (car : Car) → k < length answers
-      → IsStanding road (from + k) car → IsAnswer car (get_or answers k none)
+      → IsNthCar road (from + k) car → IsAnswer car (get_or answers k none)
   part_at from to answers part k car below here = part.each k car (get_or answers k none) (slice_get-get_or answers k none below) here
 
   -- where each car has one answer, the cars of a part have one list of them
   pub part_is_one : (from to : ℕ) (answers others : List X) → ((car : Car) (a b : X) → IsAnswer car a → IsAnswer car b → a ≡ b)
       → to ≤ cars road → AreAnswersPart IsAnswer road from to answers → AreAnswersPart IsAnswer road from to others → answers ≡ others
   part_is_one from to answers others one within a b =
-      let all = length-standing_lanes 0 road.lanes in
+      let all = length-standing_from_lane 0 road.lanes in
       let size = a.one_each in
       let count = b.one_each in
       ext_get_or none answers others (omega (arith, size, count))
@@ -68,8 +68,8 @@ module _ {X : Type 0} (none : X) (IsAnswer : Car → X → Type 0) (road : Cells
       ]
 
   -- answers that are right at each index are right
-  pub each_answer : (from : ℕ) (answers : List X) → ((k : ℕ) (car : Car) → k < length answers → IsStanding road (from + k) car → IsAnswer car (get_or answers k none))
-      → (k : ℕ) (car : Car) (answer : X) → slice_get answers k ≡ Some answer → IsStanding road (from + k) car → IsAnswer car answer
+  pub each_answer : (from : ℕ) (answers : List X) → ((k : ℕ) (car : Car) → k < length answers → IsNthCar road (from + k) car → IsAnswer car (get_or answers k none))
+      → (k : ℕ) (car : Car) (answer : X) → slice_get answers k ≡ Some answer → IsNthCar road (from + k) car → IsAnswer car answer
   each_answer from answers right k car answer is here = let there = at_index answers k answer is in subst (IsAnswer car) there.1 (right k car there.0 here)
 
   -- the answers to two parts, one behind the other, are answers to both
@@ -88,13 +88,13 @@ module _ {X : Type 0} (none : X) (IsAnswer : Car → X → Type 0) (road : Cells
               let place : from + k ≡ middle + j = omega (arith, size, past) in
               let inside : j < length second = omega (arith, whole, below, past) in
               subst (IsAnswer car) (sym (get_or-append_right first second (length first) k none refl past))
-              (part_at middle to second b j car inside (subst (λ i. IsStanding road i car) place here))
+              (part_at middle to second b j car inside (subst (λ i. IsNthCar road i car) place here))
         ]);
       }
 
   -- the answers of a part and those of a block behind it are those of both
   pub more_answers : (from middle : ℕ) (answers block : List X) → AreAnswersPart IsAnswer road from middle answers
-      → ((k : ℕ) (car : Car) → k < length block → IsStanding road (middle + k) car → IsAnswer car (get_or block k none))
+      → ((k : ℕ) (car : Car) → k < length block → IsNthCar road (middle + k) car → IsAnswer car (get_or block k none))
       → AreAnswersPart IsAnswer road from (middle + length block) (answers ++ block)
   more_answers from middle answers block part right =
       parts_join from middle (middle + length block) answers block part (record { one_each = refl; each = each_answer middle block right })
@@ -107,10 +107,10 @@ module _ {X : Type 0} (none : X) (IsAnswer : Car → X → Type 0) (road : Cells
         let k = rank road car.lane car.place in
         let low = rank_below_cars road car.lane car.place (car.number, car.speed) here in
         let size = part.one_each in
-        let count = length-standing_lanes 0 road.lanes in
+        let count = length-standing_from_lane 0 road.lanes in
         let first : k ≡ 0 + k = omega arith in
         let there = slice_get-get_or (standing road) k no_one (omega (arith, low, count)) ∙ ap Some (standing_rank road car.lane car.place car.number car.speed no_one here) in
-        part_at 0 (cars road) answers part k car (omega (arith, low, size)) (subst (λ i. IsStanding road i car) first there);
+        part_at 0 (cars road) answers part k car (omega (arith, low, size)) (subst (λ i. IsNthCar road i car) first there);
   }
 
 -- the cars of a part have one list of speeds

@@ -11,7 +11,7 @@ use Rattle.trlab_road.specs.LaneChange.{MayCross, other_lane, sides}
 use Rattle.trlab_road.specs.Gaps.{side, sidegap, sideback}
 use Rattle.trlab_road.specs.Motion.{MayMove, gaps}
 use Rattle.trlab_machine.specs.declared.dice.Dice.{Dice}
-use Rattle.trlab_machine.specs.Blocks.{with_beside}
+use Rattle.trlab_machine.specs.Blocks.{with_other_lane}
 use Rattle.trlab_step.specs.Answers.{change_view_of, motion_view_of, CrossingsFitPart, SpeedsFitPart, IsCrossingsPart, IsSpeedsPart}
 
 pub same_view : (a b c d x y z w : ℕ) → a ≡ x → b ≡ y → c ≡ z → d ≡ w → motion_view a b c d ≡ motion_view x y z w
@@ -20,7 +20,7 @@ same_view a b c d x y z w e f g h = ap (λ k. motion_view k b c d) e ∙ ap (λ 
 -- what a change program sees of a car is what a motion program sees, and what the road tells of the other lane
 pub same_beside : (road : Cells) (view : View) (told car : Car) (empty : Bool) (ahead_there behind_there : ℕ) → view ≡ motion_view_of road car → told ≡ car
     → empty ≡ side (lane_of road (other_lane car.lane)) car.place → ahead_there ≡ sidegap (lane_of road (other_lane car.lane)) car.place → behind_there ≡ sideback (lane_of road (other_lane car.lane)) car.place
-    → with_beside view told.lane empty ahead_there behind_there ≡ change_view_of road car
+    → with_other_lane view told.lane empty ahead_there behind_there ≡ change_view_of road car
 same_beside road view told car empty ahead_there behind_there a b c d e = rw (a, b, c, d, e) refl
 
 -- what a list has at an index after more was put behind it

@@ -10,14 +10,14 @@ use Rattle.trlab_code.specs.Machine.{Answer, Crosses as EndsAcross, Stays, EndsW
 use Rattle.trlab_machine.specs.Crossings.{crossing_answer}
 use Rattle.trlab_verify.specs.CheckedProgram.{CheckedProgram}
 use Rattle.trlab_road.specs.Cells.{Cell, Cells, cell, lane_of, IsAt}
-use Rattle.trlab_road.specs.LaneChange.{Crosses, CrossesToEmpty, other_lane, car_beside}
+use Rattle.trlab_road.specs.LaneChange.{ChangesLanes, CrossesToEmpty, other_lane, car_after_crossing}
 use Rattle.trlab_road.specs.LaneChange.StaysOrCrosses.{on_own_lane, on_other_lane}
 use Rattle.trlab_road.specs.Gaps.{gap, side, sidegap, sideback}
 use Rattle.trlab_road.specs.Legal.{IsLegal}
 use Rattle.trlab_road.proofs.LaneChangeLaws.{came_from, lane_change_legal, lane_change_none_lost}
 use Rattle.trlab_road.proofs.MotionLaws.{on_lane}
 use Rattle.trlab_rules.specs.Published.{brake, safe_speed, nasch_speed, rickert_crosses, vdr_chance, vdr_speed}
-use Rattle.trlab_rules.specs.StandardRules.{IsChange}
+use Rattle.trlab_rules.specs.StandardRules.{IsChangeComputing}
 use Rattle.trlab_rules.specs.Laws.{ComputesCrossing, ComputesSpeed}
 use Rattle.trlab_rules.specs.Rules.{Programs}
 use Rattle.trlab_rules.specs.Standard.{rickert_program}
@@ -25,7 +25,7 @@ use Rattle.trlab_machine.specs.declared.dice.Dice.{Dice}
 use Rattle.trlab_machine.specs.Blocks.{words_of}
 use Rattle.trlab_step.specs.Answers.{AnswersCrossings, change_view_of, motion_view_of}
 use Rattle.trlab_step.specs.Next.{IsMotionPhase, IsLaneChangePhase}
-use Rattle.trlab_step.specs.Published.{AllCross, AllGo, NaschOnCells, RickertOnCells, VdrOnCells, nasch_goes, rickert_car_crosses, vdr_goes, car_ahead}
+use Rattle.trlab_step.specs.Published.{CarsCrossIf, AllMoveAhead, NaschOnCells, RickertOnCells, VdrOnCells, nasch_car_speed, rickert_car_crosses, vdr_car_speed, car_after_motion}
 use Rattle.trlab_step.proofs.AnswersExist.{change_view_is_view, motion_view_is_view}
 use Rattle.trlab_step.proofs.PartLaws.{one_answer_each, one_crossing_each}
 use Rattle.trlab_road.specs.declared.car.Car.{Car}
@@ -38,28 +38,28 @@ word_is dice number k below = slice_index-random_words dice.key dice.road number
 -- the motion by a program that answers the speed of a rule
 goes_by : (speed : View → List ℕ → ℕ) (motion : CheckedProgram) (dice : Dice) (old new : Cells)
     → ComputesSpeed speed motion.program
-    → IsLegal old → IsMotionPhase motion dice old new → AllGo (λ car. speed (motion_view_of old car) (words_of dice car.number)) old new
+    → IsLegal old → IsMotionPhase motion dice old new → AllMoveAhead (λ car. speed (motion_view_of old car) (words_of dice car.number)) old new
 goes_by speed motion dice old new moves legal phase car here =
     let view = motion_view_of old car in
     let words = words_of dice car.number in
     let answer = moves view words (motion_view_is_view old car legal here) in
     let same = one_answer_each motion dice old car (phase.0 car.lane car.place) (speed view words) (phase.1.each car here) answer in
     let arrives = (phase.2.each_lane car.lane (on_lane old car.lane car.place (car.number, car.speed) here)).arrives car.place car.number car.speed here in
-    subst (λ (w : ℕ). IsAt new (car_ahead old car w)) same arrives
+    subst (λ (w : ℕ). IsAt new (car_after_motion old car w)) same arrives
 
 -- the same by the words of the car's number
-all_go : (goes others : Car → ℕ) (old new : Cells) → ((car : Car) → goes car ≡ others car) → AllGo goes old new → AllGo others old new
-all_go goes others old new same go car here = subst (λ (w : ℕ). IsAt new (car_ahead old car w)) (same car) (go car here)
+all_go : (goes others : Car → ℕ) (old new : Cells) → ((car : Car) → goes car ≡ others car) → AllMoveAhead goes old new → AllMoveAhead others old new
+all_go goes others old new same go car here = subst (λ (w : ℕ). IsAt new (car_after_motion old car w)) (same car) (go car here)
 
-nasch_goes_by : (p : ℕ) (motion : CheckedProgram) (dice : Dice) (old new : Cells) → ComputesSpeed (nasch_speed p) motion.program → IsLegal old → IsMotionPhase motion dice old new → AllGo (nasch_goes p dice old) old new
+nasch_goes_by : (p : ℕ) (motion : CheckedProgram) (dice : Dice) (old new : Cells) → ComputesSpeed (nasch_speed p) motion.program → IsLegal old → IsMotionPhase motion dice old new → AllMoveAhead (nasch_car_speed p dice old) old new
 nasch_goes_by p motion dice old new moves legal phase =
-    all_go (λ car. nasch_speed p (motion_view_of old car) (words_of dice car.number)) (nasch_goes p dice old) old new
+    all_go (λ car. nasch_speed p (motion_view_of old car) (words_of dice car.number)) (nasch_car_speed p dice old) old new
     (λ car. ap (λ (word : ℕ). brake (happens_on p word) (safe_speed car.speed old.limit (gap (lane_of old car.lane) car.place))) (word_is dice car.number 0 (omega arith)))
     (goes_by (nasch_speed p) motion dice old new moves legal phase)
 
-vdr_goes_by : (p p0 : ℕ) (motion : CheckedProgram) (dice : Dice) (old new : Cells) → ComputesSpeed (vdr_speed p p0) motion.program → IsLegal old → IsMotionPhase motion dice old new → AllGo (vdr_goes p p0 dice old) old new
+vdr_goes_by : (p p0 : ℕ) (motion : CheckedProgram) (dice : Dice) (old new : Cells) → ComputesSpeed (vdr_speed p p0) motion.program → IsLegal old → IsMotionPhase motion dice old new → AllMoveAhead (vdr_car_speed p p0 dice old) old new
 vdr_goes_by p p0 motion dice old new moves legal phase =
-    all_go (λ car. vdr_speed p p0 (motion_view_of old car) (words_of dice car.number)) (vdr_goes p p0 dice old) old new
+    all_go (λ car. vdr_speed p p0 (motion_view_of old car) (words_of dice car.number)) (vdr_car_speed p p0 dice old) old new
     (λ car. ap (λ (word : ℕ). brake (happens_on (vdr_chance p p0 car.speed) word) (safe_speed car.speed old.limit (gap (lane_of old car.lane) car.place))) (word_is dice car.number 0 (omega arith)))
     (goes_by (vdr_speed p p0) motion dice old new moves legal phase)
 
@@ -81,7 +81,7 @@ vdr_on_cells p p0 rule dice old new tally is legal next =
     (motion_alone rule dice old next.0 new tally.changes is.change next.1.lane_change next.1.motion)
 
 -- where the cars stand after a lane change
-change_by : (crosses : ℕ → ℕ → Bool) (old new : Cells) → IsLegal old → Crosses crosses old new → CrossesToEmpty crosses old → AllCross (λ car. crosses car.lane car.place) old new
+change_by : (crosses : ℕ → ℕ → Bool) (old new : Cells) → IsLegal old → ChangesLanes crosses old new → CrossesToEmpty crosses old → CarsCrossIf (λ car. crosses car.lane car.place) old new
 change_by crosses old new legal phase free car here =
     let l = car.lane in
     let x = car.place in
@@ -98,7 +98,7 @@ change_by crosses old new legal phase free car here =
       | on_other_lane empty there ↦ to (other_lane l) there
     ])
   where
-    at_lane : (b : Bool) (car : Car) (new : Cells) → cell new (cond b (other_lane car.lane) car.lane) car.place ≡ Some (car.number, car.speed) → IsAt new (if b then car_beside car else car)
+    at_lane : (b : Bool) (car : Car) (new : Cells) → cell new (cond b (other_lane car.lane) car.lane) car.place ≡ Some (car.number, car.speed) → IsAt new (if b then car_after_crossing car else car)
     at_lane true car new h = h
     at_lane false car new h = h
 
@@ -128,7 +128,7 @@ none_of (Some car) h = absurd cc
 -- a phase in which cars change lanes
 record Changed (c : ℕ) (dice : Dice) (old middle : Cells) : Type 0 where
   legal : IsLegal middle
-  changed : AllCross (rickert_car_crosses c dice old) old middle
+  changed : CarsCrossIf (rickert_car_crosses c dice old) old middle
 
 rickert_phase : (c : ℕ) (change : CheckedProgram) (dice : Dice) (old middle : Cells) (changes : ℕ) → ComputesCrossing (rickert_crosses c) change.program → IsLegal old → IsLaneChangePhase (Some change) dice old middle changes
     → Changed c dice old middle
@@ -152,12 +152,12 @@ rickert_phase c change dice old middle changes by legal phase =
     record {
       legal = lane_change_legal answers old middle legal phase.3 free;
       changed = λ car here.
-          subst (λ (b : Bool). IsAt middle (if b then car_beside car else car)) (agree car here ∙ word car)
+          subst (λ (b : Bool). IsAt middle (if b then car_after_crossing car else car)) (agree car here ∙ word car)
           (change_by answers old middle legal phase.3 free car here);
     }
 
 -- the change program of the rule of 1996
-rickert_change : (c : ℕ) (change : Option CheckedProgram) (dice : Dice) (old middle : Cells) (changes : ℕ) → MatchOption change ⊥ (IsChange (rickert_crosses c) (rickert_program c)) → IsLegal old → IsLaneChangePhase change dice old middle changes
+rickert_change : (c : ℕ) (change : Option CheckedProgram) (dice : Dice) (old middle : Cells) (changes : ℕ) → MatchOption change ⊥ (IsChangeComputing (rickert_crosses c) (rickert_program c)) → IsLegal old → IsLaneChangePhase change dice old middle changes
     → Changed c dice old middle
 rickert_change c None dice old middle changes is legal phase = absurd is
 rickert_change c (Some change) dice old middle changes is legal phase = rickert_phase c change dice old middle changes is.changes legal phase

@@ -7,7 +7,7 @@ use Rattle.trlab_rules.specs.Rules.{Programs}
 use Rattle.trlab_step.specs.declared.tally.StepTally.{StepTally}
 use Rattle.trlab_step.specs.Next.{IsNext}
 use Rattle.trlab_step.specs.Run.{Seed, Sheet, IsSheet, in_force, no_tally, tally_sum, dice_at, IsRoadAt}
-use Rattle.trlab_step.specs.Laws.{IsRuleFor, IsLegalLike, RoadExists, RoadIsUnique, RunGoesOn}
+use Rattle.trlab_step.specs.Laws.{IsRuleFor, IsLegalLike, RoadExists, RoadIsUnique, RunContinues}
 use Rattle.trlab_step.proofs.NextLaws.{like_itself, like_next, next_road_exists, next_road_is_one}
 
 -- the rule in force is that of the first entry, or the one in force by the others
@@ -33,7 +33,7 @@ some_force (entry ∷ later) step is =
     (unwrap_or (in_force later step) entry.1, rw (le-leb entry.0 step (omega arith)) refl)
 
 -- a run goes on from its road at a step to the next road under the rule in force
-pub run_goes_on : RunGoesOn
+pub run_goes_on : RunContinues
 run_goes_on seed sheet step road next sum tally rule comes under is =
     (road, sum, rule, tally, comes, record { under = under; next = is; counted = refl })
 

@@ -16,7 +16,7 @@ use Rattle.trlab_rules.specs.Rules.{IsRule, Programs}
 use Rattle.trlab_step.specs.Answers.{change_view_of, motion_view_of}
 use Rattle.trlab_step.specs.Block.{view_by}
 use Rattle.trlab_step.specs.Calls.{AreSafeCalls, StepCallsAreSafe}
-use Rattle.trlab_step.specs.Laws.{CrossingsComeInTime, SpeedsComeInTime, ViewsAreInRange}
+use Rattle.trlab_step.specs.Laws.{CrossingsComeWithinBudget, SpeedsComeWithinBudget, ViewsAreInRange}
 use Rattle.trlab_step.proofs.AnswersExist.{change_view_is_view, motion_view_is_view}
 
 not_change : Motion ≡ Change → ⊥
@@ -34,13 +34,13 @@ calls_safe kind checked dice road is legal two car here =
     record { in_range = seen; ends = is.safe (view_by kind road car) (words_of dice car.number) seen (length-random_words dice.key dice.road car.number dice.step) }
 
 -- a program ends once, so its answer comes within its budget
-pub speeds_in_time : SpeedsComeInTime
+pub speeds_in_time : SpeedsComeWithinBudget
 speeds_in_time motion dice road car speed is legal here answer =
     let safe = (calls_safe Motion motion dice road is legal (λ e. absurd (not_change e)) car here).ends in
     let same = (one_answer Motion motion.program.instrs (motion_view_of road car) (words_of dice car.number) safe.0 (Goes speed) safe.1 answer.0 safe.3 answer.1).1 in
     subst (λ (n : ℕ). n ≤ motion.budget) same safe.2
 
-pub crossings_in_time : CrossingsComeInTime
+pub crossings_in_time : CrossingsComeWithinBudget
 crossings_in_time change dice road car crosses is legal two here answer =
     let safe = (calls_safe Change change dice road is legal (λ e. two) car here).ends in
     let same = (one_answer Change change.program.instrs (change_view_of road car) (words_of dice car.number) safe.0 (crossing_answer crosses) safe.1 answer.0 safe.3 answer.1).1 in

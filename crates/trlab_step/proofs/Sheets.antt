@@ -3,19 +3,19 @@ use Rattle.std.proofs.Common.{◌≡◌, ℕ, zero, suc, ◌+◌, Bool, true, fa
 use Rattle.std.proofs.lemmas.Bool.{eqb-true, eqb-false}
 use Rattle.std.specs.Prelude.{◌==◌, All, if◌then◌else◌}
 use Rattle.trlab_rules.specs.Rules.{Programs}
-use Rattle.trlab_step.specs.Run.{Sheet, Rises, IsSheet, sheet_with}
+use Rattle.trlab_step.specs.Run.{Sheet, StepsIncreaseFrom, IsSheet, sheet_with}
 
 -- a later rule from step 0 on, or another one
-sheet_by : (b : Bool) (first : Programs) (entry : ℕ × Programs) (later : Sheet) → (entry.0 == 0) ≡ b → Rises 0 (entry ∷ later)
+sheet_by : (b : Bool) (first : Programs) (entry : ℕ × Programs) (later : Sheet) → (entry.0 == 0) ≡ b → StepsIncreaseFrom 0 (entry ∷ later)
     → IsSheet (if b then entry ∷ later else (0, first) ∷ entry ∷ later)
 sheet_by true first entry later begins rises =
     let start = eqb-true entry.0 0 begins in
-    (start, subst (λ (n : ℕ). Rises (n + 1) later) start rises.1)
+    (start, subst (λ (n : ℕ). StepsIncreaseFrom (n + 1) later) start rises.1)
 sheet_by false first entry later begins rises =
     let behind = eqb-false entry.0 0 begins in
     (refl, (omega arith, rises.1))
 
-pub with_is_sheet : (first : Programs) (later : Sheet) → Rises 0 later → IsSheet (sheet_with first later)
+pub with_is_sheet : (first : Programs) (later : Sheet) → StepsIncreaseFrom 0 later → IsSheet (sheet_with first later)
 with_is_sheet first [] rises = (refl, tt)
 with_is_sheet first (entry ∷ later) rises = sheet_by (entry.0 == 0) first entry later refl rises
 

@@ -3,12 +3,12 @@ use Rattle.std.proofs.Common.{◌≡◌, ℕ, Some, None, List, refl, sym, ◌�
 use Rattle.std.specs.Prelude.{Bool, Option, false, length, count_by, nat_eq, sum}
 use Rattle.trlab_verify.specs.CheckedProgram.{CheckedProgram}
 use Rattle.trlab_road.specs.Cells.{Cells, cars}
-use Rattle.trlab_road.specs.LaneChange.{Crosses, crosses_at}
+use Rattle.trlab_road.specs.LaneChange.{ChangesLanes, crosses_at}
 use Rattle.trlab_road.specs.Motion.{Moves, in_order}
 use Rattle.trlab_machine.specs.declared.dice.Dice.{Dice}
 use Rattle.trlab_step.specs.Answers.{AnswersSpeedsPart, AnswersCrossingsPart, AnswersSpeed, AnswersCrossing, IsSpeedsPart}
 use Rattle.trlab_step.specs.Next.{total_speed, stopped_cars, IsLaneChangePhase, IsMotionPhase}
-use Rattle.trlab_step.specs.Laws.{CrossByAnswers, AnswersLeadOn}
+use Rattle.trlab_step.specs.Laws.{IsLaneChangeByAnswers, AnswersLeadToNextRoad}
 use Rattle.trlab_road.proofs.MotionInOrder.{answer_at}
 use Rattle.trlab_step.proofs.Parts.{whole_allowed}
 use Rattle.trlab_step.proofs.SumsOverCars.{answers_in_order, total_speed-moved, stopped_cars-moved, crossing_cars-counted}
@@ -16,7 +16,7 @@ use Rattle.trlab_step.proofs.PartLaws.{by_place}
 
 -- where all cars are asked on the road as it stands, and cross by their answers, the lane change is done
 pub lane_change_is_done : (change : CheckedProgram) (dice : Dice) (road middle : Cells) (crosses : List Bool) (changes : ℕ) → length road.lanes ≡ 2 → AnswersCrossingsPart change dice road 0 (cars road) crosses
-    → ((answer : ℕ → ℕ → Bool) → crosses ≡ in_order answer road → Crosses answer road middle)
+    → ((answer : ℕ → ℕ → Bool) → crosses ≡ in_order answer road → ChangesLanes answer road middle)
     → changes ≡ count_by (λ c. c) crosses → IsLaneChangePhase (Some change) dice road middle changes
 lane_change_is_done change dice road middle crosses changes two part phase counted =
     let one_each = part.one_each in
@@ -47,14 +47,14 @@ module _ (motion : CheckedProgram) (dice : Dice) (road next : Cells) (speeds : L
   all_stopped stopped told moves counted = counted ∙ sym (stopped_cars-moved road next speeds (whole_allowed motion dice road speeds told) moves)
 
 -- whoever asks the cars, who cross by their answers or do not cross
-crossed_by_answers : (change : Option CheckedProgram) (dice : Dice) (road middle : Cells) (crosses : List Bool) → CrossByAnswers change dice road middle crosses
+crossed_by_answers : (change : Option CheckedProgram) (dice : Dice) (road middle : Cells) (crosses : List Bool) → IsLaneChangeByAnswers change dice road middle crosses
     → IsLaneChangePhase change dice road middle (count_by (λ c. c) crosses)
 crossed_by_answers None dice road middle crosses by = (by.0, ap (λ cs. count_by (λ c. c) cs) by.1)
 crossed_by_answers (Some change) dice road middle crosses by =
     lane_change_is_done change dice road middle crosses (count_by (λ c. c) crosses) by.0 by.1 by.2 refl
 
 -- and who then go ahead by theirs, the next road is come to
-pub answers_lead_on : AnswersLeadOn
+pub answers_lead_on : AnswersLeadToNextRoad
 answers_lead_on rule dice road middle next crosses speeds cross go =
     let moves = moved_by_place rule.motion dice middle next speeds go.answers.0 go.moves in (
       middle,

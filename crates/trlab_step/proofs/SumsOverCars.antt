@@ -7,12 +7,12 @@ use Rattle.trlab_road.specs.declared.car.Car.{Car}
 use Rattle.trlab_road.specs.Cells.{Lane, Cells, at, cars}
 use Rattle.trlab_road.specs.Gaps.{ahead}
 use Rattle.trlab_road.specs.Motion.{LaneMoves, Moves, MayMove}
-use Rattle.trlab_road.specs.Standing.{standing_from, standing_lanes, standing, rank}
+use Rattle.trlab_road.specs.Standing.{standing_from, standing_from_lane, standing, rank}
 use Rattle.trlab_road.specs.LaneChange.{crosses_at}
 use Rattle.trlab_road.proofs.Ring.{Apart, apart_within_gaps}
 use Rattle.trlab_road.proofs.MotionInOrder.{answer_at, allowed_fits}
 use Rattle.trlab_road.proofs.Numbers.{rank_of_kth}
-use Rattle.trlab_road.proofs.StandingOrder.{get_or-map_in, length-standing_lanes}
+use Rattle.trlab_road.proofs.StandingOrder.{get_or-map_in, length-standing_from_lane}
 use Rattle.trlab_step.specs.Next.{total_speed, stopped_cars, crossing_cars}
 
 -- the sum over the cars of a lane of what each weighs by its place, number and speed
@@ -83,7 +83,7 @@ lane_sum h f l s (Some here ∷ cells) same =
 lanes_total : (g : ℕ → ℕ) (answer : ℕ → ℕ → ℕ) (base : ℕ) (olds news : List Lane) → length news ≡ length olds
     → ((l : ℕ) → l < length olds → LaneMoves (answer (base + l)) (get_or olds l []) (get_or news l []))
     → ((l : ℕ) → l < length olds → Apart (answer (base + l)) (get_or olds l []))
-    → sum_by (λ (car : Car). g (answer car.lane car.place)) (standing_lanes base olds) ≡ sum_by (λ (car : Car). g car.speed) (standing_lanes base news)
+    → sum_by (λ (car : Car). g (answer car.lane car.place)) (standing_from_lane base olds) ≡ sum_by (λ (car : Car). g car.speed) (standing_from_lane base news)
 lanes_total g answer base [] [] size moves far = refl
 lanes_total g answer base [] (new ∷ news) size moves far = absurd (omega arith)
 lanes_total g answer base (old ∷ olds) [] size moves far = absurd (omega arith)
@@ -96,12 +96,12 @@ lanes_total g answer base (old ∷ olds) (new ∷ news) size moves far =
     let first = lane_sum before (λ x car. g (answer base x)) base 0 old (λ x car. let e : 0 + x ≡ x = omega arith in ap (λ p. g (answer base p)) e) in
     let last = lane_sum after (λ x car. g car.1) base 0 new (λ x car. refl) in
     let lane : sum_by before (standing_from base 0 old) ≡ sum_by after (standing_from base 0 new) = first ∙ lane_total g (answer base) old new move apart ∙ sym last in
-    let rest : sum_by before (standing_lanes (suc base) olds) ≡ sum_by after (standing_lanes (suc base) news) =
+    let rest : sum_by before (standing_from_lane (suc base) olds) ≡ sum_by after (standing_from_lane (suc base) news) =
     lanes_total g answer (suc base) olds news (omega arith)
     (λ l h. let e : base + suc l ≡ suc base + l = omega arith in subst (λ k. LaneMoves (answer k) (get_or olds l []) (get_or news l [])) e (moves (suc l) (omega arith)))
     (λ l h. let e : base + suc l ≡ suc base + l = omega arith in subst (λ k. Apart (answer k) (get_or olds l [])) e (far (suc l) (omega arith))) in
-    let a = sum_by-append before (standing_from base 0 old) (standing_lanes (suc base) olds) in
-    let b = sum_by-append after (standing_from base 0 new) (standing_lanes (suc base) news) in
+    let a = sum_by-append before (standing_from base 0 old) (standing_from_lane (suc base) olds) in
+    let b = sum_by-append after (standing_from base 0 new) (standing_from_lane (suc base) news) in
     omega (arith, lane, rest, a, b)
 
 sum_by-map : {X Y : Type 0} (g : Y → ℕ) (f : X → Y) (xs : List X) → sum_by g (map f xs) ≡ sum_by (λ x. g (f x)) xs
@@ -120,7 +120,7 @@ pub answers_in_order : {X : Type 0} (none : X) (road : Cells) (answers : List X)
 unfolding no_one
 answers_in_order none road answers size =
     let answer = λ (car : Car). get_or answers (rank road car.lane car.place) none in
-    let count = length-standing_lanes 0 road.lanes in
+    let count = length-standing_from_lane 0 road.lanes in
     ext_get_or none (map answer (standing road)) answers (length-map (standing road) answer ∙ count ∙ sym size)
     (λ k h. let below : k < length (standing road) = rw length-map at h in
     get_or-map_in answer (standing road) k no_one none below ∙ ap (λ i. get_or answers i none) (rank_of_kth road k (omega (arith, below, count))))

@@ -10,23 +10,24 @@ use Rattle.trlab_machine.specs.Blocks.{words_of}
 use Rattle.trlab_machine.specs.Crossings.{crossing_answer}
 use Rattle.trlab_road.specs.declared.car.Car.{Car}
 use Rattle.trlab_road.specs.Cells.{Cells, IsAt, lane_of}
-use Rattle.trlab_road.specs.Standing.{IsStanding}
+use Rattle.trlab_road.specs.Standing.{IsNthCar}
 use Rattle.trlab_road.specs.Motion.{gaps}
 use Rattle.trlab_road.specs.Gaps.{gap, headspeed, side, sidegap, sideback}
 use Rattle.trlab_road.specs.LaneChange.{other_lane, sides}
 
--- the dice of step `step` for the road with number `road`, under `key`
+-- the dice of a step of a run: the key, the number of the road and the number of the step, which determine
+-- the random words of each car
 abbrev pub dice_of : List ℕ → ℕ → ℕ → Dice
-dice_of key road step = record { key = key; road = road; step = step }
+dice_of key road_number step = record { key = key; road = road_number; step = step }
 
--- the view of a car for a motion program: its speed, the limit, its gap and its headspeed
+-- the view of a car on a road for a motion program: its speed, the limit, its gap and its headspeed
 abbrev pub motion_view_of : Cells → Car → View
 motion_view_of road car =
     let own = lane_of road car.lane in
     motion_view car.speed road.limit (gap own car.place) (headspeed own car.place)
 
--- the view of a car for a change program: its speed, the limit, its gap, its lane and its headspeed, and of
--- the other lane whether the side cell is empty, the sidegap and the sideback
+-- the view of a car on a road for a change program: its speed, the limit, its gap, its lane and its
+-- headspeed, and from the other lane: is the side cell empty, and the sidegap and the sideback
 abbrev pub change_view_of : Cells → Car → View
 change_view_of road car =
     let own = lane_of road car.lane in
@@ -34,39 +35,40 @@ change_view_of road car =
     change_view car.speed road.limit (gap own car.place) (side other car.place)
     (sidegap other car.place) (sideback other car.place) car.lane (headspeed own car.place)
 
--- the motion program, run for `car` on `road` with the car's random words from `dice`, ends with the speed
--- `answer`
+-- the motion program, run for the car on the road with the car's random words from the dice, ends with the
+-- speed `answer`
 abbrev pub AnswersSpeed : CheckedProgram → Dice → Cells → Car → ℕ → Type 0
 AnswersSpeed motion dice road car answer =
-    (n : ℕ) × EndsWith Motion motion.program.instrs
-    (motion_view_of road car) (words_of dice car.number) (Goes answer) n
+    (steps : ℕ) × EndsWith Motion motion.program.instrs
+    (motion_view_of road car) (words_of dice car.number) (Goes answer) steps
 
--- the change program, run for `car` on `road` with the car's random words from `dice`, ends with the answer
--- to cross if `crosses` is true, and otherwise with the answer to stay
+-- the change program, run for the car on the road with the car's random words from the dice, ends with the
+-- answer to cross if `crosses` is true, otherwise with the answer to stay
 abbrev pub AnswersCrossing : CheckedProgram → Dice → Cells → Car → Bool → Type 0
 AnswersCrossing change dice road car crosses =
-    (n : ℕ) × EndsWith Change change.program.instrs
-    (change_view_of road car) (words_of dice car.number) (crossing_answer crosses) n
+    (steps : ℕ) × EndsWith Change change.program.instrs
+    (change_view_of road car) (words_of dice car.number) (crossing_answer crosses) steps
 
--- `answers`, a function of lane and place, has for each car of `road` an answer for which `IsAnswer` holds
+-- `answers` is a function of lane and place; for each car of the road, `IsAnswer` holds for the car and the
+-- answer at its lane and place
 pub record AreAnswers {X : Type 0} (IsAnswer : Car → X → Type 0) (road : Cells)
     (answers : ℕ → ℕ → X) : Type 0 where
   pub each : (car : Car) → IsAt road car → IsAnswer car (answers car.lane car.place)
 
--- `answers` has one answer for each index `from..to` of the standing order, and `IsAnswer` holds for the car
--- at this index, if there is one
+-- `answers` lists one answer for each index `from..to` of the standing order (for example 2, 3 and 4 for
+-- `2..5`), and `IsAnswer` holds for the car with this index, if there is one, and its answer
 pub record AreAnswersPart {X : Type 0} (IsAnswer : Car → X → Type 0) (road : Cells) (from to : ℕ)
     (answers : List X) : Type 0 where
   pub one_each : from + length answers ≡ to
   pub each : (k : ℕ) (car : Car) (answer : X) → slice_get answers k ≡ Some answer
-      → IsStanding road (from + k) car → IsAnswer car answer
+      → IsNthCar road (from + k) car → IsAnswer car answer
 
--- a function of lane and place has the speed that the motion program answers for each car of the road
+-- a function of lane and place gives, for each car of the road, the speed that the motion program answers
 abbrev pub AnswersSpeeds : CheckedProgram → Dice → Cells → (ℕ → ℕ → ℕ) → Type 0
 AnswersSpeeds motion dice road = AreAnswers (AnswersSpeed motion dice road) road
 
--- a function of lane and place says for each car of the road whether it crosses, as the change program
--- answers
+-- a function of lane and place is true for a car of the road if the change program answers that this car
+-- crosses, and false if it answers that the car stays
 abbrev pub AnswersCrossings : CheckedProgram → Dice → Cells → (ℕ → ℕ → Bool) → Type 0
 AnswersCrossings change dice road = AreAnswers (AnswersCrossing change dice road) road
 
@@ -74,18 +76,20 @@ AnswersCrossings change dice road = AreAnswers (AnswersCrossing change dice road
 abbrev pub AnswersSpeedsPart : CheckedProgram → Dice → Cells → ℕ → ℕ → List ℕ → Type 0
 AnswersSpeedsPart motion dice road = AreAnswersPart (AnswersSpeed motion dice road) road
 
--- a list says for the cars `from..to` in standing order whether each crosses, as the change program answers
+-- a list has the answers of the change program for the cars `from..to` in standing order: true to cross,
+-- false to stay
 abbrev pub AnswersCrossingsPart : CheckedProgram → Dice → Cells → ℕ → ℕ → List Bool → Type 0
 AnswersCrossingsPart change dice road = AreAnswersPart (AnswersCrossing change dice road) road
 
--- `speeds`, for the cars from index `from` of the standing order on, are at most the limit and the cars' gaps
+-- `speeds` are for the cars from index `from` of the standing order on, and each is at most the limit and the
+-- car's gap
 pub record SpeedsFitPart (road : Cells) (from : ℕ) (speeds : List ℕ) : Type 0 where
   pub within_gaps : (k : ℕ) → k < length speeds
       → slice_index speeds k ≤ slice_index (gaps road) (from + k)
   pub within_limit : (k : ℕ) → k < length speeds → slice_index speeds k ≤ road.limit
 
--- `crosses`, for the cars from index `from` of the standing order on, is true only if the car's side cell is
--- empty
+-- `crosses` is for the cars from index `from` of the standing order on, and true only for cars whose side
+-- cell is empty
 pub record CrossingsFitPart (road : Cells) (from : ℕ) (crosses : List Bool) : Type 0 where
   pub side_empty : (k : ℕ) → k < length crosses → slice_index_or crosses k false ≡ true
       → slice_index_or (sides road) (from + k) false ≡ true

@@ -1,13 +1,14 @@
--- Laws of answers, steps and runs, independent of the code that computes the answers and moves the cars.
+-- Laws of answers, steps and runs, independent of the code that computes the answers and moves the cars. The
+-- cars `from..to` are those with the indices from, from + 1 and so on to to - 1 in standing order.
 use Rattle.std.specs.Prelude.{◌≡◌, ◌≤◌, ◌++◌, ℕ, suc, Bool, Option, Some, None, List, [], All, IfSome, IsSome, length, sum, count_by, nat_eq, nat_le, if◌then◌else◌}
 use Rattle.trlab_code.specs.declared.program.Kind.{Kind}
 use Rattle.trlab_code.specs.declared.program.Kind.TheVariants.{Motion, Change}
-use Rattle.trlab_code.specs.Views.{IsView}
+use Rattle.trlab_code.specs.Views.{IsViewInRange}
 use Rattle.trlab_verify.specs.CheckedProgram.{CheckedProgram, IsChecked}
 use Rattle.trlab_road.specs.declared.car.Car.{Car}
 use Rattle.trlab_road.specs.Cells.{Cells, IsAt, cars}
 use Rattle.trlab_road.specs.Legal.{IsLegal}
-use Rattle.trlab_road.specs.LaneChange.{Crosses}
+use Rattle.trlab_road.specs.LaneChange.{ChangesLanes}
 use Rattle.trlab_road.specs.Motion.{Moves, in_order}
 use Rattle.trlab_rules.specs.Rules.{Programs}
 use Rattle.trlab_step.specs.declared.tally.StepTally.{StepTally}
@@ -18,34 +19,34 @@ use Rattle.trlab_step.specs.Calls.{StepCallsAreSafe}
 use Rattle.trlab_step.specs.Next.{IsNext, IsCleanNext, IsStep}
 use Rattle.trlab_step.specs.Run.{Seed, Sheet, IsSheet, in_force, tally_sum, dice_at, ComesTo}
 
--- a rule for roads with `lanes` lanes: its programs are safe within their budgets, and if it has a change
--- program, there are two lanes
+-- a rule for roads with `lanes` lanes: its programs are valid programs of their kind, and safe within their
+-- budgets; if it has a change program, there are two lanes
 pub record IsRuleFor (lanes : ℕ) (rule : Programs) : Type 0 where
   pub motion : IsChecked Motion rule.motion
   pub change : IfSome rule.change (λ change. IsChecked Change change)
   pub two_lanes : IsSome rule.change → lanes ≡ 2
 
--- a sheet whose rules are all for roads with `lanes` lanes
+-- a valid sheet, and all its rules are for roads with `lanes` lanes
 pub record IsSheetFor (lanes : ℕ) (sheet : Sheet) : Type 0 where
   pub is_sheet : IsSheet sheet
   pub rules : All (λ (entry : ℕ × Programs). IsRuleFor lanes entry.1) sheet
 
--- `new` is legal, and has the limit and the numbers of lanes and cars of `old`
+-- road `new` is legal, and has the limit and the numbers of lanes and cars of road `old`
 pub record IsLegalLike (old new : Cells) : Type 0 where
   pub legal : IsLegal new
   pub same_lanes : length new.lanes ≡ length old.lanes
   pub same_limit : new.limit ≡ old.limit
   pub same_count : cars new ≡ cars old
 
--- for the cars `from..to` of a road, with given dice, a motion program answers only one list of speeds
+-- for the cars `from..to` of a road, with given dice, a motion program answers at most one list of speeds
 abbrev pub SpeedsAreUnique : Type 0
 SpeedsAreUnique =
     (motion : CheckedProgram) (dice : Dice) (road : Cells) (from to : ℕ) (speeds others : List ℕ)
     → to ≤ cars road → AnswersSpeedsPart motion dice road from to speeds
     → AnswersSpeedsPart motion dice road from to others → speeds ≡ others
 
--- the speeds of the cars `from..middle`, followed by those of the cars `middle..to`, are the speeds of the
--- cars `from..to`
+-- a motion program's speeds for the cars `from..middle`, followed by those for the cars `middle..to`, are its
+-- speeds for the cars `from..to`
 abbrev pub SpeedsJoin : Type 0
 SpeedsJoin =
     (motion : CheckedProgram) (dice : Dice) (road : Cells) (from middle to : ℕ) (first second : List ℕ)
@@ -53,8 +54,7 @@ SpeedsJoin =
     → AnswersSpeedsPart motion dice road middle to second
     → AnswersSpeedsPart motion dice road from to (first ++ second)
 
--- for the cars `from..to` of a road, with given dice, a change program answers only one list that says which
--- of them cross
+-- for the cars `from..to` of a road, with given dice, a change program answers at most one list of crossings
 abbrev pub CrossingsAreUnique : Type 0
 CrossingsAreUnique =
     (change : CheckedProgram) (dice : Dice) (road : Cells) (from to : ℕ) (crosses others : List Bool)
@@ -70,109 +70,109 @@ CrossingsJoin =
     → AnswersCrossingsPart change dice road middle to second
     → AnswersCrossingsPart change dice road from to (first ++ second)
 
--- the lane change from `road` to `middle` by the list `crosses`. With a change program the road has two
--- lanes, the list has the program's answers for all cars in standing order, and all cars that cross do so at
--- once. With `None` the list is empty, and the road stays as it is
-abbrev pub CrossByAnswers : Option CheckedProgram → Dice → Cells → Cells → List Bool → Type 0
-CrossByAnswers None dice road middle crosses = (middle ≡ road) × (crosses ≡ [])
-CrossByAnswers (Some change) dice road middle crosses =
+-- the lane change from `road` to `middle` by the list `crosses`. With a change program, the road has two
+-- lanes, the list has the program's answers for all cars in standing order, and all cars whose answer is true
+-- cross at once. Without one (`None`), the list is empty, and the road does not change
+abbrev pub IsLaneChangeByAnswers : Option CheckedProgram → Dice → Cells → Cells → List Bool → Type 0
+IsLaneChangeByAnswers None dice road middle crosses = (middle ≡ road) × (crosses ≡ [])
+IsLaneChangeByAnswers (Some change) dice road middle crosses =
     (length road.lanes ≡ 2) × AnswersCrossingsPart change dice road 0 (cars road) crosses
-    × ((answer : ℕ → ℕ → Bool) → crosses ≡ in_order answer road → Crosses answer road middle)
+    × ((answer : ℕ → ℕ → Bool) → crosses ≡ in_order answer road → ChangesLanes answer road middle)
 
--- the motion from `road` to `next` by the list `speeds`: these are the motion program's answers for all cars
--- in standing order, each at most the limit and the car's gap, and all cars move by them at once
-pub record GoByAnswers (motion : CheckedProgram) (dice : Dice) (road next : Cells) (speeds : List ℕ)
+-- the motion from `road` to `next` by the list `speeds`: it has the motion program's answers for all cars in
+-- standing order, each at most the limit and the car's gap, and all cars move by these speeds at once
+pub record IsMotionByAnswers (motion : CheckedProgram) (dice : Dice) (road next : Cells) (speeds : List ℕ)
     : Type 0 where
   pub answers : IsSpeedsPart motion dice road 0 (cars road) speeds
   pub moves : (answer : ℕ → ℕ → ℕ) → speeds ≡ in_order answer road → Moves answer road next
 
--- the tally of a step, from its answers: the distance is the sum of `speeds`, the stopped cars are its zeros,
--- and the lane changes are the entries of `crosses` that are true
+-- the tally of a step from its answers: the sum of `speeds`, the number of zeros among them, and the number
+-- of true entries of `crosses`; for example, speeds 2, 0 and 1 have distance 3 and one stopped car
 abbrev pub tally_of_answers : List Bool → List ℕ → StepTally
 tally_of_answers crosses speeds = record {
   distance = sum speeds;
   stopped = count_by (λ speed. nat_eq speed 0) speeds;
-  changes = count_by (λ crosses. crosses) crosses;
+  changes = count_by (λ answer. answer) crosses;
 }
 
--- if a lane change and a motion by lists of answers lead from `road` over `middle` to `next`, then `next` is
--- the next road, with the tally of these answers
-abbrev pub AnswersLeadOn : Type 0
-AnswersLeadOn =
+-- if a lane change by a list of answers leads from `road` to `middle`, and a motion by such a list from there
+-- to `next`, then `next` is the next road after `road`, with the tally of these answers
+abbrev pub AnswersLeadToNextRoad : Type 0
+AnswersLeadToNextRoad =
     (rule : Programs) (dice : Dice) (road middle next : Cells) (crosses : List Bool) (speeds : List ℕ)
-    → CrossByAnswers rule.change dice road middle crosses
-    → GoByAnswers rule.motion dice middle next speeds
+    → IsLaneChangeByAnswers rule.change dice road middle crosses
+    → IsMotionByAnswers rule.motion dice middle next speeds
     → IsNext rule dice road next (tally_of_answers crosses speeds)
 
--- on a legal road the view of each car is in range, for a motion program and, on two lanes, for a change
--- program
+-- on a legal road, the view of each car is in range: for motion programs, and on two lanes for change
+-- programs
 abbrev pub ViewsAreInRange : Type 0
 ViewsAreInRange =
     (kind : Kind) (road : Cells) (car : Car) → IsLegal road → (kind ≡ Change → length road.lanes ≡ 2)
-    → IsAt road car → IsView (view_by kind road car)
+    → IsAt road car → IsViewInRange (view_by kind road car)
 
--- an accepted motion program that answers a speed for a car of a legal road has executed at most as many
+-- if an accepted motion program answers a speed for a car of a legal road, it has executed at most as many
 -- instructions as its budget
-abbrev pub SpeedsComeInTime : Type 0
-SpeedsComeInTime =
+abbrev pub SpeedsComeWithinBudget : Type 0
+SpeedsComeWithinBudget =
     (motion : CheckedProgram) (dice : Dice) (road : Cells) (car : Car) (speed : ℕ)
     → IsChecked Motion motion → IsLegal road → IsAt road car
     → (answer : AnswersSpeed motion dice road car speed) → answer.0 ≤ motion.budget
 
--- an accepted change program that answers for a car of a legal road of two lanes has executed at most as many
--- instructions as its budget
-abbrev pub CrossingsComeInTime : Type 0
-CrossingsComeInTime =
+-- if an accepted change program answers for a car of a legal road with two lanes, it has executed at most as
+-- many instructions as its budget
+abbrev pub CrossingsComeWithinBudget : Type 0
+CrossingsComeWithinBudget =
     (change : CheckedProgram) (dice : Dice) (road : Cells) (car : Car) (crosses : Bool)
     → IsChecked Change change → IsLegal road → length road.lanes ≡ 2 → IsAt road car
     → (answer : AnswersCrossing change dice road car crosses) → answer.0 ≤ change.budget
 
--- in a step of a legal road, under a rule for its lanes, the calls of both phases are safe
+-- in a step of a legal road, under a rule for its lanes, all calls of programs are safe
 abbrev pub StepsCallSafely : Type 0
 StepsCallSafely =
     (rule : Programs) (dice : Dice) (road middle next : Cells) (tally : StepTally)
     → IsRuleFor (length road.lanes) rule → IsLegal road → IsStep rule dice road middle next tally
     → StepCallsAreSafe rule dice road middle
 
--- a legal road has a next road under a rule for its lanes, by a clean step; the next road is legal, with the
+-- under a rule for its lanes, a legal road has a next road, by a clean step; the next road is legal, with the
 -- same limit and the same numbers of lanes and cars
 abbrev pub NextRoadExists : Type 0
 NextRoadExists =
     (rule : Programs) (dice : Dice) (road : Cells) → IsRuleFor (length road.lanes) rule → IsLegal road
     → (next : Cells) × (tally : StepTally) × IsCleanNext rule dice road next tally × IsLegalLike road next
 
--- under one rule and with given dice a road has at most one next road, and at most one tally
+-- under one rule and with given dice, a road has at most one next road, with at most one tally
 abbrev pub NextRoadIsUnique : Type 0
 NextRoadIsUnique =
-    (rule : Programs) (dice : Dice) (road next other : Cells) (tally count : StepTally)
-    → IsNext rule dice road next tally → IsNext rule dice road other count
-    → (next ≡ other) × (tally ≡ count)
+    (rule : Programs) (dice : Dice) (road next other : Cells) (tally other_tally : StepTally)
+    → IsNext rule dice road next tally → IsNext rule dice road other other_tally
+    → (next ≡ other) × (tally ≡ other_tally)
 
--- a run from a legal road, under a sheet for its lanes, has at each step a sum of tallies and a legal road,
--- with the limit and the numbers of lanes and cars of the start
+-- a run from a legal road, with rules for its lanes, has after any number of steps a road and a sum of
+-- tallies; the road is legal, with the limit and the numbers of lanes and cars of the start
 abbrev pub RoadExists : Type 0
 RoadExists =
     (seed : Seed) (sheet : Sheet) (step : ℕ) → IsLegal seed.road → IsSheetFor (length seed.road.lanes) sheet
     → (road : Cells) × (sum : StepTally) × ComesTo seed sheet step road sum
     × IsLegalLike seed.road road
 
--- a run has at most one road at each step, and at most one sum of tallies
+-- after any number of steps, a run has at most one road, and at most one sum of tallies
 abbrev pub RoadIsUnique : Type 0
 RoadIsUnique =
-    (seed : Seed) (sheet : Sheet) (step : ℕ) (road other : Cells) (sum count : StepTally)
-    → ComesTo seed sheet step road sum → ComesTo seed sheet step other count
-    → (road ≡ other) × (sum ≡ count)
+    (seed : Seed) (sheet : Sheet) (step : ℕ) (road other : Cells) (sum other_sum : StepTally)
+    → ComesTo seed sheet step road sum → ComesTo seed sheet step other other_sum
+    → (road ≡ other) × (sum ≡ other_sum)
 
--- from its road at a step a run goes on to the next road under the rule in force; if the step is `warm` or a
--- later one, its tally is added to the sum
-abbrev pub RunGoesOn : Type 0
-RunGoesOn =
+-- from its road at a step, a run continues with the next road under the rule in force; if the step is `warm`
+-- or later, its tally is added to the sum
+abbrev pub RunContinues : Type 0
+RunContinues =
     (seed : Seed) (sheet : Sheet) (step : ℕ) (road next : Cells) (sum tally : StepTally) (rule : Programs)
     → ComesTo seed sheet step road sum → in_force sheet step ≡ Some rule
     → IsNext rule (dice_at seed step) road next tally
     → ComesTo seed sheet (suc step) next (if nat_le seed.warm step then tally_sum sum tally else sum)
 
--- in each step of a run from a legal road, under a sheet for its lanes, the calls of both phases are safe
+-- in each step of a run from a legal road, with rules for its lanes, all calls of programs are safe
 abbrev pub RunsCallSafely : Type 0
 RunsCallSafely =
     (seed : Seed) (sheet : Sheet) (step : ℕ) (road middle next : Cells) (sum : StepTally) (rule : Programs)

@@ -4,8 +4,8 @@ use Rattle.trlab_road.specs.declared.car.Car.{Car}
 use Rattle.trlab_road.specs.Cells.{Cells}
 use Rattle.trlab_road.specs.Legal.{IsLegal}
 use Rattle.trlab_road.specs.Standing.{standing}
-use Rattle.trlab_road.specs.LaneChange.{Crosses, CleanLaneChange}
-use Rattle.trlab_road.specs.Motion.{Moves, CleanMotion}
+use Rattle.trlab_road.specs.LaneChange.{ChangesLanes, IsCleanLaneChange}
+use Rattle.trlab_road.specs.Motion.{Moves, IsCleanMotion}
 use Rattle.trlab_verify.specs.CheckedProgram.{CheckedProgram}
 use Rattle.trlab_rules.specs.Rules.{Programs}
 use Rattle.trlab_step.specs.declared.step.StepFault.{StepFault}
@@ -15,41 +15,40 @@ use Rattle.trlab_machine.specs.declared.dice.Dice.{Dice}
 use Rattle.trlab_step.specs.Answers.{AnswersSpeeds, AnswersCrossings}
 use Rattle.trlab_step.specs.Calls.{StepCallsAreSafe}
 
--- the sum of the speeds of a road's cars
+-- the sum of the speeds of all cars on a road
 abbrev pub total_speed : Cells → ℕ
 total_speed road = sum_by (λ (car : Car). car.speed) (standing road)
 
--- the number of cars of a road with speed 0
+-- the number of cars on a road that are stopped: their speed is 0
 abbrev pub stopped_cars : Cells → ℕ
 stopped_cars road = count_by (λ (car : Car). nat_eq car.speed 0) (standing road)
 
--- the number of cars of a road that cross: `crosses`, a function of lane and place, is true for them
+-- the number of cars on a road for which `crosses`, a function of lane and place, is true
 abbrev pub crossing_cars : (ℕ → ℕ → Bool) → Cells → ℕ
 crossing_cars crosses road = count_by (λ (car : Car). crosses car.lane car.place) (standing road)
 
--- the lane change from `road` to `middle`, in which `changes` cars cross. With a change program the road has
--- two lanes, and exactly those cars cross for which the program answers so. With `None` no car crosses
+-- the lane change from `road` to `middle`, in which `changes` cars cross. With a change program, the road has
+-- two lanes, and a car crosses exactly if the program answers so for it. Without one (`None`), no car crosses
 abbrev pub IsLaneChangePhase : Option CheckedProgram → Dice → Cells → Cells → ℕ → Type 0
 IsLaneChangePhase None dice road middle changes = (middle ≡ road) × (changes ≡ 0)
 IsLaneChangePhase (Some change) dice road middle changes =
     (length road.lanes ≡ 2) × (crosses : ℕ → ℕ → Bool) × AnswersCrossings change dice road crosses
-    × Crosses crosses road middle × (changes ≡ crossing_cars crosses road)
+    × ChangesLanes crosses road middle × (changes ≡ crossing_cars crosses road)
 
--- the motion from `road` to `next`: each car moves by the speed that the motion program answers for it on
--- `road`
+-- the motion from `road` to `next`: each car moves by the speed that the motion program answers for it
 abbrev pub IsMotionPhase : CheckedProgram → Dice → Cells → Cells → Type 0
 IsMotionPhase motion dice road next =
     (speeds : ℕ → ℕ → ℕ) × AnswersSpeeds motion dice road speeds × Moves speeds road next
 
--- the motion from `road` to `next`, with a tally that counts no lane change; no car moves onto or through
--- another, no car is lost or added, and `next` is legal
+-- the motion from `road` to `next`, with its tally, which counts no lane changes; no car moves onto or
+-- through another, no car is lost or added, and `next` is legal
 pub record IsCountedMotion (motion : CheckedProgram) (dice : Dice) (road next : Cells)
     (tally : StepTally) : Type 0 where
   pub phase : IsMotionPhase motion dice road next
   pub distance : tally.distance ≡ total_speed next
   pub stopped : tally.stopped ≡ stopped_cars next
   pub changes : tally.changes ≡ 0
-  pub clean : CleanMotion road next
+  pub clean : IsCleanMotion road next
   pub legal : IsLegal next
 
 -- a step under a rule: the lane change from `road` to `middle` (Rickert and others 1996), then the motion
@@ -62,29 +61,28 @@ pub record IsStep (rule : Programs) (dice : Dice) (road middle next : Cells)
   pub distance : tally.distance ≡ total_speed next
   pub stopped : tally.stopped ≡ stopped_cars next
 
--- `next` is the next road after `road` under a rule, with the dice of the step, and `tally` is the tally of
--- the step
+-- a step under a rule, with the dice of the step, leads from `road` to `next`; `tally` is its tally
 abbrev pub IsNext : Programs → Dice → Cells → Cells → StepTally → Type 0
 IsNext rule dice road next tally = (middle : Cells) × IsStep rule dice road middle next tally
 
--- a step in which no car moves onto or through another, no car is lost or added, and each called program sees
--- a view in range and ends within its budget
+-- a clean step: no car moves onto or through another, no car is lost or added, and each called program sees a
+-- view in range and ends within its budget
 pub record IsCleanStep (rule : Programs) (dice : Dice) (road middle next : Cells)
     (tally : StepTally) : Type 0 where
   pub step : IsStep rule dice road middle next tally
-  pub clean_lane_change : CleanLaneChange road middle
-  pub clean_motion : CleanMotion middle next
+  pub clean_lane_change : IsCleanLaneChange road middle
+  pub clean_motion : IsCleanMotion middle next
   pub calls : StepCallsAreSafe rule dice road middle
 
--- `next` is the next road after `road` under a rule, and `tally` the tally of the step, which is clean
+-- a clean step under a rule, with the dice of the step, leads from `road` to `next`; `tally` is its tally
 abbrev pub IsCleanNext : Programs → Dice → Cells → Cells → StepTally → Type 0
 IsCleanNext rule dice road next tally = (middle : Cells) × IsCleanStep rule dice road middle next tally
 
--- `told` is the result of a step: the next road, which is legal, and its tally, by a clean step; or a fault,
--- which is `LanesMismatch` exactly if the rule has a change program and the road has one lane
+-- `step_result` is the result of a step: the next road after a clean step, which is legal, and the tally; or
+-- a fault, which is `LanesMismatch` exactly if the rule has a change program and the road has one lane
 pub record IsStepResult (rule : Programs) (dice : Dice) (road : Cells)
-    (told : Result (Cells × StepTally) StepFault) : Type 0 where
-  pub mismatch : (told ≡ Err LanesMismatch) ↔ (IsSome rule.change × (length road.lanes ≡ 1))
-  pub next : IfOk told (λ after. IsNext rule dice road after.0 after.1)
-  pub clean : IfOk told (λ after. IsCleanNext rule dice road after.0 after.1)
-  pub legal : IfOk told (λ after. IsLegal after.0)
+    (step_result : Result (Cells × StepTally) StepFault) : Type 0 where
+  pub mismatch : (step_result ≡ Err LanesMismatch) ↔ (IsSome rule.change × (length road.lanes ≡ 1))
+  pub next : IfOk step_result (λ after. IsNext rule dice road after.0 after.1)
+  pub clean : IfOk step_result (λ after. IsCleanNext rule dice road after.0 after.1)
+  pub legal : IfOk step_result (λ after. IsLegal after.0)

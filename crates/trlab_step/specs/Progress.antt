@@ -6,7 +6,8 @@ use Rattle.trlab_step.specs.Laws.{IsSheetFor}
 use Rattle.trlab_step.specs.Run.{Seed, Sheet, ComesTo, no_tally}
 use Rattle.trlab_step.specs.declared.tally.StepTally.{StepTally}
 
--- how far a run is: its start, its sheet, the current step, and the road and the sum of tallies at this step
+-- the progress of a run: its start, its sheet, the number of steps so far, and the road and the sum of
+-- tallies after these steps
 pub record Progress : Type 0 where
   pub seed : Seed
   pub sheet : Sheet
@@ -14,18 +15,18 @@ pub record Progress : Type 0 where
   pub road : Cells
   pub sum : StepTally
 
--- a run at step 0, where its road is that of the start and no tally is counted
+-- a run at step 0: its road is that of the start, and no tally has been counted
 abbrev pub at_start : Seed → Sheet → Progress
 at_start seed sheet = record { seed = seed; sheet = sheet; step = 0; road = seed.road; sum = no_tally }
 
--- the run comes to its road and its sum at its step, from a legal road and under a sheet for the lanes of
--- this road
-pub record IsUnderway (run : Progress) : Type 0 where
+-- a run reaches this progress: it starts on a legal road, under a sheet with rules for its lanes, and after
+-- `step` steps it is at `road` with the sum `sum`
+pub record IsReachedByRun (run : Progress) : Type 0 where
   pub legal : IsLegal run.seed.road
   pub suits : IsSheetFor (length run.seed.road.lanes) run.sheet
   pub comes : ComesTo run.seed run.sheet run.step run.road run.sum
 
--- `new` has the start and the sheet of the run `old`, and is one step further
+-- `new` has the start and the sheet of the run `old`, and its number of steps is one larger
 pub record IsOneStepOn (old new : Progress) : Type 0 where
   pub same_seed : new.seed ≡ old.seed
   pub same_sheet : new.sheet ≡ old.sheet

@@ -1,4 +1,4 @@
--- Runs: the road at each step from a start on, under a sheet of rules.
+-- Runs: the road after each step, from a start on, under a sheet of rules.
 use Rattle.std.specs.Prelude.{◌≡◌, ◌≤◌, ◌==◌, ℕ, zero, suc, ◌+◌, List, [], ◌∷◌, Option, Some, None, nat_le, unwrap_or, if◌then◌else◌}
 use Rattle.trlab_road.specs.Cells.{Cells}
 use Rattle.trlab_rules.specs.Rules.{Programs}
@@ -7,46 +7,46 @@ use Rattle.trlab_step.specs.Answers.{dice_of}
 use Rattle.trlab_step.specs.declared.tally.StepTally.{StepTally}
 use Rattle.trlab_step.specs.Next.{IsNext}
 
--- the start of a run: its road, the key and the number of the road, which determine the random words, and the
--- step `warm` from which on tallies are counted
+-- the start of a run: its road; the key and the number of the road, which determine the random words; and the
+-- first step whose tally is counted, `warm`
 pub record Seed : Type 0 where
   pub road : Cells
   pub key : List ℕ
   pub number : ℕ
   pub warm : ℕ
 
--- the rules of a run, each with the step from which on it is in force
+-- the rules of a run: entries in order, each with the step from which its rule is in force
 abbrev pub Sheet : Type 0
 Sheet = List (ℕ × Programs)
 
--- the steps of the entries rise strictly, and none is before step `least`
-abbrev pub Rises : ℕ → Sheet → Type 0
-Rises least [] = Unit {0}
-Rises least (entry ∷ later) = (least ≤ entry.0) × Rises (entry.0 + 1) later
+-- the steps of the entries strictly increase, and the first is `least` or later; true without entries
+abbrev pub StepsIncreaseFrom : ℕ → Sheet → Type 0
+StepsIncreaseFrom least [] = Unit {0}
+StepsIncreaseFrom least (entry ∷ later) = (least ≤ entry.0) × StepsIncreaseFrom (entry.0 + 1) later
 
--- a sheet has a first entry, for step 0, and the steps of its entries rise strictly
+-- a valid sheet: it has a first entry, for step 0, and the steps of its entries strictly increase
 abbrev pub IsSheet : Sheet → Type 0
 IsSheet [] = ⊥
-IsSheet (first ∷ later) = (first.0 ≡ 0) × Rises 1 later
+IsSheet (first ∷ later) = (first.0 ≡ 0) × StepsIncreaseFrom 1 later
 
--- the sheet with the rule `first` from step 0 on and the later entries; if the first of these is for step 0,
--- it replaces `first`
+-- the sheet with the rule `first` from step 0 on, and then the given entries; if the first of these is for
+-- step 0, it replaces `first`
 abbrev pub sheet_with : Programs → Sheet → Sheet
 sheet_with first [] = (0, first) ∷ []
 sheet_with first (entry ∷ later) = if entry.0 == 0 then entry ∷ later else (0, first) ∷ entry ∷ later
 
--- the rule in force at a step of a sheet whose steps rise: that of the last entry that begins at this step or
--- before; `None` if there is none
+-- the rule in force at a step of a valid sheet: that of the last entry for this step or an earlier one; for
+-- example, with entries for the steps 0 and 100, it is the first rule until step 99, then the second
 abbrev pub in_force : Sheet → ℕ → Option Programs
 in_force [] step = None
 in_force (entry ∷ sheet) step =
     if nat_le entry.0 step then Some (unwrap_or (in_force sheet step) entry.1) else None
 
--- the sum of no tallies: all counts are 0
+-- the sum of no tallies at all: each count is 0
 abbrev pub no_tally : StepTally
 no_tally = record { distance = 0; stopped = 0; changes = 0 }
 
--- the sum of two tallies, count by count
+-- the sum of two tallies: of their distances, of their stopped cars and of their lane changes
 abbrev pub tally_sum : StepTally → StepTally → StepTally
 tally_sum a b = record {
   distance = a.distance + b.distance;
@@ -54,31 +54,31 @@ tally_sum a b = record {
   changes = a.changes + b.changes;
 }
 
--- the dice of step `step` of a run
+-- the dice of step `step` of a run, which determine the random words in this step
 abbrev pub dice_at : Seed → ℕ → Dice
 dice_at seed step = dice_of seed.key seed.number step
 
--- step `step` of a run leads from `before` to `after` under the rule in force, with this tally; from step
--- `warm` on `sum` is `sum_before` plus the tally, and at earlier steps it is `sum_before`
-pub record GoesOn (seed : Seed) (sheet : Sheet) (step : ℕ) (before after : Cells)
+-- step `step` of a run leads from the road `before` to `after` under the rule in force, with this tally; from
+-- step `warm` on, `sum` is `sum_before` plus the tally, and in earlier steps it is `sum_before`
+pub record IsRunStep (seed : Seed) (sheet : Sheet) (step : ℕ) (before after : Cells)
     (sum_before sum : StepTally) (rule : Programs) (tally : StepTally) : Type 0 where
   pub under : in_force sheet step ≡ Some rule
   pub next : IsNext rule (dice_at seed step) before after tally
   pub counted : sum ≡ (if nat_le seed.warm step then tally_sum sum_before tally else sum_before)
 
--- after `step` steps under a sheet a run is at `road`, and `sum` is the sum of the tallies of its steps from
--- `warm` on. After 0 steps these are the road of the start and `no_tally`
+-- after `step` steps of a run its road is `road`, and `sum` is the sum of the tallies of its steps from
+-- `warm` on; after 0 steps these are the road of the start and `no_tally`
 abbrev pub ComesTo : Seed → Sheet → ℕ → Cells → StepTally → Type 0
 ComesTo seed sheet zero road sum = IsSheet sheet × (road ≡ seed.road) × (sum ≡ no_tally)
 ComesTo seed sheet (suc step) road sum =
     (before : Cells) × (sum_before : StepTally) × (rule : Programs) × (tally : StepTally)
     × ComesTo seed sheet step before sum_before
-    × GoesOn seed sheet step before road sum_before sum rule tally
+    × IsRunStep seed sheet step before road sum_before sum rule tally
 
--- `road` is the road of a run after `step` steps
+-- `road` is the road of the run after `step` steps
 abbrev pub IsRoadAt : Seed → Sheet → ℕ → Cells → Type 0
 IsRoadAt seed sheet step road = (sum : StepTally) × ComesTo seed sheet step road sum
 
--- `sum` is the sum of the tallies that a run has counted in its first `step` steps
+-- `sum` is the sum of the tallies of the run's first `step` steps, without the steps before `warm`
 abbrev pub IsTallyAt : Seed → Sheet → ℕ → StepTally → Type 0
 IsTallyAt seed sheet step sum = (road : Cells) × ComesTo seed sheet step road sum

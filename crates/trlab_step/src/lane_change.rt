@@ -3,7 +3,7 @@
 ghost use Rattle.std.specs.Prelude.{◌≡◌, ◌≤◌, IfOk, OnOk, length, ℕ, Bool};
 ghost use Rattle.trlab_road.specs.Cells.{cars};
 ghost use Rattle.trlab_step.specs.Answers.{IsCrossingsPart, dice_of};
-ghost use Rattle.trlab_road.specs.LaneChange.{CleanLaneChange, MayCross, Crosses};
+ghost use Rattle.trlab_road.specs.LaneChange.{IsCleanLaneChange, MayCross, ChangesLanes};
 ghost use Rattle.trlab_road.specs.Legal.{IsLegal};
 ghost use Rattle.trlab_road.specs.Motion.{in_order};
 
@@ -95,8 +95,8 @@ pub fn compute_crossings(
 pub fn commit_change(alloc: Global, road: &Road, crosses: &[bool]) -> Result<Road, AllocError>
     requires { MayCross road.now crosses.now }
     ensures crosses { IfOk result (λ next. (answer : ℕ → ℕ → Bool)
-        → crosses.now ≡ in_order answer road.now → Crosses answer road.now next) }
-    ensures clean { IfOk result (λ next. CleanLaneChange road.now next) }
+        → crosses.now ≡ in_order answer road.now → ChangesLanes answer road.now next) }
+    ensures clean { IfOk result (λ next. IsCleanLaneChange road.now next) }
     ensures legal { IfOk result (λ next. IsLegal next) }
 {
     road.after_lane_change(alloc, &mut Room::new(alloc), crosses)

@@ -3,9 +3,9 @@
 //! Each law is the contract of a function with an empty body.
 
 ghost use Rattle.trlab_step.specs.Published.{NaschOnCells, RickertOnCells, VdrOnCells};
-ghost use Rattle.trlab_step.specs.Laws.{AnswersLeadOn, CrossingsAreUnique, CrossingsJoin, SpeedsAreUnique, SpeedsJoin};
-ghost use Rattle.trlab_step.specs.Laws.{NextRoadExists, NextRoadIsUnique, RoadExists, RoadIsUnique, RunGoesOn};
-ghost use Rattle.trlab_step.specs.Laws.{CrossingsComeInTime, RunsCallSafely, SpeedsComeInTime};
+ghost use Rattle.trlab_step.specs.Laws.{AnswersLeadToNextRoad, CrossingsAreUnique, CrossingsJoin, SpeedsAreUnique, SpeedsJoin};
+ghost use Rattle.trlab_step.specs.Laws.{NextRoadExists, NextRoadIsUnique, RoadExists, RoadIsUnique, RunContinues};
+ghost use Rattle.trlab_step.specs.Laws.{CrossingsComeWithinBudget, RunsCallSafely, SpeedsComeWithinBudget};
 ghost use Rattle.trlab_step.specs.Laws.{StepsCallSafely, ViewsAreInRange};
 ghost use Rattle.trlab_step.specs.Driven.{RunsAreDriven};
 
@@ -26,7 +26,7 @@ pub fn crossings_make_the_whole()
 /// If all cars cross, and then move, by their answers in standing order, the result is the next road and its tally,
 /// regardless of the code that computed the answers.
 pub fn answers_lead_on()
-    ensures { AnswersLeadOn }
+    ensures { AnswersLeadToNextRoad }
 {}
 
 /// On a legal road the views of both kinds of programs are those that the verifier considers: speeds, gaps and the
@@ -37,8 +37,8 @@ pub fn views_are_in_range()
 
 /// On a legal road accepted programs answer within their budgets.
 pub fn answers_come_in_time()
-    ensures speeds { SpeedsComeInTime }
-    ensures crossings { CrossingsComeInTime }
+    ensures speeds { SpeedsComeWithinBudget }
+    ensures crossings { CrossingsComeWithinBudget }
 {}
 
 /// Each call of a program is safe, in both phases: its view is in range, and it ends with an answer within its budget.
@@ -74,7 +74,7 @@ pub fn road_is_one()
 /// A run continues from the road at a step to its next road under the rule in force. From the step on at which counting
 /// begins, the tally is added to the sum.
 pub fn run_goes_on()
-    ensures { RunGoesOn }
+    ensures { RunContinues }
 {}
 
 /// Every run from a legal road under a schedule for its lanes goes on: the road at each step is legal, with the lanes,

@@ -4,7 +4,7 @@ ghost use Rattle.std.specs.Prelude.{length, ◌≡◌, ◌<◌, ◌≤◌, ◌+�
 ghost use Rattle.trlab_bounds.specs.declared.roads.TheConstants.{MAX_LIMIT};
 ghost use Rattle.trlab_road.specs.Cells.{cars};
 ghost use Rattle.trlab_road.specs.Legal.{IsLegal};
-ghost use Rattle.trlab_road.specs.Motion.{CleanMotion, MayMove, Moves, in_order};
+ghost use Rattle.trlab_road.specs.Motion.{IsCleanMotion, MayMove, Moves, in_order};
 ghost use Rattle.trlab_step.specs.Answers.{IsSpeedsPart, dice_of};
 
 use crate::block::{BLOCK, fill_motion_views};
@@ -148,7 +148,7 @@ pub fn commit_motion(alloc: Global, road: &Road, speeds: &[u32]) -> Result<Road,
     requires { MayMove road.now speeds.now }
     ensures moves { IfOk result (λ next. (answer : ℕ → ℕ → ℕ)
         → speeds.now ≡ in_order answer road.now → Moves answer road.now next) }
-    ensures clean { IfOk result (λ next. CleanMotion road.now next) }
+    ensures clean { IfOk result (λ next. IsCleanMotion road.now next) }
     ensures legal { IfOk result (λ next. IsLegal next) }
 {
     // only the proof reads it: the road is legal, so each speed fits into a byte

@@ -3,7 +3,7 @@
 ghost use Rattle.std.specs.Prelude.{◌≡◌, ◌+◌, ◌<◌, ◌^◌, OnOk, OnErr, length};
 ghost use Rattle.trlab_step.specs.Laws.{IsSheetFor};
 ghost use Rattle.trlab_step.specs.Run.{IsRoadAt, IsTallyAt};
-ghost use Rattle.trlab_step.specs.Progress.{IsUnderway, IsOneStepOn, at_start};
+ghost use Rattle.trlab_step.specs.Progress.{IsReachedByRun, IsOneStepOn, at_start};
 
 use crate::schedule::Schedule;
 use crate::tally::{no_tally, tally_sum};
@@ -48,7 +48,7 @@ impl Drop for Run {
 }
 
 impl Model for Run {
-    ghost use Rattle.trlab_step.specs.Progress.{IsUnderway, Progress};
+    ghost use Rattle.trlab_step.specs.Progress.{IsReachedByRun, Progress};
 
     ghost Value = { Progress };
 
@@ -60,7 +60,7 @@ impl Model for Run {
       sum = run.sum;
     } };
 
-    ghost invariant = { λ run. IsUnderway (record {
+    ghost invariant = { λ run. IsReachedByRun (record {
       seed = record { road = run.start.value; key = run.key.0; number = run.number; warm = run.warm };
       sheet = run.sheet;
       step = run.step;
@@ -92,7 +92,7 @@ impl Run {
     /// The current step, counted from 0.
     pub fn step(&self) -> u32
         ensures value { result ≡ self.now.step }
-        ensures underway { IsUnderway self.now }
+        ensures underway { IsReachedByRun self.now }
     {
         self.step
     }

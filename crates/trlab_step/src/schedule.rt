@@ -2,7 +2,7 @@
 
 ghost use Rattle.std.specs.Prelude.{◌≡◌, ◌<◌, Some, ℕ};
 ghost use Rattle.trlab_rules.specs.Rules.{Programs};
-ghost use Rattle.trlab_step.specs.Run.{Rises, in_force, sheet_with};
+ghost use Rattle.trlab_step.specs.Run.{StepsIncreaseFrom, in_force, sheet_with};
 
 use std::marker::Model;
 use trlab_rules::Rule;
@@ -25,20 +25,20 @@ impl Drop for Schedule {
 
 impl Model for Schedule {
     ghost use Rattle.std.specs.Prelude.{◌∷◌};
-    ghost use Rattle.trlab_step.specs.Run.{Rises, Sheet};
+    ghost use Rattle.trlab_step.specs.Run.{StepsIncreaseFrom, Sheet};
 
     ghost Value = { Sheet };
 
     ghost view = { λ schedule. (0, schedule.first) ∷ schedule.later.items };
 
-    ghost invariant = { λ schedule. Rises 1 schedule.later.items };
+    ghost invariant = { λ schedule. StepsIncreaseFrom 1 schedule.later.items };
 }
 
 impl Schedule {
     /// The schedule of a first rule and of later ones, in order of their steps. A later rule for step 0 replaces the
     /// first.
     pub fn new(first: Rule, mut later: Vec<(u32, Rule)>) -> Schedule
-        requires { Rises 0 later.items }
+        requires { StepsIncreaseFrom 0 later.items }
         ensures { result ≡ sheet_with first later.items }
     {
         let begins = later.first().is_some_and(|entry| entry.0 == 0);

@@ -1,7 +1,7 @@
 //! One step of a road under a rule: the lane change, if the rule has one, and then the motion.
 
 ghost use Rattle.std.specs.Prelude.{◌≡◌, ◌↔◌, Some, IfOk, OnOk, OnErr, IsSome, IsTrue, length};
-ghost use Rattle.trlab_road.specs.LaneChange.{CleanLaneChange};
+ghost use Rattle.trlab_road.specs.LaneChange.{IsCleanLaneChange};
 ghost use Rattle.trlab_road.specs.Legal.{IsLegal};
 ghost use Rattle.trlab_step.specs.Answers.{dice_of};
 ghost use Rattle.trlab_step.specs.Next.{IsCleanNext, IsCountedMotion, IsLaneChangePhase, IsNext, IsStepResult};
@@ -205,7 +205,7 @@ fn change_lanes<A: Executor, O: StepObserver>(
     requires two_lanes { length road.old.lanes ≡ 2 }
     ensures phase { IfOk result (λ after.
         IsLaneChangePhase (Some change.now) asking.now.dice.now road.old after.0 after.1) }
-    ensures clean { IfOk result (λ after. CleanLaneChange road.old after.0) }
+    ensures clean { IfOk result (λ after. IsCleanLaneChange road.old after.0) }
     ensures legal { IfOk result (λ after. IsLegal after.0) }
     ensures seen { O.observes observer.old road.old observer.new }
     ensures same { road.new ≡ road.old }

@@ -13,8 +13,8 @@ use Rattle.atomic_table.proofs.Lists.{at_set, set_again, set_else}
 use Rattle.trlab_strands.proofs.Seats.{total_set, each_set, each_snoc, alone, times_push, times_append}
 use Rattle.trlab_strands.specs.declared.knowledge.Noted.{Noted}
 use Rattle.trlab_strands.specs.declared.knowledge.StrandKnowledge.{StrandKnowledge}
-use Rattle.trlab_strands.specs.Knowledge.{noted, event_number, times, once_below, IsInList, AreInList, strand_knowledge, nothing, without_list, list_alone, less_a_part, one_part, both_seats, up_to_date, with_event}
-use Rattle.trlab_strands.specs.Rule.{IsSoundStrand, AreSoundStrands, KeepsStrands, NotesEvent, LearnsList, Looks, Sees}
+use Rattle.trlab_strands.specs.Knowledge.{noted, event_number, count_with_number, once_below, IsInList, AreInList, strand_knowledge, spent_seat, without_list, list_seat, less_a_part, one_part, both_seats, up_to_date, with_event}
+use Rattle.trlab_strands.specs.Rule.{IsSoundStrand, AreSoundStrands, ObeysStrandRule, NotesEvent, AgreesWithList, AuditsList, SeesWholeList}
 
 off : false ≡ true → ⊥
 off e = true≢false (sym e)
@@ -35,10 +35,10 @@ kept b e = ap (λ (x : Bool). cond {A = ℕ} x 1 0) e
 
 module _ {E : Type 0} where
   -- two seats have at most the whole sum
-  two_le : (f : StrandKnowledge E → ℕ) → f nothing ≡ 0 → (views : List (StrandKnowledge E)) (i j : ℕ) (v u : StrandKnowledge E) → j ≢ i → get_elem? views i ≡ some v → get_elem? views j ≡ some u → f v + f u ≤ sum_by f views
+  two_le : (f : StrandKnowledge E → ℕ) → f spent_seat ≡ 0 → (views : List (StrandKnowledge E)) (i j : ℕ) (v u : StrandKnowledge E) → j ≢ i → get_elem? views i ≡ some v → get_elem? views j ≡ some u → f v + f u ≤ sum_by f views
   two_le f none_left views i j v u apart at there =
-      let a = total_set f views i v nothing at in
-      let b = total_set f (set views i nothing) j u nothing (set_else views i j nothing apart ∙ there) in
+      let a = total_set f views i v spent_seat at in
+      let b = total_set f (set views i spent_seat) j u spent_seat (set_else views i j spent_seat apart ∙ there) in
       omega arith
 
   -- of two seats at most one keeps the list
@@ -54,8 +54,8 @@ module _ {E : Type 0} where
   later : (events : List E) (e : E) (u : StrandKnowledge E) → (u.keeps ≡ true → ⊥) → IsSoundStrand events u → IsSoundStrand (events ++ e ∷ []) u
   later events e u another r = record {
     idle = r.idle;
-    rises = let l = length-append events (e ∷ []) in let p = r.rises in omega arith;
-    stand = All-weaker (IsInList events) (IsInList (events ++ e ∷ [])) (stands_on events (e ∷ [])) u.own r.stand;
+    least_within = let l = length-append events (e ∷ []) in let p = r.least_within in omega arith;
+    in_list = All-weaker (IsInList events) (IsInList (events ++ e ∷ [])) (stands_on events (e ∷ [])) u.own r.in_list;
     list = λ has. absurd (another has);
   }
 
@@ -73,7 +73,7 @@ module _ {E : Type 0} where
         keepers = let t = total_set (λ u. cond u.keeps 1 0) views id v w at in let p = r.keepers in omega arith;
         count = let t = total_set (λ u. length u.own) views id v w at in let p = r.count in let q = length-append v.own (noted v.all e ∷ []) in omega arith;
         once = λ k.
-            let t = total_set (λ u. times k u.own) views id v w at in
+            let t = total_set (λ u. count_with_number k u.own) views id v w at in
             let p = r.once k in
             let q = times_push event_number k v.own (noted v.all e) in
             let n : once_below k (length (events ++ e ∷ [])) ≡ once_below k (length v.all) + cond (eqb (length v.all) k) 1 0 = ap (once_below k) (longer ∙ ap (λ (x : ℕ). x + 1) (sym long)) ∙ once_next k (length v.all) in
@@ -82,9 +82,9 @@ module _ {E : Type 0} where
         each = each_set (IsSoundStrand (events ++ e ∷ [])) views id w
             (record {
               idle = λ z. absurd (omega arith);
-              rises = omega arith;
-              stand = All-push (IsInList (events ++ e ∷ [])) v.own (noted v.all e)
-                  (All-weaker (IsInList events) (IsInList (events ++ e ∷ [])) (stands_on events (e ∷ [])) v.own mine.stand)
+              least_within = omega arith;
+              in_list = All-push (IsInList (events ++ e ∷ [])) v.own (noted v.all e)
+                  (All-weaker (IsInList events) (IsInList (events ++ e ∷ [])) (stands_on events (e ∷ [])) v.own mine.in_list)
                   ([], ap (λ (l : List E). l ++ e ∷ []) (sym known));
               list = λ _. ap (λ (l : List E). l ++ e ∷ []) known;
             })
@@ -102,15 +102,15 @@ module _ {E : Type 0} where
         parts = let t = total_set (λ u. u.parts) views id v w at in let p = r.parts in omega arith;
         keepers = let t = total_set (λ u. cond u.keeps 1 0) views id v w at in let p = r.keepers in omega arith;
         count = let t = total_set (λ u. length u.own) views id v w at in let p = r.count in omega arith;
-        once = λ k. let t = total_set (λ u. times k u.own) views id v w at in let p = r.once k in omega arith;
-        each = each_set (IsSoundStrand events) views id w (record { idle = mine.idle; rises = omega arith; stand = mine.stand; list = mine.list }) (λ j u _ there. r.each j u there);
+        once = λ k. let t = total_set (λ u. count_with_number k u.own) views id v w at in let p = r.once k in omega arith;
+        each = each_set (IsSoundStrand events) views id w (record { idle = mine.idle; least_within = omega arith; in_list = mine.in_list; list = mine.list }) (λ j u _ there. r.each j u there);
       }
 
   -- the list leaves a strand
-  pub apart : (id : ℕ) (v : StrandKnowledge E) → Splits KeepsStrands id v (without_list v) (list_alone v)
+  pub apart : (id : ℕ) (v : StrandKnowledge E) → Splits ObeysStrandRule id v (without_list v) (list_seat v)
   apart id v s r at =
       let l = without_list v in
-      let o = list_alone v in
+      let o = list_seat v in
       let events = r.0 in
       let k = r.1 in
       let mine = k.each id v at in
@@ -120,15 +120,15 @@ module _ {E : Type 0} where
           parts = let t = total_set (λ u. u.parts) s.views id v l at in let n = sum_by_push (λ (u : StrandKnowledge E). u.parts) views o in let p = k.parts in omega arith;
           keepers = let t = total_set (λ u. cond u.keeps 1 0) s.views id v l at in let n = sum_by_push (λ (u : StrandKnowledge E). cond u.keeps 1 0) views o in let p = k.keepers in omega arith;
           count = let t = total_set (λ u. length u.own) s.views id v l at in let n = sum_by_push (λ (u : StrandKnowledge E). length u.own) views o in let p = k.count in omega arith;
-          once = λ x. let t = total_set (λ u. times x u.own) s.views id v l at in let n = sum_by_push (λ (u : StrandKnowledge E). times x u.own) views o in let p = k.once x in omega arith;
+          once = λ x. let t = total_set (λ u. count_with_number x u.own) s.views id v l at in let n = sum_by_push (λ (u : StrandKnowledge E). count_with_number x u.own) views o in let p = k.once x in omega arith;
           each = each_snoc (IsSoundStrand events) views o
-              (record { idle = λ _. refl; rises = zero-le; stand = All-nil _; list = mine.list })
-              (each_set (IsSoundStrand events) s.views id l (record { idle = mine.idle; rises = mine.rises; stand = mine.stand; list = λ e. absurd (off e) }) (λ j u _ there. k.each j u there));
+              (record { idle = λ _. refl; least_within = zero-le; in_list = All-nil _; list = mine.list })
+              (each_set (IsSoundStrand events) s.views id l (record { idle = mine.idle; least_within = mine.least_within; in_list = mine.in_list; list = λ e. absurd (off e) }) (λ j u _ there. k.each j u there));
         },
       )
 
   -- one part goes to a new strand
-  pub splits : (id : ℕ) (v : StrandKnowledge E) → 1 < v.parts → Splits KeepsStrands id v (less_a_part v) (one_part v)
+  pub splits : (id : ℕ) (v : StrandKnowledge E) → 1 < v.parts → Splits ObeysStrandRule id v (less_a_part v) (one_part v)
   splits id v two s r at =
       let l = less_a_part v in
       let o = one_part v in
@@ -141,15 +141,15 @@ module _ {E : Type 0} where
           parts = let t = total_set (λ u. u.parts) s.views id v l at in let n = sum_by_push (λ (u : StrandKnowledge E). u.parts) views o in let p = k.parts in omega arith;
           keepers = let t = total_set (λ u. cond u.keeps 1 0) s.views id v l at in let n = sum_by_push (λ (u : StrandKnowledge E). cond u.keeps 1 0) views o in let p = k.keepers in omega arith;
           count = let t = total_set (λ u. length u.own) s.views id v l at in let n = sum_by_push (λ (u : StrandKnowledge E). length u.own) views o in let p = k.count in omega arith;
-          once = λ x. let t = total_set (λ u. times x u.own) s.views id v l at in let n = sum_by_push (λ (u : StrandKnowledge E). times x u.own) views o in let p = k.once x in omega arith;
+          once = λ x. let t = total_set (λ u. count_with_number x u.own) s.views id v l at in let n = sum_by_push (λ (u : StrandKnowledge E). count_with_number x u.own) views o in let p = k.once x in omega arith;
           each = each_snoc (IsSoundStrand events) views o
-              (record { idle = λ _. refl; rises = mine.rises; stand = All-nil _; list = λ e. absurd (off e) })
-              (each_set (IsSoundStrand events) s.views id l (record { idle = λ z. absurd (omega arith); rises = mine.rises; stand = mine.stand; list = mine.list }) (λ j u _ there. k.each j u there));
+              (record { idle = λ _. refl; least_within = mine.least_within; in_list = All-nil _; list = λ e. absurd (off e) })
+              (each_set (IsSoundStrand events) s.views id l (record { idle = λ z. absurd (omega arith); least_within = mine.least_within; in_list = mine.in_list; list = mine.list }) (λ j u _ there. k.each j u there));
         },
       )
 
   -- a strand without the list takes in the knowledge of another seat
-  pub joins : (id : ℕ) (v : StrandKnowledge E) (other : ℕ) (w : StrandKnowledge E) → 0 < v.parts → v.keeps ≡ false → Joins KeepsStrands id v other w (both_seats v w) nothing
+  pub joins : (id : ℕ) (v : StrandKnowledge E) (other : ℕ) (w : StrandKnowledge E) → 0 < v.parts → v.keeps ≡ false → Joins ObeysStrandRule id v other w (both_seats v w) spent_seat
   joins id v other w some_part unkept s r at apart_ there =
       let b = both_seats v w in
       let events = r.0 in
@@ -163,55 +163,55 @@ module _ {E : Type 0} where
       let none_kept : ◌≡◌ {A = ℕ} (cond v.keeps 1 0) 0 = ap (λ (x : Bool). cond {A = ℕ} x 1 0) unkept in (
         events,
         record {
-          parts = let t = total_set (λ u. u.parts) s.views id v b at in let n = total_set (λ u. u.parts) views other w nothing there in let p = k.parts in omega arith;
-          keepers = let t = total_set (λ u. cond u.keeps 1 0) s.views id v b at in let n = total_set (λ u. cond u.keeps 1 0) views other w nothing there in let p = k.keepers in omega arith;
-          count = let t = total_set (λ u. length u.own) s.views id v b at in let n = total_set (λ u. length u.own) views other w nothing there in let p = k.count in let q = length-append v.own w.own in omega arith;
-          once = λ x. let t = total_set (λ u. times x u.own) s.views id v b at in let n = total_set (λ u. times x u.own) views other w nothing there in let p = k.once x in let q = times_append event_number x v.own w.own in omega arith;
-          each = each_set (IsSoundStrand events) views other nothing (record { idle = λ _. refl; rises = zero-le; stand = All-nil _; list = λ e. absurd (off e) })
+          parts = let t = total_set (λ u. u.parts) s.views id v b at in let n = total_set (λ u. u.parts) views other w spent_seat there in let p = k.parts in omega arith;
+          keepers = let t = total_set (λ u. cond u.keeps 1 0) s.views id v b at in let n = total_set (λ u. cond u.keeps 1 0) views other w spent_seat there in let p = k.keepers in omega arith;
+          count = let t = total_set (λ u. length u.own) s.views id v b at in let n = total_set (λ u. length u.own) views other w spent_seat there in let p = k.count in let q = length-append v.own w.own in omega arith;
+          once = λ x. let t = total_set (λ u. count_with_number x u.own) s.views id v b at in let n = total_set (λ u. count_with_number x u.own) views other w spent_seat there in let p = k.once x in let q = times_append event_number x v.own w.own in omega arith;
+          each = each_set (IsSoundStrand events) views other spent_seat (record { idle = λ _. refl; least_within = zero-le; in_list = All-nil _; list = λ e. absurd (off e) })
               (λ j u _ here. each_set (IsSoundStrand events) s.views id b
-              (record { idle = λ z. absurd (omega arith); rises = let p = mine.rises in let q = theirs.rises in omega arith; stand = All-append (IsInList events) v.own w.own mine.stand theirs.stand; list = theirs.list })
+              (record { idle = λ z. absurd (omega arith); least_within = let p = mine.least_within in let q = theirs.least_within in omega arith; in_list = All-append (IsInList events) v.own w.own mine.in_list theirs.in_list; list = theirs.list })
               (λ i y _ was. k.each i y was) j u here);
         },
       )
 
-  learns : (id : ℕ) (v : StrandKnowledge E) (s : State E (StrandKnowledge E)) → KeepsStrands s → get_elem? s.views id ≡ some v → LearnsList v
+  learns : (id : ℕ) (v : StrandKnowledge E) (s : State E (StrandKnowledge E)) → ObeysStrandRule s → get_elem? s.views id ≡ some v → AgreesWithList v
   learns id v s r at =
       let events = r.0 in
       let k = r.1 in
       let mine = k.each id v at in
       record {
-        few = let t = total_set (λ u. u.parts) s.views id v nothing at in let p = k.parts in omega arith;
-        stand = λ has. subst (λ (l : List E). AreInList l v.own) (sym (mine.list has)) mine.stand;
+        few = let t = total_set (λ u. u.parts) s.views id v spent_seat at in let p = k.parts in omega arith;
+        in_list = λ has. subst (λ (l : List E). AreInList l v.own) (sym (mine.list has)) mine.in_list;
         most = λ has.
-            let t = total_set (λ u. length u.own) s.views id v nothing at in
+            let t = total_set (λ u. length u.own) s.views id v spent_seat at in
             let p = k.count in
             let long = ap length (mine.list has) in
             omega arith;
         whole = λ has every.
-            let a = alone (λ u. u.parts) (λ u. length u.own) nothing refl refl s.views id v at (λ j u e z. ap length ((k.each j u e).idle z)) (k.parts ∙ sym every) in
+            let a = alone (λ u. u.parts) (λ u. length u.own) spent_seat refl refl s.views id v at (λ j u e z. ap length ((k.each j u e).idle z)) (k.parts ∙ sym every) in
             let p = k.count in
             let long = ap length (mine.list has) in
             omega arith;
         once = λ has every x.
             let long = ap length (mine.list has) in
-            let a = alone (λ u. length u.own) (λ u. times x u.own) nothing refl refl s.views id v at (λ j u e z. ap (times x) (empty u.own z)) (k.count ∙ sym long ∙ sym every) in
+            let a = alone (λ u. length u.own) (λ u. count_with_number x u.own) spent_seat refl refl s.views id v at (λ j u e z. ap (count_with_number x) (empty u.own z)) (k.count ∙ sym long ∙ sym every) in
             sym a ∙ k.once x ∙ ap (once_below x) (sym long);
       }
 
   -- nothing is changed
-  still : (s : State E (StrandKnowledge E)) (id : ℕ) (v : StrandKnowledge E) → get_elem? s.views id ≡ some v → KeepsStrands s → (words : List ℕ) → (homes : List (mathlib.Core.Option.Option E))
-      → KeepsStrands (record { words = words; homes = homes; views = set s.views id v })
+  still : (s : State E (StrandKnowledge E)) (id : ℕ) (v : StrandKnowledge E) → get_elem? s.views id ≡ some v → ObeysStrandRule s → (words : List ℕ) → (homes : List (mathlib.Core.Option.Option E))
+      → ObeysStrandRule (record { words = words; homes = homes; views = set s.views id v })
   still s id v at r words homes = (r.0, subst (AreSoundStrands r.0) (sym (set_again s.views id v at)) r.1)
 
-  pub looks : (slots id : ℕ) (me : Me E (StrandKnowledge E)) → Allows KeepsStrands slots id me 0 (λ n. n) (Looks (step slots 0 0 0 none) me)
+  pub looks : (slots id : ℕ) (me : Me E (StrandKnowledge E)) → Allows ObeysStrandRule slots id me 0 (λ n. n) (AuditsList (step slots 0 0 0 none) me)
   looks slots id me s r _ at _ = (me.0, keeps, tt, still s id me.0 at r (set s.words 0 (slice_index s.words 0)) s.homes, (refl, learns id me.0 s r at))
 
   pub writes : (slots id : ℕ) (me : Me E (StrandKnowledge E)) (e : E) → me.0.keeps ≡ true → 0 < me.0.parts
-      → Allows KeepsStrands slots id me 0 (λ n. either (eqb n 0) 0 n) (NotesEvent (step slots 0 0 0 (some e)) me)
+      → Allows ObeysStrandRule slots id me 0 (λ n. either (eqb n 0) 0 n) (NotesEvent (step slots 0 0 0 (some e)) me)
   writes slots id me e keeping some_part s r _ at _ =
       let mine = r.1.each id me.0 at in
       let long : length me.0.all ≡ length r.0 = ap length (mine.list keeping) in
-      let low : me.0.least ≤ length me.0.all = let p = mine.rises in omega arith in (
+      let low : me.0.least ≤ length me.0.all = let p = mine.least_within in omega arith in (
         with_event me.0 e,
         keeps,
         tt,
@@ -219,15 +219,15 @@ module _ {E : Type 0} where
         λ f same. (ap (λ (x : E). (with_event me.0 x, me.1)) (some-injective e f same), low),
       )
 
-  pub sees : (slots id : ℕ) (me : Me E (StrandKnowledge E)) → me.0.keeps ≡ true → Allows KeepsStrands slots id me 0 (λ n. n) (Sees (step slots 0 0 0 none) me)
+  pub sees : (slots id : ℕ) (me : Me E (StrandKnowledge E)) → me.0.keeps ≡ true → Allows ObeysStrandRule slots id me 0 (λ n. n) (SeesWholeList (step slots 0 0 0 none) me)
   sees slots id me keeping s r _ at _ =
       let mine = r.1.each id me.0 at in
       let long : length me.0.all ≡ length r.0 = ap length (mine.list keeping) in
-      let low : me.0.least ≤ length me.0.all = let p = mine.rises in omega arith in
+      let low : me.0.least ≤ length me.0.all = let p = mine.least_within in omega arith in
       (up_to_date me.0, keeps, tt, (r.0, sees_all r.0 s.views id me.0 at keeping r.1), (refl, low))
 
   -- a strand that meets the list
-  pub meets : (v k : StrandKnowledge E) → k.keeps ≡ true → both_seats v (list_alone k) ≡ strand_knowledge v.parts v.own v.least true k.all
+  pub meets : (v k : StrandKnowledge E) → k.keeps ≡ true → both_seats v (list_seat k) ≡ strand_knowledge v.parts v.own v.least true k.all
   meets v k keeping =
       let a : v.parts + 0 ≡ v.parts = omega arith in
       let b : v.own ++ [] ≡ v.own = append-nil v.own in
@@ -262,14 +262,14 @@ pub record HasNoted {E : Type 0} (v k : StrandKnowledge E) (e : E) (left right :
 module _ {E : Type 0} where
   -- a strand meets the list, notes an event, and the list leaves it again
   pub noting : (v k : StrandKnowledge E) (c : List (ℕ × E)) (e : E) (list met new left right : Me E (StrandKnowledge E)) → k.keeps ≡ true → c ≡ [] → 0 < v.parts
-      → list ≡ (list_alone k, []) → met ≡ (both_seats v list.0, c) → (new ≡ (with_event met.0 e, met.1)) × (met.0.least ≤ length met.0.all)
-      → left ≡ (without_list new.0, new.1) → right ≡ (list_alone new.0, []) → HasNoted v k e left right
+      → list ≡ (list_seat k, []) → met ≡ (both_seats v list.0, c) → (new ≡ (with_event met.0 e, met.1)) × (met.0.least ≤ length met.0.all)
+      → left ≡ (without_list new.0, new.1) → right ≡ (list_seat new.0, []) → HasNoted v k e left right
   noting v k c e list met new left right keeping free some_part from joined noted left_is right_is =
       let M : Type 0 = Me E (StrandKnowledge E) in
       let both : met ≡ (strand_knowledge v.parts v.own v.least true k.all, c) = joined ∙ (ap (λ (l : M). (both_seats v l.0, c)) from ∙ ap (λ (u : StrandKnowledge E). (u, c)) (meets v k keeping)) in
       let now : new ≡ (with_event (strand_knowledge v.parts v.own v.least true k.all) e, c) = noted.0 ∙ ap (λ (m : M). (with_event m.0 e, m.1)) both in
       let l : left ≡ (without_list (with_event (strand_knowledge v.parts v.own v.least true k.all) e), c) = left_is ∙ ap (λ (m : M). (without_list m.0, m.1)) now in
-      let r : right ≡ (list_alone (with_event (strand_knowledge v.parts v.own v.least true k.all) e), []) = right_is ∙ ap (λ (m : M). (list_alone m.0, [])) now in
+      let r : right ≡ (list_seat (with_event (strand_knowledge v.parts v.own v.least true k.all) e), []) = right_is ∙ ap (λ (m : M). (list_seat m.0, [])) now in
       record {
         left_slot = ap (λ (m : M). m.1) l ∙ free;
         left_list = ap (λ (m : M). m.0.keeps) l;
@@ -284,14 +284,14 @@ module _ {E : Type 0} where
 
   -- a strand meets the list, sees it, and the list leaves it again
   pub looking : (v k : StrandKnowledge E) (c : List (ℕ × E)) (list met new left right : Me E (StrandKnowledge E)) → k.keeps ≡ true → c ≡ [] → 0 < v.parts
-      → list ≡ (list_alone k, []) → met ≡ (both_seats v list.0, c) → (new ≡ (up_to_date met.0, met.1)) × (met.0.least ≤ length met.0.all)
-      → left ≡ (without_list new.0, new.1) → right ≡ (list_alone new.0, []) → HasLooked v k left right
+      → list ≡ (list_seat k, []) → met ≡ (both_seats v list.0, c) → (new ≡ (up_to_date met.0, met.1)) × (met.0.least ≤ length met.0.all)
+      → left ≡ (without_list new.0, new.1) → right ≡ (list_seat new.0, []) → HasLooked v k left right
   looking v k c list met new left right keeping free some_part from joined seen left_is right_is =
       let M : Type 0 = Me E (StrandKnowledge E) in
       let both : met ≡ (strand_knowledge v.parts v.own v.least true k.all, c) = joined ∙ (ap (λ (l : M). (both_seats v l.0, c)) from ∙ ap (λ (u : StrandKnowledge E). (u, c)) (meets v k keeping)) in
       let now : new ≡ (strand_knowledge v.parts v.own (length k.all) true k.all, c) = seen.0 ∙ ap (λ (m : M). (up_to_date m.0, m.1)) both in
       let l : left ≡ (strand_knowledge v.parts v.own (length k.all) false [], c) = left_is ∙ ap (λ (m : M). (without_list m.0, m.1)) now in
-      let r : right ≡ (strand_knowledge 0 [] 0 true k.all, []) = right_is ∙ ap (λ (m : M). (list_alone m.0, [])) now in
+      let r : right ≡ (strand_knowledge 0 [] 0 true k.all, []) = right_is ∙ ap (λ (m : M). (list_seat m.0, [])) now in
       record {
         left_slot = ap (λ (m : M). m.1) l ∙ free;
         left_list = ap (λ (m : M). m.0.keeps) l;
@@ -306,7 +306,7 @@ module _ {E : Type 0} where
       }
 
   -- a strand that has met the list keeps it, and has as many parts
-  pub met_list : (v k : StrandKnowledge E) (c : List (ℕ × E)) (list met : Me E (StrandKnowledge E)) → k.keeps ≡ true → 0 < v.parts → list ≡ (list_alone k, []) → met ≡ (both_seats v list.0, c)
+  pub met_list : (v k : StrandKnowledge E) (c : List (ℕ × E)) (list met : Me E (StrandKnowledge E)) → k.keeps ≡ true → 0 < v.parts → list ≡ (list_seat k, []) → met ≡ (both_seats v list.0, c)
       → (met.0.keeps ≡ true) × (0 < met.0.parts)
   met_list v k c list met keeping some_part from joined =
       let M : Type 0 = Me E (StrandKnowledge E) in
@@ -314,12 +314,12 @@ module _ {E : Type 0} where
       (ap (λ (m : M). m.0.keeps) both, subst (λ (m : M). 0 < m.0.parts) (sym both) some_part)
 
   -- a strand that has met the list learns this by a look
-  pub learns_met : (v k : StrandKnowledge E) (c : List (ℕ × E)) (list met : Me E (StrandKnowledge E)) → k.keeps ≡ true → list ≡ (list_alone k, []) → met ≡ (both_seats v list.0, c)
-      → LearnsList met.0 → LearnsList (strand_knowledge v.parts v.own v.least true k.all)
+  pub learns_met : (v k : StrandKnowledge E) (c : List (ℕ × E)) (list met : Me E (StrandKnowledge E)) → k.keeps ≡ true → list ≡ (list_seat k, []) → met ≡ (both_seats v list.0, c)
+      → AgreesWithList met.0 → AgreesWithList (strand_knowledge v.parts v.own v.least true k.all)
   learns_met v k c list met keeping from joined learnt =
       let M : Type 0 = Me E (StrandKnowledge E) in
       let both : met ≡ (strand_knowledge v.parts v.own v.least true k.all, c) = joined ∙ (ap (λ (l : M). (both_seats v l.0, c)) from ∙ ap (λ (u : StrandKnowledge E). (u, c)) (meets v k keeping)) in
-      subst LearnsList (ap (λ (m : M). m.0) both) learnt
+      subst AgreesWithList (ap (λ (m : M). m.0) both) learnt
 
   -- a list by itself holds no slot
   pub no_slot : (v : StrandKnowledge E) (m : Me E (StrandKnowledge E)) → m ≡ (v, []) → m.1 ≡ []

@@ -6,79 +6,86 @@ use Rattle.trlab_strands.specs.declared.knowledge.TheConstants.{ALL_PARTS}
 use Rattle.trlab_strands.specs.declared.knowledge.Noted.{Noted}
 use Rattle.trlab_strands.specs.declared.knowledge.StrandKnowledge.{StrandKnowledge}
 
--- how often the number k occurs in a list that has each number below `count` once, and no other
+-- 1 if k is below `count`, otherwise 0: how often k occurs in a list that has each number below `count`
+-- exactly once, and no other number
 abbrev pub once_below : ℕ → ℕ → ℕ
 once_below k count = cond (ltb k count) 1 0
 
--- an event with the list `before` it
+-- an event, with the list of all earlier events
 abbrev pub noted : {E : Type 0} → List E → E → Noted E
 noted before event = record { before = before; event = event }
 
--- the number of an event in the list: how many events came before it
+-- the number of an event, which is its index in the list: how many events came before it
 abbrev pub event_number : {E : Type 0} → Noted E → ℕ
-event_number n = length n.before
+event_number noted_event = length noted_event.before
 
 -- how many of the events `own` have the number k
-abbrev pub times : {E : Type 0} → ℕ → List (Noted E) → ℕ
-times k own = count_by (λ n. eqb (event_number n) k) own
+abbrev pub count_with_number : {E : Type 0} → ℕ → List (Noted E) → ℕ
+count_with_number k own = count_by (λ noted_event. eqb (event_number noted_event) k) own
 
--- the list `events` begins with the events before `n`, and continues with the event of `n`
+-- the list `events` has this event right after the events before it, and possibly more events after it; for
+-- example, b after [a] is in the list [a, b, c]
 abbrev pub IsInList : {E : Type 0} → List E → Noted E → Type 0
-IsInList {E} events n = (later : List E) × (events ≡ n.before ++ n.event ∷ later)
+IsInList {E} events noted_event =
+    (later : List E) × (events ≡ noted_event.before ++ noted_event.event ∷ later)
 
--- each event of `own` is in the list `events`, right after the events before it
+-- each of the events `own` is in the list `events`, right after the events before it
 abbrev pub AreInList : {E : Type 0} → List E → List (Noted E) → Type 0
 AreInList events own = All (IsInList events) own
 
--- the list `events` is a linearization of the events `own`, that is, all of them in the order of their
--- numbers: both have as many, each event is in the list right after the events before it, and each index of
--- the list is the number of exactly one of them
+-- the list `events` is a linearization of the events `own` (Herlihy and Wing 1990): it is exactly these
+-- events, in the order of their numbers. For example, [a, b] is one of the events b after [a] and a after []
 pub record IsLinearization {E : Type 0} (events : List E) (own : List (Noted E)) : Type 0 where
   pub count : length own ≡ length events
-  pub stand : AreInList events own
-  pub once : (k : ℕ) → times k own ≡ once_below k (length events)
+  pub in_list : AreInList events own
+  pub once : (k : ℕ) → count_with_number k own ≡ once_below k (length events)
 
--- the knowledge of a seat: its parts, its own events, its clock, which is the smallest number that its next
--- event may have, whether it keeps the list, and this list
+-- the knowledge of a seat: how many parts it has, its own events, its clock, which is the smallest number
+-- that its next event may have, whether it keeps the list, and the list that it keeps
 abbrev pub strand_knowledge : {E : Type 0} → ℕ → List (Noted E) → ℕ → Bool → List E → StrandKnowledge E
-strand_knowledge parts own least keeps all =
-    record { parts = parts; own = own; least = least; keeps = keeps; all = all }
+strand_knowledge parts own clock keeps events =
+    record { parts = parts; own = own; least = clock; keeps = keeps; all = events }
 
--- the knowledge that is left at the seat of a strand that was gathered into another
-abbrev pub nothing : {E : Type 0} → StrandKnowledge E
-nothing = strand_knowledge 0 [] 0 false []
+-- the knowledge that is left at a seat after it was joined to another seat: no part, no event and no list
+abbrev pub spent_seat : {E : Type 0} → StrandKnowledge E
+spent_seat = strand_knowledge 0 [] 0 false []
 
 -- the knowledge of the first seat: it has all parts, no event, and keeps the empty list
 abbrev pub first_seat : {E : Type 0} → StrandKnowledge E
 first_seat = strand_knowledge ALL_PARTS [] 0 true []
 
--- the knowledge of a strand from which the list was taken
+-- the knowledge of a seat from which the list was taken; its parts, events and clock are as before
 abbrev pub without_list : {E : Type 0} → StrandKnowledge E → StrandKnowledge E
-without_list k = strand_knowledge k.parts k.own k.least false []
+without_list old = strand_knowledge old.parts old.own old.least false []
 
--- the knowledge of a seat that took the list from a strand, if that had it, and nothing else
-abbrev pub list_alone : {E : Type 0} → StrandKnowledge E → StrandKnowledge E
-list_alone k = strand_knowledge 0 [] 0 k.keeps k.all
+-- the knowledge of a new seat that took the list from the seat `old`: it has no part and no event, and keeps
+-- the list if `old` kept it
+abbrev pub list_seat : {E : Type 0} → StrandKnowledge E → StrandKnowledge E
+list_seat old = strand_knowledge 0 [] 0 old.keeps old.all
 
 -- the knowledge of a strand that has given one part away
 abbrev pub less_a_part : {E : Type 0} → StrandKnowledge E → StrandKnowledge E
-less_a_part k = strand_knowledge (k.parts - 1) k.own k.least k.keeps k.all
+less_a_part old = strand_knowledge (old.parts - 1) old.own old.least old.keeps old.all
 
--- the knowledge of a new strand with the one part that another has given away: it has no event, and has seen
--- as much of the list as the other
+-- the knowledge of a new strand that got one part from the strand `old`: it has no event and no list, and its
+-- clock is that of `old`
 abbrev pub one_part : {E : Type 0} → StrandKnowledge E → StrandKnowledge E
-one_part k = strand_knowledge 1 [] k.least false []
+one_part old = strand_knowledge 1 [] old.least false []
 
--- the knowledge of a strand without the list, joined with that of another seat: the parts and events of both,
--- the larger clock, and the list if the other seat keeps it
+-- the knowledge of two seats that were joined, of which `one` did not keep the list: the parts and the events
+-- of both, the larger clock, and the list if `other` kept it
 abbrev pub both_seats : {E : Type 0} → StrandKnowledge E → StrandKnowledge E → StrandKnowledge E
-both_seats k l = strand_knowledge (k.parts + l.parts) (k.own ++ l.own) (max k.least l.least) l.keeps l.all
+both_seats one other =
+    strand_knowledge (one.parts + other.parts) (one.own ++ other.own) (max one.least other.least)
+    other.keeps other.all
 
--- the knowledge of a strand with the list after it has seen the whole list: its clock is the list's length
+-- the knowledge of a strand with the list, after it has seen the whole list: its clock is the list's length
 abbrev pub up_to_date : {E : Type 0} → StrandKnowledge E → StrandKnowledge E
-up_to_date k = strand_knowledge k.parts k.own (length k.all) k.keeps k.all
+up_to_date old = strand_knowledge old.parts old.own (length old.all) old.keeps old.all
 
--- the knowledge of a strand with the list after one more event, the next of the list and of the strand
+-- the knowledge of a strand with the list, after one more event: the event is now the last of the list and
+-- the last of the strand's own, and the clock is the list's new length
 abbrev pub with_event : {E : Type 0} → StrandKnowledge E → E → StrandKnowledge E
-with_event k e =
-    strand_knowledge k.parts (k.own ++ noted k.all e ∷ []) (length k.all + 1) k.keeps (k.all ++ e ∷ [])
+with_event old event =
+    strand_knowledge old.parts (old.own ++ noted old.all event ∷ []) (length old.all + 1) old.keeps
+    (old.all ++ event ∷ [])

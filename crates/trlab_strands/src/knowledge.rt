@@ -52,10 +52,10 @@ pub struct OncePerEvent<E> {
 }
 
 impl<E> TableRule<E, StrandKnowledge<E>, ()> for OncePerEvent<E> {
-    ghost use Rattle.trlab_strands.specs.Rule.{KeepsStrands};
+    ghost use Rattle.trlab_strands.specs.Rule.{ObeysStrandRule};
     ghost use Rattle.trlab_strands.specs.Knowledge.{first_seat};
 
-    ghost holds = { λ key. KeepsStrands };
+    ghost holds = { λ key. ObeysStrandRule };
 
     ghost first = { λ key. first_seat };
 }
@@ -70,32 +70,32 @@ impl<E> Play<E, StrandKnowledge<E>> for NoteEvent {
 }
 
 /// A step that changes nothing.
-pub struct Look;
+pub struct AuditList;
 
-impl<E> Play<E, StrandKnowledge<E>> for Look {
-    ghost use Rattle.trlab_strands.specs.Rule.{Looks};
+impl<E> Play<E, StrandKnowledge<E>> for AuditList {
+    ghost use Rattle.trlab_strands.specs.Rule.{AuditsList};
 
-    ghost then = { Looks };
+    ghost then = { AuditsList };
 }
 
 /// The step by which a strand sees the whole list.
-pub struct See;
+pub struct SeeWholeList;
 
-impl<E> Play<E, StrandKnowledge<E>> for See {
-    ghost use Rattle.trlab_strands.specs.Rule.{Sees};
+impl<E> Play<E, StrandKnowledge<E>> for SeeWholeList {
+    ghost use Rattle.trlab_strands.specs.Rule.{SeesWholeList};
 
-    ghost then = { Sees };
+    ghost then = { SeesWholeList };
 }
 
 /// The list leaves a strand.
 pub struct Apart;
 
 impl<E> Split<StrandKnowledge<E>> for Apart {
-    ghost use Rattle.trlab_strands.specs.Knowledge.{without_list, list_alone};
+    ghost use Rattle.trlab_strands.specs.Knowledge.{without_list, list_seat};
 
     ghost left = { without_list };
 
-    ghost right = { list_alone };
+    ghost right = { list_seat };
 }
 
 /// One part goes to another strand.
@@ -113,9 +113,9 @@ impl<E> Split<StrandKnowledge<E>> for OnePart {
 pub struct JoinStrands;
 
 impl<E> Join<StrandKnowledge<E>> for JoinStrands {
-    ghost use Rattle.trlab_strands.specs.Knowledge.{both_seats, nothing};
+    ghost use Rattle.trlab_strands.specs.Knowledge.{both_seats, spent_seat};
 
     ghost both = { both_seats };
 
-    ghost spent = { nothing };
+    ghost spent = { spent_seat };
 }

@@ -7,7 +7,7 @@ ghost use Rattle.std.specs.Prelude.{◌≡◌};
 
 use crate::knowledge::ALL_PARTS;
 
-/// A list has at most 1024 strands.
+/// The right to add to a list has 1024 parts, so a list has at most 1024 strands.
 pub fn sharing()
     ensures parts { ALL_PARTS ≡ 1024 }
 {}

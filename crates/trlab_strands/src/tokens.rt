@@ -6,7 +6,8 @@ ghost use Rattle.trlab_strands.specs.Knowledge.{IsLinearization, AreInList, firs
 ghost use Rattle.trlab_strands.specs.declared.knowledge.TheConstants.{ALL_PARTS};
 
 use crate::knowledge::{
-    Apart, JoinStrands, Ledger, Look, NoteEvent, OncePerEvent, OnePart, See, StrandKnowledge,
+    Apart, AuditList, JoinStrands, Ledger, NoteEvent, OncePerEvent, OnePart, SeeWholeList,
+    StrandKnowledge,
 };
 use atomic_table::{Seat, Table};
 use std::alloc::{AllocError, Global};
@@ -53,7 +54,7 @@ pub struct Strand<L: Ledger, E> {
 }
 
 impl<E: Drop> Blank<E> {
-    ghost use Rattle.trlab_strands.specs.Tokens.{strand_events, strand_clock, list_of, name_of, strand_parts};
+    ghost use Rattle.trlab_strands.specs.Tokens.{strand_events, strand_clock, keeper_list, name_of, strand_parts};
 
     /// The strands of an empty list.
     ///
@@ -68,7 +69,7 @@ impl<E: Drop> Blank<E> {
     /// The shared word, the keeper of an empty list, and the strand with all 1024 parts.
     pub fn open<L: Ledger>(self) -> (Strands<L, E>, Keeper<L, E>, Strand<L, E>)
         requires { name_of self ≡ L.name }
-        ensures list { list_of result.1 ≡ [] }
+        ensures list { keeper_list result.1 ≡ [] }
         ensures parts { strand_parts result.2 ≡ ALL_PARTS }
         ensures events { (strand_events result.2 ≡ []) × (strand_clock result.2 ≡ 0) }
     {
@@ -92,12 +93,12 @@ impl<E: Drop> Blank<E> {
 }
 
 impl<L: Ledger, E: Drop> Keeper<L, E> {
-    ghost use Rattle.trlab_strands.specs.Tokens.{Adds, CatchesUp, IsSameStrand, strand_events, list_of, strand_parts};
+    ghost use Rattle.trlab_strands.specs.Tokens.{Adds, CatchesUp, IsSameStrand, strand_events, keeper_list, strand_parts};
 
     /// Notes an event as the next one of the list, and as one of this strand.
     pub fn note(&mut self, strands: &Strands<L, E>, strand: &mut Strand<L, E>, event: &E)
-        ensures list { list_of self.new ≡ list_of self.old ++ event.now ∷ [] }
-        ensures strand { Adds strand.old (list_of self.old) event.now strand.new }
+        ensures list { keeper_list self.new ≡ keeper_list self.old ++ event.now ∷ [] }
+        ensures strand { Adds strand.old (keeper_list self.old) event.now strand.new }
     {
         let shared = &strands.table.shared;
         let list = shared.split_seat::<Apart>(&mut self.seat);
@@ -108,13 +109,13 @@ impl<L: Ledger, E: Drop> Keeper<L, E> {
 
     /// Lets a strand see the whole list: its clock rises to the length of the list. Nothing else changes.
     pub fn look(&mut self, strands: &Strands<L, E>, strand: &mut Strand<L, E>)
-        ensures list { list_of self.new ≡ list_of self.old }
-        ensures strand { CatchesUp strand.old (length (list_of self.old)) strand.new }
+        ensures list { keeper_list self.new ≡ keeper_list self.old }
+        ensures strand { CatchesUp strand.old (length (keeper_list self.old)) strand.new }
     {
         let shared = &strands.table.shared;
         let list = shared.split_seat::<Apart>(&mut self.seat);
         shared.join_seat::<JoinStrands>(&mut strand.seat, list);
-        shared.load::<See>(&mut strand.seat, 0);
+        shared.load::<SeeWholeList>(&mut strand.seat, 0);
         self.seat = shared.split_seat::<Apart>(&mut strand.seat);
     }
 
@@ -122,19 +123,19 @@ impl<L: Ledger, E: Drop> Keeper<L, E> {
     /// earlier events. The strand has at most as many events as the list, and exactly as many if it has all parts; the
     /// list is then a linearization of them.
     pub fn audit(&mut self, strands: &Strands<L, E>, strand: &mut Strand<L, E>)
-        ensures same { (list_of self.new ≡ list_of self.old) × IsSameStrand strand.old strand.new }
+        ensures same { (keeper_list self.new ≡ keeper_list self.old) × IsSameStrand strand.old strand.new }
         ensures few { strand_parts strand.old ≤ ALL_PARTS }
-        ensures stand { AreInList (list_of self.old) (strand_events strand.old) }
-        ensures most { length (strand_events strand.old) ≤ length (list_of self.old) }
+        ensures in_list { AreInList (keeper_list self.old) (strand_events strand.old) }
+        ensures most { length (strand_events strand.old) ≤ length (keeper_list self.old) }
         ensures whole { strand_parts strand.old ≡ ALL_PARTS
-            → length (strand_events strand.old) ≡ length (list_of self.old) }
-        ensures all { length (strand_events strand.old) ≡ length (list_of self.old)
-            → IsLinearization (list_of self.old) (strand_events strand.old) }
+            → length (strand_events strand.old) ≡ length (keeper_list self.old) }
+        ensures all { length (strand_events strand.old) ≡ length (keeper_list self.old)
+            → IsLinearization (keeper_list self.old) (strand_events strand.old) }
     {
         let shared = &strands.table.shared;
         let list = shared.split_seat::<Apart>(&mut self.seat);
         shared.join_seat::<JoinStrands>(&mut strand.seat, list);
-        shared.load::<Look>(&mut strand.seat, 0);
+        shared.load::<AuditList>(&mut strand.seat, 0);
         self.seat = shared.split_seat::<Apart>(&mut strand.seat);
     }
 }
@@ -169,7 +170,7 @@ impl<L: Ledger, E: Drop> Strands<L, E> {
         let Strand { mut seat, .. } = one;
         let Strand { seat: joined, .. } = other;
         shared.join_seat::<JoinStrands>(&mut seat, joined);
-        shared.load::<Look>(&mut seat, 0);
+        shared.load::<AuditList>(&mut seat, 0);
         Strand {
             seat,
             ledger: PhantomData,

@@ -8,7 +8,7 @@ use Rattle.trlab_asm.specs.declared.fault.Why.{Why}
 use Rattle.trlab_asm.specs.declared.fault.Why.TheVariants.{Empty}
 use Rattle.trlab_asm.specs.declared.fault.AsmFault.{AsmFault}
 use Rattle.trlab_asm.specs.Results.{◌>>=◌}
-use Rattle.trlab_asm.specs.Reading.{InstrDraft, Labels, Line, line_says}
+use Rattle.trlab_asm.specs.Reading.{InstrDraft, Labels, Line, line_content}
 use Rattle.trlab_asm.specs.Assembly.{LineDraft, Parts, no_parts, in_line, with_draft, with_line, first_pass, jump_to, resolve_label, resolve, second_pass, instrs_of, code_of, IsOutOfMemory}
 
 -- a fault stands at a line up to n
@@ -45,7 +45,7 @@ first_within : (n number : ℕ) (lines : List (List ℕ)) (parts : Parts) → nu
 unfolding first_pass
 first_within n number [] parts room all = all
 first_within n number (line ∷ left) parts room all =
-    first_step n number parts left (line_says parts.labels (length parts.reads) line) (omega arith)
+    first_step n number parts left (line_content parts.labels (length parts.reads) line) (omega arith)
     (λ say. first_within n (number + 1) left (with_line parts number say) (omega arith) (read_line n number parts.reads say.draft all (omega arith)))
 
 jump_within : (n line : ℕ) (instr : Instr) (pc : Option ℕ) → line ≤ n → Within n (jump_to line instr pc)

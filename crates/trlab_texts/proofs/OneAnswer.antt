@@ -6,7 +6,7 @@ use Rattle.trlab_texts.specs.declared.fault.Cause.TheVariants.{Line, TooBig}
 use Rattle.trlab_bounds.specs.declared.texts.TheConstants.{TEXT_LIMIT}
 use Rattle.trlab_texts.specs.Causes.{IsNotStandardRefused}
 use Rattle.trlab_texts.specs.Lines.{Rest}
-use Rattle.trlab_texts.specs.Reading.{Fault, Rule, Reading, say, Continues, ◌>>=◌, line_with_rest, LineSays, line, exactly, SizedTextSays, TextSays, read_if, before, at_line, of_line}
+use Rattle.trlab_texts.specs.Reading.{Fault, LineRule, Reading, say, Continues, ◌>>=◌, line_with_rest, LineParsesTo, line, exactly, SizedTextParsesTo, TextParsesTo, read_if, before, at_line, of_line}
 use Rattle.trlab_texts.proofs.Fine.{IsOtherFault, Fine, FineText, line_other, too_big_other, at_line_fine}
 
 -- exactly one thing is said; a value keeps what is asked, and so does a fault
@@ -29,7 +29,7 @@ pub record OnePart {A : Type 0} (Keeps : A → Type 0) (Says : Result (A × Rest
   pub one : OneText (λ found. Keeps found.0) Says
 
 -- a rule by which each line says one thing
-abbrev pub OneRule : {A : Type 0} → (A → Type 0) → Rule A → Type 0
+abbrev pub OneRule : {A : Type 0} → (A → Type 0) → LineRule A → Type 0
 OneRule Keeps rule = (text : List ℕ) → OneLine Keeps (rule text)
 
 -- a reading by which lines say one thing from each place on
@@ -81,11 +81,11 @@ in_line_fine P number left (Ok x) fine = fine
 in_line_fine P number left (Err cause) fine = fine
 
 -- the next line
-pub next_one : {A : Type 0} {P : A → Type 0} (rule : Rule A) (number : ℕ) (left : List (List ℕ)) → OneRule P rule → OnePart P (LineSays rule number left)
+pub next_one : {A : Type 0} {P : A → Type 0} (rule : LineRule A) (number : ℕ) (left : List (List ℕ)) → OneRule P rule → OnePart P (LineParsesTo rule number left)
 next_one {A} {P} rule number [] one = record { one = exact (Err (record { line = number; cause = Line })) line_other }
 next_one {A} {P} rule number (text ∷ left) one = record { one = made (line_with_rest number left) (one text) (in_line_fine P number left) }
 
-pub line_one : {A : Type 0} {P : A → Type 0} (rule : Rule A) → OneRule P rule → OneReading P (line rule)
+pub line_one : {A : Type 0} {P : A → Type 0} (rule : LineRule A) → OneRule P rule → OneReading P (line rule)
 line_one rule one place = next_one rule place.number place.left one
 
 -- a line by a rule that is a function
@@ -143,10 +143,10 @@ pub of_line_one : {A : Type 0} {P : A → Type 0} {Says : Result A Cause → Typ
 of_line_one {A} {P} number one place =
     record { one = made (λ says. before place (at_line number says)) one (λ says fine. before_fine P place (at_line number says) (at_line_fine P number says fine)) }
 
-sized_one : {A : Type 0} {P : A → Type 0} (Says : List ℕ → Result A Fault → Type 0) (long : Bool) (text : List ℕ) → OneText P (Says text) → OneText P (SizedTextSays Says long text)
+sized_one : {A : Type 0} {P : A → Type 0} (Says : List ℕ → Result A Fault → Type 0) (long : Bool) (text : List ℕ) → OneText P (Says text) → OneText P (SizedTextParsesTo Says long text)
 sized_one Says true text one = exact (Err (record { line = 0; cause = TooBig })) too_big_other
 sized_one Says false text one = one
 
 -- a text says one thing where its lines do
-pub text_one : {A : Type 0} {P : A → Type 0} (Says : List ℕ → Result A Fault → Type 0) (text : List ℕ) → OneText P (Says text) → OneText P (TextSays Says text)
+pub text_one : {A : Type 0} {P : A → Type 0} (Says : List ℕ → Result A Fault → Type 0) (text : List ℕ) → OneText P (Says text) → OneText P (TextParsesTo Says text)
 text_one Says text one = sized_one Says (nat_lt TEXT_LIMIT (length text)) text one

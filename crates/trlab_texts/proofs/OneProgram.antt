@@ -12,8 +12,8 @@ use Rattle.trlab_code.specs.declared.program.Kind.TheVariants.{Motion, Change}
 use Rattle.trlab_code.specs.declared.instruction.Instr.{Instr}
 use Rattle.trlab_code.specs.declared.fault.CodeFault.{CodeFault}
 use Rattle.trlab_code.specs.declared.fault.CodeFault.TheVariants.{Kind as OtherKind}
-use Rattle.trlab_code.specs.Program.{Program, IsProgram}
-use Rattle.trlab_code.specs.Laws.{AreBytes, Says}
+use Rattle.trlab_code.specs.Program.{Program, IsValidProgram}
+use Rattle.trlab_code.specs.Laws.{AreBytes, BytesMean}
 use Rattle.trlab_code.proofs.Readable.{something}
 use Rattle.trlab_code.proofs.Said.{one_thing}
 use Rattle.trlab_asm.specs.declared.fault.AsmFault.{AsmFault}
@@ -22,14 +22,14 @@ use Rattle.trlab_asm.specs.Assembly.{code_of}
 use Rattle.trlab_asm.proofs.Said.{lines_say}
 use Rattle.trlab_verify.specs.CheckedProgram.{CheckedProgram, IsChecked}
 use Rattle.trlab_verify.specs.Longest.{IsLongest}
-use Rattle.trlab_verify.specs.Verdict.{IsAccepted, IsRefused, fault_at}
+use Rattle.trlab_verify.specs.Verdict.{IsAccepted, IsRefused, reason_number_at}
 use Rattle.trlab_verify.proofs.Judged.{accepted_or_refused, some_budget}
 use Rattle.trlab_texts.specs.declared.fault.Cause.{Cause}
 use Rattle.trlab_texts.specs.declared.fault.Cause.TheVariants.{Line, Hex, Code, Verdict}
 use Rattle.trlab_texts.specs.Lines.{Rest}
 use Rattle.trlab_texts.specs.Words.{word_after}
 use Rattle.trlab_texts.specs.Reading.{Fault, before}
-use Rattle.trlab_texts.specs.Programs.{BytesSay, DigitsSay, CodeSays, code_line, as_kind, of_kind, code_line_of, after_line, program_after, Part, part_of, heading_line, block, HeadingSays, PartSays, program_part, VerdictSays, verdict, part}
+use Rattle.trlab_texts.specs.Programs.{BytesDecodeTo, DigitsDecodeTo, CodeParsesTo, code_line, as_kind, of_kind, code_line_of, with_line_offset, program_after, EndSplit, split_at_end, heading_line, block, HeadingParsesTo, PartParsesTo, program_part, IsVerdict, verdict, part}
 use Rattle.trlab_texts.proofs.Fine.{Anything, Fine, FineText, code_other, hex_other, line_other, program_other, verdict_other, word_fine}
 use Rattle.trlab_texts.proofs.OneAnswer.{OneLine, OneText, OnePart, OneRule, OneReading, exact, made, next_one, then_one, before_fine, before_one}
 
@@ -38,16 +38,16 @@ abbrev with_cause : Result Program CodeFault → Result Program Cause
 with_cause (Ok program) = Ok program
 with_cause (Err fault) = Err (Code fault)
 
-said_with_cause : (bytes : List ℕ) (said : Result Program CodeFault) → Says bytes said → BytesSay bytes (with_cause said) × Fine IsProgram (with_cause said)
+said_with_cause : (bytes : List ℕ) (said : Result Program CodeFault) → BytesMean bytes said → BytesDecodeTo bytes (with_cause said) × Fine IsValidProgram (with_cause said)
 said_with_cause bytes (Ok program) says = ((says.1, says.0), says.1)
 said_with_cause bytes (Err fault) says = (says, code_other fault)
 
-without_cause : (bytes : List ℕ) (says : Result Program Cause) → BytesSay bytes says → (said : Result Program CodeFault) × (Says bytes said × (says ≡ with_cause said))
+without_cause : (bytes : List ℕ) (says : Result Program Cause) → BytesDecodeTo bytes says → (said : Result Program CodeFault) × (BytesMean bytes said × (says ≡ with_cause said))
 without_cause bytes (Ok program) p = (Ok program, ((p.1, p.0), refl))
 without_cause bytes (Err (Code fault)) p = (Err fault, (p, refl))
 without_cause bytes (Err _) p = absurd p
 
-bytes_one : (bytes : List ℕ) → AreBytes bytes → OneLine IsProgram (BytesSay bytes)
+bytes_one : (bytes : List ℕ) → AreBytes bytes → OneLine IsValidProgram (BytesDecodeTo bytes)
 bytes_one bytes are =
     let found = something bytes are in
     let said = said_with_cause bytes found.0 found.1 in
@@ -62,53 +62,53 @@ bytes_one bytes are =
 decoded : (digits bytes : List ℕ) → decode_of digits ≡ Ok bytes → AreBytes bytes
 decoded digits bytes is = All-from_get_or (λ byte. byte < 2 ^ 8) bytes 0 (λ i below. (decode_of-ok digits bytes is).3 i)
 
-digits_one : (digits : List ℕ) (bytes : Result (List ℕ) FromHexError) → decode_of digits ≡ bytes → OneLine IsProgram (DigitsSay bytes)
+digits_one : (digits : List ℕ) (bytes : Result (List ℕ) FromHexError) → decode_of digits ≡ bytes → OneLine IsValidProgram (DigitsDecodeTo bytes)
 digits_one digits (Ok bytes) is = bytes_one bytes (decoded digits bytes is)
 digits_one digits (Err fault) is = exact (Err Hex) hex_other
 
-word_one : (word : Result (List ℕ) Cause) → Fine Anything word → OneLine IsProgram (CodeSays word)
+word_one : (word : Result (List ℕ) Cause) → Fine Anything word → OneLine IsValidProgram (CodeParsesTo word)
 word_one (Ok digits) fine = digits_one digits (decode_of digits) refl
 word_one (Err cause) fine = exact (Err cause) fine
 
 -- each line says one program in hexadecimal digits, or has a fault
-pub code_one : OneRule IsProgram code_line
+pub code_one : OneRule IsValidProgram code_line
 code_one text = word_one (word_after (codes "code ") text) (word_fine (codes "code ") text)
 
-as_kind_fine : (kind own : Kind) (program : Program) → IsProgram program → Fine IsProgram (as_kind kind own program)
+as_kind_fine : (kind own : Kind) (program : Program) → IsValidProgram program → Fine IsValidProgram (as_kind kind own program)
 as_kind_fine Motion Motion program is = is
 as_kind_fine Motion Change program is = code_other OtherKind
 as_kind_fine Change Motion program is = code_other OtherKind
 as_kind_fine Change Change program is = is
 
-of_kind_fine : (kind : Kind) (says : Result Program Cause) → Fine IsProgram says → Fine IsProgram (of_kind kind says)
+of_kind_fine : (kind : Kind) (says : Result Program Cause) → Fine IsValidProgram says → Fine IsValidProgram (of_kind kind says)
 of_kind_fine kind (Ok program) is = as_kind_fine kind program.kind program is
 of_kind_fine kind (Err cause) fine = fine
 
-code_of_one : (kind : Kind) → OneRule IsProgram (code_line_of kind)
+code_of_one : (kind : Kind) → OneRule IsValidProgram (code_line_of kind)
 code_of_one kind text = made (of_kind kind) (code_one text) (of_kind_fine kind)
 
-after_line_fine : (first : ℕ) (says : Result Program AsmFault) → MatchResult says IsProgram (λ fault. fault.why ≢ Memory) → FineText IsProgram (after_line first says)
+after_line_fine : (first : ℕ) (says : Result Program AsmFault) → MatchResult says IsValidProgram (λ fault. fault.why ≢ Memory) → FineText IsValidProgram (with_line_offset first says)
 after_line_fine first (Ok program) is = is
 after_line_fine first (Err fault) is = program_other fault.why
 
 -- the lines of a program say one, or have a fault
-pub program_after_fine : (kind : Kind) (first : ℕ) (lines : List (List ℕ)) → FineText IsProgram (program_after kind first lines)
+pub program_after_fine : (kind : Kind) (first : ℕ) (lines : List (List ℕ)) → FineText IsValidProgram (program_after kind first lines)
 program_after_fine kind first lines = after_line_fine first (code_of kind lines) (lines_say kind lines)
 
-block_fine : (kind : Kind) (first : ℕ) (left : List (List ℕ)) (parts : Option Part) → FineText (λ (found : Program × Rest). IsProgram found.0) (block kind first left parts)
+block_fine : (kind : Kind) (first : ℕ) (left : List (List ℕ)) (parts : Option EndSplit) → FineText (λ (found : Program × Rest). IsValidProgram found.0) (block kind first left parts)
 block_fine kind first left None = line_other
 block_fine kind first left (Some parts) =
-    before_fine IsProgram (record { number = first + length parts.0 + 2; left = parts.1 }) (program_after kind first parts.0) (program_after_fine kind first parts.0)
+    before_fine IsValidProgram (record { number = first + length parts.0 + 2; left = parts.1 }) (program_after kind first parts.0) (program_after_fine kind first parts.0)
 
-headed_one : (kind : Kind) (headed : Bool) (number : ℕ) (text : List ℕ) (left : List (List ℕ)) → OnePart IsProgram (HeadingSays kind headed number text left)
-headed_one kind true number text left = record { one = exact (block kind number left (part_of left)) (block_fine kind number left (part_of left)) }
+headed_one : (kind : Kind) (headed : Bool) (number : ℕ) (text : List ℕ) (left : List (List ℕ)) → OnePart IsValidProgram (HeadingParsesTo kind headed number text left)
+headed_one kind true number text left = record { one = exact (block kind number left (split_at_end left)) (block_fine kind number left (split_at_end left)) }
 headed_one kind false number text left = next_one (code_line_of kind) number (text ∷ left) (code_of_one kind)
 
-next_program_one : (kind : Kind) (number : ℕ) (left : List (List ℕ)) → OnePart IsProgram (PartSays kind number left)
+next_program_one : (kind : Kind) (number : ℕ) (left : List (List ℕ)) → OnePart IsValidProgram (PartParsesTo kind number left)
 next_program_one kind number [] = record { one = exact (Err (record { line = number; cause = Line })) line_other }
 next_program_one kind number (text ∷ left) = headed_one kind (bytes_eq text (heading_line kind)) number text left
 
-program_one : (kind : Kind) → OneReading IsProgram (program_part kind)
+program_one : (kind : Kind) → OneReading IsValidProgram (program_part kind)
 program_one kind place = next_program_one kind place.number place.left
 
 -- one longest way
@@ -133,36 +133,36 @@ none_some o e f = cc
 
 -- an accepted program is not refused
 pub not_refused : (kind : Kind) (program : Program) (at reason : ℕ) → IsAccepted kind program → IsRefused kind program at reason → ⊥
-not_refused kind program at reason accepted refused = none_some (fault_at kind program at) (accepted at refused.within) refused.here
+not_refused kind program at reason accepted refused = none_some (reason_number_at kind program at) (accepted at refused.within) refused.here
 
 -- a program is refused at one instruction
 pub refused_at_one : (kind : Kind) (program : Program) (at reason place other : ℕ) → IsRefused kind program at reason → IsRefused kind program place other → at ≡ place
 refused_at_one kind program at reason place other p q = elim (cases_order at place) [
   | inl same ↦ same
   | inr rest ↦ elim rest [
-    | inl before ↦ absurd (none_some (fault_at kind program at) (q.first at before) p.here)
-    | inr behind ↦ absurd (none_some (fault_at kind program place) (p.first place behind) q.here)
+    | inl before ↦ absurd (none_some (reason_number_at kind program at) (q.first at before) p.here)
+    | inr behind ↦ absurd (none_some (reason_number_at kind program place) (p.first place behind) q.here)
   ]
 ]
 
 -- and for one reason
 pub refused_one : (kind : Kind) (program : Program) (at reason place other : ℕ) → IsRefused kind program at reason → IsRefused kind program place other → reason ≡ other
 refused_one kind program at reason place other p q =
-    one_fault_at (sym p.here ∙ ap (fault_at kind program) (refused_at_one kind program at reason place other p q) ∙ q.here)
+    one_fault_at (sym p.here ∙ ap (reason_number_at kind program) (refused_at_one kind program at reason place other p q) ∙ q.here)
 
 accepted_only : (kind : Kind) (first : ℕ) (checked : CheckedProgram) → IsAccepted kind checked.program → IsChecked kind checked
-    → (other : Result CheckedProgram Fault) → VerdictSays kind first checked.program other → other ≡ Ok checked
+    → (other : Result CheckedProgram Fault) → IsVerdict kind first checked.program other → other ≡ Ok checked
 accepted_only kind first checked accepted is (Ok other) p = ap Ok (checked_one other checked p.0 kind p.1.1 is)
 accepted_only kind first checked accepted is (Err fault) p = absurd (not_refused kind checked.program p.0 p.1 accepted p.2.0)
 
 refused_only : (kind : Kind) (first : ℕ) (program : Program) (at reason : ℕ) → IsRefused kind program at reason
-    → (other : Result CheckedProgram Fault) → VerdictSays kind first program other → other ≡ Err (record { line = first; cause = Verdict reason })
+    → (other : Result CheckedProgram Fault) → IsVerdict kind first program other → other ≡ Err (record { line = first; cause = Verdict reason })
 refused_only kind first program at reason refused (Ok checked) p = absurd (not_refused kind program at reason p.1.0 refused)
 refused_only kind first program at reason refused (Err fault) p =
     ap Err (p.2.1 ∙ ap (λ n. record { line = first; cause = Verdict n }) (refused_one kind program p.0 p.1 at reason p.2.0 refused))
 
 -- the verifier says one thing of each program
-verdict_one : (kind : Kind) (first : ℕ) (program : Program) → IsProgram program → OneText (IsChecked kind) (VerdictSays kind first program)
+verdict_one : (kind : Kind) (first : ℕ) (program : Program) → IsValidProgram program → OneText (IsChecked kind) (IsVerdict kind first program)
 verdict_one kind first program is = elim (accepted_or_refused kind program) [
   | inl accepted ↦
       let found = some_budget kind program is accepted in

@@ -5,7 +5,7 @@ use Rattle.std.specs.List.{position}
 use Rattle.std.proofs.lemmas.List.{append_assoc, append-nil}
 use Rattle.std.proofs.lemmas.List.Quantifiers.{position-Some}
 use Rattle.std.proofs.Math.Seq.{append_snoc}
-use Rattle.trlab_lines.specs.Cutting.{around, cut, without_prefix}
+use Rattle.trlab_lines.specs.Cutting.{split_around, cut, without_prefix}
 use Rattle.trlab_texts.specs.declared.fault.Cause.{Cause}
 use Rattle.trlab_texts.specs.declared.fault.Cause.TheVariants.{Number}
 use Rattle.trlab_texts.specs.Words.{within}
@@ -38,7 +38,7 @@ last_part line bytes front rest at is e = record {
 pub behind_prefix : (line bytes prefix rest : List ℕ) (at : ℕ) → HasBytesAt line at bytes → Some rest ≡ without_prefix prefix bytes → HasBytesAt line (at + length prefix) rest
 behind_prefix line bytes prefix rest at is e = last_part line bytes prefix rest at is (behind_front prefix bytes rest (sym e))
 
-cut_at : (c : ℕ) (text front rest : List ℕ) (place : Option ℕ) → position (λ b. b == c) text ≡ place → Some (front, rest) ≡ around text place → (x : ℕ) × (text ≡ front ++ (x ∷ rest))
+cut_at : (c : ℕ) (text front rest : List ℕ) (place : Option ℕ) → position (λ b. b == c) text ≡ place → Some (front, rest) ≡ split_around text place → (x : ℕ) × (text ≡ front ++ (x ∷ rest))
 cut_at c text front rest None at e = cc
 cut_at c text front rest (Some i) at e =
     let found = position-Some (λ b. b == c) text i 0 at in

@@ -14,7 +14,7 @@ use Rattle.trlab_texts.specs.declared.fault.TextFault.{TextFault}
 use Rattle.trlab_texts.specs.declared.fault.TextFault.TheVariants.{At, Memory}
 use Rattle.trlab_texts.specs.Lines.{Rest, IsNextLine}
 use Rattle.trlab_texts.specs.Reading.{line, Reports, ReportsLine}
-use Rattle.trlab_texts.specs.Programs.{as_kind, code_line, code_line_of, heading_line, program_part, verdict, VerdictSays, part}
+use Rattle.trlab_texts.specs.Programs.{as_kind, code_line, code_line_of, heading_line, program_part, verdict, IsVerdict, part}
 use Rattle.trlab_texts.proofs.Readings.{goes_on}
 
 kind_as : (kind own : Kind) (program : Program) → own ≡ kind → as_kind kind own program ≡ Ok program
@@ -49,12 +49,12 @@ in_one_line kind place after text (Err Memory) stands other says = tt
 
 -- what the verifier says of a program that was read
 pub verdict_behind : (kind : Kind) (place after : Rest) (program : Program) (checked : CheckedProgram) → program_part kind place (Ok (program, after))
-    → VerdictSays kind place.number program (Ok checked) → part kind place (Ok (checked, after))
+    → IsVerdict kind place.number program (Ok checked) → part kind place (Ok (checked, after))
 verdict_behind kind place after program checked says answer =
     goes_on (program_part kind) (verdict kind place.number) place after program (Ok (checked, after)) says (Ok checked, (answer, refl))
 
 pub refusal_behind : (kind : Kind) (place after : Rest) (program : Program) (first : ℕ) (fault : TextFault) → program_part kind place (Ok (program, after))
-    → first ≡ place.number → Reports {A = CheckedProgram} (VerdictSays kind first program) (Err fault) → Reports {A = CheckedProgram × Rest} (part kind place) (Err fault)
+    → first ≡ place.number → Reports {A = CheckedProgram} (IsVerdict kind first program) (Err fault) → Reports {A = CheckedProgram × Rest} (part kind place) (Err fault)
 refusal_behind kind place after program first (At number cause) says here answer =
     goes_on (program_part kind) (verdict kind place.number) place after program (Err (At number cause)) says
     (Err (record { line = number; cause = cause }), (rw here at answer, refl))

@@ -7,32 +7,32 @@ use Rattle.trlab_texts.specs.declared.fault.LineFault.TheVariants.{Wrong, Memory
 use Rattle.trlab_texts.specs.declared.fault.TextFault.{TextFault}
 use Rattle.trlab_texts.specs.declared.fault.TextFault.TheVariants.{At, Memory}
 use Rattle.trlab_texts.specs.Lines.{Rest, IsNextLine}
-use Rattle.trlab_texts.specs.Reading.{Fault, Rule, Reading, LineSays, ◌>>=◌, line, Reports, ReportsLine, text_fault}
+use Rattle.trlab_texts.specs.Reading.{Fault, LineRule, Reading, LineParsesTo, ◌>>=◌, line, Reports, ReportsLine, text_fault}
 
 -- a place is its number and its lines
 pub rest_is : (after : Rest) (n : ℕ) → after.number ≡ n → after ≡ record { number = n; left = after.left }
 rest_is after n e = let P : Rest = record { number = n; left = after.left } in rw (← e) refl
 
 -- a line says something
-pub line_says : {A : Type 0} (rule : Rule A) (place after : Rest) (text : List ℕ) (x : A)
+pub line_content : {A : Type 0} (rule : LineRule A) (place after : Rest) (text : List ℕ) (x : A)
     → IsNextLine place text after → rule text (Ok x) → line rule place (Ok (x, after))
-line_says rule place after text x stands says =
+line_content rule place after text x stands says =
     rw stands.0 (Ok x, (says, ap (λ p. Ok (x, p)) (rest_is after (place.number + 1) stands.1)))
 
 -- a line has a fault, or memory ran out
-pub line_fails : {A : Type 0} (rule : Rule A) (place after : Rest) (text : List ℕ) (number : ℕ) (fault : LineFault)
+pub line_fails : {A : Type 0} (rule : LineRule A) (place after : Rest) (text : List ℕ) (number : ℕ) (fault : LineFault)
     → IsNextLine place text after → number ≡ place.number
     → ReportsLine (rule text) (Err fault) → Reports (line rule place) (Err (text_fault number fault))
 line_fails rule place after text number (Wrong cause) stands here says = rw (stands.0, here) (Err cause, (says, refl))
 line_fails rule place after text number NoMemory stands here says = tt
 
-next_by : {A : Type 0} (P Q : Rule A) (number : ℕ) (left : List (List ℕ)) (out : Result (A × Rest) Fault) → ((text : List ℕ) (says : Result A Cause) → P text says → Q text says)
-    → LineSays P number left out → LineSays Q number left out
+next_by : {A : Type 0} (P Q : LineRule A) (number : ℕ) (left : List (List ℕ)) (out : Result (A × Rest) Fault) → ((text : List ℕ) (says : Result A Cause) → P text says → Q text says)
+    → LineParsesTo P number left out → LineParsesTo Q number left out
 next_by P Q number [] out weaker says = says
 next_by P Q number (text ∷ left) out weaker says = (says.0, (weaker text says.0 says.1.0, says.1.1))
 
 -- what a line says by a rule it says by a weaker one
-pub line_by : {A : Type 0} (P Q : Rule A) (rest : Rest) (out : Result (A × Rest) TextFault) → ((text : List ℕ) (says : Result A Cause) → P text says → Q text says)
+pub line_by : {A : Type 0} (P Q : LineRule A) (rest : Rest) (out : Result (A × Rest) TextFault) → ((text : List ℕ) (says : Result A Cause) → P text says → Q text says)
     → Reports (line P rest) out → Reports (line Q rest) out
 line_by P Q rest (Ok found) weaker says = next_by P Q rest.number rest.left (Ok found) weaker says
 line_by P Q rest (Err (At number cause)) weaker says = next_by P Q rest.number rest.left (Err (record { line = number; cause = cause })) weaker says

@@ -3,7 +3,7 @@ use Rattle.std.specs.Prelude.{ℕ, List, ◌++◌, codes}
 use Rattle.trlab_texts.specs.declared.line_name.LineName.{LineName}
 use Rattle.trlab_texts.specs.declared.line_name.LineName.TheVariants.{Road, Sweep, Key, Limit, Length, Lanes, Lane, Rule, Motion, Change, Steps, At, Warm, Measure, Cars, End}
 
--- the word with which the line of this name begins
+-- the first word of a line of this name
 abbrev pub name_word : LineName → List ℕ
 name_word Road = codes "road"
 name_word Sweep = codes "sweep"
@@ -22,6 +22,6 @@ name_word Measure = codes "measure"
 name_word Cars = codes "cars"
 name_word End = codes "end"
 
--- the word with which the line of this name begins, and the space after it
+-- the first word of a line of this name, and the space after it
 abbrev pub name_and_space : LineName → List ℕ
 name_and_space name = name_word name ++ codes " "

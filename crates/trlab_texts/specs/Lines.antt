@@ -2,12 +2,13 @@
 use Rattle.std.specs.Prelude.{◌≡◌, ℕ, ◌+◌, List, ◌∷◌}
 use Rattle.trlab_lines.specs.Lines.{lines_of}
 
--- the rest of a text that is read line by line: the lines that are `left`, and the number of the next line
+-- the unread rest of a text: the number of the next line, counted from 1 in the whole text, and the lines
+-- that are left, from that line on
 pub record Rest : Type 0 where
   pub number : ℕ
   pub left : List (List ℕ)
 
--- the rest before anything is read: all lines of the text, of which the first has the number 1
+-- the rest of a text of which nothing has been read: all its lines, and the number 1
 abbrev pub all_lines : List ℕ → Rest
 all_lines text = record { number = 1; left = lines_of text }
 

@@ -9,31 +9,32 @@ use Rattle.trlab_texts.specs.declared.fault.TextFault.{TextFault}
 use Rattle.trlab_texts.specs.declared.fault.TextFault.TheVariants.{At, Memory}
 use Rattle.trlab_bounds.specs.declared.texts.TheConstants.{TEXT_LIMIT}
 
--- a fault of a text: the number of its line, which is 0 for the whole text, and its cause
+-- a fault of a text: its cause, and the number of its line, which is 0 for the whole text
 pub record Fault : Type 0 where
   pub line : ℕ
   pub cause : Cause
 
--- a rule relates a line to its value, or to the cause of its fault
-abbrev pub Rule : Type 0 → Type 1
-Rule A = List ℕ → Result A Cause → Type 0
+-- the rule by which a line is read: it relates the line to its value, or to the cause of its fault
+abbrev pub LineRule : Type 0 → Type 1
+LineRule A = List ℕ → Result A Cause → Type 0
 
 -- a reading relates the rest of a text to a value and the rest after it, or to the first fault
 abbrev pub Reading : Type 0 → Type 1
 Reading A = Rest → Result (A × Rest) Fault → Type 0
 
--- gives the value x without reading a line
+-- gives the value x and reads no line
 abbrev pub say : {A : Type 0} → A → Reading A
 say x rest out = out ≡ Ok (x, rest)
 
--- `out` is the result of continuing with `next` after a first reading: that of `next` if the first gave a
--- value, and otherwise its fault
+-- `out` is a result after a first reading and then `next`: that of `next`, which uses the value of the first,
+-- or the fault of the first
 abbrev pub Continues : {A B : Type 0} → (A → Reading B) → Result (A × Rest) Fault
     → Result (B × Rest) Fault → Type 0
 Continues next (Ok found) out = next found.0 found.1 out
 Continues next (Err fault) out = out ≡ Err fault
 
--- the reading `first`, and then the reading that `next` gives for its value; a fault of the first ends it
+-- the reading `first`, and then the reading that `next` gives for its value, like Rust's `and_then`; a fault
+-- of the first is the result
 infixl 10 ◌>>=◌
 abbrev pub ◌>>=◌ : {A B : Type 0} → Reading A → (A → Reading B) → Reading B
 ◌>>=◌ {A} first next rest out =
@@ -44,83 +45,85 @@ infixl 10 ◌>>◌
 abbrev pub ◌>>◌ : {A B : Type 0} → Reading A → Reading B → Reading B
 first >> next = first >>= λ _. next
 
--- the result for the line `number`: its value with the rest after it, which has the lines `left`, or the
--- fault at this line
+-- the result of reading the line `number`, after which the lines `left` follow: its value and the rest after
+-- it, or a fault at this line
 abbrev pub line_with_rest : {A : Type 0} → ℕ → List (List ℕ) → Result A Cause → Result (A × Rest) Fault
 line_with_rest number left (Ok x) = Ok (x, record { number = number + 1; left = left })
 line_with_rest number left (Err cause) = Err (record { line = number; cause = cause })
 
--- the result for the next line, which has this number, by a rule; if no line is left, that line is missing
-abbrev pub LineSays : {A : Type 0} → Rule A → ℕ → List (List ℕ)
+-- the result of reading the next line, which has this number, by a rule; if no line is left, that line is
+-- missing
+abbrev pub LineParsesTo : {A : Type 0} → LineRule A → ℕ → List (List ℕ)
     → Result (A × Rest) Fault → Type 0
-LineSays rule number [] out = out ≡ Err (record { line = number; cause = Line })
-LineSays {A} rule number (text ∷ left) out =
-    (says : Result A Cause) × (rule text says × (out ≡ line_with_rest number left says))
+LineParsesTo rule number [] out = out ≡ Err (record { line = number; cause = Line })
+LineParsesTo {A} rule number (text ∷ left) out =
+    (result : Result A Cause) × (rule text result × (out ≡ line_with_rest number left result))
 
 -- reads the next line by this rule
-abbrev pub line : {A : Type 0} → Rule A → Reading A
-line rule rest out = LineSays rule rest.number rest.left out
+abbrev pub line : {A : Type 0} → LineRule A → Reading A
+line rule rest out = LineParsesTo rule rest.number rest.left out
 
--- the rule that gives a line exactly the result of this function
-abbrev pub exactly : {A : Type 0} → (List ℕ → Result A Cause) → Rule A
-exactly rule text says = says ≡ rule text
+-- the rule by which each line has the one result that the function `parse` computes
+abbrev pub exactly : {A : Type 0} → (List ℕ → Result A Cause) → LineRule A
+exactly parse text result = result ≡ parse text
 
--- the result for a text, by whether it is too long: the fault `TooBig` at line 0 if `true`, and otherwise a
--- result that `Says` allows
-abbrev pub SizedTextSays : {A : Type 0} → (List ℕ → Result A Fault → Type 0) → Bool → List ℕ
+-- the result for a text: the fault `TooBig` at line 0 if it is too long (`true`), and otherwise a result that
+-- `IsResult` allows
+abbrev pub SizedTextParsesTo : {A : Type 0} → (List ℕ → Result A Fault → Type 0) → Bool → List ℕ
     → Result A Fault → Type 0
-SizedTextSays Says true text says = says ≡ Err (record { line = 0; cause = TooBig })
-SizedTextSays Says false text says = Says text says
+SizedTextParsesTo IsResult true text result = result ≡ Err (record { line = 0; cause = TooBig })
+SizedTextParsesTo IsResult false text result = IsResult text result
 
 -- the result for a text: the fault `TooBig` at line 0 if it has more than TEXT_LIMIT bytes, and otherwise a
--- result that `Says` allows
-abbrev pub TextSays : {A : Type 0} → (List ℕ → Result A Fault → Type 0) → List ℕ
+-- result that `IsResult` allows
+abbrev pub TextParsesTo : {A : Type 0} → (List ℕ → Result A Fault → Type 0) → List ℕ
     → Result A Fault → Type 0
-TextSays Says text says = SizedTextSays Says (nat_lt TEXT_LIMIT (length text)) text says
+TextParsesTo IsResult text result = SizedTextParsesTo IsResult (nat_lt TEXT_LIMIT (length text)) text result
 
--- a function returns a result for a text that `Says` allows, or reports that an allocation failed
+-- the result of reading a text is one that `IsResult` allows, or `Memory`: an allocation may always fail
 abbrev pub Reports : {A : Type 0} → (Result A Fault → Type 0) → Result A TextFault → Type 0
-Reports Says (Ok x) = Says (Ok x)
-Reports Says (Err (At line cause)) = Says (Err (record { line = line; cause = cause }))
-Reports Says (Err Memory) = Unit {0}
+Reports IsResult (Ok x) = IsResult (Ok x)
+Reports IsResult (Err (At line cause)) = IsResult (Err (record { line = line; cause = cause }))
+Reports IsResult (Err Memory) = Unit {0}
 
--- a function returns a result for a line that `Says` allows, or reports that an allocation failed
+-- the result of reading a line is one that `IsResult` allows, or `Memory`: an allocation may always fail
 abbrev pub ReportsLine : {A : Type 0} → (Result A Cause → Type 0) → Result A LineFault → Type 0
-ReportsLine Says (Ok x) = Says (Ok x)
-ReportsLine Says (Err (Wrong cause)) = Says (Err cause)
-ReportsLine Says (Err NoMemory) = Unit {0}
+ReportsLine IsResult (Ok x) = IsResult (Ok x)
+ReportsLine IsResult (Err (Wrong cause)) = IsResult (Err cause)
+ReportsLine IsResult (Err NoMemory) = Unit {0}
 
--- reads a value by `reading` if the condition is true, and otherwise gives no value and reads no line
+-- reads a value by `reading` if the condition is true; otherwise gives `None` and reads no line
 abbrev pub read_if : {A : Type 0} → Bool → Reading A → Reading (Option A)
 read_if true reading = reading >>= λ x. say (Some x)
 read_if false reading = say None
 
--- a result for lines that were read already: a value gets the rest after them, and a fault stays
+-- a result for the lines before `rest`: a value is paired with this rest, and a fault stays
 abbrev pub before : {A : Type 0} → Rest → Result A Fault → Result (A × Rest) Fault
 before rest (Ok x) = Ok (x, rest)
 before rest (Err fault) = Err fault
 
--- the result for the line `number`: a cause becomes a fault at this line
+-- a result with its line: a cause becomes a fault at the line `number`, and a value stays
 abbrev pub at_line : {A : Type 0} → ℕ → Result A Cause → Result A Fault
 at_line number (Ok x) = Ok x
 at_line number (Err cause) = Err (record { line = number; cause = cause })
 
--- gives a result for the line `number` that `Says` allows; the line was read already
+-- gives a result that `IsResult` allows for the line `number`, which was read already
 abbrev pub of_line : {A : Type 0} → ℕ → (Result A Cause → Type 0) → Reading A
-of_line {A} number Says rest out =
-    (says : Result A Cause) × (Says says × (out ≡ before rest (at_line number says)))
+of_line {A} number IsResult rest out =
+    (result : Result A Cause) × (IsResult result × (out ≡ before rest (at_line number result)))
 
--- a function reports this fault, or that an allocation failed
+-- a function reports this fault of a text, or that an allocation failed
 abbrev pub ReportsFault : Fault → TextFault → Type 0
 ReportsFault fault (At line cause) = record { line = line; cause = cause } ≡ fault
 ReportsFault fault Memory = Unit {0}
 
--- a function reports this cause, or that an allocation failed
+-- a function reports this cause for a line, or that an allocation failed
 abbrev pub ReportsCause : Cause → LineFault → Type 0
-ReportsCause cause (Wrong say) = say ≡ cause
+ReportsCause cause (Wrong reported) = reported ≡ cause
 ReportsCause cause NoMemory = Unit {0}
 
--- the fault of a text whose line `line` has this fault: its cause at this line, or the failed allocation
+-- the fault of a text, from that of its line with the number `line`: the cause at this line, or the failed
+-- allocation
 abbrev pub text_fault : ℕ → LineFault → TextFault
 text_fault line (Wrong cause) = At line cause
 text_fault line NoMemory = Memory

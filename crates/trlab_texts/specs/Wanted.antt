@@ -14,14 +14,16 @@ use Rattle.trlab_texts.specs.declared.refusal.Wanted.TheVariants.{Nothing, Lines
 use Rattle.trlab_texts.specs.Places.{HasBytesAt}
 use Rattle.trlab_texts.specs.Words.{number_of, within}
 
--- the `size` bytes of `line` at the position `at` do not write a number from `least` to `most`
+-- the `size` bytes of `line` at the position `at` do not write a number from `least` to `most`; for example,
+-- the 2 bytes of `limit 40` at 6 do not write a number from 1 to 35
 abbrev pub IsNoNumberAt : List ℕ → ℕ → ℕ → ℕ → ℕ → Type 0
 IsNoNumberAt line at size least most = (word : List ℕ)
     × (HasBytesAt line at word × ((length word ≡ size) × (within least most (number_of word) ≡ Err NoNumber)))
 
--- a reader can want this input when `line` has this cause: one kind of input for each cause, or `Nothing`;
--- wanted positions are in the line, and a wanted program is one that the verifier rejects for the cause's
--- reason
+-- a reader can want this input in `line`, which has this cause: each cause allows one kind of input, which is
+-- `Nothing` if the cause says everything. A wanted number replaces a word that does not write one, wanted
+-- digits begin in the line or at its end, and a wanted program replaces one that the verifier rejects for the
+-- cause's reason
 abbrev pub IsWantedIn : List ℕ → Cause → Wish → Type 0
 IsWantedIn line Line (Lines names) = Unit {0}
 IsWantedIn line NoNumber (Number at size least most quantity) = IsNoNumberAt line at size least most
@@ -48,7 +50,8 @@ abbrev pub IsWantedAt : List ℕ → LineFault → Wish → Type 0
 IsWantedAt line (Wrong cause) wanted = IsWantedIn line cause wanted
 IsWantedAt line NoMemory wanted = wanted ≡ Nothing
 
--- a reader can want this input at a fault of a text, which is in `line`; `Nothing` if an allocation failed
+-- a reader can want this input at a fault of a text that is in the line `line`; `Nothing` if an allocation
+-- failed
 abbrev pub IsWanted : List ℕ → TextFault → Wish → Type 0
 IsWanted line (At number cause) wanted = IsWantedIn line cause wanted
 IsWanted line Memory wanted = wanted ≡ Nothing

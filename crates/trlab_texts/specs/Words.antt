@@ -15,27 +15,29 @@ has_space text = list_any (λ c. c == 32) text
 abbrev pub is_word : List ℕ → Bool
 is_word text = nat_lt 0 (length text) && not (has_space text)
 
--- the text after a line's name, if it is one word; the cause `Line` if it is not, or if the line has another
--- name
+-- the text after a line's name, if it is one word; otherwise the cause `Line`, also if the line has another
+-- name (`None`)
 abbrev pub one_word : Option (List ℕ) → Result (List ℕ) Cause
 one_word None = Err Line
 one_word (Some word) = if is_word word then Ok word else Err Line
 
--- the text after `name` in the line `text`, if it is one word; the cause `Line` for any other line
+-- the text after `name` in the line `text`, if it is one word; the cause `Line` for any other line. For
+-- example, the word after `limit ` in `limit 5` is `5`
 abbrev pub word_after : List ℕ → List ℕ → Result (List ℕ) Cause
 word_after name text = one_word (without_prefix name text)
 
--- the number that a word writes in decimal digits, without a leading 0; none if it does not write a number
+-- the number that a word writes in decimal digits: 20 for `20`, and none for `020`, `+20` or `2x`
 abbrev pub number_of : List ℕ → Option ℕ
-number_of word = if bytes_eq (decimal (digits_value 10 word)) word then Some (digits_value 10 word) else None
+number_of word =
+    if bytes_eq (decimal (digits_value 10 word)) word then Some (digits_value 10 word) else None
 
 -- the number, if it is from `low` to `high`; the cause `Number` if it is not, or if there is no number
 abbrev pub within : ℕ → ℕ → Option ℕ → Result ℕ Cause
 within low high None = Err Number
 within low high (Some n) = if nat_le low n && nat_le n high then Ok n else Err Number
 
--- the number from `low` to `high` that a word writes, and otherwise the cause `Number`; if there is no word,
--- its cause stays
+-- the number from `low` to `high` that a word writes; the cause `Number` if it writes none, and if there is
+-- no word, the cause of that
 abbrev pub number_within : ℕ → ℕ → Result (List ℕ) Cause → Result ℕ Cause
 number_within low high (Err cause) = Err cause
 number_within low high (Ok word) = within low high (number_of word)
@@ -49,15 +51,15 @@ abbrev pub next_word_is : List ℕ → List (List ℕ) → Bool
 next_word_is word [] = false
 next_word_is word (text ∷ left) = bytes_eq (head_word text) word
 
--- the text, if it is one word, and otherwise none
+-- the text, if it is one word; otherwise none
 abbrev pub as_word : List ℕ → Option (List ℕ)
 as_word text = if is_word text then Some text else None
 
--- the two parts, if each of them is one word, and otherwise none
+-- the two parts of a text, if each of them is one word; otherwise none
 abbrev pub both_words : Option (List ℕ × List ℕ) → Option (List ℕ × List ℕ)
 both_words None = None
 both_words (Some parts) = if is_word parts.0 && is_word parts.1 then Some parts else None
 
--- the two words of a text, if it is two words with one space between them, and otherwise none
+-- the two words of a text with one space between them: `3` and `12` for `3 12`; none for any other text
 abbrev pub two_words : List ℕ → Option (List ℕ × List ℕ)
 two_words text = both_words (cut 32 text)

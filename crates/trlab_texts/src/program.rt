@@ -3,7 +3,7 @@
 
 ghost use Rattle.std.specs.Prelude.{◌≡◌, codes, ◌+◌, ◌<◌, ◌^◌, length};
 ghost use Rattle.trlab_texts.specs.Reading.{ReportsLine, Reports};
-ghost use Rattle.trlab_texts.specs.Programs.{BytesSay, code_line, code_line_of, VerdictSays, heading_line, part, program_after, program_part};
+ghost use Rattle.trlab_texts.specs.Programs.{BytesDecodeTo, code_line, code_line_of, IsVerdict, heading_line, part, program_after, program_part};
 ghost use Rattle.trlab_texts.specs.Words.{word_after};
 ghost use Rattle.std.specs.Str.{bytes_eq};
 ghost use Rattle.trlab_lines.specs.Lines.{lines_of};
@@ -21,7 +21,7 @@ use trlab_verify::{AcceptedProgram, ProgramKind, VerifyFault, verify_as};
 
 /// Decodes a program of either kind.
 fn code_of_bytes<'a>(alloc: Global, bytes: &[u8]) -> Result<Code, LineRefusal<'a>>
-    ensures { ReportsLine (BytesSay bytes.now) result }
+    ensures { ReportsLine (BytesDecodeTo bytes.now) result }
 {
     match decode(alloc, bytes) {
         Ok(code) => Ok(code),
@@ -162,7 +162,7 @@ fn accepted<'a, K: ProgramKind>(
     first: u32,
     code: Code,
 ) -> Result<AcceptedProgram<K>, Refusal<'a>>
-    ensures { Reports (VerdictSays K.KIND first code) result }
+    ensures { Reports (IsVerdict K.KIND first code) result }
 {
     match verify_as(alloc, code) {
         Ok(program) => Ok(program),

@@ -3,7 +3,7 @@
 ghost use Rattle.std.specs.Prelude.{◌≡◌, ◌+◌, ◌-◌, ◌<◌, ◌^◌, [], ◌∷◌, None, length, MatchOption, MatchResult, IsTrue, ◌↔◌};
 ghost use Rattle.trlab_lines.specs.Lines.{lines_of};
 ghost use Rattle.trlab_texts.specs.Lines.{IsNextLine, Rest as RestOfLines, all_lines};
-ghost use Rattle.trlab_texts.specs.Programs.{SplitsPart, part_of};
+ghost use Rattle.trlab_texts.specs.Programs.{SplitsAtEnd, split_at_end};
 ghost use Rattle.std.specs.Fn.{FnOnceReturnsAt};
 ghost use Rattle.trlab_texts.specs.declared.fault.Cause.{Cause};
 ghost use Rattle.trlab_texts.specs.declared.fault.TextFault.{TextFault};
@@ -30,6 +30,7 @@ impl<'a> Model for Rest<'a> {
 
     ghost view = { λ rest. record { number = rest.number; left = lines_of rest.left.now } };
 
+    // Each line that is left has at least one byte, so no line number overflows.
     ghost invariant = { λ rest. rest.number + length rest.left.now < 2 ^ 32 };
 }
 
@@ -165,8 +166,8 @@ impl<'a> Rest<'a> {
     /// `Cause::Line` one line past the last, if no line is `end`.
     pub fn part(self) -> Result<(&'a [u8], Rest<'a>), Refusal<'a>>
         ensures { MatchResult result
-            (λ found. SplitsPart self.entry (lines_of found.0.now) found.1)
-            (λ fault. (part_of self.entry.left ≡ None)
+            (λ found. SplitsAtEnd self.entry (lines_of found.0.now) found.1)
+            (λ fault. (split_at_end self.entry.left ≡ None)
             × (fault ≡ TextFault.At (self.entry.number + length self.entry.left) Cause.Line)) }
     {
         let Rest {

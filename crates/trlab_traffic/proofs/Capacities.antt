@@ -16,7 +16,7 @@ use Rattle.trlab_road.proofs.MotionInOrder.{answer_at, moves_by}
 use Rattle.trlab_road.proofs.MotionLaws.{on_lane}
 use Rattle.trlab_road.proofs.Numbers.{no_one}
 use Rattle.trlab_road.proofs.Ring.{clear_within_gap}
-use Rattle.trlab_road.proofs.StandingOrder.{get_or-map_in, in_order_at, length-standing_lanes, standing_cell}
+use Rattle.trlab_road.proofs.StandingOrder.{get_or-map_in, in_order_at, length-standing_from_lane, standing_cell}
 use Rattle.trlab_rules.specs.Rules.{Programs}
 use Rattle.trlab_step.specs.declared.tally.StepTally.{StepTally}
 use Rattle.trlab_step.specs.Laws.{IsLegalLike}
@@ -31,13 +31,13 @@ use Rattle.trlab_traffic.proofs.RoomAhead.{lanes_room, taken_or_empty}
 -- what a function gives for the k-th car
 kth_is : (f : ℕ → ℕ → ℕ) (road : Cells) (k : ℕ) → k < cars road → let car = get_or (standing road) k no_one in slice_index (in_order f road) k ≡ f car.lane car.place
 kth_is f road k below =
-    let count = length-standing_lanes 0 road.lanes in
+    let count = length-standing_from_lane 0 road.lanes in
     get_or-map_in (λ (car : Car). f car.lane car.place) (standing road) k no_one 0 (omega (arith, below, count))
 
 -- speeds that fit may be answered in standing order
 pub may_move : (speeds : ℕ → ℕ → ℕ) (road : Cells) → Fits speeds road → MayMove road (in_order speeds road)
 may_move speeds road fits = record {
-  one_each = length-map (standing road) (λ (car : Car). speeds car.lane car.place) ∙ length-standing_lanes 0 road.lanes;
+  one_each = length-map (standing road) (λ (car : Car). speeds car.lane car.place) ∙ length-standing_from_lane 0 road.lanes;
   within_gaps = λ k below.
       let car = get_or (standing road) k no_one in
       let here = standing_cell road k no_one below in
@@ -65,7 +65,7 @@ fitting_by_cells speeds road fits =
 
 pub fitting_by_limit : (speeds : ℕ → ℕ → ℕ) (road : Cells) → Fits speeds road → sum_by (λ (car : Car). speeds car.lane car.place) (standing road) ≤ road.limit * cars road
 fitting_by_limit speeds road fits =
-    let count = length-standing_lanes 0 road.lanes in
+    let count = length-standing_from_lane 0 road.lanes in
     let each : All (λ (car : Car). speeds car.lane car.place ≤ road.limit) (standing road) =
     λ k d below. fits.within_limit (get_or (standing road) k d) (standing_cell road k d (omega (arith, below, count))) in
     let all = sum_by-le (λ (car : Car). speeds car.lane car.place) road.limit (standing road) each in

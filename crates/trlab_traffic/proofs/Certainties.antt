@@ -23,7 +23,7 @@ use Rattle.trlab_step.specs.Answers.{change_view_of, motion_view_of}
 use Rattle.trlab_step.specs.Next.{IsLaneChangePhase, IsMotionPhase}
 use Rattle.trlab_step.specs.Run.{dice_at}
 use Rattle.trlab_step.proofs.RunLaws.{force_all}
-use Rattle.trlab_traffic.specs.Certainty.{HasOneOutcome, IsCertain, NaschWithoutRandomization, RunIsDeterministic, StepIsDeterministic}
+use Rattle.trlab_traffic.specs.Certainty.{HasOneOutcome, IsDeterministic, NaschWithoutRandomizationIsDeterministic, RunIsDeterministic, StepIsDeterministic}
 
 -- a chance that is none, or certainty, happens on all words of 32 bits or on none
 same_drawn : (chance a b : ℕ) → (chance ≡ 0) ⊎ (chance ≡ CERTAIN) → a < 2 ^ 32 → b < 2 ^ 32 → nat_lt (a / 2) chance ≡ nat_lt (b / 2) chance
@@ -115,7 +115,7 @@ run_is_deterministic seed key number sheet (suc step) road sum all comes =
     let rule = comes.2 in
     let tally = comes.3 in
     let on = comes.5 in
-    let certain = force_all IsCertain sheet step rule all on.under in (
+    let certain = force_all IsDeterministic sheet step rule all on.under in (
       before,
       comes.1,
       rule,
@@ -144,7 +144,7 @@ nasch_certain = all_of (nasch_program 0).instrs (tt, (tt, (tt, (tt, (tt, (tt, (t
 no_change : (change : Option CheckedProgram) → change ≡ None → IfSome change (λ (c : CheckedProgram). All HasOneOutcome c.program.instrs)
 no_change change none = subst (λ (o : Option CheckedProgram). IfSome o (λ (c : CheckedProgram). All HasOneOutcome c.program.instrs)) (sym none) tt
 
-pub nasch_without_randomization : NaschWithoutRandomization
+pub nasch_without_randomization : NaschWithoutRandomizationIsDeterministic
 nasch_without_randomization rule is = record {
   motion = subst (λ (p : Program). All HasOneOutcome p.instrs) (sym is.motion.same) nasch_certain;
   change = no_change rule.change is.change;

@@ -9,14 +9,14 @@ use Rattle.trlab_road.specs.declared.car.Car.{Car}
 use Rattle.trlab_road.specs.Cells.{Cell, Cells, Lane, at, cars, cell, lane_of}
 use Rattle.trlab_road.specs.LaneChange.{CrossesToEmpty, other_lane}
 use Rattle.trlab_road.specs.Legal.{IsLegal}
-use Rattle.trlab_road.specs.Standing.{standing, standing_from, standing_lanes}
+use Rattle.trlab_road.specs.Standing.{standing, standing_from, standing_from_lane}
 use Rattle.trlab_road.proofs.Ring.{car_in}
-use Rattle.trlab_road.proofs.StandingOrder.{length-standing_lanes}
+use Rattle.trlab_road.proofs.StandingOrder.{length-standing_from_lane}
 use Rattle.trlab_step.specs.declared.tally.StepTally.{StepTally}
 use Rattle.trlab_step.specs.Next.{IsLaneChangePhase}
 use Rattle.trlab_step.specs.Run.{ComesTo, Seed, Sheet, dice_at, tally_sum}
 use Rattle.trlab_traffic.specs.Capacity.{all_cells, empty_cells, lane_empty_cells}
-use Rattle.trlab_traffic.specs.Changing.{ChangesFew, RunChangesFew, StepChangesFew}
+use Rattle.trlab_traffic.specs.Changing.{BoundsLaneChanges, RunBoundsLaneChanges, StepBoundsLaneChanges}
 use Rattle.trlab_traffic.proofs.AnyRule.{crossings_free}
 use Rattle.trlab_traffic.proofs.Capacities.{next_cells}
 use Rattle.trlab_traffic.proofs.Going.{run_like}
@@ -34,11 +34,11 @@ two_sum g (a ∷ b ∷ []) two =
     omega (arith, first, second)
 two_sum g (a ∷ b ∷ c ∷ lanes) two = absurd (omega (arith, two))
 
-two_standing : (f : Car → ℕ) (lanes : List Lane) → length lanes ≡ 2 → sum_by f (standing_lanes 0 lanes) ≡ sum_by f (standing_from 0 0 (get_or lanes 0 [])) + sum_by f (standing_from 1 0 (get_or lanes 1 []))
+two_standing : (f : Car → ℕ) (lanes : List Lane) → length lanes ≡ 2 → sum_by f (standing_from_lane 0 lanes) ≡ sum_by f (standing_from 0 0 (get_or lanes 0 [])) + sum_by f (standing_from 1 0 (get_or lanes 1 []))
 two_standing f [] two = absurd (omega (arith, two))
 two_standing f (a ∷ []) two = absurd (omega (arith, two))
 two_standing f (a ∷ b ∷ []) two =
-    let first = sum_by-append f (standing_from 0 0 a) (standing_lanes 1 (b ∷ [])) in
+    let first = sum_by-append f (standing_from 0 0 a) (standing_from_lane 1 (b ∷ [])) in
     let second = sum_by-append f (standing_from 1 0 b) [] in
     omega (arith, first, second)
 two_standing f (a ∷ b ∷ c ∷ lanes) two = absurd (omega (arith, two))
@@ -92,7 +92,7 @@ few_changes (Some change) dice road middle changes legal phase =
     let count = phase.4 in
     let f : Car → ℕ = λ car. cond (crosses car.lane car.place) 1 0 in
     let all = sum_by-le f 1 (standing road) (λ k d below. at_most_one (crosses (get_or (standing road) k d).lane (get_or (standing road) k d).place)) in
-    let size = length-standing_lanes 0 road.lanes in
+    let size = length-standing_from_lane 0 road.lanes in
     let equal : length (lane_of road 1) ≡ length (lane_of road 0) = legal.shape.equal 1 (omega (arith, two)) in
     let split = two_standing f road.lanes two in
     let first = lane_crossing crosses road free 0 equal in
@@ -103,7 +103,7 @@ few_changes (Some change) dice road middle changes legal phase =
 once : (m n : ℕ) → m ≤ n → m ≤ 1 * n
 once m n h = omega (arith, h)
 
-pub step_changes_few : StepChangesFew
+pub step_changes_few : StepBoundsLaneChanges
 step_changes_few rule dice road next tally legal is =
     let few = few_changes rule.change dice road is.0 tally.changes legal is.1.lane_change in
     record { by_cars = once tally.changes (cars road) few.by_cars; by_empty_cells = once tally.changes (empty_cells road) few.by_empty_cells }
@@ -125,7 +125,7 @@ run_cells seed sheet (suc step) road sum comes = next_cells comes.2 (dice_at see
 more : (most k a b : ℕ) → a ≤ k * most → b ≤ most → a + b ≤ suc k * most
 more most k a b before now = let e = suc-mul k most in omega (arith, before, now, e)
 
-change_few : (seed : Seed) (sheet : Sheet) (step : ℕ) (road : Cells) (sum : StepTally) → IsLegal seed.road → ComesTo seed sheet step road sum → ChangesFew seed.road (step - seed.warm) sum.changes
+change_few : (seed : Seed) (sheet : Sheet) (step : ℕ) (road : Cells) (sum : StepTally) → IsLegal seed.road → ComesTo seed sheet step road sum → BoundsLaneChanges seed.road (step - seed.warm) sum.changes
 change_few seed sheet zero road sum legal comes =
     let none = ap (λ (t : StepTally). t.changes) comes.2 in
     record { by_cars = omega (arith, none); by_empty_cells = omega (arith, none) }
@@ -146,15 +146,15 @@ change_few seed sheet (suc step) road sum legal comes =
       | inl early ↦
           let e : step - seed.warm ≡ suc step - seed.warm = omega (arith, early) in
           let same = changes_uncounted (nat_le seed.warm step) sum comes.1 tally on.counted (lt-leb seed.warm step early) in
-          subst (λ k. ChangesFew seed.road k sum.changes) e (subst (ChangesFew seed.road (step - seed.warm)) (sym same) before)
+          subst (λ k. BoundsLaneChanges seed.road k sum.changes) e (subst (BoundsLaneChanges seed.road (step - seed.warm)) (sym same) before)
       | inr late ↦
           let e : suc (step - seed.warm) ≡ suc step - seed.warm = omega (arith, late) in
           let same = changes_counted (nat_le seed.warm step) sum comes.1 tally on.counted (le-leb seed.warm step late) in
-          subst (λ k. ChangesFew seed.road k sum.changes) e (subst (ChangesFew seed.road (suc (step - seed.warm))) (sym same) (record {
+          subst (λ k. BoundsLaneChanges seed.road k sum.changes) e (subst (BoundsLaneChanges seed.road (suc (step - seed.warm))) (sym same) (record {
             by_cars = more (cars seed.road) (step - seed.warm) comes.1.changes tally.changes before.by_cars (omega (arith, by_cars, count));
             by_empty_cells = more (empty_cells seed.road) (step - seed.warm) comes.1.changes tally.changes before.by_empty_cells (omega (arith, by_empty_cells, count, cells, a, b));
           }))
     ]
 
-pub run_changes_few : RunChangesFew
+pub run_changes_few : RunBoundsLaneChanges
 run_changes_few seed sheet step road sum legal comes = change_few seed sheet step road sum legal comes

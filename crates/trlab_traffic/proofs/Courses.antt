@@ -9,7 +9,7 @@ use Rattle.trlab_road.specs.Motion.{Fits, Moves}
 use Rattle.trlab_road.proofs.MotionLaws.{on_lane}
 use Rattle.trlab_road.proofs.Numbers.{all_present, no_one}
 use Rattle.trlab_road.proofs.Ring.{car_in}
-use Rattle.trlab_step.specs.Published.{car_ahead}
+use Rattle.trlab_step.specs.Published.{car_after_motion}
 use Rattle.trlab_step.specs.Run.{IsRoadAt, Seed, Sheet}
 use Rattle.trlab_traffic.specs.Following.{IsNextAhead}
 use Rattle.trlab_traffic.specs.Gone.{HasGone}
@@ -36,7 +36,7 @@ module _ (old new : Cells) (speeds : ℕ → ℕ → ℕ) (moves : Moves speeds 
   goes car = speeds car.lane car.place
 
   abbrev pub moved : Car → Car
-  moved car = car_ahead old car (speeds car.lane car.place)
+  moved car = car_after_motion old car (speeds car.lane car.place)
 
   moved_stands : (car : Car) → IsAt old car → IsAt new (moved car)
   moved_stands car here = (moves.each_lane car.lane (on_lane old car.lane car.place (car.number, car.speed) here)).arrives car.place car.number car.speed here

@@ -9,10 +9,10 @@ use Rattle.trlab_road.specs.declared.car.Car.{Car}
 use Rattle.trlab_road.specs.Cells.{Cell, Cells, Lane, at, lane_of}
 use Rattle.trlab_road.specs.Gaps.{ahead}
 use Rattle.trlab_road.specs.Motion.{Fits, LaneFits, LaneMoves}
-use Rattle.trlab_road.specs.Standing.{standing_from, standing_lanes}
+use Rattle.trlab_road.specs.Standing.{standing_from, standing_from_lane}
 use Rattle.trlab_road.proofs.MotionLaws.{on_lane}
 use Rattle.trlab_road.proofs.Ring.{car_in, inside}
-use Rattle.trlab_traffic.specs.Detector.{DetectorsCountDistance, StepIsContinuous, all_passages, cars_ahead_of, passages, passes, start_of, way}
+use Rattle.trlab_traffic.specs.Detector.{DetectorsCountDistance, StepSatisfiesContinuity, all_passages, cars_ahead_of, passages, passes, place_before_motion, cells_ahead_to}
 use Rattle.trlab_traffic.specs.Rule184.{digit, is_taken}
 use Rattle.trlab_traffic.proofs.AnyRule.{answers_fit}
 use Rattle.trlab_traffic.proofs.LanesApart.{any_lane}
@@ -21,25 +21,25 @@ use Rattle.trlab_traffic.proofs.Places.{ahead_back, ahead_below, ahead_more, ahe
 use Rattle.trlab_traffic.proofs.Sums.{below, below_not, below_so, cell_sum, in_cell, is, is_not, is_so, sum_of_cells, sum_range, total, total_at, total_balance, total_below, total_none, total_same, total_swap, total_turned, weight}
 
 -- the way to where a car goes
-way_gone : (n p v : ℕ) → p < n → v < n → way n p (ahead n p v) ≡ v
+way_gone : (n p v : ℕ) → p < n → v < n → cells_ahead_to n p (ahead n p v) ≡ v
 way_gone n p v low short =
     let e : p + v ≡ v + p = omega arith in
     let back = ahead_back n v p short in
     let same : n - p % n ≡ n - p = ap (λ k. n - k) (mod-eq_of_lt low) in
     ap (λ k. ahead n (k % n) (n - p)) e ∙ sym (ap (ahead n (ahead n v p)) same) ∙ back
 
-pub way_reaches : (n p c : ℕ) → p < n → c < n → ahead n p (way n p c) ≡ c
+pub way_reaches : (n p c : ℕ) → p < n → c < n → ahead n p (cells_ahead_to n p c) ≡ c
 way_reaches n p c low high =
-    let e : p + way n p c ≡ way n p c + p = omega arith in
+    let e : p + cells_ahead_to n p c ≡ cells_ahead_to n p c + p = omega arith in
     let there = back_ahead n c p high in
     let same : n - p % n ≡ n - p = ap (λ k. n - k) (mod-eq_of_lt low) in
     ap (λ k. k % n) e ∙ sym (ap (λ k. ahead n (ahead n c k) p) same) ∙ there
 
-is_there : (n p v c : ℕ) → p < n → v < n → c < n → is (ahead n p v) c ≡ is (way n p c) v
+is_there : (n p v c : ℕ) → p < n → v < n → c < n → is (ahead n p v) c ≡ is (cells_ahead_to n p c) v
 is_there n p v c low short high =
-    elim (cases_eq (way n p c) v) [
-      | inl e ↦ is_so (ahead n p v) c (sym (ap (ahead n p) e) ∙ way_reaches n p c low high) ∙ sym (is_so (way n p c) v e)
-      | inr apart ↦ is_not (ahead n p v) c (λ e. apart (sym (ap (way n p) e) ∙ way_gone n p v low short)) ∙ sym (is_not (way n p c) v apart)
+    elim (cases_eq (cells_ahead_to n p c) v) [
+      | inl e ↦ is_so (ahead n p v) c (sym (ap (ahead n p) e) ∙ way_reaches n p c low high) ∙ sym (is_so (cells_ahead_to n p c) v e)
+      | inr apart ↦ is_not (ahead n p v) c (λ e. apart (sym (ap (cells_ahead_to n p) e) ∙ way_gone n p v low short)) ∙ sym (is_not (cells_ahead_to n p c) v apart)
     ]
 
 -- of a car that goes v cells from p: whether it comes to the cell behind a detector and whether it passes on, whether it
@@ -90,17 +90,17 @@ numbers_balance n z v low short =
     ]
 
 car_balance : (n p v b : ℕ) → p < n → v < n → b < n
-    → is (ahead n p v) (ahead n b 1) + below (way n p (ahead n b 1)) v ≡ is p (ahead n b 1) + below (way n p b) v
+    → is (ahead n p v) (ahead n b 1) + below (cells_ahead_to n p (ahead n b 1)) v ≡ is p (ahead n b 1) + below (cells_ahead_to n p b) v
 car_balance n p v b low short high =
     let c = ahead n b 1 in
     let some : 0 < n = omega (arith, low) in
     let c_low = ahead_below n b 1 some in
-    let on : way n p c ≡ ahead n (way n p b) 1 = ahead_swap n b 1 (n - p) in
+    let on : cells_ahead_to n p c ≡ ahead n (cells_ahead_to n p b) 1 = ahead_swap n b 1 (n - p) in
     let arrives = is_there n p v c low short c_low ∙ ap (λ k. is k v) on in
     let stays = is_there n p 0 c low some c_low ∙ ap (λ k. is k 0) on in
     let own : is (ahead n p 0) c ≡ is p c = ap (λ k. is k c) (ahead_none n p low) in
-    let passes_on : below (way n p c) v ≡ below (ahead n (way n p b) 1) v = ap (λ k. below k v) on in
-    let all = numbers_balance n (way n p b) v (ahead_below n b (n - p) some) short in
+    let passes_on : below (cells_ahead_to n p c) v ≡ below (ahead n (cells_ahead_to n p b) 1) v = ap (λ k. below k v) on in
+    let all = numbers_balance n (cells_ahead_to n p b) v (ahead_below n b (n - p) some) short in
     omega (arith, arrives, stays, own, passes_on, all)
 
 module _ (answer : ℕ → ℕ) (old new : Lane) (m : LaneMoves answer old new) (fits : LaneFits answer old) where
@@ -116,7 +116,7 @@ module _ (answer : ℕ → ℕ) (old new : Lane) (m : LaneMoves answer old new) 
     pub goes : speed ≡ answer from
     pub low : from < n
     pub short : speed < n
-    pub start : start_of n (car_in 0 y number speed) ≡ from
+    pub start : place_before_motion n (car_in 0 y number speed) ≡ from
 
   pub came_from : (y number speed : ℕ) → at new y ≡ Some (number, speed) → Came y number speed
   came_from y number speed there =
@@ -153,7 +153,7 @@ module _ (answer : ℕ → ℕ) (old new : Lane) (m : LaneMoves answer old new) 
     passed x car = cond (passes n x car) 1 0
 
     abbrev started : Car → ℕ
-    started car = is (start_of n car) c
+    started car = is (place_before_motion n car) c
 
     c_in : c < n
     c_in = ahead_below n b 1 (omega (arith, b_low))
@@ -167,9 +167,9 @@ module _ (answer : ℕ → ℕ) (old new : Lane) (m : LaneMoves answer old new) 
         let start = came.start in
         let all = car_balance n p car.1 b came.low came.short b_low in
         let one : is y c ≡ is (ahead n p car.1) c = ap (λ k. is k c) came.reaches in
-        let two : below (way n (start_of n (car_in 0 y car.0 car.1)) c) car.1 ≡ below (way n p c) car.1 = ap (λ k. below (way n k c) car.1) start in
-        let three : is (start_of n (car_in 0 y car.0 car.1)) c ≡ is p c = ap (λ k. is k c) start in
-        let four : below (way n (start_of n (car_in 0 y car.0 car.1)) b) car.1 ≡ below (way n p b) car.1 = ap (λ k. below (way n k b) car.1) start in
+        let two : below (cells_ahead_to n (place_before_motion n (car_in 0 y car.0 car.1)) c) car.1 ≡ below (cells_ahead_to n p c) car.1 = ap (λ k. below (cells_ahead_to n k c) car.1) start in
+        let three : is (place_before_motion n (car_in 0 y car.0 car.1)) c ≡ is p c = ap (λ k. is k c) start in
+        let four : below (cells_ahead_to n (place_before_motion n (car_in 0 y car.0 car.1)) b) car.1 ≡ below (cells_ahead_to n p b) car.1 = ap (λ k. below (cells_ahead_to n k b) car.1) start in
         omega (arith, all, one, two, three, four)
 
     -- who arrives at a cell is there
@@ -270,7 +270,7 @@ module _ (answer : ℕ → ℕ) (old new : Lane) (m : LaneMoves answer old new) 
 pub any_lane_fits : (speeds : ℕ → ℕ → ℕ) (road : Cells) (l : ℕ) → Fits speeds road → LaneFits (speeds l) (lane_of road l)
 any_lane_fits speeds road l fits = record { gaps = λ x number speed here. (fits.each_lane l (on_lane road l x (number, speed) here)).gaps x number speed here }
 
-pub step_is_continuous : StepIsContinuous
+pub step_is_continuous : StepSatisfiesContinuity
 step_is_continuous rule dice old new tally l x k none is_next low =
     let phase = motion_alone rule dice old new tally none is_next in
     let speeds = phase.0 in
@@ -287,7 +287,7 @@ pub record IsShort (lane : Lane) : Type 0 where
 
 car_passes : (n y number speed : ℕ) → speed ≤ n → total (λ x. cond (passes n x (car_in 0 y number speed)) 1 0) n ≡ speed
 car_passes n y number speed short =
-    let r = n - start_of n (car_in 0 y number speed) in
+    let r = n - place_before_motion n (car_in 0 y number speed) in
     let all = total_turned (λ z. below z speed) n r in
     let count = total_below speed n in
     omega (arith, all, count, short)
@@ -321,14 +321,14 @@ any_base base lane =
     ∙ total_same (λ x. weight speed_of base (0 + x) (at lane x)) (λ x. weight speed_of 0 (0 + x) (at lane x)) (length lane) (λ x low. same_speed base (0 + x) (0 + x) (at lane x))
     ∙ sym (sum_of_cells speed_of 0 0 lane)
 
-lanes_count : (base : ℕ) (lanes : List Lane) → ((l : ℕ) → l < length lanes → IsShort (get_or lanes l [])) → sum_by all_passages lanes ≡ sum_by speed_of (standing_lanes base lanes)
+lanes_count : (base : ℕ) (lanes : List Lane) → ((l : ℕ) → l < length lanes → IsShort (get_or lanes l [])) → sum_by all_passages lanes ≡ sum_by speed_of (standing_from_lane base lanes)
 lanes_count base [] slow = refl
 lanes_count base (lane ∷ lanes) slow =
     let first = lane_counts lane (slow 0 (omega arith)) in
     let same = any_base base lane in
     let rest = lanes_count (suc base) lanes (λ l low. slow (suc l) (omega (arith, low))) in
     let a = sum_by-cons all_passages lane lanes in
-    let b = sum_by-append speed_of (standing_from base 0 lane) (standing_lanes (suc base) lanes) in
+    let b = sum_by-append speed_of (standing_from base 0 lane) (standing_from_lane (suc base) lanes) in
     omega (arith, first, same, rest, a, b)
 
 pub detectors_count_distance : DetectorsCountDistance

@@ -4,7 +4,7 @@ use Rattle.std.specs.Prelude.{nat_le, sum_by}
 use Rattle.std.specs.List.{range_with_len}
 use Rattle.std.proofs.lemmas.Bool.{le-leb, cases_lt, lt-leb}
 use Rattle.std.proofs.lemmas.List.Sums.{sum_by-cons}
-use Rattle.trlab_road.specs.Cells.{Cells, Lane, lane_cars, lane_of}
+use Rattle.trlab_road.specs.Cells.{Cells, Lane, lane_car_count, lane_of}
 use Rattle.trlab_road.specs.Gaps.{ahead}
 use Rattle.trlab_rules.specs.Rules.{Programs}
 use Rattle.trlab_machine.specs.declared.dice.Dice.{Dice}
@@ -13,8 +13,8 @@ use Rattle.trlab_step.specs.Next.{IsNext}
 use Rattle.trlab_step.specs.Run.{ComesTo, Seed, Sheet, dice_at, IsRoadAt}
 use Rattle.trlab_step.proofs.RunLaws.{force_all, road_at_is_one}
 use Rattle.trlab_traffic.specs.Capacity.{lane_empty_cells}
-use Rattle.trlab_traffic.specs.Detector.{all_passages, cars_ahead_of, passages, way}
-use Rattle.trlab_traffic.specs.DetectorRuns.{AreWithin, CountExists, Counts, DetectorMeasuresFlow, DetectorsAgree, DetectorsAgreeByCars, DetectorsCountRun, RunIsContinuous, scarcer}
+use Rattle.trlab_traffic.specs.Detector.{all_passages, cars_ahead_of, passages, cells_ahead_to}
+use Rattle.trlab_traffic.specs.DetectorRuns.{DifferByAtMost, CountExists, Counts, DetectorMeasuresFlow, DetectorsAgree, DetectorsAgreeByCars, DetectorsCountRun, RunSatisfiesContinuity, min_of_cars_and_empty_cells}
 use Rattle.trlab_traffic.specs.Rule184.{is_taken}
 use Rattle.trlab_traffic.specs.Runs.{EachRule, StaysInLane}
 use Rattle.trlab_traffic.proofs.Capacities.{distance_counted, distance_uncounted}
@@ -78,7 +78,7 @@ run_length seed sheet (suc step) road sum l nobody comes =
     let none = force_all StaysInLane sheet step comes.2 nobody on.under in
     change_length comes.2 (dice_at seed step) comes.0 road comes.3 l none on.next ∙ run_length seed sheet step comes.0 comes.1 l nobody comes.4
 
-pub run_is_continuous : RunIsContinuous
+pub run_is_continuous : RunSatisfiesContinuity
 run_is_continuous seed sheet zero start road l x k first second nobody late begins here both =
     let one = both.here in
     let two = both.there in
@@ -175,8 +175,8 @@ detectors_agree_by_cars seed sheet step road sum l x k first second nobody comes
           let first_count = kept.count in
           let free = empty_too seed.road road l keeps in
           let first_free = empty_too seed.road start.0 l kept in
-          let no_less : first ≤ second + min (lane_cars (lane_of seed.road l)) (lane_empty_cells (lane_of seed.road l)) = omega (arith, all, a, b, c, d, e, f, count, first_count, free, first_free) in
-          let no_more : second ≤ first + min (lane_cars (lane_of seed.road l)) (lane_empty_cells (lane_of seed.road l)) = omega (arith, all, a, b, c, d, e, f, count, first_count, free, first_free) in
+          let no_less : first ≤ second + min (lane_car_count (lane_of seed.road l)) (lane_empty_cells (lane_of seed.road l)) = omega (arith, all, a, b, c, d, e, f, count, first_count, free, first_free) in
+          let no_more : second ≤ first + min (lane_car_count (lane_of seed.road l)) (lane_empty_cells (lane_of seed.road l)) = omega (arith, all, a, b, c, d, e, f, count, first_count, free, first_free) in
           record { no_less = no_less; no_more = no_more }
     ]
 
@@ -241,7 +241,7 @@ sum_no_less f c d s (suc k) each =
     let a = sum_by-cons f s (range_with_len (s + 1) k) in
     omega (arith, first, rest, a)
 
-measured : (n count apart distance total : ℕ) → total ≡ distance → total ≤ n * count + n * apart → n * count ≤ total + n * apart → AreWithin (n * apart) (n * count) distance
+measured : (n count apart distance total : ℕ) → total ≡ distance → total ≤ n * count + n * apart → n * count ≤ total + n * apart → DifferByAtMost (n * apart) (n * count) distance
 measured n count apart distance total all most least = record { no_less = omega (arith, least, all); no_more = omega (arith, most, all) }
 
 pub detector_measures_flow : DetectorMeasuresFlow
@@ -249,13 +249,13 @@ detector_measures_flow seed sheet step road sum x count nobody one comes low cou
     let n = length (lane_of seed.road 0) in
     let counts : (y : ℕ) → (c : ℕ) × Counts seed sheet 0 y step c = λ y. count_exists seed sheet step road sum 0 y comes in
     let all = detectors_count_run seed sheet step road sum (λ y. (counts y).0) one comes (λ y. (counts y).1) in
-    let near : (y : ℕ) → y < n → AreWithin (scarcer (lane_of seed.road 0)) count (counts y).0 = λ y high.
-    let short : way n x y < n = ahead_below n y (n - x) (omega (arith, low)) in
-    detectors_agree_by_cars seed sheet step road sum 0 x (way n x y) count (counts y).0 nobody comes (let k : way n x y ≤ n = omega (arith, short) in k) (record {
+    let near : (y : ℕ) → y < n → DifferByAtMost (min_of_cars_and_empty_cells (lane_of seed.road 0)) count (counts y).0 = λ y high.
+    let short : cells_ahead_to n x y < n = ahead_below n y (n - x) (omega (arith, low)) in
+    detectors_agree_by_cars seed sheet step road sum 0 x (cells_ahead_to n x y) count (counts y).0 nobody comes (let k : cells_ahead_to n x y ≤ n = omega (arith, short) in k) (record {
       is_cell = low;
       here = counted;
       there = subst (λ z. Counts seed sheet 0 z step (counts y).0) (sym (way_reaches n x y low high)) (counts y).1;
     }) in
-    let most = sum_no_more (λ y. (counts y).0) count (scarcer (lane_of seed.road 0)) 0 n (λ y high. (near y (omega (arith, high))).no_more) in
-    let least = sum_no_less (λ y. (counts y).0) count (scarcer (lane_of seed.road 0)) 0 n (λ y high. (near y (omega (arith, high))).no_less) in
-    measured n count (scarcer (lane_of seed.road 0)) sum.distance (sum_by (λ y. (counts y).0) (range_with_len 0 n)) all most least
+    let most = sum_no_more (λ y. (counts y).0) count (min_of_cars_and_empty_cells (lane_of seed.road 0)) 0 n (λ y high. (near y (omega (arith, high))).no_more) in
+    let least = sum_no_less (λ y. (counts y).0) count (min_of_cars_and_empty_cells (lane_of seed.road 0)) 0 n (λ y high. (near y (omega (arith, high))).no_less) in
+    measured n count (min_of_cars_and_empty_cells (lane_of seed.road 0)) sum.distance (sum_by (λ y. (counts y).0) (range_with_len 0 n)) all most least

@@ -2,7 +2,7 @@
 use Rattle.std.proofs.Common.{◌≡◌, ℕ, zero, suc, ◌+◌, ◌-◌, ◌*◌, ◌/◌, ◌<◌, ◌≤◌, min, Some, length, refl, sym, ◌∙◌, ap, subst, inl, inr, arith, div-lt_iff_lt-mul, le-div_iff_mul-le, mul_comm}
 use Rattle.std.proofs.lemmas.Bool.{cases_lt}
 use Rattle.trlab_road.specs.declared.car.Car.{Car}
-use Rattle.trlab_road.specs.Cells.{Lane, at, cars, lane_cars, lane_of}
+use Rattle.trlab_road.specs.Cells.{Lane, at, cars, lane_car_count, lane_of}
 use Rattle.trlab_road.specs.Gaps.{gap, next_place}
 use Rattle.trlab_road.specs.Motion.{LaneFits, LaneMoves}
 use Rattle.trlab_road.specs.Standing.{standing_from}
@@ -189,9 +189,9 @@ even_cars_flow_at_capacity cells limit n rule seed step road sum is fits even wa
     let room = fits.room in
     let most : seed.road.limit * cars seed.road ≡ limit * n = ap (λ k. k * cars seed.road) even.same_limit ∙ ap (λ k. limit * k) count in
     let one = even.same_lanes in
-    let own = one_sum lane_cars seed.road.lanes one in
+    let own = one_sum lane_car_count seed.road.lanes one in
     let holes = one_sum lane_empty_cells seed.road.lanes one in
-    let each_count = only_lane (λ l. lane_cars (lane_of seed.road l) ≡ n) seed.road.lanes one (sym own ∙ count) in
+    let each_count = only_lane (λ l. lane_car_count (lane_of seed.road l) ≡ n) seed.road.lanes one (sym own ∙ count) in
     let whole = lane_taken_or_empty lane in
     let size = on_lane.same_length in
     let empty : empty_cells seed.road ≡ cells - n = omega (arith, own, holes, whole, size, count) in

@@ -5,7 +5,7 @@ use Rattle.std.proofs.lemmas.Bool.{cases_eq, cases_lt}
 use Rattle.std.proofs.lemmas.Option.{some_pair_parts}
 use Rattle.trlab_road.specs.Cells.{Cell, Lane, at}
 use Rattle.trlab_road.specs.Gaps.{ahead, gap}
-use Rattle.trlab_road.specs.Spreading.{IsEvenLane, even_lane, even_place}
+use Rattle.trlab_road.specs.Spreading.{IsEvenlySpacedLane, even_lane, even_place}
 use Rattle.trlab_road.proofs.Ring.{blocked, clear_within_gap, inside, ring_cases}
 use Rattle.trlab_traffic.proofs.Places.{clear_is_gap}
 
@@ -46,7 +46,7 @@ near cells n u some =
 again : (cells n u : ℕ) → 0 < n → place cells n (u + n) ≡ place cells n u + cells
 again cells n u some = ap (λ k. k / n) (add-mul u n cells) ∙ add-mul-div_left (u * cells) cells some
 
-module _ (cells n : ℕ) (lane : Lane) (even : IsEvenLane 1 cells n 0 lane) where
+module _ (cells n : ℕ) (lane : Lane) (even : IsEvenlySpacedLane 1 cells n 0 lane) where
   pub stands : (i : ℕ) → i < n → at lane (place cells n i) ≡ Some (i, 0)
   stands i low = subst (λ k. at lane k ≡ Some (i, 0)) (place_is cells n i) (even.stands i low (lane_is cells n i))
 

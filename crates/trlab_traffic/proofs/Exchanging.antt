@@ -14,13 +14,13 @@ use Rattle.trlab_machine.specs.Crossings.{crossing_answer}
 use Rattle.trlab_road.specs.declared.car.Car.{Car}
 use Rattle.trlab_road.specs.Cells.{Cells, IsAt, Lane, at, lane_of}
 use Rattle.trlab_road.specs.Gaps.{gap, headspeed, side, sideback, sidegap}
-use Rattle.trlab_road.specs.LaneChange.{car_beside, other_lane}
-use Rattle.trlab_road.specs.Standing.{standing_from, standing_lanes}
+use Rattle.trlab_road.specs.LaneChange.{car_after_crossing, other_lane}
+use Rattle.trlab_road.specs.Standing.{standing_from, standing_from_lane}
 use Rattle.trlab_road.proofs.MotionLaws.{on_lane}
 use Rattle.trlab_road.proofs.Ring.{car_in}
 use Rattle.trlab_rules.specs.Published.{rickert_crosses}
 use Rattle.trlab_rules.specs.Standard.{rickert_program}
-use Rattle.trlab_rules.specs.StandardRules.{IsChange}
+use Rattle.trlab_rules.specs.StandardRules.{IsChangeComputing}
 use Rattle.trlab_step.specs.Answers.{change_view_of, motion_view_of}
 use Rattle.trlab_step.specs.Next.{IsLaneChangePhase, IsMotionPhase, crossing_cars, stopped_cars, total_speed}
 use Rattle.trlab_step.specs.Run.{dice_at}
@@ -45,15 +45,15 @@ module _ (road : Cells) (car : Car) (here : IsAt (exchanged road) car) where
   on = on_lane (exchanged road) car.lane car.place (car.number, car.speed) here
 
   -- a car of the exchanged road stands on the other lane of the road
-  pub stood : IsAt road (car_beside car)
+  pub stood : IsAt road (car_after_crossing car)
   stood = subst (λ (lane : Lane). at lane car.place ≡ Some (car.number, car.speed)) (lane_exchanged road car.lane on) here
 
-  pub motion_view_exchanged : motion_view_of (exchanged road) car ≡ motion_view_of road (car_beside car)
+  pub motion_view_exchanged : motion_view_of (exchanged road) car ≡ motion_view_of road (car_after_crossing car)
   motion_view_exchanged =
       let turn = lane_exchanged road car.lane on in
       same_view _ _ _ _ _ _ _ _ refl refl (ap (λ (lane : Lane). gap lane car.place) turn) (ap (λ (lane : Lane). headspeed lane car.place) turn)
 
-  pub change_view_exchanged : record (change_view_of road (car_beside car)) { lane = car.lane } ≡ change_view_of (exchanged road) car
+  pub change_view_exchanged : record (change_view_of road (car_after_crossing car)) { lane = car.lane } ≡ change_view_of (exchanged road) car
   change_view_exchanged =
       let x = car.place in
       let turn = lane_exchanged road car.lane on in
@@ -74,7 +74,7 @@ motion_exchanged motion dice road next both phase =
       λ l x. speeds (other_lane l) x,
       record {
         each = λ car here.
-            let answer = phase.1.each (car_beside car) (stood road car here) in (
+            let answer = phase.1.each (car_after_crossing car) (stood road car here) in (
               answer.0,
               subst (λ (view : View). EndsWith Motion motion.program.instrs view (words_of dice car.number) (Goes (speeds (other_lane car.lane) car.place)) answer.0)
                   (sym (motion_view_exchanged road car here)) answer.1,
@@ -101,15 +101,15 @@ lane_sum g f l m s (Some car ∷ cells) same =
 sum_exchanged : (g f : Car → ℕ) (lanes : List Lane) → length lanes ≡ 2
     → ((x number speed : ℕ) → g (car_in 0 x number speed) ≡ f (car_in 1 x number speed))
     → ((x number speed : ℕ) → g (car_in 1 x number speed) ≡ f (car_in 0 x number speed))
-    → sum_by g (standing_lanes 0 (get_or lanes 1 [] ∷ get_or lanes 0 [] ∷ [])) ≡ sum_by f (standing_lanes 0 lanes)
+    → sum_by g (standing_from_lane 0 (get_or lanes 1 [] ∷ get_or lanes 0 [] ∷ [])) ≡ sum_by f (standing_from_lane 0 lanes)
 sum_exchanged g f [] both up down = absurd (omega (arith, both))
 sum_exchanged g f (lane ∷ []) both up down = absurd (omega (arith, both))
 sum_exchanged g f (lane ∷ beside ∷ []) both up down =
     let one = lane_sum g f 0 1 0 beside up in
     let two = lane_sum g f 1 0 0 lane down in
-    let a = sum_by-append g (standing_from 0 0 beside) (standing_lanes 1 (lane ∷ [])) in
+    let a = sum_by-append g (standing_from 0 0 beside) (standing_from_lane 1 (lane ∷ [])) in
     let b = sum_by-append g (standing_from 1 0 lane) [] in
-    let c = sum_by-append f (standing_from 0 0 lane) (standing_lanes 1 (beside ∷ [])) in
+    let c = sum_by-append f (standing_from 0 0 lane) (standing_from_lane 1 (beside ∷ [])) in
     let d = sum_by-append f (standing_from 1 0 beside) [] in
     omega (arith, one, two, a, b, c, d)
 sum_exchanged g f (lane ∷ beside ∷ more ∷ lanes) both up down = absurd (omega (arith, both))
@@ -136,12 +136,12 @@ change_exchanged (Some change) dice road middle changes unread both phase =
       λ l x. crosses (other_lane l) x,
       record {
         each = λ car here.
-            let answer = phase.2.each (car_beside car) (stood road car here) in
+            let answer = phase.2.each (car_after_crossing car) (stood road car here) in
             let code = change.program.instrs in
             let answers = crossing_answer (crosses (other_lane car.lane) car.place) in (
               answer.0,
               subst (λ (view : View). EndsWith Change code view (words_of dice car.number) answers answer.0) (change_view_exchanged road car here)
-                  (lane_is_not_read Change code (change_view_of road (car_beside car)) (words_of dice car.number) car.lane answers answer.0 unread answer.1),
+                  (lane_is_not_read Change code (change_view_of road (car_after_crossing car)) (words_of dice car.number) car.lane answers answer.0 unread answer.1),
             );
       },
       record {
@@ -197,7 +197,7 @@ none_reads (instr ∷ code) each (suc k) d below = none_reads code each.1 k d (o
 rickert_unread : (c : ℕ) → All (λ (instr : Instr). reads_lane instr ≡ false) (rickert_program c).instrs
 rickert_unread c = none_reads (rickert_program c).instrs (refl, (refl, (refl, (refl, (refl, (refl, (refl, (refl, (refl, (refl, (refl, (refl, (refl, (refl, (refl, (refl, tt))))))))))))))))
 
-change_unread : (c : ℕ) (change : Option CheckedProgram) → MatchOption change ⊥ (IsChange (rickert_crosses c) (rickert_program c)) → IfSome change (λ (p : CheckedProgram). All (λ (instr : Instr). reads_lane instr ≡ false) p.program.instrs)
+change_unread : (c : ℕ) (change : Option CheckedProgram) → MatchOption change ⊥ (IsChangeComputing (rickert_crosses c) (rickert_program c)) → IfSome change (λ (p : CheckedProgram). All (λ (instr : Instr). reads_lane instr ≡ false) p.program.instrs)
 change_unread c None is = absurd is
 change_unread c (Some change) is = subst (λ (p : Program). All (λ (instr : Instr). reads_lane instr ≡ false) p.instrs) (sym is.same) (rickert_unread c)
 

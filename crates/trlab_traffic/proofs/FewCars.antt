@@ -2,7 +2,7 @@
 -- empty cells are there.
 use Rattle.std.proofs.Common.{◌≡◌, ℕ, zero, suc, ◌+◌, ◌%◌, ◌≤◌, Bool, true, false, cond, length, refl, sym, ◌∙◌, ap, subst, inl, inr, arith}
 use Rattle.std.proofs.lemmas.Bool.{cases_lt}
-use Rattle.trlab_road.specs.Cells.{Cells, Lane, lane_cars, lane_of}
+use Rattle.trlab_road.specs.Cells.{Cells, Lane, lane_car_count, lane_of}
 use Rattle.trlab_road.specs.Gaps.{ahead}
 use Rattle.trlab_road.proofs.MotionLaws.{lane_same_count}
 use Rattle.trlab_road.proofs.Ring.{apart_within_gaps}
@@ -53,7 +53,7 @@ stretch lane x k =
     (λ j low. let e : x + (1 + j) ≡ j + (x + 1) = omega arith in ap (λ p. digit (is_taken lane (p % length lane))) e)
 
 pub record AreFew (lane : Lane) (x k : ℕ) : Type 0 where
-  pub most : cars_ahead_of lane x k ≤ lane_cars lane
+  pub most : cars_ahead_of lane x k ≤ lane_car_count lane
   pub least : k ≤ cars_ahead_of lane x k + lane_empty_cells lane
 
 pub few : (lane : Lane) (x k : ℕ) → k ≤ length lane → AreFew lane x k
@@ -71,7 +71,7 @@ few lane x k low =
 -- a lane keeps its cells and its cars where nobody changes lanes
 pub record KeepsCars (start road : Cells) (l : ℕ) : Type 0 where
   pub size : length (lane_of road l) ≡ length (lane_of start l)
-  pub count : lane_cars (lane_of road l) ≡ lane_cars (lane_of start l)
+  pub count : lane_car_count (lane_of road l) ≡ lane_car_count (lane_of start l)
 
 pub run_cars : (seed : Seed) (sheet : Sheet) (step : ℕ) (road : Cells) (sum : StepTally) (l : ℕ) → EachRule StaysInLane sheet → ComesTo seed sheet step road sum → KeepsCars seed.road road l
 run_cars seed sheet zero road sum l nobody comes = subst (λ (r : Cells). KeepsCars seed.road r l) (sym comes.1) (record { size = refl; count = refl })

@@ -13,17 +13,17 @@ use Rattle.trlab_road.specs.Motion.{LaneMoves, Moves}
 use Rattle.trlab_road.specs.Standing.{standing}
 use Rattle.trlab_road.proofs.MotionLaws.{on_lane}
 use Rattle.trlab_road.proofs.Ring.{car_in, clear_within_gap, inside}
-use Rattle.trlab_road.proofs.StandingOrder.{length-standing_lanes, standing_cell}
+use Rattle.trlab_road.proofs.StandingOrder.{length-standing_from_lane, standing_cell}
 use Rattle.trlab_rules.specs.Rules.{Programs}
 use Rattle.trlab_rules.specs.StandardRules.{IsNasch}
 use Rattle.trlab_rules.specs.Published.{safe_speed}
 use Rattle.trlab_step.specs.declared.tally.StepTally.{StepTally}
 use Rattle.trlab_step.specs.Laws.{IsLegalLike}
 use Rattle.trlab_step.specs.Next.{IsNext, total_speed}
-use Rattle.trlab_step.specs.Published.{AllGo, car_ahead}
+use Rattle.trlab_step.specs.Published.{AllMoveAhead, car_after_motion}
 use Rattle.trlab_step.specs.Run.{ComesTo, Seed, dice_at, in_force}
 use Rattle.trlab_step.proofs.NextLaws.{like_itself, like_next}
-use Rattle.trlab_traffic.specs.FreeFlow.{FreeFlowGoesOn, FreeFlowStaysFree, FreeFlowMovesAsOne, IsFree}
+use Rattle.trlab_traffic.specs.FreeFlow.{FreeFlowGoesOn, FreeFlowStaysFree, FreeFlowMovesAsOne, IsInFreeFlow}
 use Rattle.trlab_traffic.specs.Homogeneity.{turned, turned_lane}
 use Rattle.trlab_traffic.proofs.AnyRule.{next_legal_like}
 use Rattle.trlab_traffic.proofs.Capacities.{distance_counted, distance_uncounted}
@@ -105,7 +105,7 @@ module _ (v : ℕ) (answer : ℕ → ℕ) (old new : Lane) (m : LaneMoves answer
         turned_at v new x low ∙ ap (λ k. at new (ahead k x v)) size ∙ cell_ahead x (omega (arith, low, size)))
 
 -- the safe speed of a car in free flow
-pub free_speed : (road : Cells) (car : Car) → IsFree road → IsAt road car → safe_speed car.speed road.limit (gap (lane_of road car.lane) car.place) ≡ road.limit
+pub free_speed : (road : Cells) (car : Car) → IsInFreeFlow road → IsAt road car → safe_speed car.speed road.limit (gap (lane_of road car.lane) car.place) ≡ road.limit
 free_speed road car free here =
     ap (λ (speed : ℕ). min (min (speed + 1) road.limit) (gap (lane_of road car.lane) car.place)) (free.at_limit car here)
     ∙ at_limit_safe road.limit (gap (lane_of road car.lane) car.place) (free.room car here)
@@ -116,7 +116,7 @@ pub record FreeMotion (old new : Cells) : Type 0 where
   pub goes : (car : Car) → IsAt old car → speeds car.lane car.place ≡ old.limit
   pub moves : Moves speeds old new
 
-pub free_after : (old new : Cells) → FreeMotion old new → IsFree old → IsFree new
+pub free_after : (old new : Cells) → FreeMotion old new → IsInFreeFlow old → IsInFreeFlow new
 free_after old new motion free = record {
   at_limit = λ car here.
       let l = car.lane in
@@ -141,7 +141,7 @@ free_after old new motion free = record {
         omega (arith, on, size)
 
 -- the road after it, turned by the limit, is the road before it
-pub free_back : (old new : Cells) → FreeMotion old new → IsFree old → turned old.limit new ≡ old
+pub free_back : (old new : Cells) → FreeMotion old new → IsInFreeFlow old → turned old.limit new ≡ old
 free_back old new motion free =
     same_road (turned old.limit new) old motion.moves.same_limit (length-map new.lanes (turned_lane old.limit) ∙ motion.moves.same_lanes) (λ l below.
     let size = length-map new.lanes (turned_lane old.limit) in
@@ -151,14 +151,14 @@ free_back old new motion free =
     (λ x number speed there. motion.goes (car_in l x number speed) there) (λ x number speed there. free.room (car_in l x number speed) there)
     (λ x number speed there. free.at_limit (car_in l x number speed) there))
 
-free_go : (old new : Cells) → FreeMotion old new → AllGo (λ car. old.limit) old new
+free_go : (old new : Cells) → FreeMotion old new → AllMoveAhead (λ car. old.limit) old new
 free_go old new motion car here =
     let l = car.lane in
     let on = on_lane old l car.place (car.number, car.speed) here in
-    subst (λ (v : ℕ). IsAt new (car_ahead old car v)) (motion.goes car here)
+    subst (λ (v : ℕ). IsAt new (car_after_motion old car v)) (motion.goes car here)
     ((motion.moves.each_lane l on).arrives car.place car.number car.speed here)
 
-free_motion : (rule : Programs) (dice : Dice) (old new : Cells) (tally : StepTally) → IsNasch 0 rule → IsLegal old → IsFree old → IsNext rule dice old new tally → FreeMotion old new
+free_motion : (rule : Programs) (dice : Dice) (old new : Cells) (tally : StepTally) → IsNasch 0 rule → IsLegal old → IsInFreeFlow old → IsNext rule dice old new tally → FreeMotion old new
 free_motion rule dice old new tally is legal free next =
     let motion = safe_motion rule dice old new tally is legal next in
     record { speeds = motion.speeds; goes = λ car here. motion.safe car here ∙ free_speed old car free here; moves = motion.moves }
@@ -177,9 +177,9 @@ sum_by-same f v (x ∷ xs) all =
     let split = sum_by-cons f x xs in
     omega (arith, first, rest, split)
 
-pub free_total : (road : Cells) → IsFree road → total_speed road ≡ road.limit * cars road
+pub free_total : (road : Cells) → IsInFreeFlow road → total_speed road ≡ road.limit * cars road
 free_total road free =
-    let count = length-standing_lanes 0 road.lanes in
+    let count = length-standing_from_lane 0 road.lanes in
     sum_by-same (λ (car : Car). car.speed) road.limit (standing road)
     (λ k d below. free.at_limit (get_or (standing road) k d) (standing_cell road k d (omega (arith, below, count))))
     ∙ ap (λ k. k * road.limit) count ∙ mul_comm (cars road) road.limit
@@ -194,7 +194,7 @@ one_rule rule other step is = let e = sym (in_force_one rule step) ∙ is in cc
 -- a run in free flow
 pub record FreelyOn (seed : Seed) (step : ℕ) (road : Cells) (sum : StepTally) : Type 0 where
   like : IsLegalLike seed.road road
-  pub free : IsFree road
+  pub free : IsInFreeFlow road
   pub as_one : turned (seed.road.limit * step) road ≡ seed.road
   pub gone : sum.distance ≡ (step - seed.warm) * (seed.road.limit * cars seed.road)
 
@@ -213,11 +213,11 @@ none_yet most warm = let e : 0 - warm ≡ 0 = omega arith in rw e (omega arith)
 
 -- under a rule by which free flow goes on
 pub run_freely : (rule : Programs) (seed : Seed) (step : ℕ) (road : Cells) (sum : StepTally)
-    → ((dice : Dice) (old new : Cells) (tally : StepTally) → IsLegal old → IsFree old → IsNext rule dice old new tally → FreeMotion old new)
-    → IsLegal seed.road → IsFree seed.road → ComesTo seed ((0, rule) ∷ []) step road sum → FreelyOn seed step road sum
+    → ((dice : Dice) (old new : Cells) (tally : StepTally) → IsLegal old → IsInFreeFlow old → IsNext rule dice old new tally → FreeMotion old new)
+    → IsLegal seed.road → IsInFreeFlow seed.road → ComesTo seed ((0, rule) ∷ []) step road sum → FreelyOn seed step road sum
 run_freely rule seed zero road sum moves legal free comes = record {
   like = subst (IsLegalLike seed.road) (sym comes.1) (like_itself seed.road legal);
-  free = subst IsFree (sym comes.1) free;
+  free = subst IsInFreeFlow (sym comes.1) free;
   as_one = ap (turned (seed.road.limit * 0)) comes.1 ∙ ap (λ k. turned k seed.road) (mul-zero seed.road.limit) ∙ turned_none seed.road;
   gone = subst (λ (t : StepTally). t.distance ≡ (0 - seed.warm) * (seed.road.limit * cars seed.road)) (sym comes.2) (none_yet (seed.road.limit * cars seed.road) seed.warm);
 }
@@ -252,7 +252,7 @@ run_freely rule seed (suc step) road sum moves legal free comes =
       ];
     }
 
-nasch_freely : (rule : Programs) (seed : Seed) (step : ℕ) (road : Cells) (sum : StepTally) → IsNasch 0 rule → IsLegal seed.road → IsFree seed.road → ComesTo seed ((0, rule) ∷ []) step road sum → FreelyOn seed step road sum
+nasch_freely : (rule : Programs) (seed : Seed) (step : ℕ) (road : Cells) (sum : StepTally) → IsNasch 0 rule → IsLegal seed.road → IsInFreeFlow seed.road → ComesTo seed ((0, rule) ∷ []) step road sum → FreelyOn seed step road sum
 nasch_freely rule seed step road sum is =
     run_freely rule seed step road sum (λ dice old new tally fine flows next. free_motion rule dice old new tally is fine flows next)
 

@@ -11,8 +11,8 @@ use Rattle.trlab_road.specs.Motion.{LaneFits, LaneMoves}
 use Rattle.trlab_road.proofs.ListGaps.{clear_from}
 use Rattle.trlab_road.proofs.MotionLaws.{moved_legal, on_lane}
 use Rattle.trlab_road.proofs.Ring.{apart_within_gaps, blocked, clear_within_gap, ends_before, inside}
-use Rattle.trlab_step.specs.Published.{car_ahead}
-use Rattle.trlab_traffic.specs.Following.{GapsFollow}
+use Rattle.trlab_step.specs.Published.{car_after_motion}
+use Rattle.trlab_traffic.specs.Following.{GapChangesBySpeedDifference}
 use Rattle.trlab_traffic.proofs.AnyRule.{answers_fit}
 use Rattle.trlab_traffic.proofs.NaschMoves.{motion_alone}
 use Rattle.trlab_traffic.proofs.Places.{ahead_more, ahead_once, clear_is_gap, gap_below}
@@ -143,13 +143,13 @@ module _ (answer : ℕ → ℕ) (old new : Lane) (m : LaneMoves answer old new) 
       ends_before new (ahead (length new) y) far (omega (arith, fits_in, size)) (clear_from new (ahead (length new) y) far clear) taken
 
 -- what a car goes is what is said of it
-goes_so : (old new : Cells) (speeds : ℕ → ℕ → ℕ) (car : Car) (v : ℕ) → IsLegal new → IsAt new (car_ahead old car (speeds car.lane car.place)) → IsAt new (car_ahead old car v) → speeds car.lane car.place ≡ v
+goes_so : (old new : Cells) (speeds : ℕ → ℕ → ℕ) (car : Car) (v : ℕ) → IsLegal new → IsAt new (car_after_motion old car (speeds car.lane car.place)) → IsAt new (car_after_motion old car v) → speeds car.lane car.place ≡ v
 goes_so old new speeds car v legal here there =
-    let same = (legal.once (car_ahead old car (speeds car.lane car.place)) (car_ahead old car v) here there refl).1 in
+    let same = (legal.once (car_after_motion old car (speeds car.lane car.place)) (car_after_motion old car v) here there refl).1 in
     let both = sym here ∙ ap (at (lane_of new car.lane)) same ∙ there in
     (some_pair_parts car.number car.number (speeds car.lane car.place) v both).1
 
-pub gaps_follow : GapsFollow
+pub gaps_follow : GapChangesBySpeedDifference
 gaps_follow rule dice old new tally goes car next none legal is all here there following =
     let l = car.lane in
     let x = car.place in

@@ -12,7 +12,7 @@ use Rattle.trlab_road.specs.Standing.{standing_from}
 use Rattle.trlab_road.proofs.Ring.{car_in, clear_within_gap, inside}
 use Rattle.trlab_step.specs.Run.{IsRoadAt, Seed, Sheet, dice_at}
 use Rattle.trlab_step.proofs.RunLaws.{force_all, road_at_is_one}
-use Rattle.trlab_traffic.specs.Detector.{cars_ahead_of, passages, passes, start_of, way}
+use Rattle.trlab_traffic.specs.Detector.{cars_ahead_of, passages, passes, place_before_motion, cells_ahead_to}
 use Rattle.trlab_traffic.specs.DetectorRuns.{Counts, DetectorCountsBelowPeak}
 use Rattle.trlab_traffic.specs.Rule184.{is_taken}
 use Rattle.trlab_traffic.specs.Runs.{EachRule, StaysInLane}
@@ -46,18 +46,18 @@ module _ (answer : ℕ → ℕ) (old new : Lane) (m : LaneMoves answer old new) 
     number : ℕ
     before : ℕ
     was : at old from ≡ Some (number, before)
-    far : way (length old) from x < answer from
+    far : cells_ahead_to (length old) from x < answer from
 
   passer_at : (x y : ℕ) (here : Cell) → at new y ≡ here → 1 ≤ weight (λ (car : Car). cond (passes (length old) x car) 1 0) 0 y here → Passer x
   passer_at x y None there some = absurd (omega (arith, some))
   passer_at x y (Some car) there some =
       let came = came_from answer old new m fits y car.0 car.1 there in
-      let one : below (way (length old) (start_of (length old) (car_in 0 y car.0 car.1)) x) car.1 ≡ 1 = (elim (below_cases (way (length old) (start_of (length old) (car_in 0 y car.0 car.1)) x) car.1) [
+      let one : below (cells_ahead_to (length old) (place_before_motion (length old) (car_in 0 y car.0 car.1)) x) car.1 ≡ 1 = (elim (below_cases (cells_ahead_to (length old) (place_before_motion (length old) (car_in 0 y car.0 car.1)) x) car.1) [
         | inl none ↦ absurd (omega (arith, some, none))
         | inr is ↦ is
       ]) in
-      let far : way (length old) (start_of (length old) (car_in 0 y car.0 car.1)) x < car.1 = below_is (way (length old) (start_of (length old) (car_in 0 y car.0 car.1)) x) car.1 one in
-      let short : way (length old) came.from x < car.1 = subst (λ k. way (length old) k x < car.1) came.start far in
+      let far : cells_ahead_to (length old) (place_before_motion (length old) (car_in 0 y car.0 car.1)) x < car.1 = below_is (cells_ahead_to (length old) (place_before_motion (length old) (car_in 0 y car.0 car.1)) x) car.1 one in
+      let short : cells_ahead_to (length old) came.from x < car.1 = subst (λ k. cells_ahead_to (length old) k x < car.1) came.start far in
       let goes = came.goes in
       record { from = came.from; number = car.0; before = came.before; was = came.was; far = omega (arith, short, goes) }
 
@@ -75,7 +75,7 @@ module _ (answer : ℕ → ℕ) (old new : Lane) (m : LaneMoves answer old new) 
       let n = length old in
       let far = p.far in
       let fit = fits.gaps p.from p.number p.before p.was in
-      let w = way n p.from x in
+      let w = cells_ahead_to n p.from x in
       let inside_ring : p.from < n = inside old p.from (p.number, p.before) p.was in
       let clear = (clear_within_gap old p.from (w + 1) (omega (arith, far, fit))).clear (w + 1) (omega arith) (omega arith) in
       let place : ahead n x 1 ≡ ahead n p.from (w + 1) = ap (λ k. ahead n k 1) (sym (way_reaches n p.from x inside_ring low)) ∙ ahead_more n p.from w 1 in
@@ -94,7 +94,7 @@ module _ (answer : ℕ → ℕ) (old new : Lane) (m : LaneMoves answer old new) 
       let n = length old in
       let far = p.far in
       let most = slow p.from p.number p.before p.was in
-      let w = way n p.from x in
+      let w = cells_ahead_to n p.from x in
       let inside_ring : p.from < n = inside old p.from (p.number, p.before) p.was in
       let whole : w + (answer p.from - w) ≡ answer p.from = omega (arith, far) in
       let place : ahead n x (answer p.from - w) ≡ ahead n p.from (answer p.from) = ap (λ j. ahead n j (answer p.from - w)) (sym (way_reaches n p.from x inside_ring low)) ∙ ahead_more n p.from w (answer p.from - w) ∙ ap (ahead n p.from) whole in

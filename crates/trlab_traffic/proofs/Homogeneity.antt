@@ -13,7 +13,7 @@ use Rattle.trlab_machine.specs.Crossings.{crossing_answer}
 use Rattle.trlab_road.specs.declared.car.Car.{Car}
 use Rattle.trlab_road.specs.Cells.{Cells, IsAt, Lane, at, lane_of}
 use Rattle.trlab_road.specs.Gaps.{ahead, gap, headspeed, side, sideback, sidegap}
-use Rattle.trlab_road.specs.LaneChange.{Crosses, other_lane}
+use Rattle.trlab_road.specs.LaneChange.{ChangesLanes, other_lane}
 use Rattle.trlab_road.specs.Legal.{IsLegal}
 use Rattle.trlab_road.specs.Motion.{Moves}
 use Rattle.trlab_road.proofs.MotionLaws.{on_lane}
@@ -133,7 +133,7 @@ module _ (r : ℕ) (change : CheckedProgram) (dice : Dice) (road : Cells) (legal
         );
   }
 
-  crosses_turned : (new : Cells) → Crosses crosses road new → Crosses crosses_before (turned r road) (turned r new)
+  crosses_turned : (new : Cells) → ChangesLanes crosses road new → ChangesLanes crosses_before (turned r road) (turned r new)
   crosses_turned new m = record {
     same_limit = m.same_limit;
     same_lanes = same_map (turned_lane r) new.lanes road.lanes m.same_lanes;

@@ -5,7 +5,7 @@ use Rattle.std.proofs.lemmas.Bool.{cases_lt}
 use Rattle.std.proofs.lemmas.List.{get_or_past}
 use Rattle.std.proofs.lemmas.List.Sums.{sum-map}
 use Rattle.trlab_road.specs.declared.car.Car.{Car}
-use Rattle.trlab_road.specs.Cells.{Cells, Lane, lane_cars, lane_of}
+use Rattle.trlab_road.specs.Cells.{Cells, Lane, lane_car_count, lane_of}
 use Rattle.trlab_road.specs.Gaps.{gap}
 use Rattle.trlab_road.specs.Motion.{Fits, Moves}
 use Rattle.trlab_road.specs.Standing.{standing_from}
@@ -22,7 +22,7 @@ use Rattle.trlab_traffic.proofs.Places.{clear_is_gap}
 use Rattle.trlab_traffic.proofs.RoomAhead.{lane_filled, lane_room}
 
 -- the gaps of a lane that has a car are its empty cells
-pub gaps_total : (l : ℕ) (lane : Lane) → 0 < lane_cars lane → sum_by (λ (car : Car). gap lane car.place) (standing_from l 0 lane) ≡ lane_empty_cells lane
+pub gaps_total : (l : ℕ) (lane : Lane) → 0 < lane_car_count lane → sum_by (λ (car : Car). gap lane car.place) (standing_from l 0 lane) ≡ lane_empty_cells lane
 gaps_total l lane some =
     let most = lane_room (λ (car : Car). gap lane car.place) l lane (λ x number speed here. clear_within_gap lane x (gap lane x) (omega arith)) in
     let least = lane_filled (λ (car : Car). gap lane car.place) l lane some (λ x number speed g here low clear. clear_is_gap lane x g low clear) in
@@ -32,15 +32,15 @@ pub gaps_fill_lane : GapsFillLane
 gaps_fill_lane lane some = sum-map (λ (car : Car). gap lane car.place) (standing_from 0 0 lane) ∙ gaps_total 0 lane some
 
 -- a motion within the gaps keeps the cars of each lane
-pub motion_keeps_lane_cars : (speeds : ℕ → ℕ → ℕ) (old new : Cells) (l : ℕ) → Moves speeds old new → Fits speeds old → lane_cars (lane_of new l) ≡ lane_cars (lane_of old l)
+pub motion_keeps_lane_cars : (speeds : ℕ → ℕ → ℕ) (old new : Cells) (l : ℕ) → Moves speeds old new → Fits speeds old → lane_car_count (lane_of new l) ≡ lane_car_count (lane_of old l)
 motion_keeps_lane_cars speeds old new l m fits =
     elim (cases_lt l (length old.lanes)) [
       | inl on ↦ lane_same_count (speeds l) (lane_of old l) (lane_of new l) (m.each_lane l on) (apart_within_gaps (speeds l) (lane_of old l) (fits.each_lane l on))
-      | inr past ↦ let size = m.same_lanes in ap lane_cars (get_or_past new.lanes l [] (omega (arith, past, size)) ∙ sym (get_or_past old.lanes l [] past))
+      | inr past ↦ let size = m.same_lanes in ap lane_car_count (get_or_past new.lanes l [] (omega (arith, past, size)) ∙ sym (get_or_past old.lanes l [] past))
     ]
 
 pub run_keeps_lane_cars : RunKeepsLaneCars
-run_keeps_lane_cars seed sheet zero road sum l stays comes = ap (λ (r : Cells). lane_cars (lane_of r l)) comes.1
+run_keeps_lane_cars seed sheet zero road sum l stays comes = ap (λ (r : Cells). lane_car_count (lane_of r l)) comes.1
 run_keeps_lane_cars seed sheet (suc step) road sum l stays comes =
     let on = comes.5 in
     let rule = comes.2 in

@@ -10,7 +10,7 @@ use Rattle.trlab_code.specs.declared.instruction.Instr.TheVariants.{Num, Get, Si
 use Rattle.trlab_code.specs.declared.instruction.Variable.TheVariants as variable
 use Rattle.trlab_code.specs.declared.instruction.Register.{Register}
 use Rattle.trlab_code.specs.declared.view.View.{View}
-use Rattle.trlab_code.specs.Machine.{Answer, At, Done, Effect, EndsFrom, EndsWith, Ends, Falls, Flag, Goes, Jumps, MachineState, Sticks, Store, Stuck, Value, Writes, allows, effect, end_if, execute, jump_if, on_any, on_flag, on_number, variable_number, start, state_after, step, update, write_difference, write_sized, Number}
+use Rattle.trlab_code.specs.Machine.{Answer, At, Done, Effect, EndsFrom, EndsWith, Ends, Falls, Flag, Goes, Jumps, MachineState, Sticks, Store, Stuck, Value, Writes, allows, effect, end_if, execute, jump_if, on_any, on_flag, on_number, variable_number, start, state_after, step, update, write_difference, write_u32, Number}
 use Rattle.trlab_traffic.specs.Symmetry.{reads_lane}
 
 -- two stores differ in what they hold of the lane alone
@@ -61,9 +61,9 @@ module _ (kind : Kind) (view : View) (words : List ℕ) (lane : ℕ) where
     same_effect (Side d) unread = refl
     same_effect (Draw d k c) unread = refl
     same_effect (Copy d a) unread = one (λ v. on_any v (λ w. Writes d w)) a
-    same_effect (Add d a b) unread = two (λ v w. on_number v (λ m. on_number w (λ n. write_sized d (m + n)))) a b
+    same_effect (Add d a b) unread = two (λ v w. on_number v (λ m. on_number w (λ n. write_u32 d (m + n)))) a b
     same_effect (Sub d a b) unread = two (λ v w. on_number v (λ m. on_number w (λ n. write_difference d m n))) a b
-    same_effect (Mul d a n) unread = one (λ v. on_number v (λ m. write_sized d (m * n))) a
+    same_effect (Mul d a n) unread = one (λ v. on_number v (λ m. write_u32 d (m * n))) a
     same_effect (Div d a n) unread = one (λ v. on_number v (λ m. Writes d (Number (m / n)))) a
     same_effect (Min d a b) unread = two (λ v w. on_number v (λ m. on_number w (λ n. Writes d (Number (min m n))))) a b
     same_effect (Max d a b) unread = two (λ v w. on_number v (λ m. on_number w (λ n. Writes d (Number (max m n))))) a b

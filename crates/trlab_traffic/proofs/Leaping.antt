@@ -2,7 +2,7 @@
 use Rattle.std.proofs.Common.{◌≡◌, ◌≢◌, ℕ, zero, suc, ◌+◌, ◌-◌, ◌*◌, ◌%◌, ◌<◌, ◌≤◌, min, max, Bool, true, false, is_some, Some, None, length, refl, sym, ◌∙◌, ap, subst, inl, inr, arith, mod-eq_of_lt, mul-suc}
 use Rattle.std.proofs.Math.Nat.{add-mod_right, add-mul-mod_self_right, mod-add-mod, mod-lt}
 use Rattle.std.proofs.lemmas.Bool.{cases_lt}
-use Rattle.trlab_road.specs.Cells.{Cell, Lane, at, lane_cars}
+use Rattle.trlab_road.specs.Cells.{Cell, Lane, at, lane_car_count}
 use Rattle.trlab_road.specs.Gaps.{ahead, gap}
 use Rattle.trlab_road.specs.Motion.{IsClearAhead, LaneFits, LaneMoves}
 use Rattle.trlab_road.proofs.Ring.{blocked, clear_within_gap, inside}
@@ -288,7 +288,7 @@ module _ (limit : ℕ) (first lane : Lane) (t y : ℕ) (l : Leaps limit first la
       slopes limit first lane t seen_from (suc limit) l ∙ ap (λ k. height (digit_at first) (suc limit) t seen_from + k) same
 
   -- where there is room for the limit behind each car, no two cars are nearer, once as many steps as cells were gone
-  pub few_near : suc limit * lane_cars first ≤ length first → length first ≤ t + 1 → window (digit_at lane) y (suc limit) ≤ 1
+  pub few_near : suc limit * lane_car_count first ≤ length first → length first ≤ t + 1 → window (digit_at lane) y (suc limit) ≤ 1
   few_near few round =
       let size = l.same_length in
       let all = ap (λ k. suc limit * k) (digits_total first) in
@@ -297,7 +297,7 @@ module _ (limit : ℕ) (first lane : Lane) (t y : ℕ) (l : Leaps limit first la
       omega (arith, slowly, here)
 
   -- and where there is no more, none are further apart
-  pub some_near : length first ≤ suc limit * lane_cars first → length first ≤ t + 1 → 1 ≤ window (digit_at lane) y (suc limit)
+  pub some_near : length first ≤ suc limit * lane_car_count first → length first ≤ t + 1 → 1 ≤ window (digit_at lane) y (suc limit)
   some_near many round =
       let size = l.same_length in
       let all = ap (λ k. suc limit * k) (digits_total first) in

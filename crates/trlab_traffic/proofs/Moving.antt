@@ -9,7 +9,7 @@ use Rattle.trlab_road.specs.declared.car.Car.{Car}
 use Rattle.trlab_road.specs.Cells.{Cells, cars}
 use Rattle.trlab_road.specs.Legal.{IsLegal}
 use Rattle.trlab_road.specs.Standing.{standing}
-use Rattle.trlab_road.proofs.StandingOrder.{length-standing_lanes, standing_cell}
+use Rattle.trlab_road.proofs.StandingOrder.{length-standing_from_lane, standing_cell}
 use Rattle.trlab_rules.specs.Rules.{Programs}
 use Rattle.trlab_step.specs.declared.tally.StepTally.{StepTally}
 use Rattle.trlab_step.specs.Next.{IsNext}
@@ -58,7 +58,7 @@ record One (road : Cells) (tally : StepTally) : Type 0 where
 one_step : (rule : Programs) (dice : Dice) (road next : Cells) (tally : StepTally) → IsLegal road → IsNext rule dice road next tally → One road tally
 one_step rule dice road next tally legal is =
     let like = next_legal_like rule dice road next tally legal is in
-    let count = length-standing_lanes 0 next.lanes in
+    let count = length-standing_from_lane 0 next.lanes in
     let all : All (λ car. car.speed ≤ road.limit) (standing next) = λ k d below.
     subst (λ m. (get_or (standing next) k d).speed ≤ m) like.same_limit (like.legal.within_limit (get_or (standing next) k d) (standing_cell next k d (omega (arith, below, count)))) in
     let both = bounds road.limit (standing next) all in

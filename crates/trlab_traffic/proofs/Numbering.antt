@@ -8,7 +8,7 @@ use Rattle.trlab_road.specs.Cells.{Cells, IsAt, cars}
 use Rattle.trlab_road.specs.Legal.{IsLegal}
 use Rattle.trlab_road.specs.Standing.{rank, standing}
 use Rattle.trlab_road.proofs.Numbers.{all_present, no_one}
-use Rattle.trlab_road.proofs.StandingOrder.{car_of, length-standing_lanes, rank_below_cars, standing_cell, standing_rank}
+use Rattle.trlab_road.proofs.StandingOrder.{car_of, length-standing_from_lane, rank_below_cars, standing_cell, standing_rank}
 use Rattle.trlab_traffic.proofs.Sums.{total, total_last}
 
 -- a list without the car of an index
@@ -78,12 +78,12 @@ by_numbers f (suc n) xs d size has =
 numbers_total : (f : ℕ → ℕ) (road : Cells) → IsLegal road → sum_by (λ (car : Car). f car.number) (standing road) ≡ total f (cars road)
 unfolding car_of
 numbers_total f road legal =
-    by_numbers f (cars road) (standing road) no_one (length-standing_lanes 0 road.lanes) (λ i low.
+    by_numbers f (cars road) (standing road) no_one (length-standing_from_lane 0 road.lanes) (λ i low.
     let found = all_present road legal i low in
     let car = found.0 in
     let here = found.1.0 in
     let below = rank_below_cars road car.lane car.place (car.number, car.speed) here in
-    let size = length-standing_lanes 0 road.lanes in
+    let size = length-standing_from_lane 0 road.lanes in
     record {
       index = rank road car.lane car.place;
       low = omega (arith, below, size);
@@ -116,7 +116,7 @@ total_le f g (suc n) each =
 -- what is said of the cars of a road by their numbers is said of them in standing order
 pub sum_of_standing : (g : Car → ℕ) (f : ℕ → ℕ) (road : Cells) → IsLegal road → ((car : Car) → IsAt road car → g car ≡ f car.number) → sum_by g (standing road) ≡ total f (cars road)
 sum_of_standing g f road legal same =
-    same_sum (standing road) (λ k low. same (get_or (standing road) k no_one) (standing_cell road k no_one (let size = length-standing_lanes 0 road.lanes in omega (arith, low, size))))
+    same_sum (standing road) (λ k low. same (get_or (standing road) k no_one) (standing_cell road k no_one (let size = length-standing_from_lane 0 road.lanes in omega (arith, low, size))))
     ∙ numbers_total f road legal
   where
     same_sum : (xs : List Car) → ((k : ℕ) → k < length xs → g (get_or xs k no_one) ≡ f (get_or xs k no_one).number) → sum_by g xs ≡ sum_by (λ (car : Car). f car.number) xs

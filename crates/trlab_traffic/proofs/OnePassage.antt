@@ -8,7 +8,7 @@ use Rattle.trlab_road.specs.Gaps.{ahead, gap}
 use Rattle.trlab_road.specs.Motion.{LaneFits, LaneMoves}
 use Rattle.trlab_road.specs.Standing.{standing_from}
 use Rattle.trlab_road.proofs.Ring.{car_in, clear_within_gap, inside}
-use Rattle.trlab_traffic.specs.Detector.{DetectorCountsOne, passages, passes, start_of, way}
+use Rattle.trlab_traffic.specs.Detector.{DetectorCountsAtMostOne, passages, passes, place_before_motion, cells_ahead_to}
 use Rattle.trlab_traffic.proofs.AnyRule.{answers_fit}
 use Rattle.trlab_traffic.proofs.Detecting.{any_lane_fits, came_from, way_reaches}
 use Rattle.trlab_traffic.proofs.LanesApart.{any_lane}
@@ -17,15 +17,15 @@ use Rattle.trlab_traffic.proofs.Sums.{below_cases, below_is, cell_sum, in_cell, 
 
 module _ (answer : ℕ → ℕ) (old new : Lane) (m : LaneMoves answer old new) (fits : LaneFits answer old) (x : ℕ) (x_low : x < length old) where
   -- of two cars that pass a detector none is behind the other
-  not_behind : (p q v u : ℕ) (car other : ℕ × ℕ) → at old p ≡ Some car → at old q ≡ Some other → v ≤ gap old p → way (length old) p x < v → way (length old) q x < way (length old) p x → ⊥
+  not_behind : (p q v u : ℕ) (car other : ℕ × ℕ) → at old p ≡ Some car → at old q ≡ Some other → v ≤ gap old p → cells_ahead_to (length old) p x < v → cells_ahead_to (length old) q x < cells_ahead_to (length old) p x → ⊥
   not_behind p q v u car other here there room far behind =
-      let k = way (length old) p x - way (length old) q x in
+      let k = cells_ahead_to (length old) p x - cells_ahead_to (length old) q x in
       let low = inside old p car here in
       let high = inside old q other there in
-      let e : k + way (length old) q x ≡ way (length old) p x = omega (arith, behind) in
-      let meet : ahead (length old) (ahead (length old) p k) (way (length old) q x) ≡ ahead (length old) q (way (length old) q x) =
-      ahead_more (length old) p k (way (length old) q x) ∙ ap (ahead (length old) p) e ∙ way_reaches (length old) p x low x_low ∙ sym (way_reaches (length old) q x high x_low) in
-      let same = ahead_once (length old) (ahead (length old) p k) q (way (length old) q x) (ahead_below (length old) p k (omega (arith, low))) high meet in
+      let e : k + cells_ahead_to (length old) q x ≡ cells_ahead_to (length old) p x = omega (arith, behind) in
+      let meet : ahead (length old) (ahead (length old) p k) (cells_ahead_to (length old) q x) ≡ ahead (length old) q (cells_ahead_to (length old) q x) =
+      ahead_more (length old) p k (cells_ahead_to (length old) q x) ∙ ap (ahead (length old) p) e ∙ way_reaches (length old) p x low x_low ∙ sym (way_reaches (length old) q x high x_low) in
+      let same = ahead_once (length old) (ahead (length old) p k) q (cells_ahead_to (length old) q x) (ahead_below (length old) p k (omega (arith, low))) high meet in
       let free = (clear_within_gap old p v room).clear k (omega (arith, behind)) (omega (arith, far)) in
       let f = sym there ∙ sym (ap (at old) same) ∙ free in
       absurd cc
@@ -35,18 +35,18 @@ module _ (answer : ℕ → ℕ) (old new : Lane) (m : LaneMoves answer old new) 
 
   passing_cases : (y : ℕ) (here : Cell) → let w = weight (λ (car : Car). cond (passes (length old) x car) 1 0) 0 y here in (w ≡ 0) ⊎ (w ≡ 1)
   passing_cases y None = inl refl
-  passing_cases y (Some car) = below_cases (way (length old) (start_of (length old) (car_in 0 y car.0 car.1)) x) car.1
+  passing_cases y (Some car) = below_cases (cells_ahead_to (length old) (place_before_motion (length old) (car_in 0 y car.0 car.1)) x) car.1
 
   -- a car that passes
   record Passing (y : ℕ) : Type 0 where
     number : ℕ
     speed : ℕ
     there : at new y ≡ Some (number, speed)
-    far : way (length old) (start_of (length old) (car_in 0 y number speed)) x < speed
+    far : cells_ahead_to (length old) (place_before_motion (length old) (car_in 0 y number speed)) x < speed
 
   passing_car : (y : ℕ) (here : Cell) → at new y ≡ here → weight (λ (car : Car). cond (passes (length old) x car) 1 0) 0 y here ≡ 1 → Passing y
   passing_car y None there passed = absurd (omega (arith, passed))
-  passing_car y (Some car) there passed = record { number = car.0; speed = car.1; there = there; far = below_is (way (length old) (start_of (length old) (car_in 0 y car.0 car.1)) x) car.1 passed }
+  passing_car y (Some car) there passed = record { number = car.0; speed = car.1; there = there; far = below_is (cells_ahead_to (length old) (place_before_motion (length old) (car_in 0 y car.0 car.1)) x) car.1 passed }
 
   one_passes : (y z : ℕ) → Passing y → Passing z → y ≡ z
   one_passes y z a b =
@@ -54,21 +54,21 @@ module _ (answer : ℕ → ℕ) (old new : Lane) (m : LaneMoves answer old new) 
       let other = came_from answer old new m fits z b.number b.speed b.there in
       let p = from.from in
       let q = other.from in
-      let far : way (length old) p x < a.speed = subst (λ k. way (length old) k x < a.speed) from.start a.far in
-      let far_other : way (length old) q x < b.speed = subst (λ k. way (length old) k x < b.speed) other.start b.far in
+      let far : cells_ahead_to (length old) p x < a.speed = subst (λ k. cells_ahead_to (length old) k x < a.speed) from.start a.far in
+      let far_other : cells_ahead_to (length old) q x < b.speed = subst (λ k. cells_ahead_to (length old) k x < b.speed) other.start b.far in
       let goes = from.goes in
       let goes_other = other.goes in
       let fit = fits.gaps p a.number from.before from.was in
       let fit_other = fits.gaps q b.number other.before other.was in
-      elim (cases_lt (way (length old) q x) (way (length old) p x)) [
+      elim (cases_lt (cells_ahead_to (length old) q x) (cells_ahead_to (length old) p x)) [
         | inl behind ↦ absurd (not_behind p q a.speed b.speed (a.number, from.before) (b.number, other.before) from.was other.was (omega (arith, goes, fit)) far behind)
-        | inr not_less ↦ elim (cases_lt (way (length old) p x) (way (length old) q x)) [
+        | inr not_less ↦ elim (cases_lt (cells_ahead_to (length old) p x) (cells_ahead_to (length old) q x)) [
           | inl behind ↦ absurd (not_behind q p b.speed a.speed (b.number, other.before) (a.number, from.before) other.was from.was (omega (arith, goes_other, fit_other)) far_other behind)
           | inr not_more ↦
-              let level : way (length old) p x ≡ way (length old) q x = omega (arith, not_less, not_more) in
-              let meet : ahead (length old) p (way (length old) q x) ≡ ahead (length old) q (way (length old) q x) =
+              let level : cells_ahead_to (length old) p x ≡ cells_ahead_to (length old) q x = omega (arith, not_less, not_more) in
+              let meet : ahead (length old) p (cells_ahead_to (length old) q x) ≡ ahead (length old) q (cells_ahead_to (length old) q x) =
               sym (ap (ahead (length old) p) level) ∙ way_reaches (length old) p x from.low x_low ∙ sym (way_reaches (length old) q x other.low x_low) in
-              let same : p ≡ q = ahead_once (length old) p q (way (length old) q x) from.low other.low meet in
+              let same : p ≡ q = ahead_once (length old) p q (cells_ahead_to (length old) q x) from.low other.low meet in
               from.reaches ∙ ap (ahead (length old) p) goes ∙ ap (λ k. ahead (length old) k (answer k)) same ∙ sym (ap (ahead (length old) q) goes_other) ∙ sym other.reaches
         ]
       ]
@@ -81,7 +81,7 @@ module _ (answer : ℕ → ℕ) (old new : Lane) (m : LaneMoves answer old new) 
       let all = single passing_at n (λ y low. passing_cases y (at new y)) (λ y z low high a b. one_passes y z (passing_car y (at new y) refl a) (passing_car z (at new z) refl b)) in
       omega (arith, are, all)
 
-pub detector_counts_one : DetectorCountsOne
+pub detector_counts_one : DetectorCountsAtMostOne
 detector_counts_one rule dice road next tally l x is_next low =
     let middle = is_next.0 in
     let phase = is_next.1.motion in

@@ -5,7 +5,7 @@ use Rattle.std.specs.Prelude.{sum_by}
 use Rattle.std.proofs.lemmas.Bool.{cases_lt}
 use Rattle.std.proofs.lemmas.Option.{some_pair_parts}
 use Rattle.trlab_road.specs.declared.car.Car.{Car}
-use Rattle.trlab_road.specs.Cells.{Cell, Cells, Lane, at, cars, lane_cars, lane_of}
+use Rattle.trlab_road.specs.Cells.{Cell, Cells, Lane, at, cars, lane_car_count, lane_of}
 use Rattle.trlab_road.specs.Gaps.{ahead, gap, next_place}
 use Rattle.trlab_road.specs.Legal.{IsLegal}
 use Rattle.trlab_road.specs.Motion.{LaneFits, LaneMoves}
@@ -124,7 +124,7 @@ module _ (limit : ℕ) (answer : ℕ → ℕ) (old new : Lane) (m : LaneMoves an
 record Leaping (limit cells count k : ℕ) (lane : Lane) : Type 0 where
   first : Lane
   size : length first ≡ cells
-  full : lane_cars first ≡ count
+  full : lane_car_count first ≡ count
   leaps : Leaps limit first lane k
 
 -- a lane on its way
@@ -132,7 +132,7 @@ record OnWay (limit cells count t : ℕ) (lane : Lane) : Type 0 where
   size : length lane ≡ cells
   settled : 1 ≤ t → Settled lane
   quick : 1 ≤ t → AreQuick limit t lane
-  leaping : limit ≤ t → lane_cars lane ≡ count → Leaping limit cells count (t - limit) lane
+  leaping : limit ≤ t → lane_car_count lane ≡ count → Leaping limit cells count (t - limit) lane
 
 -- no car is held back by acceleration any more
 ready : (limit t : ℕ) (lane : Lane) (answer : ℕ → ℕ) → 1 ≤ limit → limit ≤ t → AreQuick limit t lane → ((x number speed : ℕ) → at lane x ≡ Some (number, speed) → answer x ≡ min (min (speed + 1) limit) (gap lane x))
@@ -174,18 +174,18 @@ tight_gap limit lane x car here some =
     omega (arith, before, below)
 
 -- how far the cars of a lane go that has leapt for long enough
-leapt_far : (l limit cells count k : ℕ) (lane : Lane) (answer : ℕ → ℕ) → 1 ≤ limit → 1 ≤ cells → length lane ≡ cells → lane_cars lane ≡ count → Leaping limit cells count k lane → cells ≤ k + 1
+leapt_far : (l limit cells count k : ℕ) (lane : Lane) (answer : ℕ → ℕ) → 1 ≤ limit → 1 ≤ cells → length lane ≡ cells → lane_car_count lane ≡ count → Leaping limit cells count k lane → cells ≤ k + 1
     → ((x number speed : ℕ) → at lane x ≡ Some (number, speed) → answer x ≡ min limit (gap lane x))
     → sum_by (λ (car : Car). answer car.place) (standing_from l 0 lane) ≡ min (limit * count) (cells - count)
 leapt_far l limit cells count k lane answer some_limit some_cell size full leaping round goes =
     let first_size = leaping.size in
     let first_full = leaping.full in
-    let product = suc-mul limit (lane_cars leaping.first) in
+    let product = suc-mul limit (lane_car_count leaping.first) in
     let whole = lane_taken_or_empty lane in
-    let factor : limit * lane_cars leaping.first ≡ limit * count = ap (λ j. limit * j) first_full in
-    elim (cases_lt (length leaping.first) (suc limit * lane_cars leaping.first)) [
+    let factor : limit * lane_car_count leaping.first ≡ limit * count = ap (λ j. limit * j) first_full in
+    elim (cases_lt (length leaping.first) (suc limit * lane_car_count leaping.first)) [
       | inl many ↦
-          let some_car : 0 < count = none_full limit (lane_cars leaping.first) count (length leaping.first) first_full many in
+          let some_car : 0 < count = none_full limit (lane_car_count leaping.first) count (length leaping.first) first_full many in
           sum_at_cars (λ (car : Car). answer car.place) (λ (car : Car). gap lane car.place) l 0 lane
           (λ x number speed here.
           let e : 0 + x ≡ x = omega arith in
@@ -200,7 +200,7 @@ leapt_far l limit cells count k lane answer some_limit some_cell size full leapi
           (λ x number speed here.
           let e : 0 + x ≡ x = omega arith in
           let rank = rank_below lane x (number, speed) here in
-          let short : limit < length lane = one_fits limit (lane_cars leaping.first) (length leaping.first) (length lane) (omega (arith, rank, full, first_full)) few (omega (arith, size, first_size)) in
+          let short : limit < length lane = one_fits limit (lane_car_count leaping.first) (length leaping.first) (length lane) (omega (arith, rank, full, first_full)) few (omega (arith, size, first_size)) in
           let near = few_near limit leaping.first lane k x leaping.leaps (omega (arith, size, some_cell)) few (omega (arith, round, first_size)) in
           let wide = wide_gap limit lane x (number, speed) short here near in
           let far = goes x number speed here in
@@ -221,8 +221,8 @@ leapt_far l limit cells count k lane answer some_limit some_cell size full leapi
 
 -- a lane that has leapt leaps once more where its cars take the limit or their gaps
 leap_on : (limit cells count k : ℕ) (answer : ℕ → ℕ) (old new : Lane) → 1 ≤ limit → 1 ≤ cells → LaneMoves answer old new → LaneFits answer old
-    → ((x number speed : ℕ) → at old x ≡ Some (number, speed) → answer x ≡ min limit (gap old x)) → (lane_cars old ≡ count → Leaping limit cells count k old)
-    → lane_cars new ≡ count → Leaping limit cells count (suc k) new
+    → ((x number speed : ℕ) → at old x ≡ Some (number, speed) → answer x ≡ min limit (gap old x)) → (lane_car_count old ≡ count → Leaping limit cells count k old)
+    → lane_car_count new ≡ count → Leaping limit cells count (suc k) new
 leap_on limit cells count k answer old new some_limit some_cell m fits goes leaping full =
     let l = leaping (sym (lane_same_count answer old new m (apart_within_gaps answer old fits)) ∙ full) in
     let size = l.size in
@@ -248,7 +248,7 @@ to_capacity limit count cells some_limit some_cell = record {
     quick_next (suc t) old new answer m fits goes way = quickens limit answer old new m fits goes (suc t) (way.settled (omega arith)) (way.quick (omega arith))
 
     leap_next : (t : ℕ) (old new : Lane) (answer : ℕ → ℕ) → LaneMoves answer old new → LaneFits answer old → ((x number speed : ℕ) → at old x ≡ Some (number, speed) → answer x ≡ min (min (speed + 1) limit) (gap old x)) → OnWay limit cells count t old
-        → limit ≤ suc t → lane_cars new ≡ count → Leaping limit cells count (suc t - limit) new
+        → limit ≤ suc t → lane_car_count new ≡ count → Leaping limit cells count (suc t - limit) new
     leap_next t old new answer m fits goes way late full =
         elim (cases_lt t limit) [
           | inl first ↦
@@ -261,11 +261,11 @@ to_capacity limit count cells some_limit some_cell = record {
         ]
 
 -- the capacities of the lanes of a legal road, by the cells that their cars leave empty
-capacities : (road : Cells) → IsLegal road → let cells = length (lane_of road 0) in let count : ℕ → ℕ = λ l. lane_cars (lane_of road l) in
+capacities : (road : Cells) → IsLegal road → let cells = length (lane_of road 0) in let count : ℕ → ℕ = λ l. lane_car_count (lane_of road l) in
     total (λ l. min (road.limit * count l) (cells - count l)) (length road.lanes) ≡ sum_by (lane_capacity road.limit) road.lanes
 capacities road legal =
     let cells = length (lane_of road 0) in
-    let count : ℕ → ℕ = λ l. lane_cars (lane_of road l) in
+    let count : ℕ → ℕ = λ l. lane_car_count (lane_of road l) in
     total_same (λ l. min (road.limit * count l) (cells - count l)) (λ l. lane_capacity road.limit (lane_of road l)) (length road.lanes) (λ l on.
     let whole = lane_taken_or_empty (lane_of road l) in
     let size = legal.shape.equal l on in
@@ -278,7 +278,7 @@ one_capacity : (road : Cells) → length road.lanes ≡ 1 → sum_by (lane_capac
 one_capacity road one =
     let lane = lane_of road 0 in
     one_sum (lane_capacity road.limit) road.lanes one
-    ∙ ap (λ k. min (road.limit * k) (lane_empty_cells lane)) (sym (one_sum lane_cars road.lanes one))
+    ∙ ap (λ k. min (road.limit * k) (lane_empty_cells lane)) (sym (one_sum lane_car_count road.lanes one))
     ∙ ap (min (road.limit * cars road)) (sym (one_sum lane_empty_cells road.lanes one))
 
 pub nasch_comes_to_capacity_by_lane : NaschComesToCapacityByLane
@@ -286,7 +286,7 @@ unfolding to_capacity
 nasch_comes_to_capacity_by_lane rule seed step road sum is legal late comes =
     let limit = seed.road.limit in
     let cells = length (lane_of seed.road 0) in
-    let count : ℕ → ℕ = λ l. lane_cars (lane_of seed.road l) in
+    let count : ℕ → ℕ = λ l. lane_car_count (lane_of seed.road l) in
     let some_limit = legal.shape.limit.some_limit in
     let some_cell = legal.shape.cells.some_cell in
     let start : (l : ℕ) → l < length seed.road.lanes → OnWay limit cells (count l) 0 (lane_of seed.road l) = λ l on. record {
@@ -312,7 +312,7 @@ at_once answer lane goes x number speed here = let far = goes x number speed her
 
 record OnWayAtOnce (cells count t : ℕ) (lane : Lane) : Type 0 where
   size : length lane ≡ cells
-  leaping : lane_cars lane ≡ count → Leaping 1 cells count t lane
+  leaping : lane_car_count lane ≡ count → Leaping 1 cells count t lane
 
 to_capacity_at_once : (count cells : ℕ) → 1 ≤ cells → Regime 1 (min (1 * count) (cells - count)) count cells
 to_capacity_at_once count cells some_cell = record {
@@ -329,7 +329,7 @@ rule_184_by_lane : (rule : Programs) (seed : Seed) (step : ℕ) (road : Cells) (
 unfolding to_capacity_at_once
 rule_184_by_lane rule seed step road sum is legal slow late comes =
     let cells = length (lane_of seed.road 0) in
-    let count : ℕ → ℕ = λ l. lane_cars (lane_of seed.road l) in
+    let count : ℕ → ℕ = λ l. lane_car_count (lane_of seed.road l) in
     let start : (l : ℕ) → l < length seed.road.lanes → OnWayAtOnce cells (count l) 0 (lane_of seed.road l) = λ l on.
     let size = legal.shape.equal l on in
     record { size = size; leaping = λ full. record { first = lane_of seed.road l; size = size; full = full; leaps = leaps_itself 1 (lane_of seed.road l) } } in

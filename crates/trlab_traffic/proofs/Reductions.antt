@@ -10,17 +10,17 @@ use Rattle.trlab_machine.specs.declared.dice.Dice.{Dice}
 use Rattle.trlab_machine.specs.Blocks.{words_of}
 use Rattle.trlab_road.specs.declared.car.Car.{Car}
 use Rattle.trlab_road.specs.Cells.{AgreeAtCars, Cell, Cells, IsAt, cell}
-use Rattle.trlab_road.specs.LaneChange.{Crosses, cell_after_change, other_lane}
+use Rattle.trlab_road.specs.LaneChange.{ChangesLanes, cell_after_change, other_lane}
 use Rattle.trlab_road.specs.Legal.{IsLegal}
 use Rattle.trlab_road.specs.Standing.{standing}
 use Rattle.trlab_road.proofs.LaneChangeLaws.{crosses_by, one_road_after_change}
 use Rattle.trlab_road.proofs.Numbers.{no_one}
-use Rattle.trlab_road.proofs.StandingOrder.{length-standing_lanes, standing_cell}
+use Rattle.trlab_road.proofs.StandingOrder.{length-standing_from_lane, standing_cell}
 use Rattle.trlab_rules.specs.Laws.{ComputesCrossing, ComputesSpeed}
 use Rattle.trlab_rules.specs.Published.{nasch_speed, rickert_crosses, vdr_speed}
 use Rattle.trlab_rules.specs.Rules.{Programs}
 use Rattle.trlab_rules.specs.Standard.{rickert_program}
-use Rattle.trlab_rules.specs.StandardRules.{IsChange}
+use Rattle.trlab_rules.specs.StandardRules.{IsChangeComputing}
 use Rattle.trlab_step.specs.declared.tally.StepTally.{StepTally}
 use Rattle.trlab_step.specs.Answers.{AnswersCrossing, AnswersCrossings, AnswersSpeed, AnswersSpeeds, change_view_of, motion_view_of}
 use Rattle.trlab_step.specs.Laws.{IsLegalLike}
@@ -29,7 +29,7 @@ use Rattle.trlab_step.specs.Run.{ComesTo, Seed, dice_at}
 use Rattle.trlab_step.proofs.AnswersExist.{change_view_is_view, motion_view_is_view}
 use Rattle.trlab_step.proofs.NextLaws.{like_itself, like_next}
 use Rattle.trlab_step.proofs.PartLaws.{one_answer_each, one_crossing_each}
-use Rattle.trlab_traffic.specs.Reduction.{HaveSameSteps, RickertReducesToNasch, HaveSameRuns, VdrReducesToNasch}
+use Rattle.trlab_traffic.specs.Reduction.{HaveSameSteps, RickertReducesToNasch, SameStepsGiveSameRuns, VdrReducesToNasch}
 use Rattle.trlab_traffic.proofs.AnyRule.{middle_like, next_legal_like}
 use Rattle.trlab_traffic.proofs.Freely.{in_force_one, one_rule}
 use Rattle.trlab_traffic.proofs.NaschMoves.{never}
@@ -113,7 +113,7 @@ kept None beside = refl
 kept (Some car) beside = refl
 
 -- where nobody crosses, the road stays as it is
-pub nobody_crosses : (road : Cells) → Crosses nobody road road
+pub nobody_crosses : (road : Cells) → ChangesLanes nobody road road
 nobody_crosses road = record {
   same_limit = refl;
   same_lanes = refl;
@@ -134,7 +134,7 @@ count_none p (x ∷ xs) d none =
 
 none_counted : (crosses : ℕ → ℕ → Bool) (road : Cells) → AgreeAtCars crosses nobody road → crossing_cars crosses road ≡ 0
 none_counted crosses road none =
-    let count = length-standing_lanes 0 road.lanes in
+    let count = length-standing_from_lane 0 road.lanes in
     count_none (λ car. crosses car.lane car.place) (standing road) no_one
     (λ k below. none (get_or (standing road) k no_one) (standing_cell road k no_one (omega (arith, below, count))))
 
@@ -159,7 +159,7 @@ module _ (change : CheckedProgram) (by : ComputesCrossing (rickert_crosses 0) ch
     two,
     nobody,
     record { each = stays },
-    subst (Crosses nobody road) (sym phase.0) (nobody_crosses road),
+    subst (ChangesLanes nobody road) (sym phase.0) (nobody_crosses road),
     phase.1 ∙ sym (none_counted nobody road (λ car here. refl)),
   )
 
@@ -169,7 +169,7 @@ record AsNone (change : Option CheckedProgram) (dice : Dice) (road middle : Cell
   from : IsLaneChangePhase None dice road middle changes → IsLaneChangePhase change dice road middle changes
 
 rickert_as_none : (change : Option CheckedProgram) (dice : Dice) (road middle : Cells) (changes : ℕ) → IsLegal road → length road.lanes ≡ 2
-    → MatchOption change ⊥ (IsChange (rickert_crosses 0) (rickert_program 0)) → AsNone change dice road middle changes
+    → MatchOption change ⊥ (IsChangeComputing (rickert_crosses 0) (rickert_program 0)) → AsNone change dice road middle changes
 rickert_as_none None dice road middle changes legal two is = absurd is
 rickert_as_none (Some change) dice road middle changes legal two is = record {
   to = as_none change is.changes dice road legal two middle changes;
@@ -214,5 +214,5 @@ run_alike rule other seed (suc step) road sum legal alike comes =
       comes = (before, comes.1, other, tally, way.comes, record { under = in_force_one other step; next = also; counted = on.counted });
     }
 
-pub runs_alike : HaveSameRuns
+pub runs_alike : SameStepsGiveSameRuns
 runs_alike rule other seed step road sum legal alike comes = (run_alike rule other seed step road sum legal alike comes).comes

@@ -4,7 +4,7 @@ use Rattle.std.proofs.Common.{◌≡◌, ℕ, zero, suc, ◌+◌, ◌-◌, ◌*�
 use Rattle.std.specs.Prelude.{nat_le, sum_by}
 use Rattle.std.proofs.lemmas.Bool.{cases_lt, le-leb, lt-leb}
 use Rattle.trlab_road.specs.declared.car.Car.{Car}
-use Rattle.trlab_road.specs.Cells.{Cells, Lane, at, lane_cars, lane_of}
+use Rattle.trlab_road.specs.Cells.{Cells, Lane, at, lane_car_count, lane_of}
 use Rattle.trlab_road.specs.Gaps.{gap}
 use Rattle.trlab_road.specs.Legal.{IsLegal}
 use Rattle.trlab_road.specs.Motion.{LaneFits, LaneMoves}
@@ -31,23 +31,23 @@ pub record Regime (limit each count begin : ℕ) : Type 1 where
   pub goes_on : (t : ℕ) (old new : Lane) (answer : ℕ → ℕ) → LaneMoves answer old new → LaneFits answer old
       → ((x number speed : ℕ) → at old x ≡ Some (number, speed) → answer x ≡ min (min (speed + 1) limit) (gap old x)) → Holds t old → Holds (suc t) new
   pub far : (l t : ℕ) (old : Lane) (answer : ℕ → ℕ)
-      → ((x number speed : ℕ) → at old x ≡ Some (number, speed) → answer x ≡ min (min (speed + 1) limit) (gap old x)) → Holds t old → begin ≤ t + 1 → lane_cars old ≡ count
+      → ((x number speed : ℕ) → at old x ≡ Some (number, speed) → answer x ≡ min (min (speed + 1) limit) (gap old x)) → Holds t old → begin ≤ t + 1 → lane_car_count old ≡ count
       → sum_by (λ (car : Car). answer car.place) (standing_from l 0 old) ≡ each
 
 -- each lane of a run keeps to its regime
 module _ (rule : Programs) (seed : Seed) (is : IsNasch 0 rule) (legal : IsLegal seed.road) (limit begin : ℕ) (each count : ℕ → ℕ) (same_limit : seed.road.limit ≡ limit)
-    (same_count : (l : ℕ) → l < length seed.road.lanes → lane_cars (lane_of seed.road l) ≡ count l) (regime : (l : ℕ) → Regime limit (each l) (count l) begin)
+    (same_count : (l : ℕ) → l < length seed.road.lanes → lane_car_count (lane_of seed.road l) ≡ count l) (regime : (l : ℕ) → Regime limit (each l) (count l) begin)
     (start : (l : ℕ) → l < length seed.road.lanes → (regime l).Holds 0 (lane_of seed.road l)) where
   pub record Flows (step : ℕ) (road : Cells) (sum : StepTally) : Type 0 where
     pub like : IsLegalLike seed.road road
-    pub full : (l : ℕ) → l < length seed.road.lanes → lane_cars (lane_of road l) ≡ count l
+    pub full : (l : ℕ) → l < length seed.road.lanes → lane_car_count (lane_of road l) ≡ count l
     pub holds : (l : ℕ) → l < length seed.road.lanes → (regime l).Holds step (lane_of road l)
     pub gone : begin ≤ seed.warm + 1 → sum.distance ≡ (step - seed.warm) * total each (length seed.road.lanes)
 
   pub flows : (step : ℕ) (road : Cells) (sum : StepTally) → ComesTo seed ((0, rule) ∷ []) step road sum → Flows step road sum
   flows zero road sum comes = record {
     like = subst (IsLegalLike seed.road) (sym comes.1) (like_itself seed.road legal);
-    full = λ l on. ap (λ (now : Cells). lane_cars (lane_of now l)) comes.1 ∙ same_count l on;
+    full = λ l on. ap (λ (now : Cells). lane_car_count (lane_of now l)) comes.1 ∙ same_count l on;
     holds = λ l on. subst (λ (now : Cells). (regime l).Holds 0 (lane_of now l)) (sym comes.1) (start l on);
     gone = λ warm. subst (λ (t : StepTally). t.distance ≡ (0 - seed.warm) * total each (length seed.road.lanes)) (sym comes.2) (let e : 0 - seed.warm ≡ 0 = omega arith in rw e (omega arith));
   }

@@ -5,12 +5,12 @@ use Rattle.std.proofs.Math.Nat.{add-mod_left}
 use Rattle.std.proofs.lemmas.Bool.{cases_lt}
 use Rattle.std.proofs.lemmas.List.Sums.{sum_by-append, sum_by-cons}
 use Rattle.trlab_road.specs.declared.car.Car.{Car}
-use Rattle.trlab_road.specs.Cells.{Cell, Lane, at, lane_cars}
+use Rattle.trlab_road.specs.Cells.{Cell, Lane, at, lane_car_count}
 use Rattle.trlab_road.specs.Gaps.{ahead}
 use Rattle.trlab_road.specs.Motion.{IsClearAhead}
-use Rattle.trlab_road.specs.Standing.{standing_from, standing_lanes}
+use Rattle.trlab_road.specs.Standing.{standing_from, standing_from_lane}
 use Rattle.trlab_road.proofs.Ring.{blocked, car_in, inside}
-use Rattle.trlab_road.proofs.StandingOrder.{lane_cars-some}
+use Rattle.trlab_road.proofs.StandingOrder.{lane_car_count-some}
 use Rattle.trlab_traffic.specs.Capacity.{CellsAreTakenOrEmpty, lane_cells, lane_empty_cells}
 
 pub empty-none : (cells : Lane) → lane_empty_cells (None ∷ cells) ≡ suc (lane_empty_cells cells)
@@ -19,11 +19,11 @@ empty-none cells = let e = sum_by-cons (λ (c : Cell). cond (is_none c) 1 0) Non
 pub empty-some : (car : ℕ × ℕ) (cells : Lane) → lane_empty_cells (Some car ∷ cells) ≡ lane_empty_cells cells
 empty-some car cells = let e = sum_by-cons (λ (c : Cell). cond (is_none c) 1 0) (Some car) cells in omega (arith, e)
 
-pub cars-none : (cells : Lane) → lane_cars (None ∷ cells) ≡ lane_cars cells
+pub cars-none : (cells : Lane) → lane_car_count (None ∷ cells) ≡ lane_car_count cells
 cars-none cells = let e = sum_by-cons (λ (c : Cell). cond (is_some c) 1 0) None cells in omega (arith, e)
 
 -- a cell of a lane holds a car, or is empty
-pub lane_taken_or_empty : (lane : Lane) → lane_cars lane + lane_empty_cells lane ≡ length lane
+pub lane_taken_or_empty : (lane : Lane) → lane_car_count lane + lane_empty_cells lane ≡ length lane
 lane_taken_or_empty [] = refl
 lane_taken_or_empty (None ∷ cells) =
     let a = empty-none cells in
@@ -32,14 +32,14 @@ lane_taken_or_empty (None ∷ cells) =
     omega (arith, a, b, rest)
 lane_taken_or_empty (Some car ∷ cells) =
     let a = empty-some car cells in
-    let b = lane_cars-some car cells in
+    let b = lane_car_count-some car cells in
     let rest = lane_taken_or_empty cells in
     omega (arith, a, b, rest)
 
-lanes_taken_or_empty : (lanes : List Lane) → sum_by lane_cars lanes + sum_by lane_empty_cells lanes ≡ sum_by lane_cells lanes
+lanes_taken_or_empty : (lanes : List Lane) → sum_by lane_car_count lanes + sum_by lane_empty_cells lanes ≡ sum_by lane_cells lanes
 lanes_taken_or_empty [] = refl
 lanes_taken_or_empty (lane ∷ lanes) =
-    let a = sum_by-cons lane_cars lane lanes in
+    let a = sum_by-cons lane_car_count lane lanes in
     let b = sum_by-cons lane_empty_cells lane lanes in
     let c = sum_by-cons lane_cells lane lanes in
     let first = lane_taken_or_empty lane in
@@ -159,7 +159,7 @@ run_within more (None ∷ cells) = let rest = run_within more cells in omega (ar
 run_within more (Some car ∷ cells) = omega arith
 
 -- a lane with a car has one first run, whatever is behind it
-one_run : (more : ℕ) (cells : Lane) → 0 < lane_cars cells → run more cells ≡ run 0 cells
+one_run : (more : ℕ) (cells : Lane) → 0 < lane_car_count cells → run more cells ≡ run 0 cells
 one_run more [] some = absurd (omega (arith, some))
 one_run more (None ∷ cells) some = let e = cars-none cells in ap suc (one_run more cells (omega (arith, e, some)))
 one_run more (Some car ∷ cells) some = refl
@@ -196,7 +196,7 @@ run_is_clear lane x car here =
     )
 
 -- cars that go no less far than they can, on a lane that has one, go over all empty cells
-pub lane_filled : (f : Car → ℕ) (l : ℕ) (lane : Lane) → 0 < lane_cars lane
+pub lane_filled : (f : Car → ℕ) (l : ℕ) (lane : Lane) → 0 < lane_car_count lane
     → ((x number speed g : ℕ) → at lane x ≡ Some (number, speed) → g < length lane → IsClearAhead lane x g → g ≤ f (car_in l x number speed))
     → lane_empty_cells lane ≤ sum_by f (standing_from l 0 lane)
 lane_filled f l lane some far =
@@ -223,7 +223,7 @@ lane_room f l lane clear =
 -- the cars of several lanes
 pub lanes_room : (f : Car → ℕ) (base : ℕ) (lanes : List Lane)
     → ((l : ℕ) → l < length lanes → (x number speed : ℕ) → at (get_or lanes l []) x ≡ Some (number, speed) → IsClearAhead (get_or lanes l []) x (f (car_in (base + l) x number speed)))
-    → sum_by f (standing_lanes base lanes) ≤ sum_by lane_empty_cells lanes
+    → sum_by f (standing_from_lane base lanes) ≤ sum_by lane_empty_cells lanes
 lanes_room f base [] clear = omega arith
 lanes_room f base (lane ∷ lanes) clear =
     let zeroth : base + 0 ≡ base = omega arith in
@@ -231,6 +231,6 @@ lanes_room f base (lane ∷ lanes) clear =
     let rest = lanes_room f (suc base) lanes
     (λ l h x number speed here. let e : base + suc l ≡ suc base + l = omega arith in
     subst (λ k. IsClearAhead (get_or lanes l []) x (f (car_in k x number speed))) e (clear (suc l) (omega arith) x number speed here)) in
-    let a = sum_by-append f (standing_from base 0 lane) (standing_lanes (suc base) lanes) in
+    let a = sum_by-append f (standing_from base 0 lane) (standing_from_lane (suc base) lanes) in
     let b = sum_by-cons lane_empty_cells lane lanes in
     omega (arith, first, rest, a, b)

@@ -6,7 +6,7 @@ use Rattle.std.specs.List.{range_with_len}
 use Rattle.std.specs.Prelude.{nat_le, sum_by}
 use Rattle.trlab_machine.specs.declared.dice.Dice.{Dice}
 use Rattle.trlab_road.proofs.Ring.{car_in}
-use Rattle.trlab_road.specs.Cells.{Cell, Cells, Lane, cars, cell, lane_of, lane_cars}
+use Rattle.trlab_road.specs.Cells.{Cell, Cells, Lane, cars, cell, lane_of, lane_car_count}
 use Rattle.trlab_road.specs.Gaps.{ahead}
 use Rattle.trlab_road.specs.LaneChange.{CrossesToEmpty, cell_after_change, other_lane}
 use Rattle.trlab_road.specs.Legal.{IsLegal}
@@ -27,9 +27,9 @@ use Rattle.trlab_traffic.proofs.RoomAhead.{taken_or_empty}
 use Rattle.trlab_traffic.proofs.RunLanes.{run_lanes, middle_lanes}
 use Rattle.trlab_traffic.proofs.Sums.{by_lane, sum_range, total, total_add, total_none, total_same, total_swap}
 use Rattle.trlab_traffic.specs.Capacity.{empty_cells, lane_empty_cells}
-use Rattle.trlab_traffic.specs.Detector.{cars_ahead_of, passages, all_passages, way}
-use Rattle.trlab_traffic.specs.DetectorRuns.{AreWithin, Counts}
-use Rattle.trlab_traffic.specs.Rows.{RowMeasuresFlow, RowsAgree, RunIsContinuousByRows, StepIsContinuousByRows, cars_ahead_of_row, row_passages}
+use Rattle.trlab_traffic.specs.Detector.{cars_ahead_of, passages, all_passages, cells_ahead_to}
+use Rattle.trlab_traffic.specs.DetectorRuns.{DifferByAtMost, Counts}
+use Rattle.trlab_traffic.specs.Rows.{RowMeasuresFlow, RowsAgree, RunSatisfiesContinuityByRows, StepIsContinuousByRows, cars_ahead_of_row, row_passages}
 use Rattle.trlab_traffic.specs.Rule184.{digit, is_taken}
 use Rattle.trlab_verify.specs.CheckedProgram.{CheckedProgram}
 
@@ -184,7 +184,7 @@ module _ (seed : Seed) (sheet : Sheet) (legal : IsLegal seed.road) (x k : ℕ) (
             omega (arith, so_far, now, place, a, b)
       ]
 
-pub run_is_continuous_by_rows : RunIsContinuousByRows
+pub run_is_continuous_by_rows : RunSatisfiesContinuityByRows
 run_is_continuous_by_rows seed sheet step start road x k first second legal low late begins here firsts seconds =
     let all = by_rows seed sheet legal x k low step start road first second late begins here firsts seconds in
     let a = by_range first (length seed.road.lanes) in
@@ -193,7 +193,7 @@ run_is_continuous_by_rows seed sheet step start road x k first second legal low 
 
 -- the cars between two places of lanes
 record Between (lanes : List Lane) (x k : ℕ) : Type 0 where
-  most : sum_by (λ (lane : Lane). cars_ahead_of lane x k) lanes ≤ sum_by lane_cars lanes
+  most : sum_by (λ (lane : Lane). cars_ahead_of lane x k) lanes ≤ sum_by lane_car_count lanes
   within : sum_by (λ (lane : Lane). cars_ahead_of lane x k) lanes ≤ length lanes * k
   least : length lanes * k ≤ sum_by (λ (lane : Lane). cars_ahead_of lane x k) lanes + sum_by lane_empty_cells lanes
 
@@ -209,19 +209,19 @@ between (lane ∷ lanes) x k round =
     let d = here.most in
     let e = here.least in
     let f = sum_by-cons (λ (one : Lane). cars_ahead_of one x k) lane lanes in
-    let g = sum_by-cons lane_cars lane lanes in
+    let g = sum_by-cons lane_car_count lane lanes in
     let h = sum_by-cons lane_empty_cells lane lanes in
     let i = suc-mul (length lanes) k in
     record { most = omega (arith, a, d, f, g); within = omega (arith, b, short, f, i); least = omega (arith, c, e, f, h, i) }
 
 -- two counts that differ by what two numbers of cars do
-apart : (first second now before n e w : ℕ) → now + second ≡ before + first → now ≤ n → now ≤ w → w ≤ now + e → before ≤ n → before ≤ w → w ≤ before + e → AreWithin (min n e) first second
+apart : (first second now before n e w : ℕ) → now + second ≡ before + first → now ≤ n → now ≤ w → w ≤ now + e → before ≤ n → before ≤ w → w ≤ before + e → DifferByAtMost (min n e) first second
 apart first second now before n e w all a b c d f g =
     let less : first ≤ second + min n e = omega (arith, all, a, b, c, d, f, g) in
     let more : second ≤ first + min n e = omega (arith, all, a, b, c, d, f, g) in
     record { no_less = less; no_more = more }
 
-none_apart : (first second k : ℕ) → first ≡ 0 → second ≡ 0 → AreWithin k first second
+none_apart : (first second k : ℕ) → first ≡ 0 → second ≡ 0 → DifferByAtMost k first second
 none_apart first second k a b = record { no_less = omega (arith, a, b); no_more = omega (arith, a, b) }
 
 -- what is known of a road of the run
@@ -253,7 +253,7 @@ on_road seed sheet step road sum x k legal comes round =
 module _ (seed : Seed) (sheet : Sheet) (legal : IsLegal seed.road) where
   rows_agree_totals : (step : ℕ) (road : Cells) (sum : StepTally) (x k : ℕ) (first second : ℕ → ℕ) → ComesTo seed sheet step road sum → x < length (lane_of seed.road 0) → k ≤ length (lane_of seed.road 0)
       → ((l : ℕ) → Counts seed sheet l x step (first l)) → ((l : ℕ) → Counts seed sheet l (ahead (length (lane_of seed.road 0)) x k) step (second l))
-      → AreWithin (min (cars seed.road) (empty_cells seed.road)) (total first (length seed.road.lanes)) (total second (length seed.road.lanes))
+      → DifferByAtMost (min (cars seed.road) (empty_cells seed.road)) (total first (length seed.road.lanes)) (total second (length seed.road.lanes))
   rows_agree_totals step road sum x k first second comes low round firsts seconds =
       let m = length seed.road.lanes in
       elim (cases_lt step seed.warm) [
@@ -318,7 +318,7 @@ rows_agree seed sheet step road sum x k first second legal comes low round first
     record { no_less = omega (arith, less, a, b); no_more = omega (arith, more, a, b) }
 
 -- sums of numbers that are within so much of one number
-total_near : (f : ℕ → ℕ) (c d n : ℕ) → ((y : ℕ) → y < n → AreWithin d c (f y)) → AreWithin (n * d) (n * c) (total f n)
+total_near : (f : ℕ → ℕ) (c d n : ℕ) → ((y : ℕ) → y < n → DifferByAtMost d c (f y)) → DifferByAtMost (n * d) (n * c) (total f n)
 total_near f c d zero near = record { no_less = omega arith; no_more = omega arith }
 total_near f c d (suc n) near =
     let first = near 0 (omega arith) in
@@ -338,8 +338,8 @@ row_measures_flow seed sheet step road sum x count legal comes low counts =
     let each : (y l : ℕ) → (c : ℕ) × Counts seed sheet l y step c = λ y l. count_exists seed sheet step road sum l y comes in
     let all = all_count seed sheet legal step road sum (λ y l. (each y l).0) comes (λ y l. (each y l).1) in
     let near = total_near (λ y. total (λ l. (each y l).0) m) (total count m) (min (cars seed.road) (empty_cells seed.road)) n (λ y high.
-    let short : way n x y < n = ahead_below n y (n - x) (omega (arith, low)) in
-    rows_agree_totals seed sheet legal step road sum x (way n x y) count (λ l. (each y l).0) comes low (let k : way n x y ≤ n = omega (arith, short) in k) counts
+    let short : cells_ahead_to n x y < n = ahead_below n y (n - x) (omega (arith, low)) in
+    rows_agree_totals seed sheet legal step road sum x (cells_ahead_to n x y) count (λ l. (each y l).0) comes low (let k : cells_ahead_to n x y ≤ n = omega (arith, short) in k) counts
     (λ l. subst (λ z. Counts seed sheet l z step (each y l).0) (sym (way_reaches n x y low high)) (each y l).1)) in
     let here = ap (λ k. n * k) (by_range count m) in
     let less = near.no_less in

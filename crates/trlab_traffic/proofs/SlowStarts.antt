@@ -16,14 +16,14 @@ use Rattle.trlab_road.specs.Standing.{standing}
 use Rattle.trlab_road.proofs.MotionInOrder.{moves_by}
 use Rattle.trlab_road.proofs.MotionLaws.{one_road_only}
 use Rattle.trlab_road.proofs.Ring.{car_in, inside}
-use Rattle.trlab_road.proofs.StandingOrder.{length-standing_lanes, standing_cell}
+use Rattle.trlab_road.proofs.StandingOrder.{length-standing_from_lane, standing_cell}
 use Rattle.trlab_rules.specs.Published.{brake, safe_speed, vdr_chance, vdr_speed}
 use Rattle.trlab_rules.specs.Rules.{Programs}
 use Rattle.trlab_rules.specs.StandardRules.{IsVdr}
 use Rattle.trlab_step.specs.declared.tally.StepTally.{StepTally}
 use Rattle.trlab_step.specs.Next.{IsNext, total_speed}
 use Rattle.trlab_step.specs.Run.{ComesTo, Seed, dice_at}
-use Rattle.trlab_traffic.specs.FreeFlow.{IsFree}
+use Rattle.trlab_traffic.specs.FreeFlow.{IsInFreeFlow}
 use Rattle.trlab_traffic.specs.Metastable.{IsStopped, SlowStartsKeepFreeFlow, SlowStartsKeepJams, SlowStartsMoveFreeFlowAsOne}
 use Rattle.trlab_traffic.proofs.Capacities.{distance_counted, distance_uncounted}
 use Rattle.trlab_traffic.proofs.Freely.{FreeMotion, FreelyOn, free_speed, one_rule, run_freely, sum_by-same}
@@ -34,7 +34,7 @@ use Rattle.trlab_traffic.proofs.Places.{ahead_none}
 moving_chance : (p p0 speed limit : ℕ) → 1 ≤ limit → speed ≡ limit → vdr_chance p p0 speed ≡ p
 moving_chance p p0 speed limit some fast = ap (λ (b : Bool). if b then p0 else p) (ne_eqb speed 0 (λ e. omega (arith, e, some, fast)))
 
-free_motion : (p0 : ℕ) (rule : Programs) (dice : Dice) (old new : Cells) (tally : StepTally) → IsVdr 0 p0 rule → IsLegal old → IsFree old → IsNext rule dice old new tally → FreeMotion old new
+free_motion : (p0 : ℕ) (rule : Programs) (dice : Dice) (old new : Cells) (tally : StepTally) → IsVdr 0 p0 rule → IsLegal old → IsInFreeFlow old → IsNext rule dice old new tally → FreeMotion old new
 free_motion p0 rule dice old new tally is legal free next =
     let phase = motion_alone rule dice old new tally is.change next in
     record {
@@ -49,7 +49,7 @@ free_motion p0 rule dice old new tally is legal free next =
       moves = phase.2;
     }
 
-vdr_freely : (p0 : ℕ) (rule : Programs) (seed : Seed) (step : ℕ) (road : Cells) (sum : StepTally) → IsVdr 0 p0 rule → IsLegal seed.road → IsFree seed.road → ComesTo seed ((0, rule) ∷ []) step road sum → FreelyOn seed step road sum
+vdr_freely : (p0 : ℕ) (rule : Programs) (seed : Seed) (step : ℕ) (road : Cells) (sum : StepTally) → IsVdr 0 p0 rule → IsLegal seed.road → IsInFreeFlow seed.road → ComesTo seed ((0, rule) ∷ []) step road sum → FreelyOn seed step road sum
 vdr_freely p0 rule seed step road sum is =
     run_freely rule seed step road sum (λ dice old new tally fine flows next. free_motion p0 rule dice old new tally is fine flows next)
 
@@ -112,7 +112,7 @@ step_stays_stopped p rule dice old new tally is legal still next =
 
 no_speed : (road : Cells) → IsStopped road → total_speed road ≡ 0
 no_speed road still =
-    let count = length-standing_lanes 0 road.lanes in
+    let count = length-standing_from_lane 0 road.lanes in
     sum_by-same (λ (car : Car). car.speed) 0 (standing road) (λ k d below. still.stopped (get_or (standing road) k d) (standing_cell road k d (omega (arith, below, count))))
     ∙ mul-zero (length (standing road))
 

@@ -15,10 +15,10 @@ use Rattle.trlab_machine.specs.Blocks.{words_of}
 use Rattle.trlab_road.specs.declared.car.Car.{Car}
 use Rattle.trlab_road.specs.Cells.{IsAt, AgreeAtCars, Cells}
 use Rattle.trlab_road.specs.Standing.{standing}
-use Rattle.trlab_road.proofs.StandingOrder.{length-standing_lanes, standing_cell, in_order_at}
+use Rattle.trlab_road.proofs.StandingOrder.{length-standing_from_lane, standing_cell, in_order_at}
 use Rattle.trlab_rules.specs.Published.{brake, nasch_speed, safe_speed, vdr_chance, vdr_speed}
 use Rattle.trlab_step.specs.Answers.{motion_view_of, AnswersSpeeds}
-use Rattle.trlab_traffic.specs.Randomization.{RandomizationSlows, IsSlower, SlowStartsSlow}
+use Rattle.trlab_traffic.specs.Randomization.{RandomizationSlowsSteps, IsNoFasterStep, SlowStartsSlowSteps}
 use Rattle.trlab_traffic.proofs.AnyRule.{answers_fit}
 use Rattle.trlab_traffic.proofs.Capacities.{speeds_total, may_move}
 use Rattle.trlab_traffic.proofs.NaschMoves.{answered, motion_alone}
@@ -112,7 +112,7 @@ slower : (light heavy : Programs) (dice : Dice) (road next other : Cells) (fast 
     → IsNext light dice road next fast → IsNext heavy dice road other slow
     → ((speeds others : ℕ → ℕ → ℕ) → AnswersSpeeds light.motion dice road speeds → AnswersSpeeds heavy.motion dice road others
     → (car : Car) → IsAt road car → Below (λ (c : Car). others c.lane c.place) (λ (c : Car). speeds c.lane c.place) car)
-    → IsSlower road fast slow
+    → IsNoFasterStep road fast slow
 slower light heavy dice road next other fast slow none no_change is also each_car =
     let a = motion_alone light dice road next fast none is in
     let b = motion_alone heavy dice road other slow no_change also in
@@ -124,7 +124,7 @@ slower light heavy dice road next other fast slow none no_change is also each_ca
     let total_slow = also.1.distance ∙ speeds_total b.0 road other fits_slow b.2 in
     let stop = is.1.stopped ∙ stopped_total a.0 road next fits a.2 in
     let stop_slow = also.1.stopped ∙ stopped_total b.0 road other fits_slow b.2 in
-    let count = length-standing_lanes 0 road.lanes in
+    let count = length-standing_from_lane 0 road.lanes in
     let each : All (Below f g) (standing road) = λ k d below. each_car a.0 b.0 a.1 b.1 (get_or (standing road) k d) (standing_cell road k d (omega (arith, below, count))) in
     let sums = sums_below f g (standing road) each in
     let least = sums.least in
@@ -137,7 +137,7 @@ slower light heavy dice road next other fast slow none no_change is also each_ca
       no_fewer_stop = omega (arith, stops, stop, stop_slow);
     }
 
-pub randomization_slows : RandomizationSlows
+pub randomization_slows : RandomizationSlowsSteps
 randomization_slows p q light heavy dice road next other fast slow more is_light is_heavy legal is also =
     slower light heavy dice road next other fast slow is_light.change is_heavy.change is also (λ speeds others a b car here.
     let view = motion_view_of road car in
@@ -153,7 +153,7 @@ more_chance : (b : Bool) (p q p0 q0 : ℕ) → p ≤ q → p0 ≤ q0 → (if b t
 more_chance true p q p0 q0 more more0 = more0
 more_chance false p q p0 q0 more more0 = more
 
-pub slow_starts_slow : SlowStartsSlow
+pub slow_starts_slow : SlowStartsSlowSteps
 slow_starts_slow p q p0 q0 light heavy dice road next other fast slow more more0 is_light is_heavy legal is also =
     slower light heavy dice road next other fast slow is_light.change is_heavy.change is also (λ speeds others a b car here.
     let view = motion_view_of road car in

@@ -8,18 +8,18 @@ use Rattle.std.proofs.lemmas.Option.{some_pair_parts}
 use Rattle.trlab_bounds.specs.declared.programs.TheConstants.{CERTAIN}
 use Rattle.trlab_road.specs.declared.car.Car.{Car}
 use Rattle.trlab_road.specs.declared.fault.RoadFault.{RoadFault}
-use Rattle.trlab_road.specs.Cells.{Cell, Cells, IsAt, Lane, at, cars, cell, lane_cars, lane_of}
+use Rattle.trlab_road.specs.Cells.{Cell, Cells, IsAt, Lane, at, cars, cell, lane_car_count, lane_of}
 use Rattle.trlab_road.specs.Gaps.{ahead, gap}
 use Rattle.trlab_road.specs.Laws.{EvenCarsMean}
-use Rattle.trlab_road.specs.Legal.{HasShape, IsLegal}
-use Rattle.trlab_road.specs.Spreading.{CanSpread, IsEven}
+use Rattle.trlab_road.specs.Legal.{HasValidShape, IsLegal}
+use Rattle.trlab_road.specs.Spreading.{CanSpread, IsEvenlySpaced}
 use Rattle.trlab_road.proofs.EvenExists.{something}
 use Rattle.trlab_road.proofs.EvenRoads.{even_count, even_legal, no_fault}
 use Rattle.trlab_road.proofs.MotionLaws.{on_lane}
 use Rattle.trlab_road.proofs.Ring.{car_in, clear_within_gap}
-use Rattle.trlab_road.proofs.StandingOrder.{lane_cars-some}
+use Rattle.trlab_road.proofs.StandingOrder.{lane_car_count-some}
 use Rattle.trlab_traffic.specs.Capacity.{lane_cells}
-use Rattle.trlab_traffic.specs.FreeFlow.{IsFree}
+use Rattle.trlab_traffic.specs.FreeFlow.{IsInFreeFlow}
 use Rattle.trlab_traffic.specs.Metastable.{IsRing, IsStopped, TwoFlowsAtOneDensity}
 use Rattle.trlab_traffic.proofs.EvenGaps.{gap_low, who}
 use Rattle.trlab_traffic.proofs.OneLane.{one_sum}
@@ -54,7 +54,7 @@ cell_sped v road l x = ap (λ (lane : Lane). at lane x) (lane_sped v road.lanes 
 size_sped : (v : ℕ) (road : Cells) (l : ℕ) → length (lane_of (sped_road v road) l) ≡ length (lane_of road l)
 size_sped v road l = ap (λ (lane : Lane). length lane) (lane_sped v road.lanes l) ∙ length-map (lane_of road l) (sped v)
 
-cars_sped : (v : ℕ) (lane : Lane) → lane_cars (sped_lane v lane) ≡ lane_cars lane
+cars_sped : (v : ℕ) (lane : Lane) → lane_car_count (sped_lane v lane) ≡ lane_car_count lane
 cars_sped v [] = refl
 cars_sped v (None ∷ cells) =
     let rest = cars_sped v cells in
@@ -63,8 +63,8 @@ cars_sped v (None ∷ cells) =
     omega (arith, rest, a, b)
 cars_sped v (Some car ∷ cells) =
     let rest = cars_sped v cells in
-    let a = lane_cars-some car cells in
-    let b = lane_cars-some (car.0, v) (sped_lane v cells) in
+    let a = lane_car_count-some car cells in
+    let b = lane_car_count-some (car.0, v) (sped_lane v cells) in
     omega (arith, rest, a, b)
 
 all_sped : (v : ℕ) (g : Lane → ℕ) → ((lane : Lane) → g (sped_lane v lane) ≡ g lane) → (lanes : List Lane) → sum_by g (map (sped_lane v) lanes) ≡ sum_by g lanes
@@ -93,9 +93,9 @@ module _ (v : ℕ) (road : Cells) (legal : IsLegal road) where
   was_there car here = unsped v (cell road car.lane car.place) car.number car.speed (sym (cell_sped v road car.lane car.place) ∙ here)
 
   sped_cars : cars (sped_road v road) ≡ cars road
-  sped_cars = all_sped v lane_cars (cars_sped v) road.lanes
+  sped_cars = all_sped v lane_car_count (cars_sped v) road.lanes
 
-  sped_shape : HasShape (sped_road v road)
+  sped_shape : HasValidShape (sped_road v road)
   sped_shape =
       let shape = legal.shape in
       let count = length-map road.lanes (sped_lane v) in
@@ -149,16 +149,16 @@ module _ (v : ℕ) (road : Cells) (legal : IsLegal road) where
   sped_speed car here = (was_there car here).now
 
 -- a road of evenly spread cars
-even_road : (cells limit n : ℕ) → CanSpread 1 cells limit n → (road : Cells) × IsEven 1 cells limit n road
+even_road : (cells limit n : ℕ) → CanSpread 1 cells limit n → (road : Cells) × IsEvenlySpaced 1 cells limit n road
 even_road cells limit n fits =
     let said = something 1 cells limit n in
     of_said said.0 said.1
   where
-    of_said : (said : Result Cells RoadFault) → EvenCarsMean 1 cells limit n said → (road : Cells) × IsEven 1 cells limit n road
+    of_said : (said : Result Cells RoadFault) → EvenCarsMean 1 cells limit n said → (road : Cells) × IsEvenlySpaced 1 cells limit n road
     of_said (Ok road) says = (road, says.1)
     of_said (Err fault) says = absurd (says.1 (no_fault 1 cells limit n fault fits says.0))
 
-even_ring : (cells limit n : ℕ) (road : Cells) → CanSpread 1 cells limit n → IsEven 1 cells limit n road → IsRing cells limit n road
+even_ring : (cells limit n : ℕ) (road : Cells) → CanSpread 1 cells limit n → IsEvenlySpaced 1 cells limit n road → IsRing cells limit n road
 even_ring cells limit n road fits even = record {
   legal = even_legal 1 cells limit n road fits even;
   one_lane = even.same_lanes;
@@ -176,7 +176,7 @@ sped_ring v cells limit n road slow ring = record {
   same_cars = sped_cars v road ring.legal ∙ ring.same_cars;
 }
 
-module _ (cells limit n : ℕ) (road : Cells) (even : IsEven 1 cells limit n road) where
+module _ (cells limit n : ℕ) (road : Cells) (even : IsEvenlySpaced 1 cells limit n road) where
   on_first : (car : Car) → IsAt road car → IsAt road (car_in 0 car.place car.number car.speed) × (car.lane ≡ 0)
   on_first car here =
       let on = on_lane road car.lane car.place (car.number, car.speed) here in
@@ -207,7 +207,7 @@ two_flows_at_one_density cells limit n rule is fits few =
     let even = made.1 in
     let ring = even_ring cells limit n road fits even in
     let free_ring = sped_ring road.limit cells limit n road (omega arith) ring in
-    let free : IsFree (sped_road road.limit road) = record {
+    let free : IsInFreeFlow (sped_road road.limit road) = record {
       at_limit = λ car here. sped_speed road.limit road ring.legal car here;
       room = λ car here. sped_room road.limit road ring.legal road.limit (λ other there. let far = room cells limit n road even few other there in let same = even.same_limit in omega (arith, far, same)) car here;
     } in
@@ -217,7 +217,7 @@ two_flows_at_one_density cells limit n rule is fits few =
       free_ring = free_ring;
       jam_ring = ring;
       flows = λ seed step after sum start comes.
-          let way = slow_starts_keep_free_flow CERTAIN rule seed step after sum is (subst IsLegal (sym start) free_ring.legal) (subst IsFree (sym start) free) comes in
+          let way = slow_starts_keep_free_flow CERTAIN rule seed step after sum is (subst IsLegal (sym start) free_ring.legal) (subst IsInFreeFlow (sym start) free) comes in
           way.1 ∙ ap (λ m. (step - seed.warm) * m) (ap (λ (r : Cells). r.limit * cars r) start ∙ ap (λ k. k * cars (sped_road road.limit road)) ring.same_limit ∙ ap (λ k. limit * k) free_ring.same_cars);
       stands = λ seed step after sum start comes.
           (slow_starts_keep_jams 0 rule seed step after sum is (subst IsLegal (sym start) ring.legal) (subst IsStopped (sym start) (stopped cells limit n road even)) comes).1;

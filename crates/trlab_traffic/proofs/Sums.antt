@@ -8,7 +8,7 @@ use Rattle.std.proofs.lemmas.List.Sums.{sum_by-append, sum_by-cons}
 use Rattle.trlab_road.specs.declared.car.Car.{Car}
 use Rattle.trlab_road.specs.Cells.{Cell, Lane, at}
 use Rattle.trlab_road.specs.Gaps.{ahead}
-use Rattle.trlab_road.specs.Standing.{standing_from, standing_lanes}
+use Rattle.trlab_road.specs.Standing.{standing_from, standing_from_lane}
 use Rattle.trlab_road.proofs.Ring.{car_in}
 use Rattle.trlab_traffic.proofs.Places.{ahead_more, ahead_none}
 
@@ -157,14 +157,14 @@ by_lane g (lane ∷ lanes) =
 -- a sum over the cars of lanes, lane by lane
 pub sum_of_lanes : (f : Car → ℕ) (each : ℕ → ℕ) (base : ℕ) (lanes : List Lane)
     → ((l : ℕ) → l < length lanes → sum_by f (standing_from (base + l) 0 (get_or lanes l [])) ≡ each l)
-    → sum_by f (standing_lanes base lanes) ≡ total each (length lanes)
+    → sum_by f (standing_from_lane base lanes) ≡ total each (length lanes)
 sum_of_lanes f each base [] same = refl
 sum_of_lanes f each base (lane ∷ lanes) same =
     let zeroth : base + 0 ≡ base = omega arith in
     let first = subst (λ k. sum_by f (standing_from k 0 lane) ≡ each 0) zeroth (same 0 (omega arith)) in
     let rest = sum_of_lanes f (λ l. each (suc l)) (suc base) lanes (λ l low. let e : base + suc l ≡ suc base + l = omega arith in
     subst (λ k. sum_by f (standing_from k 0 (get_or lanes l [])) ≡ each (suc l)) e (same (suc l) (omega (arith, low)))) in
-    let split = sum_by-append f (standing_from base 0 lane) (standing_lanes (suc base) lanes) in
+    let split = sum_by-append f (standing_from base 0 lane) (standing_from_lane (suc base) lanes) in
     omega (arith, first, rest, split)
 
 -- a sum of ones and zeros of which one is 1 at most

@@ -5,7 +5,7 @@ use Rattle.std.proofs.lemmas.List.Sums.{sum_by-append}
 use Rattle.trlab_road.specs.declared.car.Car.{Car}
 use Rattle.trlab_road.specs.Cells.{Cell, Lane, at}
 use Rattle.trlab_road.specs.Gaps.{ahead}
-use Rattle.trlab_road.specs.Standing.{standing_from, standing_lanes}
+use Rattle.trlab_road.specs.Standing.{standing_from, standing_from_lane}
 use Rattle.trlab_road.proofs.Ring.{car_in}
 use Rattle.trlab_traffic.specs.Homogeneity.{turned_lane}
 use Rattle.trlab_traffic.proofs.Sums.{sum_of_cells, total, total_same, total_turned, weight}
@@ -39,7 +39,7 @@ lane_sum_turned g f l r lane same =
 -- and over the cars of all lanes
 pub sum_turned : (g f : Car → ℕ) (base r : ℕ) (lanes : List Lane)
     → ((l x number speed : ℕ) → l < length lanes → g (car_in (base + l) x number speed) ≡ f (car_in (base + l) (ahead (length (get_or lanes l [])) x r) number speed))
-    → sum_by g (standing_lanes base (map (turned_lane r) lanes)) ≡ sum_by f (standing_lanes base lanes)
+    → sum_by g (standing_from_lane base (map (turned_lane r) lanes)) ≡ sum_by f (standing_from_lane base lanes)
 sum_turned g f base r [] same = refl
 sum_turned g f base r (lane ∷ lanes) same =
     let zeroth : base + 0 ≡ base = omega arith in
@@ -48,6 +48,6 @@ sum_turned g f base r (lane ∷ lanes) same =
     let rest = sum_turned g f (suc base) r lanes
     (λ l x number speed low. let e : base + suc l ≡ suc base + l = omega arith in
     subst (λ k. g (car_in k x number speed) ≡ f (car_in k (ahead (length (get_or lanes l [])) x r) number speed)) e (same (suc l) x number speed (omega arith))) in
-    let a = sum_by-append g (standing_from base 0 (turned_lane r lane)) (standing_lanes (suc base) (map (turned_lane r) lanes)) in
-    let b = sum_by-append f (standing_from base 0 lane) (standing_lanes (suc base) lanes) in
+    let a = sum_by-append g (standing_from base 0 (turned_lane r lane)) (standing_from_lane (suc base) (map (turned_lane r) lanes)) in
+    let b = sum_by-append f (standing_from base 0 lane) (standing_from_lane (suc base) lanes) in
     omega (arith, first, rest, a, b)

@@ -5,7 +5,7 @@ use Rattle.trlab_road.specs.Cells.{Cell, Cells, Lane, at, cell, lane_of}
 use Rattle.trlab_road.specs.Gaps.{ahead, behind, gap}
 use Rattle.trlab_road.specs.Motion.{LaneMoves}
 use Rattle.trlab_road.proofs.Ring.{car_in, clear_within_gap, inside}
-use Rattle.trlab_traffic.specs.Rule184.{EmptyCellsGoBack, GoesBy, NaschIsRule184, elementary}
+use Rattle.trlab_traffic.specs.Rule184.{EmptyCellsGoBack, IsElementaryStep, NaschIsRule184, elementary}
 use Rattle.trlab_traffic.proofs.NaschMoves.{SafeMotion, safe_motion}
 use Rattle.trlab_traffic.proofs.Places.{ahead_behind, ahead_none, behind_ahead, clear_is_gap}
 
@@ -128,7 +128,7 @@ module _ (answer : ℕ → ℕ) (old new : Lane) (m : LaneMoves answer old new)
   by_cells y None None None low before here there = stays_empty y before here
   by_cells y None None (Some next) low before here there = stays_empty y before here
 
-  pub by_184 : GoesBy 184 old new
+  pub by_184 : IsElementaryStep 184 old new
   by_184 y low = by_cells y (at old (behind (length old) y 1)) (at old y) (at old (ahead (length old) y 1)) low refl refl refl
 
 -- the speed by the limit 1
@@ -144,7 +144,7 @@ slow_speeds old new motion one l x number speed here =
     ∙ slow speed (gap (lane_of old l) x)
 
 -- each lane follows the rule
-lane_by_184 : (old new : Cells) (motion : SafeMotion old new) → old.limit ≡ 1 → (l : ℕ) → l < length old.lanes → GoesBy 184 (lane_of old l) (lane_of new l)
+lane_by_184 : (old new : Cells) (motion : SafeMotion old new) → old.limit ≡ 1 → (l : ℕ) → l < length old.lanes → IsElementaryStep 184 (lane_of old l) (lane_of new l)
 lane_by_184 old new motion one l on =
     by_184 (motion.speeds l) (lane_of old l) (lane_of new l) (motion.moves.each_lane l on) (slow_speeds old new motion one l)
 

@@ -8,22 +8,23 @@ use Rattle.trlab_step.specs.Next.{IsNext}
 use Rattle.trlab_step.specs.Run.{Seed, Sheet, ComesTo}
 use Rattle.trlab_traffic.specs.Runs.{EachRule, StaysInLane}
 
--- the two roads have the same limit and the same lane `l`, with the same cars in its cells; their other lanes
--- may differ
+-- the two roads have the same limit and the same lane `l`, with the same cars in the same cells; their other
+-- lanes may differ
 pub record ShareLane (l : ℕ) (road other : Cells) : Type 0 where
   pub same_limit : other.limit ≡ road.limit
   pub same_lane : lane_of other l ≡ lane_of road l
 
--- if two roads share lane `l`, so do their next roads under the same rule without lane changes, with the same
--- dice
+-- without lane changes the next state of lane `l` does not depend on the other lane: if `road` and `other`
+-- share lane `l`, so do their next roads, `next` and `beside`, under the same rule and with the same dice
 abbrev pub StepKeepsLanesApart : Type 0
 StepKeepsLanesApart =
     (rule : Programs) (dice : Dice) (road other next beside : Cells) (tally count : StepTally) (l : ℕ)
     → StaysInLane rule → IsNext rule dice road next tally → IsNext rule dice other beside count
     → ShareLane l road other → ShareLane l next beside
 
--- if two roads share lane `l`, so do the runs from them at each step, under the same sheet of rules without
--- lane changes and with the same key and number
+-- without lane changes the run of lane `l` does not depend on the other lane: if two starts share lane `l`,
+-- so do their roads after each number of steps, under the same sheet of rules and with the same key and road
+-- number
 abbrev pub RunKeepsLanesApart : Type 0
 RunKeepsLanesApart =
     (seed : Seed) (start : Cells) (sheet : Sheet) (step : ℕ) (road other : Cells) (sum count : StepTally)

@@ -1,8 +1,8 @@
--- Capacity: the maximum distance of all cars of a road in one step, under any rule. Cars pass only over empty
--- cells, no two over the same, and none is faster than the limit. So flow against density lies under a
+-- Capacity: a bound on the distance of all cars of a road in one step, under any rule. Cars pass only over
+-- empty cells, no two over the same, and none is faster than the limit. So flow against density lies under a
 -- triangle, whose sides are the limit times the density, and one minus the density.
 use Rattle.std.specs.Prelude.{◌≡◌, ℕ, ◌+◌, ◌*◌, ◌≤◌, count_by, is_none, length, min, sum_by}
-use Rattle.trlab_road.specs.Cells.{Cells, Lane, cars, lane_cars}
+use Rattle.trlab_road.specs.Cells.{Cells, Lane, cars, lane_car_count}
 use Rattle.trlab_road.specs.Legal.{IsLegal}
 use Rattle.trlab_rules.specs.Rules.{Programs}
 use Rattle.trlab_machine.specs.declared.dice.Dice.{Dice}
@@ -11,7 +11,7 @@ use Rattle.trlab_step.specs.Next.{IsNext}
 use Rattle.trlab_step.specs.Run.{Seed, Sheet, ComesTo}
 use Rattle.trlab_traffic.specs.Runs.{counted_steps}
 
--- the number of cells of a lane
+-- the number of cells of a lane, taken or empty
 abbrev pub lane_cells : Lane → ℕ
 lane_cells lane = length lane
 
@@ -19,7 +19,7 @@ lane_cells lane = length lane
 abbrev pub lane_empty_cells : Lane → ℕ
 lane_empty_cells lane = count_by is_none lane
 
--- the number of cells of a road, on all lanes together
+-- the number of cells of a road, taken or empty, on all lanes together
 abbrev pub all_cells : Cells → ℕ
 all_cells road = sum_by lane_cells road.lanes
 
@@ -27,7 +27,7 @@ all_cells road = sum_by lane_cells road.lanes
 abbrev pub empty_cells : Cells → ℕ
 empty_cells road = sum_by lane_empty_cells road.lanes
 
--- the cars and the empty cells of a road are together as many as its cells
+-- the cars and the empty cells of a road add up to its cells, because a cell holds at most one car
 abbrev pub CellsAreTakenOrEmpty : Type 0
 CellsAreTakenOrEmpty = (road : Cells) → cars road + empty_cells road ≡ all_cells road
 
@@ -35,18 +35,19 @@ CellsAreTakenOrEmpty = (road : Cells) → cars road + empty_cells road ≡ all_c
 abbrev pub distance_at_limit : Cells → ℕ
 distance_at_limit road = road.limit * cars road
 
--- the capacity of a road, which no distance of a step exceeds: the limit times the number of cars, or the
--- number of empty cells, whichever is smaller
+-- the capacity of a road, in cells per step, which the distance of no step exceeds: the limit times the
+-- number of cars, or the number of empty cells, whichever is smaller. For example, on 20 cells with the limit
+-- 5 it is 15 for 3 cars, and 10 for 10 cars
 abbrev pub capacity : Cells → ℕ
 capacity road = min (distance_at_limit road) (empty_cells road)
 
--- the capacity of a single lane with this limit: the limit times the number of its cars, or the number of its
--- empty cells, whichever is smaller
+-- the capacity of one lane of a road with this limit: the limit times the number of its cars, or the number
+-- of its empty cells, whichever is smaller
 abbrev pub lane_capacity : ℕ → Lane → ℕ
-lane_capacity limit lane = min (limit * lane_cars lane) (lane_empty_cells lane)
+lane_capacity limit lane = min (limit * lane_car_count lane) (lane_empty_cells lane)
 
--- in `steps` steps `distance` is within the capacity of a road: per step at most the number of empty cells,
--- and at most the limit times the number of cars
+-- `distance`, added up over `steps` steps, is within the capacity of a road: per step it is at most the
+-- number of empty cells, and at most the limit times the number of cars
 pub record IsWithinCapacity (road : Cells) (steps distance : ℕ) : Type 0 where
   pub by_empty_cells : distance ≤ steps * empty_cells road
   pub by_limit : distance ≤ steps * distance_at_limit road
@@ -57,16 +58,17 @@ StepKeepsToCapacity =
     (rule : Programs) (dice : Dice) (road next : Cells) (tally : StepTally)
     → IsLegal road → IsNext rule dice road next tally → IsWithinCapacity road 1 tally.distance
 
--- under any sheet of rules the distance of the counted steps of a run is within the capacity of the road of
--- the start, which is legal
+-- under any sheet of rules the distance of the counted steps of a run from a legal road is within the
+-- capacity of this road
 abbrev pub RunKeepsToCapacity : Type 0
 RunKeepsToCapacity =
     (seed : Seed) (sheet : Sheet) (step : ℕ) (road : Cells) (sum : StepTally)
     → IsLegal seed.road → ComesTo seed sheet step road sum
     → IsWithinCapacity seed.road (counted_steps seed step) sum.distance
 
--- under any sheet of rules the flow of a run from a legal road is at most v / (v + 1), the peak of the
--- triangle; v is the limit
+-- under any sheet of rules the flow of a run from a legal road, which is its distance per counted step and
+-- cell, is at most v / (v + 1), the peak of the triangle; v is the limit. Both sides are multiplied by the
+-- denominators
 abbrev pub RunKeepsBelowPeak : Type 0
 RunKeepsBelowPeak =
     (seed : Seed) (sheet : Sheet) (step : ℕ) (road : Cells) (sum : StepTally)

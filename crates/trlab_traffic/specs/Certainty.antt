@@ -12,30 +12,31 @@ use Rattle.trlab_step.specs.Next.{IsNext}
 use Rattle.trlab_step.specs.Run.{Seed, Sheet, ComesTo}
 use Rattle.trlab_traffic.specs.Runs.{EachRule}
 
--- an instruction has only one outcome: if it is a draw, its probability is 0 or 1
+-- an instruction has the same outcome for all random words: a draw has probability 0 or 1 (chance 0 or
+-- CERTAIN, which is 2 ^ 31), and no other instruction reads random words
 abbrev pub HasOneOutcome : Instr → Type 0
 HasOneOutcome (Draw d k chance) = (chance ≡ 0) ⊎ (chance ≡ CERTAIN)
 HasOneOutcome _ = Unit {0}
 
 -- a rule is deterministic: each draw of its programs has probability 0 or 1
-pub record IsCertain (rule : Programs) : Type 0 where
+pub record IsDeterministic (rule : Programs) : Type 0 where
   pub motion : All HasOneOutcome rule.motion.program.instrs
   pub change : IfSome rule.change (λ change. All HasOneOutcome change.program.instrs)
 
 -- the rule of 1992 without randomization is deterministic
-abbrev pub NaschWithoutRandomization : Type 0
-NaschWithoutRandomization = (rule : Programs) → IsNasch 0 rule → IsCertain rule
+abbrev pub NaschWithoutRandomizationIsDeterministic : Type 0
+NaschWithoutRandomizationIsDeterministic = (rule : Programs) → IsNasch 0 rule → IsDeterministic rule
 
 -- under a deterministic rule the next road and the tally are the same for all dice, so for all keys, road
 -- numbers and steps
 abbrev pub StepIsDeterministic : Type 0
 StepIsDeterministic =
     (rule : Programs) (dice other : Dice) (road next : Cells) (tally : StepTally)
-    → IsCertain rule → IsNext rule dice road next tally → IsNext rule other road next tally
+    → IsDeterministic rule → IsNext rule dice road next tally → IsNext rule other road next tally
 
--- under a sheet of deterministic rules a run is the same for all keys and all numbers of its road
+-- under a sheet of deterministic rules a run is the same for all keys and all road numbers
 abbrev pub RunIsDeterministic : Type 0
 RunIsDeterministic =
     (seed : Seed) (key : List ℕ) (number : ℕ) (sheet : Sheet) (step : ℕ) (road : Cells) (sum : StepTally)
-    → EachRule IsCertain sheet → ComesTo seed sheet step road sum
+    → EachRule IsDeterministic sheet → ComesTo seed sheet step road sum
     → ComesTo (record seed { key = key; number = number }) sheet step road sum

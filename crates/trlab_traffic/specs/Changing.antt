@@ -1,4 +1,4 @@
--- How many cars change lanes.
+-- How many cars change lanes: at most all cars, and at most as many as there are empty cells.
 use Rattle.std.specs.Prelude.{ℕ, ◌*◌, ◌≤◌}
 use Rattle.trlab_road.specs.Cells.{Cells, cars}
 use Rattle.trlab_road.specs.Legal.{IsLegal}
@@ -10,23 +10,23 @@ use Rattle.trlab_step.specs.Run.{Seed, Sheet, ComesTo}
 use Rattle.trlab_traffic.specs.Capacity.{empty_cells}
 use Rattle.trlab_traffic.specs.Runs.{counted_steps}
 
--- in `steps` steps of a road there are `changes` lane changes: per step at most as many as cars, and at most
--- as many as empty cells
-pub record ChangesFew (road : Cells) (steps changes : ℕ) : Type 0 where
+-- `changes`, the number of lane changes in `steps` steps of a road, is bounded: per step it is at most the
+-- number of cars, and at most the number of empty cells
+pub record BoundsLaneChanges (road : Cells) (steps changes : ℕ) : Type 0 where
   pub by_cars : changes ≤ steps * cars road
   pub by_empty_cells : changes ≤ steps * empty_cells road
 
--- under any rule at most as many cars change lanes in a step of a legal road as there are cars, and at most
--- as many as there are empty cells, because each needs an empty cell of its own
-abbrev pub StepChangesFew : Type 0
-StepChangesFew =
+-- under any rule the number of lane changes in a step of a legal road is at most the number of cars, and at
+-- most the number of empty cells, because each change needs an empty cell of its own
+abbrev pub StepBoundsLaneChanges : Type 0
+StepBoundsLaneChanges =
     (rule : Programs) (dice : Dice) (road next : Cells) (tally : StepTally)
-    → IsLegal road → IsNext rule dice road next tally → ChangesFew road 1 tally.changes
+    → IsLegal road → IsNext rule dice road next tally → BoundsLaneChanges road 1 tally.changes
 
--- under any sheet of rules the counted steps of a run from a legal road have per step at most as many lane
--- changes as cars, and at most as many as empty cells
-abbrev pub RunChangesFew : Type 0
-RunChangesFew =
+-- under any sheet of rules the number of lane changes in the counted steps of a run from a legal road is per
+-- step at most the number of cars, and at most the number of empty cells
+abbrev pub RunBoundsLaneChanges : Type 0
+RunBoundsLaneChanges =
     (seed : Seed) (sheet : Sheet) (step : ℕ) (road : Cells) (sum : StepTally)
     → IsLegal seed.road → ComesTo seed sheet step road sum
-    → ChangesFew seed.road (counted_steps seed step) sum.changes
+    → BoundsLaneChanges seed.road (counted_steps seed step) sum.changes

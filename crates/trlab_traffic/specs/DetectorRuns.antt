@@ -1,71 +1,73 @@
 -- The counts of detectors in a run, from the first step on that its tally counts.
 use Rattle.std.specs.Prelude.{◌≡◌, ℕ, zero, suc, ◌+◌, ◌*◌, ◌<◌, ◌≤◌, if◌then◌else◌, length, min, nat_le, sum_by}
 use Rattle.std.specs.List.{range_with_len}
-use Rattle.trlab_road.specs.Cells.{Cells, Lane, lane_cars, lane_of}
+use Rattle.trlab_road.specs.Cells.{Cells, Lane, lane_car_count, lane_of}
 use Rattle.trlab_road.specs.Gaps.{ahead}
 use Rattle.trlab_road.specs.Legal.{IsLegal}
 use Rattle.trlab_step.specs.declared.tally.StepTally.{StepTally}
 use Rattle.trlab_step.specs.Run.{Seed, Sheet, ComesTo, IsRoadAt}
 use Rattle.trlab_traffic.specs.Capacity.{lane_empty_cells}
-use Rattle.trlab_traffic.specs.Detector.{IsContinuous, passages}
+use Rattle.trlab_traffic.specs.Detector.{ContinuityHolds, passages}
 use Rattle.trlab_traffic.specs.Runs.{EachRule, StaysInLane}
 
--- the detector at the end of cell x on lane l counts `count` cars in the counted steps among the first `step`
--- steps of a run
+-- the detector at the end of cell x on lane l has counted `count` cars after `step` steps of a run: none
+-- after 0 steps, and in each step from step `warm` on the cars that pass it
 abbrev pub Counts : Seed → Sheet → ℕ → ℕ → ℕ → ℕ → Type 0
 Counts seed sheet l x zero count = count ≡ 0
 Counts seed sheet l x (suc step) count =
     (road : Cells) × (before : ℕ) × IsRoadAt seed sheet (suc step) road × Counts seed sheet l x step before
     × (count ≡ (if nat_le seed.warm step then before + passages (lane_of road l) x else before))
 
--- each detector of a run has a count after each number of steps
+-- after each number of steps of a run each detector has a count
 abbrev pub CountExists : Type 0
 CountExists =
     (seed : Seed) (sheet : Sheet) (step : ℕ) (road : Cells) (sum : StepTally) (l x : ℕ)
     → ComesTo seed sheet step road sum → (count : ℕ) × Counts seed sheet l x step count
 
--- two detectors on lane l have these counts after `step` steps of a run: `first` that of cell x, and `second`
--- that of the cell k cells ahead
+-- two detectors on lane l have these counts after `step` steps of a run: `first` at the end of cell x, and
+-- `second` at the end of the cell k cells ahead
 pub record CountBoth (seed : Seed) (sheet : Sheet) (step l x k first second : ℕ) : Type 0 where
   pub is_cell : x < length (lane_of seed.road l)
   pub here : Counts seed sheet l x step first
   pub there : Counts seed sheet l (ahead (length (lane_of seed.road l)) x k) step second
 
--- the continuity equation holds from step `warm`, at which the count begins, to each step from there on, for
--- any two detectors of a lane and under any sheet of rules without lane changes
-abbrev pub RunIsContinuous : Type 0
-RunIsContinuous =
+-- under any sheet of rules without lane changes the continuity equation holds for any two detectors of a
+-- lane, from the road at step `warm`, at which they begin to count, to the road at each step from there on
+abbrev pub RunSatisfiesContinuity : Type 0
+RunSatisfiesContinuity =
     (seed : Seed) (sheet : Sheet) (step : ℕ) (start road : Cells) (l x k first second : ℕ)
     → EachRule StaysInLane sheet → seed.warm ≤ step → IsRoadAt seed sheet seed.warm start
     → IsRoadAt seed sheet step road → CountBoth seed sheet step l x k first second
-    → IsContinuous (lane_of start l) (lane_of road l) x k first second
+    → ContinuityHolds (lane_of start l) (lane_of road l) x k first second
 
 -- the numbers `first` and `second` differ by at most k
-pub record AreWithin (k first second : ℕ) : Type 0 where
+pub record DifferByAtMost (k first second : ℕ) : Type 0 where
   pub no_less : first ≤ second + k
   pub no_more : second ≤ first + k
 
--- under any sheet of rules without lane changes, the counts of two detectors of a lane differ by at most k,
+-- under any sheet of rules without lane changes the counts of two detectors of a lane differ by at most k,
 -- the number of cells from one to the other, however long the run is
 abbrev pub DetectorsAgree : Type 0
 DetectorsAgree =
     (seed : Seed) (sheet : Sheet) (step : ℕ) (road : Cells) (sum : StepTally) (l x k first second : ℕ)
     → EachRule StaysInLane sheet → ComesTo seed sheet step road sum
-    → CountBoth seed sheet step l x k first second → AreWithin k first second
+    → CountBoth seed sheet step l x k first second → DifferByAtMost k first second
 
--- the number of cars of a lane, or of its empty cells, whichever is smaller
-abbrev pub scarcer : Lane → ℕ
-scarcer lane = min (lane_cars lane) (lane_empty_cells lane)
+-- the number of cars of a lane or the number of its empty cells, whichever is smaller
+abbrev pub min_of_cars_and_empty_cells : Lane → ℕ
+min_of_cars_and_empty_cells lane = min (lane_car_count lane) (lane_empty_cells lane)
 
--- under any sheet of rules without lane changes, the counts of two detectors of a lane at most one lap apart
--- differ by at most the number of its cars, and by at most that of its empty cells
+-- under any sheet of rules without lane changes the counts of two detectors of a lane, at most one lap apart,
+-- differ by at most the number of its cars, and by at most the number of its empty cells
 abbrev pub DetectorsAgreeByCars : Type 0
 DetectorsAgreeByCars =
     (seed : Seed) (sheet : Sheet) (step : ℕ) (road : Cells) (sum : StepTally) (l x k first second : ℕ)
     → EachRule StaysInLane sheet → ComesTo seed sheet step road sum → k ≤ length (lane_of seed.road l)
-    → CountBoth seed sheet step l x k first second → AreWithin (scarcer (lane_of seed.road l)) first second
+    → CountBoth seed sheet step l x k first second
+    → DifferByAtMost (min_of_cars_and_empty_cells (lane_of seed.road l)) first second
 
--- in a run on one lane, under any sheet of rules, the counts of all detectors add up to the distance
+-- in a run on one lane, under any sheet of rules, the counts of all detectors add up to the distance;
+-- `count x` is the count at the end of cell x
 abbrev pub DetectorsCountRun : Type 0
 DetectorsCountRun =
     (seed : Seed) (sheet : Sheet) (step : ℕ) (road : Cells) (sum : StepTally) (count : ℕ → ℕ)
@@ -74,21 +76,22 @@ DetectorsCountRun =
     → sum_by count (range_with_len 0 (length (lane_of seed.road 0))) ≡ sum.distance
 
 -- `count` measures the flow on a ring of n cells: n times `count` differs from `distance` by at most n times
--- the number of the ring's cars or of its empty cells, whichever is smaller
-abbrev pub Measures : Lane → ℕ → ℕ → Type 0
-Measures lane count distance = AreWithin (length lane * scarcer lane) (length lane * count) distance
+-- the number of cars or of empty cells, whichever is smaller
+abbrev pub MeasuresFlow : Lane → ℕ → ℕ → Type 0
+MeasuresFlow lane count distance =
+    DifferByAtMost (length lane * min_of_cars_and_empty_cells lane) (length lane * count) distance
 
--- in a run on one lane, under any sheet of rules without lane changes, each detector measures the flow; the
+-- in a run on one lane, under any sheet of rules without lane changes, each detector measures the flow: the
 -- bound of its error does not grow with the number of steps
 abbrev pub DetectorMeasuresFlow : Type 0
 DetectorMeasuresFlow =
     (seed : Seed) (sheet : Sheet) (step : ℕ) (road : Cells) (sum : StepTally) (x count : ℕ)
     → EachRule StaysInLane sheet → length seed.road.lanes ≡ 1 → ComesTo seed sheet step road sum
     → x < length (lane_of seed.road 0) → Counts seed sheet 0 x step count
-    → Measures (lane_of seed.road 0) count sum.distance
+    → MeasuresFlow (lane_of seed.road 0) count sum.distance
 
--- if at most v + 1 steps of a run from a legal road are counted, a detector counts at most v cars, under any
--- sheet of rules without lane changes; v is the limit
+-- under any sheet of rules without lane changes a detector counts at most v cars in the first v + 1 counted
+-- steps of a run from a legal road, which is the peak flow v / (v + 1); v is the limit
 abbrev pub DetectorCountsBelowPeak : Type 0
 DetectorCountsBelowPeak =
     (seed : Seed) (sheet : Sheet) (step l x count : ℕ)

@@ -1,4 +1,5 @@
--- Which rule is faster: runs from one start, under one key and without lane changes, compared car by car.
+-- Which rule is faster: runs from the same start, with the same key and without lane changes, compared car by
+-- car.
 use Rattle.std.specs.Prelude.{◌≡◌, ℕ, ◌+◌, ◌≤◌, List, [], ◌∷◌, min}
 use Rattle.trlab_code.specs.declared.instruction.Input.TheVariants.{Limit, Gap}
 use Rattle.trlab_code.specs.declared.instruction.Instr.TheVariants.{Get, Min, Go}
@@ -6,7 +7,7 @@ use Rattle.trlab_code.specs.declared.instruction.Register.TheVariants.{R0, R1}
 use Rattle.trlab_code.specs.declared.program.Kind.TheVariants.{Motion}
 use Rattle.trlab_code.specs.declared.view.View.{View}
 use Rattle.trlab_code.specs.Program.{Program}
-use Rattle.trlab_code.specs.Views.{IsView}
+use Rattle.trlab_code.specs.Views.{IsViewInRange}
 use Rattle.trlab_code.specs.Machine.{EndsWith, Goes}
 use Rattle.trlab_road.specs.Cells.{Cells}
 use Rattle.trlab_road.specs.Legal.{IsLegal}
@@ -18,8 +19,9 @@ use Rattle.trlab_step.specs.Run.{Seed, Sheet, ComesTo}
 use Rattle.trlab_traffic.specs.Gone.{HasGone}
 use Rattle.trlab_traffic.specs.Runs.{EachRule, StaysInLane, always}
 
--- of two runs from the same start, after `step` steps no car has gone further under the sheet `slow` than
--- under `fast`; if every step is counted (`warm` is 0), neither have all cars together
+-- of two runs from the same start, the run under the sheet `slow` is no faster than the run under `fast`:
+-- after `step` steps no car has gone further, and if every step is counted (`warm` is 0), the distance of all
+-- cars together is not larger
 pub record IsNoFaster (seed : Seed) (slow fast : Sheet) (step : ℕ) : Type 0 where
   pub each_car : (number far most : ℕ)
       → HasGone seed slow step number far → HasGone seed fast step number most → far ≤ most
@@ -30,7 +32,7 @@ pub record IsNoFaster (seed : Seed) (slow fast : Sheet) (step : ℕ) : Type 0 wh
 -- at most the car's speed plus one
 abbrev pub AcceleratesByAtMostOne : Programs → Type 0
 AcceleratesByAtMostOne rule =
-    (view : View) (words : List ℕ) (speed n : ℕ) → IsView view
+    (view : View) (words : List ℕ) (speed n : ℕ) → IsViewInRange view
     → EndsWith Motion rule.motion.program.instrs view words (Goes speed) n → speed ≤ view.speed + 1
 
 -- the rule of 1992 accelerates by at most one, for every probability p
@@ -42,7 +44,7 @@ abbrev pub VdrAcceleratesByAtMostOne : Type 0
 VdrAcceleratesByAtMostOne = (p p0 : ℕ) (rule : Programs) → IsVdr p p0 rule → AcceleratesByAtMostOne rule
 
 -- a run from a legal road, under any sheet of rules that accelerate by at most one and have no lane changes,
--- is at no step faster than the run under the rule of 1992 without randomization
+-- is never faster than the run under the rule of 1992 without randomization
 abbrev pub NobodyBeatsNasch : Type 0
 NobodyBeatsNasch =
     (rule : Programs) (sheet : Sheet) (seed : Seed) (step : ℕ)
@@ -55,7 +57,8 @@ pub record ReachesSpeedAtOnce (rule : Programs) : Type 0 where
   pub motion : ComputesSpeed (λ view words. min view.limit view.gap) rule.motion.program
   pub stays : StaysInLane rule
 
--- a motion program that answers the limit or the car's gap, whichever is smaller
+-- a motion program that answers the limit or the car's gap, whichever is smaller, and does not read the car's
+-- speed
 abbrev pub gap_program : Program
 gap_program = record { kind = Motion; instrs = Get R0 Limit ∷ Get R1 Gap ∷ Min R0 R0 R1 ∷ Go R0 ∷ [] }
 
@@ -64,24 +67,25 @@ abbrev pub GapProgramReachesSpeedAtOnce : Type 0
 GapProgramReachesSpeedAtOnce =
     (rule : Programs) → rule.motion.program ≡ gap_program → StaysInLane rule → ReachesSpeedAtOnce rule
 
--- a run from a legal road, under any sheet of rules without lane changes, is at no step faster than the run
--- under a rule that lets cars reach their speed at once
+-- a run from a legal road, under any sheet of rules without lane changes, is never faster than the run under
+-- a rule that lets cars reach their speed at once
 abbrev pub NobodyBeatsGap : Type 0
 NobodyBeatsGap =
     (rule : Programs) (sheet : Sheet) (seed : Seed) (step : ℕ)
     → ReachesSpeedAtOnce rule → EachRule StaysInLane sheet → IsLegal seed.road
     → IsNoFaster seed sheet (always rule) step
 
--- with the limit 1 a run under the rule of 1992 with probability q of braking is at no step faster than the
--- run with p, if p is at most q; with a larger limit it may be
+-- with the limit 1 a run under the rule of 1992 with probability q of braking is never faster than the run
+-- with p from the same legal road and with the same key, if p is at most q; with a larger limit it may be
 abbrev pub RandomizationSlowsRuns : Type 0
 RandomizationSlowsRuns =
     (p q : ℕ) (light heavy : Programs) (seed : Seed) (step : ℕ)
     → p ≤ q → IsNasch p light → IsNasch q heavy → IsLegal seed.road → seed.road.limit ≡ 1
     → IsNoFaster seed (always heavy) (always light) step
 
--- with the limit 1 a run under the rule of 1998, with probabilities q and q0 of braking, is at no step faster
--- than the run under the rule of 1992 with p, if p is at most q and q0
+-- with the limit 1 a run under the rule of 1998 with probabilities q and q0 of braking, for moving and for
+-- stopped cars, is never faster than the run under the rule of 1992 with p from the same legal road and with
+-- the same key, if p is at most q and q0
 abbrev pub SlowStartsSlowRuns : Type 0
 SlowStartsSlowRuns =
     (p q q0 : ℕ) (light heavy : Programs) (seed : Seed) (step : ℕ)

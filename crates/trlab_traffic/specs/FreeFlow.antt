@@ -9,14 +9,14 @@ use Rattle.trlab_rules.specs.StandardRules.{IsNasch}
 use Rattle.trlab_machine.specs.declared.dice.Dice.{Dice}
 use Rattle.trlab_step.specs.declared.tally.StepTally.{StepTally}
 use Rattle.trlab_step.specs.Next.{IsNext}
-use Rattle.trlab_step.specs.Published.{AllGo}
+use Rattle.trlab_step.specs.Published.{AllMoveAhead}
 use Rattle.trlab_step.specs.Run.{Seed, ComesTo}
 use Rattle.trlab_traffic.specs.Capacity.{distance_at_limit}
 use Rattle.trlab_traffic.specs.Homogeneity.{turned}
 use Rattle.trlab_traffic.specs.Runs.{always, counted_steps}
 
 -- a road in free flow: each car drives at the limit, with a gap of at least the limit
-pub record IsFree (road : Cells) : Type 0 where
+pub record IsInFreeFlow (road : Cells) : Type 0 where
   pub at_limit : (car : Car) → IsAt road car → car.speed ≡ road.limit
   pub room : (car : Car) → IsAt road car → road.limit ≤ gap (lane_of road car.lane) car.place
 
@@ -25,24 +25,25 @@ pub record IsFree (road : Cells) : Type 0 where
 abbrev pub FreeFlowGoesOn : Type 0
 FreeFlowGoesOn =
     (rule : Programs) (dice : Dice) (old new : Cells) (tally : StepTally)
-    → IsNasch 0 rule → IsLegal old → IsFree old → IsNext rule dice old new tally
-    → AllGo (λ car. old.limit) old new × IsFree new
+    → IsNasch 0 rule → IsLegal old → IsInFreeFlow old → IsNext rule dice old new tally
+    → AllMoveAhead (λ car. old.limit) old new × IsInFreeFlow new
 
--- after `step` steps a run is in free flow, and the distance of its counted steps is that of all cars driving
--- at the limit, so the flow is the limit times the density
+-- a run flows freely: its road after `step` steps is in free flow, and the distance of its counted steps is
+-- that of all cars driving at the limit, so the flow is the limit times the density
 abbrev pub FlowsFreely : Seed → ℕ → Cells → StepTally → Type 0
 FlowsFreely seed step road sum =
-    IsFree road × (sum.distance ≡ counted_steps seed step * distance_at_limit seed.road)
+    IsInFreeFlow road × (sum.distance ≡ counted_steps seed step * distance_at_limit seed.road)
 
--- under the rule of 1992 without randomization a run from a legal road in free flow stays in free flow
+-- under the rule of 1992 without randomization a run from a legal road in free flow stays in free flow, with
+-- all cars driving at the limit
 abbrev pub FreeFlowStaysFree : Type 0
 FreeFlowStaysFree =
     (rule : Programs) (seed : Seed) (step : ℕ) (road : Cells) (sum : StepTally)
-    → IsNasch 0 rule → IsLegal seed.road → IsFree seed.road → ComesTo seed (always rule) step road sum
+    → IsNasch 0 rule → IsLegal seed.road → IsInFreeFlow seed.road → ComesTo seed (always rule) step road sum
     → FlowsFreely seed step road sum
 
--- a run has moved as one: turned by the limit times `step`, its road after `step` steps is the road of the
--- start
+-- a run has moved as one: its road after `step` steps, turned by the limit times `step` cells, is the road of
+-- the start
 abbrev pub MovesAsOne : Seed → ℕ → Cells → Type 0
 MovesAsOne seed step road = turned (seed.road.limit * step) road ≡ seed.road
 
@@ -51,5 +52,5 @@ MovesAsOne seed step road = turned (seed.road.limit * step) road ≡ seed.road
 abbrev pub FreeFlowMovesAsOne : Type 0
 FreeFlowMovesAsOne =
     (rule : Programs) (seed : Seed) (step : ℕ) (road : Cells) (sum : StepTally)
-    → IsNasch 0 rule → IsLegal seed.road → IsFree seed.road → ComesTo seed (always rule) step road sum
+    → IsNasch 0 rule → IsLegal seed.road → IsInFreeFlow seed.road → ComesTo seed (always rule) step road sum
     → MovesAsOne seed step road

@@ -1,4 +1,4 @@
--- How far cars go in a run.
+-- How far each car goes in a run.
 use Rattle.std.specs.Prelude.{◌≡◌, ℕ, zero, suc, ◌+◌, ◌<◌, sum_by}
 use Rattle.std.specs.List.{range_with_len}
 use Rattle.trlab_road.specs.declared.car.Car.{Car}
@@ -7,29 +7,29 @@ use Rattle.trlab_road.specs.Legal.{IsLegal}
 use Rattle.trlab_step.specs.declared.tally.StepTally.{StepTally}
 use Rattle.trlab_step.specs.Run.{Seed, Sheet, ComesTo, IsRoadAt}
 
--- the car with number `number` has gone `far` cells in the first `step` steps of a run: the sum of its speeds
--- after each of these steps
+-- the car with this number has gone `far` cells in the first `step` steps of a run: its speeds after each of
+-- these steps, added up
 abbrev pub HasGone : Seed → Sheet → ℕ → ℕ → ℕ → Type 0
 HasGone seed sheet zero number far = far ≡ 0
 HasGone seed sheet (suc step) number far =
     (road : Cells) × (car : Car) × (before : ℕ) × IsRoadAt seed sheet (suc step) road × IsAt road car
     × (car.number ≡ number) × HasGone seed sheet step number before × (far ≡ before + car.speed)
 
--- each car of a run from a legal road has gone some distance, `far`, after each number of steps
+-- after each number of steps each car of a run from a legal road has gone some number of cells, `far`
 abbrev pub EachCarHasGone : Type 0
 EachCarHasGone =
     (seed : Seed) (sheet : Sheet) (step : ℕ) (road : Cells) (sum : StepTally) (number : ℕ)
     → IsLegal seed.road → ComesTo seed sheet step road sum → number < cars seed.road
     → (far : ℕ) × HasGone seed sheet step number far
 
--- no car of a run from a legal road has gone two different distances in the same number of steps
+-- no car of a run from a legal road has gone two different numbers of cells in the same number of steps
 abbrev pub GoneIsUnique : Type 0
 GoneIsUnique =
     (seed : Seed) (sheet : Sheet) (step number far other : ℕ)
     → IsLegal seed.road → HasGone seed sheet step number far → HasGone seed sheet step number other
     → far ≡ other
 
--- if every step is counted (`warm` is 0), the distances that the cars of a run have gone add up to the
+-- if every step is counted (`warm` is 0), the numbers of cells that the cars of a run have gone add up to the
 -- distance of the run; the car with number i has gone `far i` cells
 abbrev pub CarsGoDistance : Type 0
 CarsGoDistance =

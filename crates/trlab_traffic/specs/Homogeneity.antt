@@ -10,7 +10,8 @@ use Rattle.trlab_step.specs.declared.tally.StepTally.{StepTally}
 use Rattle.trlab_step.specs.Next.{IsNext}
 use Rattle.trlab_step.specs.Run.{Seed, Sheet, ComesTo}
 
--- a lane turned by r cells: each place has the cell that was r cells ahead of it
+-- a lane turned by r cells: each place has the cell that was r cells ahead of it. For example, the cells a,
+-- b, c, d turned by 1 are b, c, d, a
 abbrev pub turned_lane : ℕ → Lane → Lane
 turned_lane r lane = map (λ x. at lane (ahead (length lane) x r)) (range_with_len 0 (length lane))
 

@@ -9,7 +9,7 @@ use Rattle.trlab_step.specs.declared.tally.StepTally.{StepTally}
 use Rattle.trlab_step.specs.Next.{IsNext}
 use Rattle.trlab_traffic.specs.Runs.{StaysInLane}
 
--- a car, stopped in its cell: its speed is 0
+-- the same car in the same cell, with speed 0
 abbrev pub stopped_car : Car → Car
 stopped_car car = record car { speed = 0 }
 

@@ -1,6 +1,6 @@
 -- Slow starts make free flow metastable (Barlovic and others 1998). If moving cars never brake at random,
--- free flow lasts for ever; if stopped cars always brake, a road of stopped cars stays so for ever, however
--- few they are. So at one density there are two flows, and the initial state decides which.
+-- free flow lasts for ever. If stopped cars always brake, a road of stopped cars never moves, however few
+-- they are. So at one density there are two flows, and the initial state decides which.
 use Rattle.std.specs.Prelude.{◌≡◌, ℕ, ◌+◌, ◌*◌, ◌≤◌, length}
 use Rattle.trlab_bounds.specs.declared.programs.TheConstants.{CERTAIN}
 use Rattle.trlab_road.specs.declared.car.Car.{Car}
@@ -12,7 +12,7 @@ use Rattle.trlab_rules.specs.StandardRules.{IsVdr}
 use Rattle.trlab_step.specs.declared.tally.StepTally.{StepTally}
 use Rattle.trlab_step.specs.Run.{Seed, ComesTo}
 use Rattle.trlab_traffic.specs.Capacity.{all_cells}
-use Rattle.trlab_traffic.specs.FreeFlow.{FlowsFreely, IsFree, MovesAsOne}
+use Rattle.trlab_traffic.specs.FreeFlow.{FlowsFreely, IsInFreeFlow, MovesAsOne}
 use Rattle.trlab_traffic.specs.Runs.{always, counted_steps}
 
 -- a road whose cars are all stopped
@@ -20,23 +20,23 @@ pub record IsStopped (road : Cells) : Type 0 where
   pub stopped : (car : Car) → IsAt road car → car.speed ≡ 0
 
 -- under the rule of 1998, if moving cars brake with probability 0, a run from a legal road in free flow stays
--- in free flow, whatever the probability p0 for stopped cars is
+-- in free flow; the probability p0 for stopped cars does not matter
 abbrev pub SlowStartsKeepFreeFlow : Type 0
 SlowStartsKeepFreeFlow =
     (p0 : ℕ) (rule : Programs) (seed : Seed) (step : ℕ) (road : Cells) (sum : StepTally)
-    → IsVdr 0 p0 rule → IsLegal seed.road → IsFree seed.road → ComesTo seed (always rule) step road sum
+    → IsVdr 0 p0 rule → IsLegal seed.road → IsInFreeFlow seed.road → ComesTo seed (always rule) step road sum
     → FlowsFreely seed step road sum
 
 -- under the rule of 1998, if moving cars brake with probability 0, a run from a legal road in free flow moves
--- as one, whatever the probability p0 for stopped cars is
+-- as one; the probability p0 for stopped cars does not matter
 abbrev pub SlowStartsMoveFreeFlowAsOne : Type 0
 SlowStartsMoveFreeFlowAsOne =
     (p0 : ℕ) (rule : Programs) (seed : Seed) (step : ℕ) (road : Cells) (sum : StepTally)
-    → IsVdr 0 p0 rule → IsLegal seed.road → IsFree seed.road → ComesTo seed (always rule) step road sum
+    → IsVdr 0 p0 rule → IsLegal seed.road → IsInFreeFlow seed.road → ComesTo seed (always rule) step road sum
     → MovesAsOne seed step road
 
 -- under the rule of 1998, if stopped cars brake with probability 1, a run from a legal road of stopped cars
--- keeps this road, and its distance is 0, whatever the probability p for moving cars is
+-- keeps this road, and its distance is 0; the probability p for moving cars does not matter
 abbrev pub SlowStartsKeepJams : Type 0
 SlowStartsKeepJams =
     (p : ℕ) (rule : Programs) (seed : Seed) (step : ℕ) (road : Cells) (sum : StepTally)
@@ -52,7 +52,7 @@ pub record IsRing (cells limit n : ℕ) (road : Cells) : Type 0 where
   pub same_cars : cars road ≡ n
 
 -- the rule has two flows on rings of `cells` cells with n cars and this limit: in each run from the ring
--- `free` all cars drive at the limit in every counted step, and in each run from the ring `jam` no car moves
+-- `free` all cars drive at the limit in each counted step, and in each run from the ring `jam` no car moves
 -- in a counted step
 pub record HasTwoFlows (cells limit n : ℕ) (rule : Programs) : Type 0 where
   pub free : Cells
@@ -65,7 +65,7 @@ pub record HasTwoFlows (cells limit n : ℕ) (rule : Programs) : Type 0 where
       → ComesTo seed (always rule) step road sum → sum.distance ≡ 0
 
 -- the rule of 1998, if moving cars brake with probability 0 and stopped cars with 1, has two flows on rings
--- at each density that leaves room to drive at the limit: limit + 1 cells for each of the n cars
+-- at each density that leaves room to drive at the limit: n cars need n * (limit + 1) cells
 abbrev pub TwoFlowsAtOneDensity : Type 0
 TwoFlowsAtOneDensity =
     (cells limit n : ℕ) (rule : Programs)

@@ -11,8 +11,8 @@ use Rattle.trlab_step.specs.Run.{Seed, Sheet, ComesTo}
 use Rattle.trlab_traffic.specs.Following.{IsNextAhead}
 use Rattle.trlab_traffic.specs.Runs.{EachRule, StaysInLane}
 
--- the car with number `next` is the next one ahead of the car with number `number` on its lane; the two are
--- the same car if the lane has no other
+-- the car with number `next` is the next car ahead of the car with number `number`, on the same lane; the two
+-- are the same car if the lane has no other
 pub record IsNextOf (road : Cells) (number next : ℕ) : Type 0 where
   pub car : Car
   pub next_car : Car
@@ -22,7 +22,7 @@ pub record IsNextOf (road : Cells) (number next : ℕ) : Type 0 where
   pub next_numbered : next_car.number ≡ next
   pub follows : IsNextAhead road car next_car
 
--- each car of a road has a next car ahead, possibly itself
+-- each car of a road has a next car ahead, which is the car itself if its lane has no other car
 abbrev pub EachCarHasNext : Type 0
 EachCarHasNext = (road : Cells) (car : Car) → IsAt road car → (next : ℕ) × IsNextOf road car.number next
 
@@ -31,15 +31,15 @@ abbrev pub NextCarIsUnique : Type 0
 NextCarIsUnique = (road : Cells) (number next other : ℕ) → IsLegal road
     → IsNextOf road number next → IsNextOf road number other → next ≡ other
 
--- under any rule without lane changes a car has the same next car ahead after a step as before it
+-- under any rule without lane changes each car has the same next car ahead after a step as before it
 abbrev pub StepKeepsNextCar : Type 0
 StepKeepsNextCar =
     (rule : Programs) (dice : Dice) (old new : Cells) (tally : StepTally) (number next : ℕ)
     → StaysInLane rule → IsNext rule dice old new tally
     → IsNextOf old number next → IsNextOf new number next
 
--- under any sheet of rules without lane changes a car has at each step of a run the same next car ahead as at
--- the start
+-- under any sheet of rules without lane changes each car has the same next car ahead at each step of a run as
+-- at the start
 abbrev pub RunKeepsNextCar : Type 0
 RunKeepsNextCar =
     (seed : Seed) (sheet : Sheet) (step : ℕ) (road : Cells) (sum : StepTally) (number next : ℕ)

@@ -6,25 +6,26 @@ use Rattle.trlab_rules.specs.Rules.{Programs}
 use Rattle.trlab_step.specs.Laws.{IsRuleFor}
 use Rattle.trlab_step.specs.Run.{Seed, Sheet, IsRoadAt}
 use Rattle.trlab_traffic.specs.Capacity.{all_cells}
-use Rattle.trlab_traffic.specs.Certainty.{IsCertain}
+use Rattle.trlab_traffic.specs.Certainty.{IsDeterministic}
 use Rattle.trlab_traffic.specs.Runs.{always}
 
--- a run is periodic: from step `first` on, the road at each step comes again `period` steps later, and
+-- a run is periodic: from step `first` on the road of each step comes again `period` steps later, and
 -- `period` is at least 1
 pub record IsPeriodic (seed : Seed) (sheet : Sheet) (first period : ℕ) : Type 0 where
   pub some_step : 1 ≤ period
   pub comes_again : (step : ℕ) (road later : Cells) → first ≤ step
       → IsRoadAt seed sheet step road → IsRoadAt seed sheet (step + period) later → later ≡ road
 
--- the number of states of a road's cars: for each car any of the cells and any of the speeds 0 to the limit
-abbrev pub states : Cells → ℕ
-states road = (all_cells road * (road.limit + 1)) ^ cars road
+-- the number of ways to give each car of a road one of all cells and a speed from 0 to the limit, even if
+-- cars share a cell: a bound on the number of roads that its cars can form
+abbrev pub state_count : Cells → ℕ
+state_count road = (all_cells road * (road.limit + 1)) ^ cars road
 
--- a run from a legal road under a deterministic rule for its lanes becomes periodic, and `first` plus
+-- under a deterministic rule for its number of lanes a run from a legal road becomes periodic; `first` plus
 -- `period` is at most the number of states
-abbrev pub CertainRulesBecomePeriodic : Type 0
-CertainRulesBecomePeriodic =
+abbrev pub DeterministicRunsBecomePeriodic : Type 0
+DeterministicRunsBecomePeriodic =
     (rule : Programs) (seed : Seed)
-    → IsCertain rule → IsRuleFor (length seed.road.lanes) rule → IsLegal seed.road
+    → IsDeterministic rule → IsRuleFor (length seed.road.lanes) rule → IsLegal seed.road
     → (first : ℕ) × (period : ℕ) × IsPeriodic seed (always rule) first period
-    × (first + period ≤ states seed.road)
+    × (first + period ≤ state_count seed.road)

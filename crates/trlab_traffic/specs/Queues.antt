@@ -7,18 +7,18 @@ use Rattle.trlab_road.specs.Gaps.{behind, gap}
 use Rattle.trlab_road.specs.Legal.{IsLegal}
 use Rattle.trlab_rules.specs.Rules.{Programs}
 use Rattle.trlab_rules.specs.StandardRules.{IsNasch}
-use Rattle.trlab_step.specs.Published.{car_ahead}
+use Rattle.trlab_step.specs.Published.{car_after_motion}
 use Rattle.trlab_step.specs.Run.{Seed, Sheet, IsRoadAt}
 use Rattle.trlab_traffic.specs.Jams.{stopped_car}
 use Rattle.trlab_traffic.specs.Rule184.{is_taken}
 use Rattle.trlab_traffic.specs.Runs.{EachRule, StaysInLane, always}
 
--- a queue on a lane: its head is in cell x, and a car is in each of the n cells behind it
+-- a queue of n + 1 cars on a lane: the head is in cell x, and each of the n cells behind it holds a car
 abbrev pub IsQueue : Lane → ℕ → ℕ → Type 0
 IsQueue lane x n = (j : ℕ) → j ≤ n → is_taken lane (behind (length lane) x j) ≡ true
 
--- a car is the j-th behind the head of a queue: the head is in cell x of the car's lane, n cars are directly
--- behind it, and j is from 1 to n
+-- a car is the j-th behind the head of a queue on its lane, with j from 1 to n: the head is in cell x, and n
+-- cars are directly behind it
 pub record IsQueued (road : Cells) (x n j : ℕ) (car : Car) : Type 0 where
   pub queue : IsQueue (lane_of road car.lane) x n
   pub behind_head : 1 ≤ j
@@ -26,19 +26,19 @@ pub record IsQueued (road : Cells) (x n j : ℕ) (car : Car) : Type 0 where
   pub stands : IsAt road car
   pub place : car.place ≡ behind (length (lane_of road car.lane)) x j
 
--- under any sheet of rules without lane changes, the j-th car behind the head of a queue is stopped in its
--- cell after each of the first j steps, even if the queue is the whole ring
+-- under any sheet of rules without lane changes the j-th car behind the head of a queue is stopped in its
+-- cell after each of the first j steps, even if the queue fills the ring
 abbrev pub QueueWaits : Type 0
 QueueWaits =
     (seed : Seed) (sheet : Sheet) (step : ℕ) (road : Cells) (x n j : ℕ) (car : Car)
     → EachRule StaysInLane sheet → IsQueued seed.road x n j car
     → 1 ≤ step → step ≤ j → IsRoadAt seed sheet step road → IsAt road (stopped_car car)
 
--- under the rule of 1992 without randomization, the j-th car behind the head of a queue is one cell ahead
--- after j + 1 steps, with speed 1, if the head has a gap at the start
+-- under the rule of 1992 without randomization the j-th car behind the head of a queue has moved one cell
+-- after j + 1 steps, and has speed 1, if the head has a gap at the start
 abbrev pub QueueStarts : Type 0
 QueueStarts =
     (seed : Seed) (rule : Programs) (road : Cells) (x n j : ℕ) (car : Car)
     → IsNasch 0 rule → IsLegal seed.road → IsQueued seed.road x n j car
     → 1 ≤ gap (lane_of seed.road car.lane) x
-    → IsRoadAt seed (always rule) (j + 1) road → IsAt road (car_ahead seed.road car 1)
+    → IsRoadAt seed (always rule) (j + 1) road → IsAt road (car_after_motion seed.road car 1)

@@ -10,25 +10,25 @@ use Rattle.trlab_step.specs.declared.tally.StepTally.{StepTally}
 use Rattle.trlab_step.specs.Next.{IsNext}
 
 -- of two steps of a road, the one with the tally `slow` is no faster than the one with `fast`: its distance
--- is at most the other's, and less by at most one cell per car, and no fewer cars stop in it
-pub record IsSlower (road : Cells) (fast slow : StepTally) : Type 0 where
+-- is not larger, and smaller by at most one cell per car, and no fewer cars stop in it
+pub record IsNoFasterStep (road : Cells) (fast slow : StepTally) : Type 0 where
   pub no_further : slow.distance ≤ fast.distance
   pub cell_each : fast.distance ≤ slow.distance + cars road
   pub no_fewer_stop : fast.stopped ≤ slow.stopped
 
 -- under the rule of 1992 a step with probability q of braking is no faster than one with p, if p is at most
--- q; both are from the same legal road, with the same dice
-abbrev pub RandomizationSlows : Type 0
-RandomizationSlows =
+-- q; both start from the same legal road, with the same dice
+abbrev pub RandomizationSlowsSteps : Type 0
+RandomizationSlowsSteps =
     (p q : ℕ) (light heavy : Programs) (dice : Dice) (road next other : Cells) (fast slow : StepTally)
     → p ≤ q → IsNasch p light → IsNasch q heavy → IsLegal road
-    → IsNext light dice road next fast → IsNext heavy dice road other slow → IsSlower road fast slow
+    → IsNext light dice road next fast → IsNext heavy dice road other slow → IsNoFasterStep road fast slow
 
 -- under the rule of 1998 a step with probabilities q and q0 of braking, for moving and for stopped cars, is
--- no faster than one with p and p0, if these are at most q and q0; both are from the same legal road, with
--- the same dice
-abbrev pub SlowStartsSlow : Type 0
-SlowStartsSlow =
+-- no faster than one with p and p0, if p is at most q and p0 at most q0; both start from the same legal road,
+-- with the same dice
+abbrev pub SlowStartsSlowSteps : Type 0
+SlowStartsSlowSteps =
     (p q p0 q0 : ℕ) (light heavy : Programs) (dice : Dice) (road next other : Cells) (fast slow : StepTally)
     → p ≤ q → p0 ≤ q0 → IsVdr p p0 light → IsVdr q q0 heavy → IsLegal road
-    → IsNext light dice road next fast → IsNext heavy dice road other slow → IsSlower road fast slow
+    → IsNext light dice road next fast → IsNext heavy dice road other slow → IsNoFasterStep road fast slow

@@ -1,4 +1,4 @@
--- Rules that have the same steps as another.
+-- Rules that have the same steps as other rules.
 use Rattle.std.specs.Prelude.{◌≡◌, ◌↔◌, ℕ, length}
 use Rattle.trlab_road.specs.Cells.{Cells}
 use Rattle.trlab_road.specs.Legal.{IsLegal}
@@ -10,8 +10,8 @@ use Rattle.trlab_step.specs.Next.{IsNext}
 use Rattle.trlab_step.specs.Run.{Seed, ComesTo}
 use Rattle.trlab_traffic.specs.Runs.{always}
 
--- two rules have the same steps: from each legal road with `lanes` lanes and with the same dice, both lead to
--- the same next road, with the same tally
+-- two rules have the same steps on legal roads with `lanes` lanes: with the same dice both lead from a road
+-- to the same next road, with the same tally
 abbrev pub HaveSameSteps : ℕ → Programs → Programs → Type 0
 HaveSameSteps lanes rule other =
     (dice : Dice) (road next : Cells) (tally : StepTally) → IsLegal road → length road.lanes ≡ lanes
@@ -29,10 +29,10 @@ abbrev pub RickertReducesToNasch : Type 0
 RickertReducesToNasch =
     (p : ℕ) (rule other : Programs) → IsRickert p 0 rule → IsNasch p other → HaveSameSteps 2 rule other
 
--- if two rules have the same steps on as many lanes as the legal road of the start has, each run under one of
--- the rules is a run under the other
-abbrev pub HaveSameRuns : Type 0
-HaveSameRuns =
+-- if two rules have the same steps on legal roads with as many lanes as the start, which is legal, each run
+-- under one of them is a run under the other, with the same sum of tallies
+abbrev pub SameStepsGiveSameRuns : Type 0
+SameStepsGiveSameRuns =
     (rule other : Programs) (seed : Seed) (step : ℕ) (road : Cells) (sum : StepTally)
     → IsLegal seed.road → HaveSameSteps (length seed.road.lanes) rule other
     → ComesTo seed (always rule) step road sum → ComesTo seed (always other) step road sum

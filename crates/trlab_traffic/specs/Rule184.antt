@@ -1,5 +1,5 @@
--- Cars as cells that are taken: the rule of 1992 with the limit 1 and without randomization is rule 184 of
--- Wolfram's elementary cellular automata (1983).
+-- Lanes as cells that are taken or empty: the rule of 1992 with the limit 1 and without randomization is rule
+-- 184 of Wolfram's elementary cellular automata (1983).
 use Rattle.std.specs.Prelude.{◌≡◌, ℕ, ◌+◌, ◌*◌, ◌/◌, ◌%◌, ◌^◌, ◌<◌, Bool, not, is_some, length, nat_eq, if◌then◌else◌}
 use Rattle.trlab_road.specs.Cells.{Cells, Lane, at, lane_of}
 use Rattle.trlab_road.specs.Gaps.{ahead, behind}
@@ -18,30 +18,32 @@ is_taken lane x = is_some (at lane x)
 abbrev pub digit : Bool → ℕ
 digit taken = if taken then 1 else 0
 
--- is a cell taken after a step of Wolfram's elementary automaton `number`? The states of the cell behind, of
--- the cell itself and of the cell ahead, read as three binary digits, say which binary digit of `number` to
--- take: 1 is taken
+-- is a cell taken after a step of Wolfram's elementary automaton `number`? It is if digit k of `number` in
+-- binary, counted from 0 at the right, is 1; the binary digits of k are the cells behind, own and ahead
+-- before the step, 1 if taken. For example, 184 is 10111000, and cells 1, 0, 0 give k = 4: a car comes from
+-- behind
 abbrev pub elementary : ℕ → Bool → Bool → Bool → Bool
 elementary number behind own ahead =
     nat_eq (number / 2 ^ (4 * digit behind + 2 * digit own + digit ahead) % 2) 1
 
--- each cell of the lane `old`, a ring, takes a step of the elementary automaton `number`; `new` is the lane
--- after it
-abbrev pub GoesBy : ℕ → Lane → Lane → Type 0
-GoesBy number old new = (x : ℕ) → x < length old
+-- lane `new` is lane `old`, a ring, after a step of the elementary automaton `number`: the state of each cell
+-- follows from the cell behind, the cell itself and the cell ahead on `old`
+abbrev pub IsElementaryStep : ℕ → Lane → Lane → Type 0
+IsElementaryStep number old new = (x : ℕ) → x < length old
     → let taken_behind = is_taken old (behind (length old) x 1) in
     let taken_ahead = is_taken old (ahead (length old) x 1) in
     is_taken new x ≡ elementary number taken_behind (is_taken old x) taken_ahead
 
--- with the limit 1 and without randomization, the rule of 1992 takes each lane of a legal road through a step
--- of rule 184, whatever the speeds of its cars are
+-- with the limit 1 and without randomization the rule of 1992 takes each lane of a legal road through a step
+-- of rule 184, for any speeds of its cars
 abbrev pub NaschIsRule184 : Type 0
 NaschIsRule184 =
     (rule : Programs) (dice : Dice) (old new : Cells) (tally : StepTally) (l : ℕ)
     → IsNasch 0 rule → IsLegal old → old.limit ≡ 1 → IsNext rule dice old new tally
-    → l < length old.lanes → GoesBy 184 (lane_of old l) (lane_of new l)
+    → l < length old.lanes → IsElementaryStep 184 (lane_of old l) (lane_of new l)
 
--- empty cells follow rule 184 too, in the other direction round the ring
+-- exchanging taken with empty, and behind with ahead, leaves rule 184 as it is: empty cells move as cars do,
+-- in the other direction round the ring
 abbrev pub EmptyCellsGoBack : Type 0
 EmptyCellsGoBack = (behind own ahead : Bool)
     → not (elementary 184 behind own ahead) ≡ elementary 184 (not ahead) (not own) (not behind)

@@ -7,14 +7,16 @@ use Rattle.trlab_step.specs.Run.{Seed, Sheet}
 abbrev pub StaysInLane : Programs → Type 0
 StaysInLane rule = rule.change ≡ None
 
--- `IsSo` holds for each rule of a sheet
+-- each rule of a sheet has this property; for example, in `EachRule StaysInLane sheet` no rule of the sheet
+-- has lane changes
 abbrev pub EachRule : (Programs → Type 0) → Sheet → Type 0
-EachRule IsSo sheet = All (λ (entry : ℕ × Programs). IsSo entry.1) sheet
+EachRule Property sheet = All (λ (entry : ℕ × Programs). Property entry.1) sheet
 
 -- the sheet with only this rule, from step 0 on
 abbrev pub always : Programs → Sheet
 always rule = (0, rule) ∷ []
 
--- the number of counted steps among the first `step` steps of a run: none up to step `warm`
+-- the number of counted steps among the first `step` steps of a run: all but the first `warm`, so none if
+-- `step` is at most `warm`
 abbrev pub counted_steps : Seed → ℕ → ℕ
 counted_steps seed step = step - seed.warm

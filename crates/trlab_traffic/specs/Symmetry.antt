@@ -1,4 +1,4 @@
--- Symmetry of lanes: both lanes are alike under rules that do not read on which lane a car is.
+-- Symmetry of lanes: the two lanes are alike under rules that do not read the car's lane.
 use Rattle.std.specs.Prelude.{◌≡◌, ℕ, Bool, true, false, All, IfSome, [], ◌∷◌, length}
 use Rattle.trlab_code.specs.declared.instruction.Input.TheVariants.{Lane}
 use Rattle.trlab_code.specs.declared.instruction.Instr.{Instr}
@@ -21,25 +21,26 @@ abbrev pub reads_lane : Instr → Bool
 reads_lane (Get d Lane) = true
 reads_lane _ = false
 
--- the change program of a rule, if there is one, does not read the car's lane; a motion program never does
+-- a rule ignores the lane: its change program, if it has one, does not read the car's lane; a motion program
+-- never reads it
 abbrev pub IgnoresLane : Programs → Type 0
 IgnoresLane rule =
     IfSome rule.change (λ change. All (λ instr. reads_lane instr ≡ false) change.program.instrs)
 
--- the rule of 1996 does not read the car's lane, whatever its probabilities p and c are
+-- the rule of 1996 does not read the car's lane, for any probabilities p and c
 abbrev pub RickertIgnoresLane : Type 0
 RickertIgnoresLane = (p c : ℕ) (rule : Programs) → IsRickert p c rule → IgnoresLane rule
 
--- under a rule that does not read the car's lane, exchanging the lanes of a road exchanges those of its next
--- road, and the tally stays the same
+-- under a rule that does not read the car's lane, exchanging the lanes of a road exchanges the lanes of its
+-- next road, and the tally stays the same
 abbrev pub StepIsSymmetric : Type 0
 StepIsSymmetric =
     (rule : Programs) (dice : Dice) (road next : Cells) (tally : StepTally)
     → IgnoresLane rule → length road.lanes ≡ 2 → IsNext rule dice road next tally
     → IsNext rule dice (exchanged road) (exchanged next) tally
 
--- under a sheet of rules that do not read the car's lane, exchanging the lanes of the road of the start
--- exchanges those of the road at each step, and the sums of tallies stay the same
+-- under a sheet of rules that do not read the car's lane, exchanging the lanes of the start exchanges the
+-- lanes of the road at each step, and the sums of tallies stay the same
 abbrev pub RunIsSymmetric : Type 0
 RunIsSymmetric =
     (seed : Seed) (sheet : Sheet) (step : ℕ) (road : Cells) (sum : StepTally)

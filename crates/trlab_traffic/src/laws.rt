@@ -5,18 +5,18 @@
 ghost use Rattle.trlab_traffic.specs.Apart.{RunKeepsLanesApart, StepKeepsLanesApart};
 ghost use Rattle.trlab_traffic.specs.Capacity.{CellsAreTakenOrEmpty, RunKeepsToCapacity, StepKeepsToCapacity};
 ghost use Rattle.trlab_traffic.specs.Capacity.{RunKeepsBelowPeak};
-ghost use Rattle.trlab_traffic.specs.Certainty.{NaschWithoutRandomization, RunIsDeterministic, StepIsDeterministic};
-ghost use Rattle.trlab_traffic.specs.Changing.{RunChangesFew, StepChangesFew};
-ghost use Rattle.trlab_traffic.specs.Detector.{DetectorCountsOne, DetectorsCountDistance, StepIsContinuous};
+ghost use Rattle.trlab_traffic.specs.Certainty.{NaschWithoutRandomizationIsDeterministic, RunIsDeterministic, StepIsDeterministic};
+ghost use Rattle.trlab_traffic.specs.Changing.{RunBoundsLaneChanges, StepBoundsLaneChanges};
+ghost use Rattle.trlab_traffic.specs.Detector.{DetectorCountsAtMostOne, DetectorsCountDistance, StepSatisfiesContinuity};
 ghost use Rattle.trlab_traffic.specs.DetectorRuns.{CountExists, DetectorMeasuresFlow, DetectorsAgree};
 ghost use Rattle.trlab_traffic.specs.DetectorRuns.{DetectorCountsBelowPeak, DetectorsAgreeByCars};
-ghost use Rattle.trlab_traffic.specs.DetectorRuns.{DetectorsCountRun, RunIsContinuous};
+ghost use Rattle.trlab_traffic.specs.DetectorRuns.{DetectorsCountRun, RunSatisfiesContinuity};
 ghost use Rattle.trlab_traffic.specs.Diagram.{EvenCarsFlowAtCapacity, NaschComesToCapacity};
 ghost use Rattle.trlab_traffic.specs.Diagram.{NaschComesToCapacityByLane, Rule184ComesToCapacity};
 ghost use Rattle.trlab_traffic.specs.Fastest.{GapProgramReachesSpeedAtOnce, NaschAcceleratesByAtMostOne, NobodyBeatsGap};
 ghost use Rattle.trlab_traffic.specs.Fastest.{NobodyBeatsNasch, RandomizationSlowsRuns, SlowStartsSlowRuns};
 ghost use Rattle.trlab_traffic.specs.Fastest.{VdrAcceleratesByAtMostOne};
-ghost use Rattle.trlab_traffic.specs.Following.{GapsFollow};
+ghost use Rattle.trlab_traffic.specs.Following.{GapChangesBySpeedDifference};
 ghost use Rattle.trlab_traffic.specs.FreeFlow.{FreeFlowGoesOn, FreeFlowStaysFree, FreeFlowMovesAsOne};
 ghost use Rattle.trlab_traffic.specs.Gone.{CarsGoDistance, EachCarHasGone, GoneIsUnique};
 ghost use Rattle.trlab_traffic.specs.Homogeneity.{RunIsHomogeneous, StepIsHomogeneous};
@@ -26,24 +26,23 @@ ghost use Rattle.trlab_traffic.specs.Metastable.{SlowStartsKeepFreeFlow, SlowSta
 ghost use Rattle.trlab_traffic.specs.Metastable.{SlowStartsMoveFreeFlowAsOne, TwoFlowsAtOneDensity};
 ghost use Rattle.trlab_traffic.specs.Moving.{RunBoundsMovingSpeed, StepBoundsMovingSpeed};
 ghost use Rattle.trlab_traffic.specs.Overtaking.{EachCarHasNext, NextCarIsUnique, RunKeepsNextCar, StepKeepsNextCar};
-ghost use Rattle.trlab_traffic.specs.Periods.{CertainRulesBecomePeriodic};
+ghost use Rattle.trlab_traffic.specs.Periods.{DeterministicRunsBecomePeriodic};
 ghost use Rattle.trlab_traffic.specs.Queues.{QueueStarts, QueueWaits};
-ghost use Rattle.trlab_traffic.specs.Randomization.{RandomizationSlows, SlowStartsSlow};
-ghost use Rattle.trlab_traffic.specs.Reduction.{RickertReducesToNasch, HaveSameRuns, VdrReducesToNasch};
+ghost use Rattle.trlab_traffic.specs.Randomization.{RandomizationSlowsSteps, SlowStartsSlowSteps};
+ghost use Rattle.trlab_traffic.specs.Reduction.{RickertReducesToNasch, SameStepsGiveSameRuns, VdrReducesToNasch};
 ghost use Rattle.trlab_traffic.specs.Rows.{RowMeasuresFlow, RowsAgree};
-ghost use Rattle.trlab_traffic.specs.Rows.{RunIsContinuousByRows, StepIsContinuousByRows};
+ghost use Rattle.trlab_traffic.specs.Rows.{RunSatisfiesContinuityByRows, StepIsContinuousByRows};
 ghost use Rattle.trlab_traffic.specs.Rule184.{EmptyCellsGoBack, NaschIsRule184};
 ghost use Rattle.trlab_traffic.specs.Symmetry.{RickertIgnoresLane, RunIsSymmetric, StepIsSymmetric};
 
-/// In a step under any rule the cars of a legal road together move at most as many cells as are empty, and at most as
-/// many as the limit times the number of cars.
+/// The distance of a step is at most the number of empty cells, and at most the limit times the number of cars: the
+/// capacity. This holds for every rule and every legal road.
 pub fn step_keeps_to_capacity()
     ensures { StepKeepsToCapacity }
 {}
 
-/// Per counted step of a run, under any schedule of rules, the cars of a legal road together move at most as many cells
-/// as are empty, and at most as many as the limit times the number of cars. The number of cells of a road is that of
-/// its cars plus that of its empty cells.
+/// The distance of a run is at most the capacity per counted step, under any schedule of rules. The number of cells of
+/// a road is that of its cars plus that of its empty cells.
 pub fn run_keeps_to_capacity()
     ensures cells { CellsAreTakenOrEmpty }
     ensures run { RunKeepsToCapacity }
@@ -64,8 +63,8 @@ pub fn moving_cars_go()
 /// At most as many cars change lanes in a step as there are cars, and at most as many as there are empty cells,
 /// under any rule. The same holds per step for the counted steps of a run.
 pub fn few_cars_change_lanes()
-    ensures step { StepChangesFew }
-    ensures run { RunChangesFew }
+    ensures step { StepBoundsLaneChanges }
+    ensures run { RunBoundsLaneChanges }
 {}
 
 /// Free flow stays free for ever under the rule of 1992 without randomization: all cars drive at the limit, so
@@ -95,14 +94,14 @@ pub fn two_flows_at_one_density()
 /// With a larger probability of braking the cars of a road move less far in a step, by at most one cell each,
 /// and no fewer of them stop: under the rules of 1992 and of 1998.
 pub fn randomization_slows()
-    ensures nasch { RandomizationSlows }
-    ensures vdr { SlowStartsSlow }
+    ensures nasch { RandomizationSlowsSteps }
+    ensures vdr { SlowStartsSlowSteps }
 {}
 
 /// The gap of a car changes by the distance of the next car ahead minus its own, under any rule without lane
 /// changes.
 pub fn gaps_follow()
-    ensures { GapsFollow }
+    ensures { GapChangesBySpeedDifference }
 {}
 
 /// The gaps of a lane with a car add up to its empty cells, so the mean gap is the number of empty cells per car; and
@@ -189,7 +188,7 @@ pub fn lanes_are_apart()
 /// If programs are deterministic, the key does not matter: a road has one next road for all dice, and a run is
 /// the same under all keys. The rule of 1992 without randomization is such a rule.
 pub fn certain_rules_are_deterministic()
-    ensures nasch { NaschWithoutRandomization }
+    ensures nasch { NaschWithoutRandomizationIsDeterministic }
     ensures step { StepIsDeterministic }
     ensures run { RunIsDeterministic }
 {}
@@ -197,7 +196,7 @@ pub fn certain_rules_are_deterministic()
 /// A run under a deterministic rule becomes periodic: from some step on its roads repeat for ever. The number of this
 /// step plus the period is at most the number of states of the cars.
 pub fn certain_rules_become_periodic()
-    ensures { CertainRulesBecomePeriodic }
+    ensures { DeterministicRunsBecomePeriodic }
 {}
 
 /// Two rules reduce to that of Nagel and Schreckenberg (1992): that of 1998 if stopped cars brake with the same
@@ -207,7 +206,7 @@ pub fn certain_rules_become_periodic()
 pub fn rules_reduce_to_nasch()
     ensures vdr { VdrReducesToNasch }
     ensures rickert { RickertReducesToNasch }
-    ensures runs { HaveSameRuns }
+    ensures runs { SameStepsGiveSameRuns }
 {}
 
 /// With the limit 1 and without randomization the rule of 1992 takes each lane through a step of rule 184 (Wolfram
@@ -241,8 +240,8 @@ pub fn even_cars_flow_at_capacity()
 /// lanes: the continuity equation (Lighthill and Whitham 1955, Proc. R. Soc. London A 229, 317).
 pub fn detectors_count_flow()
     ensures distance { DetectorsCountDistance }
-    ensures one { DetectorCountsOne }
-    ensures step { StepIsContinuous }
+    ensures one { DetectorCountsAtMostOne }
+    ensures step { StepSatisfiesContinuity }
 {}
 
 /// If nobody changes lanes, continuity also holds for the counted steps of a run. The counts of two detectors then
@@ -250,7 +249,7 @@ pub fn detectors_count_flow()
 /// cells. On one lane all detectors together count the distance, and each by itself measures the flow.
 pub fn detectors_count_runs()
     ensures exists { CountExists }
-    ensures run { RunIsContinuous }
+    ensures run { RunSatisfiesContinuity }
     ensures agree { DetectorsAgree }
     ensures by_cars { DetectorsAgreeByCars }
     ensures distance { DetectorsCountRun }
@@ -268,7 +267,7 @@ pub fn detector_counts_below_peak()
 /// itself measures the flow.
 pub fn rows_of_detectors_count()
     ensures step { StepIsContinuousByRows }
-    ensures run { RunIsContinuousByRows }
+    ensures run { RunSatisfiesContinuityByRows }
     ensures agree { RowsAgree }
     ensures flow { RowMeasuresFlow }
 {}

@@ -7,7 +7,7 @@ use Rattle.trlab_code.specs.declared.program.Kind.{Kind}
 use Rattle.trlab_code.specs.declared.program.Kind.TheVariants.{Motion, Change}
 use Rattle.trlab_code.specs.declared.instruction.Instr.{Instr}
 use Rattle.trlab_code.specs.declared.instruction.Instr.TheVariants.{Go, Cross, Stay}
-use Rattle.trlab_code.specs.Program.{Program, IsProgram}
+use Rattle.trlab_code.specs.Program.{Program, IsValidProgram}
 use Rattle.trlab_code.specs.Flow.{target, falls, is_end, on_target}
 use Rattle.trlab_notes.specs.Reasons.{is_of_kind}
 use Rattle.trlab_notes.specs.Notes.{Note}
@@ -78,7 +78,7 @@ forward kind program accepted pc q (i, e, h) =
     ]
 
 -- an accepted program with its longest way is a checked program
-pub checked : (kind : Kind) (program : Program) (budget : ℕ) → IsProgram program → IsAccepted kind program →
+pub checked : (kind : Kind) (program : Program) (budget : ℕ) → IsValidProgram program → IsAccepted kind program →
     IsLongest program.instrs 0 budget → IsChecked kind (record { program = program; budget = budget })
 checked kind program budget is accepted longest = record {
   program = is;

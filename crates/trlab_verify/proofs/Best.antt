@@ -9,7 +9,7 @@ use Rattle.trlab_code.specs.declared.instruction.Variable.{Variable}
 use Rattle.trlab_code.specs.declared.instruction.Instr.TheVariants.{Jump, Go, Cross, Stay}
 use Rattle.trlab_code.specs.Program.{Program}
 use Rattle.trlab_code.specs.Flow.{target, falls, on_target}
-use Rattle.trlab_notes.specs.Reasons.{some_unset, some_of_other_kind}
+use Rattle.trlab_notes.specs.Reasons.{some_unset, some_of_wrong_type}
 use Rattle.trlab_notes.specs.Notes.{Note, entry}
 use Rattle.trlab_notes.specs.Transfer.{next_note, jump_note}
 use Rattle.trlab_notes.specs.Order.{join, IsNoStronger}
@@ -50,7 +50,7 @@ module _ (V : Variable → Type 0) (closed : Closed V) where
     pub reached : (q : ℕ) → 0 < q → q < length code → (pc : ℕ) × Follows code pc q
     pub sees : (pc : ℕ) (i : Instr) → pc < b → slice_get code pc ≡ Some i → Reaches V closed i
     pub set : (pc : ℕ) (i : Instr) → pc < b → slice_get code pc ≡ Some i → some_unset (note pc) i ≡ false
-    pub kinds : (pc : ℕ) (i : Instr) → pc < b → slice_get code pc ≡ Some i → some_of_other_kind (note pc) i ≡ false
+    pub kinds : (pc : ℕ) (i : Instr) → pc < b → slice_get code pc ≡ Some i → some_of_wrong_type (note pc) i ≡ false
     pub falls : (pc : ℕ) (i : Instr) → pc < b → slice_get code pc ≡ Some i → suc pc < length code → IfSome (next_note (note pc) i) (On V (note (suc pc)))
     pub jumps : (pc t : ℕ) (i : Instr) → pc < b → slice_get code pc ≡ Some i → target i ≡ Some t → t < length code → On V (note t) (jump_note (note pc) i)
 

@@ -15,7 +15,7 @@ use Rattle.trlab_notes.specs.declared.note.AbstractValue.{AbstractValue}
 use Rattle.trlab_notes.specs.declared.note.AbstractValue.TheVariants.{Nothing, Between, Implies}
 use Rattle.trlab_notes.specs.Notes.{Note, known_level, level_between, same_variable, entry, entry_level, entry_said}
 use Rattle.trlab_notes.specs.Order.{join}
-use Rattle.trlab_notes.specs.Transfer.{sharpen, slacken, chain, least, most, result_said, result_to, to_result, register_to, assign, assign_any, refine_order, refine_flag, next_note, jump_note}
+use Rattle.trlab_notes.specs.Transfer.{sharpen, slacken, chain, least, most, result_value, result_to, to_result, register_to, assign, assign_destination, refine_order, refine_flag, next_note, jump_note}
 use Rattle.trlab_verify.specs.Incoming.{add_note, add_notes, if_here, next_note_to, jump_note_to, is_target, incoming}
 use Rattle.trlab_verify.specs.TableForm.{HasValidLevels}
 use Rattle.trlab_verify.proofs.Checking.{ChecksBy}
@@ -87,9 +87,9 @@ module _ (m : Note) (f : HasValidLevels m) where
   from_two (Max d a b) y = omega (arith, f y (variable.Register a), f y (variable.Register b))
   from_two i y = omega arith
 
-  any_two : (i : Instr) (d : Option Register) → IfSome (assign_any m i d) HasValidLevels
+  any_two : (i : Instr) (d : Option Register) → IfSome (assign_destination m i d) HasValidLevels
   any_two i None = tt
-  any_two i (Some d) = assign_two d (result_said m i) (result_to m i) (to_result m i) (to_two i) (from_two i)
+  any_two i (Some d) = assign_two d (result_value m i) (result_to m i) (to_result m i) (to_two i) (from_two i)
 
   next_two : (i : Instr) → IfSome (next_note m i) HasValidLevels
   next_two (JumpLess a b t) = refine_two (variable.Register b) (variable.Register a) 1 (omega arith)

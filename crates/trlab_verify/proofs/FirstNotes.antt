@@ -9,8 +9,8 @@ use Rattle.trlab_notes.specs.Notes.{Note, entry, closure, maybe_closure}
 use Rattle.trlab_verify.specs.declared.note.Note.{Note as Form}
 use Rattle.trlab_verify.specs.Incoming.{note_at}
 use Rattle.trlab_verify.specs.TableForm.{HasInputRanges, meaning, meaning_at, table_of, empty_form}
-use Rattle.trlab_verify.specs.Tables.{AreFirstNotes, blank, note_in, noted_count}
-use Rattle.trlab_verify.specs.Verdict.{IsRefused, fault_at}
+use Rattle.trlab_verify.specs.Tables.{AreFirstNotes, empty_note, note_in, noted_count}
+use Rattle.trlab_verify.specs.Verdict.{IsRefused, reason_number_at}
 use Rattle.trlab_verify.proofs.Inputs.{incoming_shows, closure_shows}
 use Rattle.trlab_verify.proofs.Reasons.{noted}
 use Rattle.trlab_verify.proofs.Runs.{fetch}
@@ -20,7 +20,7 @@ use Rattle.trlab_verify.proofs.Verdicts.{incoming_settled, unreached}
 module _ (kind : Kind) (program : Program) (at reason : ℕ) (refused : IsRefused kind program at reason) where
   reached : (o : Option Note) → note_at kind program.instrs at ≡ o → reason ≢ 1 → (n : Note) × (note_at kind program.instrs at ≡ Some n)
   reached None e other =
-      let first : fault_at kind program at ≡ Some 1 = unreached kind program.kind program.instrs at e in
+      let first : reason_number_at kind program at ≡ Some 1 = unreached kind program.kind program.instrs at e in
       let same : Some reason ≡ Some 1 = sym refused.here ∙ first in
       let one : reason ≡ 1 = cc same in
       absurd (other one)
@@ -65,7 +65,7 @@ module _ (kind : Kind) (program : Program) (at reason : ℕ) (refused : IsRefuse
   first_notes stored notes h len first later = record { one_each = length-map notes (meaning kind) ∙ len; each = each }
     where
       listed : (pc : ℕ) → pc < noted_count at reason → meaning_at kind notes pc ≡ note_in (table_of kind notes) pc
-      listed pc lt = sym (get_or-map (meaning kind) notes pc empty_form blank (subst (λ n. pc < n) (sym len) lt))
+      listed pc lt = sym (get_or-map (meaning kind) notes pc empty_form empty_note (subst (λ n. pc < n) (sym len) lt))
 
       each : (pc : ℕ) → pc < noted_count at reason → note_at kind program.instrs pc ≡ Some (note_in (table_of kind notes) pc)
       each zero lt = ap Some (sym (first lt) ∙ listed zero lt)

@@ -13,7 +13,7 @@ use Rattle.trlab_code.specs.declared.instruction.Input.{Input}
 use Rattle.trlab_code.specs.declared.instruction.Variable.{Variable}
 use Rattle.trlab_code.specs.declared.instruction.Variable.TheVariants as variable
 use Rattle.trlab_code.specs.Machine.{variable_number, register_number}
-use Rattle.trlab_notes.specs.Rows.{AreValidLevels, known_with, level_at, levels_in, said_in}
+use Rattle.trlab_notes.specs.Rows.{AreValidLevels, known_level_from, level_at, levels_in, value_in}
 use Rattle.trlab_notes.proofs.Variables.{below, register_below, at_numbers}
 use Rattle.trlab_verify.specs.Longest.{Follows}
 use Rattle.trlab_notes.specs.declared.note.AbstractValue.{AbstractValue}
@@ -23,7 +23,7 @@ use Rattle.trlab_notes.proofs.Closure.{settled_less, settled_more, said_same, si
 use Rattle.trlab_notes.proofs.Tables.{note_same, level_same, known_unfolds}
 use Rattle.trlab_verify.specs.declared.note.Note.{Note as Form}
 use Rattle.trlab_verify.specs.declared.note.Mark.TheVariants.{Unset}
-use Rattle.trlab_verify.specs.TableForm.{said_of, form_said, meaning, HasValidLevels}
+use Rattle.trlab_verify.specs.TableForm.{mark_value, form_value, meaning, HasValidLevels}
 use Rattle.trlab_verify.proofs.Verdicts.{reason_same}
 use Rattle.trlab_verify.specs.Tables.{ChecksAt}
 
@@ -35,27 +35,27 @@ pub record Shown (kind : Kind) (code : List Instr) (len : ℕ) (note : ℕ → N
   pub jumps : (t : ℕ) → target i ≡ Some t → t < len → IsNoStronger (note t) (jump_note m i)
 
 -- the levels of the note that a form means are those that its variables and its table give
-module _ (kind : Kind) (form : Form) (said : List AbstractValue) (h : (x : Variable) → said_in said x ≡ form_said kind form x) where
-  form_known : (x y : Variable) → known_level (meaning kind form) x y ≡ known_with said (variable_number x) (variable_number y) (level_at form.levels (variable_number x) (variable_number y))
+module _ (kind : Kind) (form : Form) (said : List AbstractValue) (h : (x : Variable) → value_in said x ≡ form_value kind form x) where
+  form_known : (x y : Variable) → known_level (meaning kind form) x y ≡ known_level_from said (variable_number x) (variable_number y) (level_at form.levels (variable_number x) (variable_number y))
   form_known x y =
       known_unfolds (meaning kind form) x y
       ∙ (λ i. level_between (sym (h x) i) (sym (h y) i) (same_variable x y) (level_at form.levels (variable_number x) (variable_number y)))
 
   pub levels_below : HasValidLevels (meaning kind form) → AreValidLevels said form.levels
   levels_below f x y lx ly =
-      at_numbers (λ a. known_with said a y (level_at form.levels a y) ≤ 2)
-      (λ p. at_numbers (λ b. known_with said (variable_number p) b (level_at form.levels (variable_number p) b) ≤ 2) (λ q. subst (λ k. k ≤ 2) (form_known p q) (f p q)) y ly) x lx
+      at_numbers (λ a. known_level_from said a y (level_at form.levels a y) ≤ 2)
+      (λ p. at_numbers (λ b. known_level_from said (variable_number p) b (level_at form.levels (variable_number p) b) ≤ 2) (λ q. subst (λ k. k ≤ 2) (form_known p q) (f p q)) y ly) x lx
 
   pub levels_above : AreValidLevels said form.levels → HasValidLevels (meaning kind form)
   levels_above f x y = subst (λ k. k ≤ 2) (sym (form_known x y)) (f (variable_number x) (variable_number y) (below x) (below y))
 
   -- the note that is stored is the closure of what the form means
-  pub read_is : closure (record { said = said_in said; level = levels_in form.levels; side = form.side }) ≡ closure (meaning kind form)
-  read_is = ap closure (note_same (record { said = said_in said; level = levels_in form.levels; side = form.side }) (meaning kind form) (fun_ext h) refl refl)
+  pub read_is : closure (record { said = value_in said; level = levels_in form.levels; side = form.side }) ≡ closure (meaning kind form)
+  read_is = ap closure (note_same (record { said = value_in said; level = levels_in form.levels; side = form.side }) (meaning kind form) (fun_ext h) refl refl)
 
 -- what a form says, by the numbers of the variables
-pub form_says : (kind : Kind) (form : Form) (said : List AbstractValue) → ((x : ℕ) → x < 8 → said_of (get_or form.regs x Unset) ≡ get_or said x Nothing) →
-    ((k : Input) → said_in said (variable.Input k) ≡ entry_said kind (variable.Input k)) → (x : Variable) → form_said kind form x ≡ said_in said x
+pub form_says : (kind : Kind) (form : Form) (said : List AbstractValue) → ((x : ℕ) → x < 8 → mark_value (get_or form.regs x Unset) ≡ get_or said x Nothing) →
+    ((k : Input) → value_in said (variable.Input k) ≡ entry_said kind (variable.Input k)) → (x : Variable) → form_value kind form x ≡ value_in said x
 form_says kind form said h k (variable.Register r) = h (register_number r) (register_below r)
 form_says kind form said h k (variable.Input i) = sym (k i)
 

@@ -14,11 +14,11 @@ use Rattle.trlab_code.specs.Flow.{target, destination}
 use Rattle.trlab_notes.specs.declared.note.AbstractValue.{AbstractValue}
 use Rattle.trlab_notes.specs.declared.note.AbstractValue.TheVariants.{Nothing, Between, Implies}
 use Rattle.trlab_notes.specs.declared.rows.Stored.{Stored}
-use Rattle.trlab_notes.specs.Notes.{Note, with_side, said_with_side, entry, entry_said, input_range, closure}
-use Rattle.trlab_notes.specs.Order.{join, join_said}
+use Rattle.trlab_notes.specs.Notes.{Note, with_side, value_with_side, entry, entry_said, input_range, closure}
+use Rattle.trlab_notes.specs.Order.{join, join_values}
 use Rattle.trlab_notes.specs.Reasons.{is_flag}
 use Rattle.trlab_notes.specs.Stored.{note_of, maybe_note}
-use Rattle.trlab_notes.specs.Transfer.{assign, assign_any, assign_result, refine_order, refine_flag, next_note, jump_note}
+use Rattle.trlab_notes.specs.Transfer.{assign, assign_destination, assign_result, refine_order, refine_flag, next_note, jump_note}
 use Rattle.trlab_notes.proofs.Variables.{register_below}
 use Rattle.trlab_verify.specs.Incoming.{add_note, add_notes, if_here, next_note_to, jump_note_to, is_target, incoming}
 use Rattle.trlab_verify.specs.TableForm.{HasInputRanges}
@@ -40,10 +40,10 @@ plain kind k false e = rw e refl
 same_range : (a c b d : ℕ) → a ≡ c → b ≡ d → Between a b ≡ Between c d
 same_range a c b d e f = cc
 
-both_same : (p q : Bool) (r s t : AbstractValue) → is_flag r ≡ false → s ≡ r → t ≡ r → join_said (with_side p s) (with_side q t) ≡ r
+both_same : (p q : Bool) (r s t : AbstractValue) → is_flag r ≡ false → s ≡ r → t ≡ r → join_values (with_side p s) (with_side q t) ≡ r
 both_same p q r s t f es et = rw (es, et) (at r f)
   where
-    at : (r : AbstractValue) → is_flag r ≡ false → join_said (with_side p r) (with_side q r) ≡ r
+    at : (r : AbstractValue) → is_flag r ≡ false → join_values (with_side p r) (with_side q r) ≡ r
     at Nothing f = refl
     at (Between a b) f = same_range (min a a) a (max b b) b (omega arith) (omega arith)
     at (Implies i) f = absurd (cc f)
@@ -64,7 +64,7 @@ module _ (kind : Kind) where
   unfolding refine_flag
   flag_shows m a f = f
 
-  any_shows : (m : Note) (i : Instr) (d : Option Register) → HasInputRanges kind m → IfSome (assign_any m i d) (HasInputRanges kind)
+  any_shows : (m : Note) (i : Instr) (d : Option Register) → HasInputRanges kind m → IfSome (assign_destination m i d) (HasInputRanges kind)
   any_shows m i None f = tt
   any_shows m i (Some d) f = assign_shows m d i f
 
@@ -82,7 +82,7 @@ module _ (kind : Kind) where
   jump_shows m i f = f
 
   join_shows : (m n : Note) → HasInputRanges kind m → HasInputRanges kind n → HasInputRanges kind (join m n)
-  unfolding join said_with_side
+  unfolding join value_with_side
   join_shows m n f g k = both_same m.side n.side (entry_said kind (variable.Input k)) (m.said (variable.Input k)) (n.said (variable.Input k)) (plain kind k (allows_input kind k) refl) (f k) (g k)
 
   edge_shows : (old new : Option Note) → IfSome old (HasInputRanges kind) → IfSome new (HasInputRanges kind) → IfSome (add_note old new) (HasInputRanges kind)

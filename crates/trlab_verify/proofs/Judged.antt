@@ -7,10 +7,10 @@ use Rattle.trlab_code.specs.declared.program.Kind.{Kind}
 use Rattle.trlab_code.specs.declared.instruction.Instr.{Instr}
 use Rattle.trlab_code.specs.declared.instruction.Instr.TheVariants.{Stay}
 use Rattle.trlab_code.specs.Flow.{falls, target}
-use Rattle.trlab_code.specs.Program.{Program, IsProgram}
+use Rattle.trlab_code.specs.Program.{Program, IsValidProgram}
 use Rattle.trlab_verify.specs.CheckedProgram.{IsChecked}
 use Rattle.trlab_verify.specs.Longest.{Follows, IsLongest, IsForward}
-use Rattle.trlab_verify.specs.Verdict.{IsAccepted, IsRefused, fault_at}
+use Rattle.trlab_verify.specs.Verdict.{IsAccepted, IsRefused, reason_number_at}
 use Rattle.trlab_verify.proofs.Accepted.{checked, forward}
 use Rattle.trlab_verify.proofs.Ways.{of_target, longest_is}
 
@@ -19,18 +19,18 @@ module _ (kind : Kind) (program : Program) where
   Refused = (at : ℕ) × (reason : ℕ) × IsRefused kind program at reason
 
   -- as far as n no instruction has a fault, or the program is refused
-  judged : (n : ℕ) → n ≤ length program.instrs → ((pc : ℕ) → pc < n → fault_at kind program pc ≡ None) ⊎ Refused
+  judged : (n : ℕ) → n ≤ length program.instrs → ((pc : ℕ) → pc < n → reason_number_at kind program pc ≡ None) ⊎ Refused
   judged zero le = inl (λ pc lt. absurd (omega arith))
   judged (suc n) le = elim (judged n (omega arith)) [
-    | inl clear ↦ at clear (fault_at kind program n) refl
+    | inl clear ↦ at clear (reason_number_at kind program n) refl
     | inr refused ↦ inr refused
   ]
     where
-      at : ((pc : ℕ) → pc < n → fault_at kind program pc ≡ None) → (o : Option ℕ) → fault_at kind program n ≡ o →
-          ((pc : ℕ) → pc < suc n → fault_at kind program pc ≡ None) ⊎ Refused
+      at : ((pc : ℕ) → pc < n → reason_number_at kind program pc ≡ None) → (o : Option ℕ) → reason_number_at kind program n ≡ o →
+          ((pc : ℕ) → pc < suc n → reason_number_at kind program pc ≡ None) ⊎ Refused
       at clear None e = inl (λ pc lt. elim (cases_lt pc n) [
         | inl less ↦ clear pc less
-        | inr ge ↦ let same : n ≡ pc = omega arith in subst (λ z. fault_at kind program z ≡ None) same e
+        | inr ge ↦ let same : n ≡ pc = omega arith in subst (λ z. reason_number_at kind program z ≡ None) same e
       ])
       at clear (Some reason) e = inr (n, reason, record { within = le; here = e; first = clear })
 
@@ -58,7 +58,7 @@ longest_of_last code forward (suc k) pc =
     (here.0, λ within last. here.1 within (λ q follows. let ahead = forward pc q follows in (behind q).1 ahead.1 (omega (arith, ahead.0))))
 
 -- a program that is accepted has a longest way, with which it is a checked program
-pub some_budget : (kind : Kind) (program : Program) → IsProgram program → IsAccepted kind program
+pub some_budget : (kind : Kind) (program : Program) → IsValidProgram program → IsAccepted kind program
     → (budget : ℕ) × IsChecked kind (record { program = program; budget = budget })
 some_budget kind program is accepted =
     let found = longest_of_last program.instrs (forward kind program accepted) (length program.instrs) 0 in

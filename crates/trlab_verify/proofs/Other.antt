@@ -9,7 +9,7 @@ use Rattle.trlab_code.specs.declared.instruction.Instr.TheVariants.{Get}
 use Rattle.trlab_code.specs.Machine.{allows_input}
 use Rattle.trlab_code.specs.Program.{Program}
 use Rattle.trlab_notes.specs.declared.note.AbstractValue.{AbstractValue}
-use Rattle.trlab_notes.specs.Notes.{Note, with_side, said_with_side, level_between, known_level, same_variable, entry, entry_said, entry_level}
+use Rattle.trlab_notes.specs.Notes.{Note, with_side, value_with_side, level_between, known_level, same_variable, entry, entry_said, entry_level}
 use Rattle.trlab_notes.specs.Transfer.{next_note}
 use Rattle.trlab_notes.specs.Reasons.{reason_against, reason_number, is_of_kind}
 use Rattle.trlab_notes.specs.declared.reasons.Reason.{Reason}
@@ -20,7 +20,7 @@ use Rattle.trlab_code.specs.declared.instruction.Variable.{Variable}
 use Rattle.trlab_code.specs.declared.instruction.Variable.TheVariants as variable
 use Rattle.trlab_notes.specs.Order.{IsNoMorePrecise, IsNoStronger}
 use Rattle.trlab_verify.specs.Incoming.{note_at}
-use Rattle.trlab_verify.specs.Verdict.{least_reason, fault_at, IsRefused}
+use Rattle.trlab_verify.specs.Verdict.{first_reason_at, reason_number_at, IsRefused}
 use Rattle.trlab_verify.proofs.Checking.{ChecksBy}
 use Rattle.trlab_notes.proofs.Order.{Closed, On}
 use Rattle.trlab_notes.proofs.Monotone.{Reaches, clear_up, passes}
@@ -65,9 +65,9 @@ same_entry kind own (variable.Register r) h = refl
 same_entry kind own (variable.Input k) h = rw (seen_by own k h, seen_by kind k h) refl
 
 entry_on : (kind own : Kind) (m : Note) → IsNoStronger m (entry own) → On Both m (entry kind)
-unfolding entry said_with_side known_level
+unfolding entry value_with_side known_level
 entry_on kind own m f = record {
-  said = λ x l. subst (λ z. IsNoMorePrecise (said_with_side m x) (with_side false z)) (same_entry kind own x l) (f.said x);
+  said = λ x l. subst (λ z. IsNoMorePrecise (value_with_side m x) (with_side false z)) (same_entry kind own x l) (f.said x);
   order = λ x y l k.
       let level : AbstractValue → AbstractValue → ℕ = λ s t. level_between s t (same_variable x y) (entry_level x y) in
       let own_first : known_level m x y ≤ level (entry_said kind x) (entry_said own y) = subst (λ z. known_level m x y ≤ level z (entry_said own y)) (same_entry kind own x l) (f.order x y) in
@@ -124,11 +124,11 @@ module _ (kind : Kind) (program : Program) (note : ℕ → Note) (checks : Check
   }
 
   pub other_kind : reason ≡ 2
-  unfolding fault_at
+  unfolding reason_number_at
   other_kind =
       let (i, e) = fetch code at refused.within in
       let (n, en, f) = all_best Both both_closed kind code note at below (suc at) at (omega arith) refused.within (omega arith) in
-      let least : Option Note → Option Instr → Option ℕ = λ note instr. option_map reason_number (least_reason kind program.kind (length code) at note instr) in
+      let least : Option Note → Option Instr → Option ℕ = λ note instr. option_map reason_number (first_reason_at kind program.kind (length code) at note instr) in
       let h : least (Some n) (Some i) ≡ Some reason = subst (λ z. least z (Some i) ≡ Some reason) en (subst (λ z. least (note_at kind code at) z ≡ Some reason) e refused.here) in
       let (r, er, number) = numbered (reason_against kind program.kind (length code) at n i) reason h in
       let only = kind_only kind program.kind (length code) at n i r er (clear_up Both both_closed (note at) n f program.kind program.kind (length code) at i (no_fault program.kind program note checks at i e)) in

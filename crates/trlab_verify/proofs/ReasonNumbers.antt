@@ -7,7 +7,7 @@ use Rattle.trlab_code.specs.Program.{Program}
 use Rattle.trlab_notes.specs.declared.reasons.Reason.{Reason}
 use Rattle.trlab_notes.specs.declared.reasons.Reason.TheVariants as why
 use Rattle.trlab_notes.specs.Reasons.{reason_number}
-use Rattle.trlab_verify.specs.Verdict.{IsRefused, fault_at}
+use Rattle.trlab_verify.specs.Verdict.{IsRefused, reason_number_at}
 
 positive : (reason : Reason) → 1 ≤ reason_number reason
 positive why.Unreachable = omega arith
@@ -34,5 +34,5 @@ found_from_one None reason e = absurd (not_none e)
 found_from_one (Some why) reason e = subst (λ n. 1 ≤ n) (some_is e) (positive why)
 
 pub numbered_from_one : (kind : Kind) (program : Program) (at reason : ℕ) → IsRefused kind program at reason → 1 ≤ reason
-unfolding fault_at
+unfolding reason_number_at
 numbered_from_one kind program at reason refused = found_from_one _ reason refused.here

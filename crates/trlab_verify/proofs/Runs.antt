@@ -9,7 +9,7 @@ use Rattle.trlab_code.specs.declared.instruction.Instr.TheVariants.{Jump, Go, Cr
 use Rattle.trlab_code.specs.declared.view.View.{View}
 use Rattle.trlab_notes.specs.declared.note.AbstractValue.{AbstractValue}
 use Rattle.trlab_code.specs.Program.{Program}
-use Rattle.trlab_code.specs.Views.{IsView}
+use Rattle.trlab_code.specs.Views.{IsViewInRange}
 use Rattle.trlab_code.specs.Machine.{Value, Number, update, Effect, Writes, Falls, Jumps, Ends, Sticks, effect, allows, start, Store, seen, register_number, input_number, Answer, At, state_after, execute, step, EndsFrom, IsSafe}
 use Rattle.trlab_code.specs.Flow.{target, falls, on_target}
 use Rattle.trlab_notes.specs.Reasons.{reason_against}
@@ -157,7 +157,7 @@ module _ (kind own : Kind) (code : List Instr) (accepted : IsAccepted kind (reco
       some_note a b e = cc e
 
 -- what a car sees by an input is in its range
-input_fits : (view : View) → IsView view → (k : Input) → FitsSaid view.side (input_range k) (Number (seen view k))
+input_fits : (view : View) → IsViewInRange view → (k : Input) → FitsSaid view.side (input_range k) (Number (seen view k))
 input_fits view h Speed = (omega arith, omega (arith, h.speed, h.limit))
 input_fits view h Limit = (h.some_limit, h.limit)
 input_fits view h Gap = (omega arith, h.gap)
@@ -170,7 +170,7 @@ allowed_fits : (side b : Bool) (said : AbstractValue) (n : ℕ) → FitsSaid sid
 allowed_fits side true said n f = f
 allowed_fits side false said n f = tt
 
-variable_fits : (kind : Kind) (view : View) → IsView view → (x : Variable) → FitsSaid view.side (entry_said kind x) (start kind view x)
+variable_fits : (kind : Kind) (view : View) → IsViewInRange view → (x : Variable) → FitsSaid view.side (entry_said kind x) (start kind view x)
 unfolding start
 variable_fits kind view h (variable.Register r) = tt
 variable_fits kind view h (variable.Input k) = allowed_fits view.side (allows_input kind k) (input_range k) (seen view k) (input_fits view h k)
@@ -180,7 +180,7 @@ at_limit : (v limit m n : ℕ) → v ≤ limit → Number v ≡ Number m → Num
 at_limit v limit m n h vx vy = let e = number_is v m vx in let f = number_is limit n vy in λ _. omega (arith, e, f, h)
 
 -- the speed and that of the car ahead are at most the limit
-level_fits : (kind : Kind) (view : View) → IsView view → (x y : Variable) (m n : ℕ) → start kind view x ≡ Number m → start kind view y ≡ Number n →
+level_fits : (kind : Kind) (view : View) → IsViewInRange view → (x y : Variable) (m n : ℕ) → start kind view x ≡ Number m → start kind view y ≡ Number n →
     Ahead (entry_level x y) m n
 unfolding start
 level_fits Motion view h (variable.Input Speed) (variable.Input Limit) m n vx vy = at_limit view.speed view.limit m n h.speed vx vy
@@ -190,7 +190,7 @@ level_fits Change view h (variable.Input Headspeed) (variable.Input Limit) m n v
 level_fits kind view h x y m n vx vy = λ p. omega arith
 
 -- at the start the values fit the entry note
-entry_fits : (kind : Kind) (view : View) → IsView view → Fits view.side (entry kind) (start kind view)
+entry_fits : (kind : Kind) (view : View) → IsViewInRange view → Fits view.side (entry kind) (start kind view)
 unfolding entry
 entry_fits kind view h = fits_from view.side (entry kind) (start kind view) (variable_fits kind view h) (level_fits kind view h) (λ e. absurd (cc e))
 

@@ -17,7 +17,7 @@ use Rattle.trlab_notes.specs.Order.{join, IsNoStronger}
 use Rattle.trlab_verify.specs.Longest.{Follows}
 use Rattle.trlab_verify.specs.Incoming.{add_note, add_notes, if_here, next_note_to, jump_note_to, is_target, incoming, note_at}
 use Rattle.trlab_verify.specs.Verdict.{IsAccepted}
-use Rattle.trlab_verify.specs.Tables.{Checks, ChecksAt, AreVerdictNotes, blank, note_in}
+use Rattle.trlab_verify.specs.Tables.{Checks, ChecksAt, AreVerdictNotes, empty_note, note_in}
 use Rattle.trlab_verify.proofs.Checking.{ChecksBy, as_table}
 use Rattle.trlab_notes.proofs.Order.{same_note, through, join_first, join_second, blank_least}
 use Rattle.trlab_notes.proofs.Steps.{IsClear, both_true, clear}
@@ -153,7 +153,7 @@ module _ (kind : Kind) (program : Program) (accepted : IsAccepted kind program) 
       first =
           elim (cases_lt 0 (length code)) [
             | inl some ↦ subst (λ z. IsNoStronger z (entry kind)) (same 0 some) checks.first
-            | inr none ↦ subst (λ z. IsNoStronger z (entry kind)) (sym (get_or_past table 0 blank (omega (arith, none, j.one_each)))) (blank_least (entry kind))
+            | inr none ↦ subst (λ z. IsNoStronger z (entry kind)) (sym (get_or_past table 0 empty_note (omega (arith, none, j.one_each)))) (blank_least (entry kind))
           ]
 
   -- there is such a table
@@ -166,7 +166,7 @@ module _ (kind : Kind) (program : Program) (accepted : IsAccepted kind program) 
     each = λ pc lt.
         let (i, e) = fetch code pc lt in
         let (m, em, h) = noted pc i e in
-        let listed : note_in verdict_table pc ≡ verdict_note kind program pc = get_or-map-range_with_len (verdict_note kind program) 0 (length code) pc pc blank lt (omega arith) in
+        let listed : note_in verdict_table pc ≡ verdict_note kind program pc = get_or-map-range_with_len (verdict_note kind program) 0 (length code) pc pc empty_note lt (omega arith) in
         em ∙ ap Some (sym (ap (note_or (entry kind)) em) ∙ sym listed);
   }
 

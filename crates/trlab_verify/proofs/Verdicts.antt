@@ -11,34 +11,34 @@ use Rattle.trlab_notes.specs.Reasons.{reason_against}
 use Rattle.trlab_notes.specs.Notes.{Note, entry, closure, maybe_closure}
 use Rattle.trlab_notes.specs.Order.{join}
 use Rattle.trlab_notes.specs.Transfer.{next_note, jump_note}
-use Rattle.trlab_notes.specs.Stored.{note_of, notes_of, maybe_note}
+use Rattle.trlab_notes.specs.Stored.{note_of, stored_note_at, maybe_note}
 use Rattle.std.specs.Option.{option_map}
 use Rattle.trlab_notes.specs.declared.reasons.Reason.{Reason}
 use Rattle.trlab_notes.specs.Reasons.{reason_number}
 use Rattle.trlab_verify.specs.Incoming.{incoming, note_at, add_note, add_notes, next_note_to, jump_note_to, if_here, is_target}
-use Rattle.trlab_verify.specs.Verdict.{least_reason, fault_at}
+use Rattle.trlab_verify.specs.Verdict.{first_reason_at, reason_number_at}
 
 pub set_is : (table : List (Option Stored)) (q : ℕ) (o : Option Stored) → q < length table → (x : ℕ) →
-    notes_of (slice_set table q o) x ≡ cond (nat_eq x q) (maybe_note o) (notes_of table x)
+    stored_note_at (slice_set table q o) x ≡ cond (nat_eq x q) (maybe_note o) (stored_note_at table x)
 set_is table q o h x = at x (nat_eq x q) refl
   where
-    at : (x : ℕ) (b : Bool) → nat_eq x q ≡ b → notes_of (slice_set table q o) x ≡ cond b (maybe_note o) (notes_of table x)
-    at x true e = let p : x ≡ q = eqb-true x q e in subst (λ z. notes_of (slice_set table q o) z ≡ maybe_note o) (sym p) (ap maybe_note (get_or-set_same table q o None h))
+    at : (x : ℕ) (b : Bool) → nat_eq x q ≡ b → stored_note_at (slice_set table q o) x ≡ cond b (maybe_note o) (stored_note_at table x)
+    at x true e = let p : x ≡ q = eqb-true x q e in subst (λ z. stored_note_at (slice_set table q o) z ≡ maybe_note o) (sym p) (ap maybe_note (get_or-set_same table q o None h))
     at x false e = ap maybe_note (get_or-set_other table q x o None (eqb-false x q e))
 
 -- nothing comes to pc
 pub unreached : (kind own : Kind) (code : List Instr) (pc : ℕ) → note_at kind code pc ≡ None →
-    fault_at kind (record { kind = own; instrs = code }) pc ≡ Some 1
-unfolding fault_at
-unreached kind own code pc e = subst (λ z. option_map reason_number (least_reason kind own (length code) pc z (slice_get code pc)) ≡ Some 1) (sym e) refl
+    reason_number_at kind (record { kind = own; instrs = code }) pc ≡ Some 1
+unfolding reason_number_at
+unreached kind own code pc e = subst (λ z. option_map reason_number (first_reason_at kind own (length code) pc z (slice_get code pc)) ≡ Some 1) (sym e) refl
 
 -- the reason at pc
 pub tested : (kind own : Kind) (code : List Instr) (pc : ℕ) (m : Note) (i : Instr) (o : Option Reason) →
     note_at kind code pc ≡ Some m → slice_get code pc ≡ Some i →
-    reason_against kind own (length code) pc m i ≡ o → fault_at kind (record { kind = own; instrs = code }) pc ≡ option_map reason_number o
-unfolding fault_at
+    reason_against kind own (length code) pc m i ≡ o → reason_number_at kind (record { kind = own; instrs = code }) pc ≡ option_map reason_number o
+unfolding reason_number_at
 tested kind own code pc m i o em ei h =
-    let least : Option Note → Option Instr → Option ℕ = λ note instr. option_map reason_number (least_reason kind own (length code) pc note instr) in
+    let least : Option Note → Option Instr → Option ℕ = λ note instr. option_map reason_number (first_reason_at kind own (length code) pc note instr) in
     let here : least (Some m) (Some i) ≡ option_map reason_number o = ap (option_map reason_number) h in
     let h2 : least (Some m) (slice_get code pc) ≡ option_map reason_number o = subst (λ z. least (Some m) z ≡ option_map reason_number o) (sym ei) here in
     subst (λ z. least z (slice_get code pc) ≡ option_map reason_number o) (sym em) h2
@@ -54,12 +54,12 @@ one_more kind code pc q m i old em ei eo =
     subst (λ z. add_notes pc (Some m) (Some i) q z ≡ incoming kind code (suc pc) q) (sym eo) h2
 
 pub joins_none : (table : List (Option Stored)) (q : ℕ) (n j : Stored) (new : Option Stored) → get_or table q None ≡ None →
-    new ≡ Some j → note_of j ≡ join (note_of n) (note_of n) → maybe_note new ≡ add_note (notes_of table q) (Some (note_of n))
+    new ≡ Some j → note_of j ≡ join (note_of n) (note_of n) → maybe_note new ≡ add_note (stored_note_at table q) (Some (note_of n))
 joins_none table q n j new e f g = subst (λ z. maybe_note new ≡ add_note (maybe_note z) (Some (note_of n))) (sym e) (ap maybe_note f ∙ ap Some g)
 
 pub joins_some : (table : List (Option Stored)) (q : ℕ) (old n j : Stored) (new : Option Stored) →
     get_or table q None ≡ Some old → new ≡ Some j → note_of j ≡ join (note_of old) (note_of n) →
-    maybe_note new ≡ add_note (notes_of table q) (Some (note_of n))
+    maybe_note new ≡ add_note (stored_note_at table q) (Some (note_of n))
 joins_some table q old n j new e f g = subst (λ z. maybe_note new ≡ add_note (maybe_note z) (Some (note_of n))) (sym e) (ap maybe_note f ∙ ap Some g)
 
 pub is_none : (o : Option Stored) → ((n : Stored) → o ≡ Some n → ⊥) → o ≡ None

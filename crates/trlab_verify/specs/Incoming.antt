@@ -1,4 +1,4 @@
--- Incoming notes: the notes that a program's paths bring to an instruction, joined, as in abstract
+-- Incoming notes: the notes that the paths of a program bring to an instruction, joined, as in abstract
 -- interpretation (docs/VERIFIER.md).
 use Rattle.std.specs.Prelude.{◌≡◌, ◌⊎◌, ℕ, zero, suc, ◌<◌, List, Bool, true, false, Option, Some, None, nat_eq, slice_get}
 use Rattle.trlab_code.specs.declared.program.Kind.{Kind}
@@ -8,45 +8,49 @@ use Rattle.trlab_notes.specs.Notes.{Note, entry}
 use Rattle.trlab_notes.specs.Order.{join}
 use Rattle.trlab_notes.specs.Transfer.{next_note, jump_note}
 
--- the join of the incoming notes so far and one more note, either of which may be missing
+-- the join of the incoming notes so far and one more note, either of which may be missing; the first note is
+-- joined with itself, so that its levels are its known levels
 abbrev pub add_note : Option Note → Option Note → Option Note
-add_note old None = old
-add_note None (Some n) = Some (join n n)
-add_note (Some m) (Some n) = Some (join m n)
+add_note so_far None = so_far
+add_note None (Some note) = Some (join note note)
+add_note (Some so_far) (Some note) = Some (join so_far note)
 
--- the note, if it is sent here, otherwise `None`
+-- the note that is sent along an edge, if the edge leads here; otherwise `None`
 abbrev pub if_here : Bool → Option Note → Option Note
 if_here true edge = edge
 if_here false edge = None
 
--- is the target of a jump the instruction at q? false if there is no jump
+-- is q the target of an instruction? false if the instruction has no target
 abbrev pub is_target : Option ℕ → ℕ → Bool
 is_target None q = false
 is_target (Some t) q = nat_eq q t
 
--- the note that instruction i at pc sends to q if q is the next instruction; m is the note before it
+-- the note that the instruction at pc sends to q as the next instruction, from the note before it; `None` if
+-- q is not the next instruction, or control does not continue there
 abbrev pub next_note_to : ℕ → Note → Instr → ℕ → Option Note
-next_note_to pc m i q = if_here (nat_eq q (suc pc)) (next_note m i)
+next_note_to pc before instr q = if_here (nat_eq q (suc pc)) (next_note before instr)
 
--- the note that instruction i sends to q if q is the target of its jump; m is the note before it
+-- the note that an instruction sends to q as the target of its jump, from the note before it; `None` if q is
+-- not its target
 abbrev pub jump_note_to : Note → Instr → ℕ → Option Note
-jump_note_to m i q = if_here (is_target (target i) q) (Some (jump_note m i))
+jump_note_to before instr q = if_here (is_target (target instr) q) (Some (jump_note before instr))
 
--- the join of the incoming notes of q so far and the notes that the instruction at pc sends there; just `old`
--- if that instruction has no note or does not exist
+-- the join of the incoming notes of q so far and the notes that the instruction at pc sends there; unchanged
+-- if there is no such instruction, or it has no note
 abbrev pub add_notes : ℕ → Option Note → Option Instr → ℕ → Option Note → Option Note
-add_notes pc (Some m) (Some i) q old = add_note (add_note old (next_note_to pc m i q)) (jump_note_to m i q)
-add_notes pc _ _ q old = old
+add_notes pc (Some before) (Some instr) q so_far =
+    add_note (add_note so_far (next_note_to pc before instr q)) (jump_note_to before instr q)
+add_notes pc _ _ q so_far = so_far
 
--- the join of the notes that the first n instructions send to q, `None` if they send none; the first
--- instruction of the program also gets the entry note
+-- the join of the notes that the first n instructions of a program send to q, and of the entry note if q is
+-- 0, the first instruction; `None` if there are none
 abbrev pub incoming : Kind → List Instr → ℕ → ℕ → Option Note
 incoming kind code zero q = if_here (nat_eq q 0) (Some (entry kind))
 incoming kind code (suc n) q =
     add_notes n (incoming kind code n n) (slice_get code n) q (incoming kind code n q)
 
 -- the note of the instruction at pc: the join of the notes that earlier instructions send to it, and of the
--- entry note if it is the first; `None` if there are none
+-- entry note if pc is 0; `None` if there are none, because the instruction is unreachable
 abbrev pub note_at : Kind → List Instr → ℕ → Option Note
 note_at kind code pc = incoming kind code pc pc
 
@@ -58,8 +62,7 @@ pub record Sends (kind : Kind) (code : List Instr) (p q : ℕ) (note : Note) : T
   pub stands : slice_get code p ≡ Some instr
   pub sent : (next_note_to p before instr q ≡ Some note) ⊎ (jump_note_to before instr q ≡ Some note)
 
--- a note is sent to the instruction at pc: it is the entry note and pc is 0, or an earlier instruction sends
--- it
+-- a note is sent to the instruction at pc: by an earlier instruction; or it is the entry note, and pc is 0
 abbrev pub IsSent : Kind → List Instr → ℕ → Note → Type 0
 IsSent kind code pc note =
     ((pc ≡ 0) × (note ≡ entry kind))

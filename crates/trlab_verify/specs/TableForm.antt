@@ -1,4 +1,4 @@
--- The form of tables: notes as callers write and read them.
+-- Forms: the notes of a table as callers write and read them.
 use Rattle.std.specs.Prelude.{◌≡◌, ℕ, ◌≤◌, List, [], map, false, slice_index_or}
 use Rattle.trlab_code.specs.declared.program.Kind.{Kind}
 use Rattle.trlab_code.specs.declared.instruction.Input.{Input}
@@ -17,23 +17,23 @@ use Rattle.trlab_verify.specs.declared.table.NotesFault.{NotesFault}
 use Rattle.trlab_verify.specs.declared.table.NotesFault.TheVariants.{Refused, Memory}
 use Rattle.trlab_verify.specs.Verdict.{IsRefused}
 
--- the abstract value that a register's mark means
-abbrev pub said_of : Mark → AbstractValue
-said_of Unset = Nothing
-said_of (Num lo hi) = Between lo hi
-said_of (Flag imp) = Implies imp
+-- the abstract value that the mark of a register means
+abbrev pub mark_value : Mark → AbstractValue
+mark_value Unset = Nothing
+mark_value (Num lo hi) = Between lo hi
+mark_value (Flag imp) = Implies imp
 
--- the abstract value of a variable in a form: that of a register's mark, or the range of an input of programs
--- of this kind
-abbrev pub form_said : Kind → Form → Variable → AbstractValue
-form_said kind form (variable.Register r) = said_of (slice_index_or form.regs (register_number r) Unset)
-form_said kind form (variable.Input k) = entry_said kind (variable.Input k)
+-- the abstract value of a variable in a form: for a register that of its mark, and nothing if it has no mark;
+-- for an input its range, if programs of this kind may read it
+abbrev pub form_value : Kind → Form → Variable → AbstractValue
+form_value kind form (variable.Register r) = mark_value (slice_index_or form.regs (register_number r) Unset)
+form_value kind form (variable.Input k) = entry_said kind (variable.Input k)
 
--- the note that a form means, for programs of this kind
+-- the note that a form means for programs of this kind
 abbrev pub meaning : Kind → Form → Note
-meaning kind form = record { said = form_said kind form; level = levels_in form.levels; side = form.side }
+meaning kind form = record { said = form_value kind form; level = levels_in form.levels; side = form.side }
 
--- the table of the notes that forms mean, for programs of this kind
+-- the table of the notes that these forms mean for programs of this kind
 abbrev pub table_of : Kind → List Form → List Note
 table_of kind forms = map (meaning kind) forms
 
@@ -41,20 +41,20 @@ table_of kind forms = map (meaning kind) forms
 abbrev pub empty_form : Form
 empty_form = record { regs = []; levels = []; side = false }
 
--- the note that the form of the instruction at pc means; if there is none, the meaning of the empty form
+-- the note that the form of the instruction at pc means; if there is no such form, the note of the empty form
 abbrev pub meaning_at : Kind → List Form → ℕ → Note
 meaning_at kind forms pc = meaning kind (slice_index_or forms pc empty_form)
 
--- each known level of a note is at most 2
+-- each known level of a note is at most 2, the largest level
 abbrev pub HasValidLevels : Note → Type 0
 HasValidLevels note = (x y : Variable) → known_level note x y ≤ 2
 
--- a note gives each input the abstract value that it has at the start of programs of this kind
+-- a note gives each input its abstract value at the start of programs of this kind
 abbrev pub HasInputRanges : Kind → Note → Type 0
 HasInputRanges kind note = (k : Input) → note.said (variable.Input k) ≡ entry_said kind (variable.Input k)
 
--- a fault instead of the notes of a program: `Refused` if the verdict rejects it as one of its own kind;
--- `Memory` is always possible
-abbrev pub HasNoNotes : Program → NotesFault → Type 0
-HasNoNotes program Refused = (at : ℕ) × (reason : ℕ) × IsRefused program.kind program at reason
-HasNoNotes program Memory = Unit {0}
+-- a fault instead of the notes of a program: with `Refused` the verdict rejects the program as one of its own
+-- kind; `Memory` is always possible
+abbrev pub IsNotesFaultOf : Program → NotesFault → Type 0
+IsNotesFaultOf program Refused = (at : ℕ) × (reason : ℕ) × IsRefused program.kind program at reason
+IsNotesFaultOf program Memory = Unit {0}

@@ -1,4 +1,4 @@
--- Tables of notes, one note for each instruction of a program, and which of them check.
+-- Tables of notes, one note per instruction of a program, and the conditions under which a table checks.
 use Rattle.std.specs.Prelude.{◌≡◌, ℕ, suc, ◌+◌, ◌<◌, ◌==◌, if◌then◌else◌, List, length, slice_get, slice_index_or, Some, None, IfSome, false}
 use Rattle.trlab_code.specs.declared.program.Kind.{Kind}
 use Rattle.trlab_code.specs.declared.instruction.Instr.{Instr}
@@ -14,15 +14,16 @@ use Rattle.trlab_verify.specs.Incoming.{note_at}
 use Rattle.trlab_verify.specs.Verdict.{IsRefused}
 
 -- the empty note, in which nothing is known
-abbrev pub blank : Note
-blank = record { said = λ x. Nothing; level = λ x y. 0; side = false }
+abbrev pub empty_note : Note
+empty_note = record { said = λ x. Nothing; level = λ x y. 0; side = false }
 
--- the note of a table for the instruction at pc; the empty note if the table has none
+-- the note of the instruction at pc in a table; the empty note if the table has none
 abbrev pub note_in : List Note → ℕ → Note
-note_in table pc = slice_index_or table pc blank
+note_in table pc = slice_index_or table pc empty_note
 
--- the notes check at instruction i at pc: unless it is the first, some instruction leads to it; no reason
--- holds against it; and no note after it is stronger than the one that it sends there
+-- the notes check at instruction i at pc: some instruction leads to it, unless it is the first; no reason
+-- holds against it; and the note of each instruction to which it leads is no stronger than the note that it
+-- sends there
 pub record ChecksAt (kind : Kind) (program : Program) (note : ℕ → Note) (pc : ℕ) (i : Instr) : Type 0 where
   pub reached : 0 < pc → (p : ℕ) × Follows program.instrs p pc
   pub clear : reason_against kind program.kind (length program.instrs) pc (note pc) i ≡ None
@@ -30,30 +31,31 @@ pub record ChecksAt (kind : Kind) (program : Program) (note : ℕ → Note) (pc 
   pub jumps : (t : ℕ) → target i ≡ Some t → t < length program.instrs
       → IsNoStronger (note t) (jump_note (note pc) i)
 
--- a table checks: it has one note per instruction, the first note is no stronger than the entry note, and the
--- notes check at each instruction
+-- a table checks for the program as one of this kind: it has one note per instruction, its first note is no
+-- stronger than the entry note, and its notes check at each instruction
 pub record Checks (kind : Kind) (program : Program) (table : List Note) : Type 0 where
   pub one_each : length table ≡ length program.instrs
   pub first : IsNoStronger (note_in table 0) (entry kind)
   pub each : (pc : ℕ) (i : Instr) → slice_get program.instrs pc ≡ Some i
       → ChecksAt kind program (note_in table) pc i
 
--- some table of notes checks for the program as one of a kind
+-- the program has a certificate: some table of notes checks for it as one of this kind
 abbrev pub SomeTableChecks : Kind → Program → Type 0
 SomeTableChecks kind program = (table : List Note) × Checks kind program table
 
--- the table has the note with which the verdict judges each instruction of the program
+-- the table has one note per instruction of the program, the note from which the verdict judges the
+-- instruction
 pub record AreVerdictNotes (kind : Kind) (program : Program) (table : List Note) : Type 0 where
   pub one_each : length table ≡ length program.instrs
   pub each : (pc : ℕ) → pc < length program.instrs → note_at kind program.instrs pc ≡ Some (note_in table pc)
 
--- a note is no stronger than the verdict's note of the instruction at pc, which has one
+-- a note is no stronger than the verdict's note of the instruction at pc, which exists
 abbrev pub IsNoStrongerAt : Kind → Program → ℕ → Note → Type 0
 IsNoStrongerAt kind program pc note =
     (best : Note) × (note_at kind program.instrs pc ≡ Some best) × IsNoStronger note best
 
--- the number of instructions that have a note if the verdict rejects the one at `at`: it has none if it is
--- unreachable, which is reason 1
+-- the number of instructions up to `at`, the rejected one, that have a note: all of them, but without `at`
+-- itself if it is unreachable, which is reason 1
 abbrev pub noted_count : ℕ → ℕ → ℕ
 noted_count at reason = if reason == 1 then at else at + 1
 
@@ -62,8 +64,8 @@ pub record AreFirstNotes (kind : Kind) (program : Program) (count : ℕ) (table 
   pub one_each : length table ≡ count
   pub each : (pc : ℕ) → pc < count → note_at kind program.instrs pc ≡ Some (note_in table pc)
 
--- the program is rejected, and the table has the notes up to the rejected instruction, which has none itself
--- if it is unreachable
+-- the verdict rejects the program as one of this kind, and the table has the notes up to the rejected
+-- instruction, which has a note unless it is unreachable
 abbrev pub AreNotesOfRefused : Kind → Program → List Note → Type 0
 AreNotesOfRefused kind program table = (at : ℕ) × (reason : ℕ)
     × IsRefused kind program at reason × AreFirstNotes kind program (noted_count at reason) table

@@ -1,4 +1,4 @@
--- The verdict: which programs the verifier rejects, at which instruction and why.
+-- The verdict: the programs that the verifier rejects, at which instruction and for which reason.
 use Rattle.std.specs.Prelude.{◌≡◌, ℕ, ◌<◌, length, Option, Some, None, slice_get}
 use Rattle.std.specs.Option.{option_map}
 use Rattle.trlab_code.specs.declared.program.Kind.{Kind}
@@ -10,27 +10,29 @@ use Rattle.trlab_notes.specs.Notes.{Note}
 use Rattle.trlab_notes.specs.Reasons.{reason_against, reason_number}
 use Rattle.trlab_verify.specs.Incoming.{note_at}
 
--- the first reason against instruction i at pc, one of len instructions: `Unreachable` if it has no note,
--- otherwise the first of the reasons 2 to 12; `None` if none of them holds
-abbrev pub least_reason : Kind → Kind → ℕ → ℕ → Option Note → Option Instr → Option Reason
-least_reason kind own len pc None i = Some Unreachable
-least_reason kind own len pc (Some m) None = None
-least_reason kind own len pc (Some m) (Some i) = reason_against kind own len pc m i
+-- the first reason against the instruction at pc, one of len instructions: `Unreachable` if it has no note,
+-- otherwise the first of the reasons 2 to 12 that holds; `None` if none holds, or there is a note but no
+-- instruction
+abbrev pub first_reason_at : Kind → Kind → ℕ → ℕ → Option Note → Option Instr → Option Reason
+first_reason_at kind own len pc None instr = Some Unreachable
+first_reason_at kind own len pc (Some note) None = None
+first_reason_at kind own len pc (Some note) (Some instr) = reason_against kind own len pc note instr
 
--- the number of the first reason against the instruction of a program at pc; `None` if no reason holds
-unfoldable pub fault_at : Kind → Program → ℕ → Option ℕ
-fault_at kind program pc =
+-- the number of the first reason against the instruction of a program at pc, 1 to 12; `None` if no reason
+-- holds
+unfoldable pub reason_number_at : Kind → Program → ℕ → Option ℕ
+reason_number_at kind program pc =
     let note = note_at kind program.instrs pc in
     let instr = slice_get program.instrs pc in
-    option_map reason_number (least_reason kind program.kind (length program.instrs) pc note instr)
+    option_map reason_number (first_reason_at kind program.kind (length program.instrs) pc note instr)
 
 -- the program is accepted as one of a kind: no reason holds against any of its instructions
 abbrev pub IsAccepted : Kind → Program → Type 0
-IsAccepted kind program = (pc : ℕ) → pc < length program.instrs → fault_at kind program pc ≡ None
+IsAccepted kind program = (pc : ℕ) → pc < length program.instrs → reason_number_at kind program pc ≡ None
 
--- the program is rejected as one of a kind: `at` is its first instruction against which a reason holds, and
--- `reason` is the first one there
+-- the verdict rejects the program as one of a kind: `at` is the first instruction against which a reason
+-- holds, and `reason` is the number of the first reason there
 pub record IsRefused (kind : Kind) (program : Program) (at reason : ℕ) : Type 0 where
   pub within : at < length program.instrs
-  pub here : fault_at kind program at ≡ Some reason
-  pub first : (pc : ℕ) → pc < at → fault_at kind program pc ≡ None
+  pub here : reason_number_at kind program at ≡ Some reason
+  pub first : (pc : ℕ) → pc < at → reason_number_at kind program pc ≡ None

@@ -1,4 +1,4 @@
--- The results of the verifier's calls for a code, as a program of a kind.
+-- The results of the verifier for a code, as a program of a kind.
 use Rattle.std.specs.Prelude.{◌≡◌}
 use Rattle.trlab_code.specs.declared.program.Kind.{Kind}
 use Rattle.trlab_code.specs.Program.{Program}
@@ -10,8 +10,8 @@ use Rattle.trlab_verify.specs.Longest.{IsLongest}
 use Rattle.trlab_verify.specs.Tables.{SomeTableChecks}
 use Rattle.trlab_verify.specs.Verdict.{IsAccepted}
 
--- the accepted program of a code: it is the code, safe within its budget, which is its longest path, and some
--- table of notes checks
+-- the accepted program of a code: it is the code, safe within its budget, which is the length of its longest
+-- path, and some table of notes checks
 pub record IsAcceptedAs (kind : Kind) (code : Program) (program : CheckedProgram) : Type 0 where
   pub same : program.program ≡ code
   pub accepted : IsAccepted kind code
@@ -19,9 +19,9 @@ pub record IsAcceptedAs (kind : Kind) (code : Program) (program : CheckedProgram
   pub safe : IsSafe kind code.instrs program.budget
   pub some_table : SomeTableChecks kind code
 
--- a code that is not accepted, returned with its fault: a rejection, for which no table of notes checks, or a
--- failed allocation
-pub record IsRefusedAs (kind : Kind) (code : Program) (back : Program × VerifyFault) : Type 0 where
-  pub same : back.0 ≡ code
-  pub refused : IsFaultOf kind code back.1
-  pub no_table : NoTableChecks kind code back.1
+-- the error of verifying a code as a program of this kind: the same code, and either the verdict's reason to
+-- reject it, with which no table of notes checks, or a failed allocation
+pub record IsVerifyErrorAs (kind : Kind) (code : Program) (error : Program × VerifyFault) : Type 0 where
+  pub same : error.0 ≡ code
+  pub refused : IsFaultOf kind code error.1
+  pub no_table : NoTableChecks kind code error.1

@@ -6,7 +6,7 @@ ghost use Rattle.std.specs.Prelude.{◌≡◌, ◌≢◌, ◌⊎◌, ℕ, ◌<�
 ghost use Rattle.trlab_code.specs.declared.instruction.Variable.{Variable};
 ghost use Rattle.trlab_code.specs.declared.program.Kind.{Kind};
 ghost use Rattle.trlab_code.specs.Machine.{IsSafe};
-ghost use Rattle.trlab_code.specs.Program.{Program, IsProgram};
+ghost use Rattle.trlab_code.specs.Program.{Program, IsValidProgram};
 ghost use Rattle.trlab_notes.specs.Notes.{Note, known_level};
 ghost use Rattle.trlab_notes.specs.Order.{IsNoStronger};
 ghost use Rattle.trlab_verify.specs.Incoming.{IsSent, note_at};
@@ -39,7 +39,7 @@ pub fn each_is_judged()
 /// Each accepted program has a longest path; with its length as the budget, it is a checked program.
 #[tactic(auto, using(crate::proofs::Judged::some_budget))]
 pub fn accepted_is_checked()
-    ensures { (kind : Kind) (program : Program) → IsProgram program → IsAccepted kind program →
+    ensures { (kind : Kind) (program : Program) → IsValidProgram program → IsAccepted kind program →
         (budget : ℕ) × IsChecked kind (record { program = program; budget = budget }) }
 {}
 

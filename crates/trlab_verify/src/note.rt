@@ -4,9 +4,9 @@
 ghost use Rattle.std.specs.Prelude.{◌≡◌, ◌↔◌, ℕ, ◌<◌, ◌≤◌, IfSome, IsTrue, None, slice_index};
 ghost use Rattle.trlab_code.specs.declared.instruction.Variable.{Variable as AVariable};
 ghost use Rattle.trlab_notes.specs.Notes.{closure, entry};
-ghost use Rattle.trlab_notes.specs.Rows.{AreValidLevels, known_with, said_in};
+ghost use Rattle.trlab_notes.specs.Rows.{AreValidLevels, known_level_from, value_in};
 ghost use Rattle.trlab_notes.specs.Stored.{note_of};
-ghost use Rattle.trlab_verify.specs.TableForm.{form_said, said_of, meaning, HasValidLevels, HasInputRanges};
+ghost use Rattle.trlab_verify.specs.TableForm.{form_value, mark_value, meaning, HasValidLevels, HasInputRanges};
 
 use trlab_code::{Kind, VARIABLES};
 use trlab_notes::{AbstractValue, Stored, entry_levels, entry_said, level_between};
@@ -38,7 +38,7 @@ pub struct Note {
 
 /// The abstract value of a mark.
 fn said_by(mark: Mark) -> AbstractValue
-    ensures { result ≡ said_of mark }
+    ensures { result ≡ mark_value mark }
 {
     match mark {
         Mark::Unset => AbstractValue::Nothing,
@@ -49,7 +49,7 @@ fn said_by(mark: Mark) -> AbstractValue
 
 /// The mark of an abstract value.
 fn mark_of(said: AbstractValue) -> Mark
-    ensures { said_of result ≡ said }
+    ensures { mark_value result ≡ said }
 {
     match said {
         AbstractValue::Nothing => Mark::Unset,
@@ -60,7 +60,7 @@ fn mark_of(said: AbstractValue) -> Mark
 
 /// The abstract values of a form's variables, in the order of their numbers.
 fn variables(kind: Kind, form: &Note) -> [AbstractValue; VARIABLES]
-    ensures { (x : AVariable) → said_in result x ≡ form_said kind form.now x }
+    ensures { (x : AVariable) → value_in result x ≡ form_value kind form.now x }
 {
     let mut variables = entry_said(kind);
     for x in 0..8 {
@@ -73,7 +73,7 @@ fn variables(kind: Kind, form: &Note) -> [AbstractValue; VARIABLES]
 fn has_levels_from(said: &[AbstractValue; VARIABLES], levels: &[u8; VARIABLES], x: usize) -> bool
     requires { x < VARIABLES }
     ensures { IsTrue result ↔ ((y : ℕ) → y < VARIABLES →
-        known_with said.now x y (slice_index levels.now y) ≤ 2) }
+        known_level_from said.now x y (slice_index levels.now y) ≤ 2) }
 {
     for y in 0..VARIABLES {
         if level_between(said[x], said[y], x == y, levels[y]) > 2 {

@@ -3,10 +3,10 @@
 ghost use Rattle.std.specs.Prelude.{◌≡◌, ℕ, ◌<◌, ◌≤◌, All, IfErr, IfOk, Some, length, MatchOption};
 ghost use Rattle.trlab_code.specs.Program.{IsInRange, Program};
 ghost use Rattle.trlab_notes.specs.Notes.{Note as ANote, entry, maybe_closure};
-ghost use Rattle.trlab_notes.specs.Stored.{note_of, notes_of};
+ghost use Rattle.trlab_notes.specs.Stored.{note_of, stored_note_at};
 ghost use Rattle.trlab_verify.specs.declared.table.NotesFault.TheVariants.{Memory};
 ghost use Rattle.trlab_verify.specs.Incoming.{incoming};
-ghost use Rattle.trlab_verify.specs.TableForm.{HasNoNotes, HasInputRanges, meaning, meaning_at, table_of};
+ghost use Rattle.trlab_verify.specs.TableForm.{IsNotesFaultOf, HasInputRanges, meaning, meaning_at, table_of};
 ghost use Rattle.trlab_verify.specs.Tables.{Checks, AreVerdictNotes, AreNotesOfRefused, noted_count};
 ghost use Rattle.trlab_verify.specs.Verdict.{IsAccepted};
 ghost use Rattle.trlab_notes.specs.Reasons.{reason_number};
@@ -57,11 +57,11 @@ pub fn write_all(
     stored: &[Option<Stored>],
 ) -> Result<Vec<Note>, AllocError>
     requires { (pc : ℕ) → pc < length stored.now →
-        (note : ANote) × (notes_of stored.now pc ≡ Some note) × HasInputRanges kind note }
+        (note : ANote) × (stored_note_at stored.now pc ≡ Some note) × HasInputRanges kind note }
     ensures one_each { IfOk result (λ notes. length notes.items ≡ length stored.now) }
     ensures first { IfOk result (λ notes. 0 < length stored.now → meaning_at kind notes.items 0 ≡ entry kind) }
     ensures later { IfOk result (λ notes. (pc : ℕ) → 0 < pc → pc < length stored.now →
-        notes_of stored.now pc ≡ Some (meaning_at kind notes.items pc)) }
+        stored_note_at stored.now pc ≡ Some (meaning_at kind notes.items pc)) }
 {
     let mut notes = Vec::with_capacity(alloc, stored.len())?;
     for pc in 0..stored.len() {
@@ -84,11 +84,11 @@ fn judge_notes(
     requires in_range { All IsInRange instrs.now }
     requires one_each { length stored.old ≡ length instrs.now }
     requires begins { (q : ℕ) → q < length instrs.now →
-        notes_of stored.old q ≡ maybe_closure (incoming kind instrs.now 0 q) }
+        stored_note_at stored.old q ≡ maybe_closure (incoming kind instrs.now 0 q) }
     ensures accepted { IfOk result (λ notes. IsAccepted kind (record { kind = kind; instrs = instrs.now })) }
     ensures best { IfOk result (λ notes.
         AreVerdictNotes kind (record { kind = kind; instrs = instrs.now }) (table_of kind notes.items)) }
-    ensures refused { IfErr result (λ fault. HasNoNotes (record { kind = kind; instrs = instrs.now }) fault) }
+    ensures refused { IfErr result (λ fault. IsNotesFaultOf (record { kind = kind; instrs = instrs.now }) fault) }
 {
     if judge(kind, kind, instrs, stored).is_some() {
         return Err(NotesFault::Refused);
@@ -110,7 +110,7 @@ pub fn notes(alloc: Global, code: &Code) -> Result<Vec<Note>, NotesFault>
         AreVerdictNotes code.now.kind code.now (table_of code.now.kind notes.items)) }
     ensures checks { IfOk result (λ notes.
         Checks code.now.kind code.now (table_of code.now.kind notes.items)) }
-    ensures refused { IfErr result (λ fault. HasNoNotes code.now fault) }
+    ensures refused { IfErr result (λ fault. IsNotesFaultOf code.now fault) }
 {
     let instrs = code.instrs();
     let kind = code.kind();
@@ -139,7 +139,7 @@ fn judge_refused(
     requires in_range { All IsInRange instrs.now }
     requires one_each { length stored.old ≡ length instrs.now }
     requires begins { (q : ℕ) → q < length instrs.now →
-        notes_of stored.old q ≡ maybe_closure (incoming kind instrs.now 0 q) }
+        stored_note_at stored.old q ≡ maybe_closure (incoming kind instrs.now 0 q) }
     ensures { let program : Program = record { kind = kind; instrs = instrs.now } in
         IfOk result (λ notes. MatchOption notes (IsAccepted kind program)
         (λ notes. AreNotesOfRefused kind program (table_of kind notes.items))) }

@@ -5,7 +5,7 @@ ghost use Rattle.std.specs.Prelude.{◌≡◌, ℕ, ◌<◌, false, length, Some
 ghost use Rattle.trlab_code.specs.Program.{IsInRange, Program};
 ghost use Rattle.trlab_notes.specs.Transfer.{jump_note};
 ghost use Rattle.trlab_verify.specs.Incoming.{next_note_to, jump_note_to, add_note, add_notes, incoming, note_at};
-ghost use Rattle.trlab_notes.specs.Stored.{note_of, notes_of};
+ghost use Rattle.trlab_notes.specs.Stored.{note_of, stored_note_at};
 ghost use Rattle.trlab_notes.specs.Reasons.{may_be_too_large, reason_number};
 ghost use Rattle.trlab_notes.specs.Notes.{maybe_closure};
 ghost use Rattle.trlab_verify.specs.Verdict.{IsAccepted, IsRefused};
@@ -17,8 +17,8 @@ use trlab_notes::{Reason, Stored, join, join_itself, jump_note, next_note, reaso
 /// Joins a note with those that arrived at `pc` before.
 fn add_incoming(notes: &mut [Option<Stored>], pc: usize, note: Stored)
     requires { pc < length notes.old }
-    ensures { (q : ℕ) → notes_of notes.new q ≡ (if nat_eq q pc
-        then add_note (notes_of notes.old pc) (Some (note_of note)) else notes_of notes.old q) }
+    ensures { (q : ℕ) → stored_note_at notes.new q ≡ (if nat_eq q pc
+        then add_note (stored_note_at notes.old pc) (Some (note_of note)) else stored_note_at notes.old q) }
 {
     notes[pc] = match notes[pc] {
         None => Some(join_itself(&note)),
@@ -32,7 +32,8 @@ fn send_next(notes: &mut [Option<Stored>], pc: usize, note: &Stored, instr: Inst
     requires in_range { IsInRange instr }
     requires fits { may_be_too_large (note_of note.now) instr ≡ false }
     ensures { (q : ℕ) → q < length notes.old →
-        notes_of notes.new q ≡ add_note (notes_of notes.old q) (next_note_to pc (note_of note.now) instr q) }
+        stored_note_at notes.new q
+        ≡ add_note (stored_note_at notes.old q) (next_note_to pc (note_of note.now) instr q) }
 {
     let next = pc + 1;
     if next >= notes.len() {
@@ -46,7 +47,7 @@ fn send_next(notes: &mut [Option<Stored>], pc: usize, note: &Stored, instr: Inst
 /// Sends a note to the target of a jump.
 fn send_jump(notes: &mut [Option<Stored>], note: &Stored, instr: Instr)
     ensures { (q : ℕ) → q < length notes.old →
-        notes_of notes.new q ≡ add_note (notes_of notes.old q) (jump_note_to (note_of note.now) instr q) }
+        stored_note_at notes.new q ≡ add_note (stored_note_at notes.old q) (jump_note_to (note_of note.now) instr q) }
 {
     if let Some(target) = instr.target() {
         let to = target as usize;
@@ -62,7 +63,8 @@ pub fn send(notes: &mut [Option<Stored>], pc: usize, note: &Stored, instr: Instr
     requires in_range { IsInRange instr }
     requires fits { may_be_too_large (note_of note.now) instr ≡ false }
     ensures { (q : ℕ) → q < length notes.old →
-        notes_of notes.new q ≡ add_notes pc (Some (note_of note.now)) (Some instr) q (notes_of notes.old q) }
+        stored_note_at notes.new q
+        ≡ add_notes pc (Some (note_of note.now)) (Some instr) q (stored_note_at notes.old q) }
 {
     send_next(notes, pc, note, instr);
     send_jump(notes, note, instr);
@@ -84,7 +86,7 @@ pub fn start_notes(
     requires { 1 ≤ length instrs.now }
     ensures one_each { IfOk result (λ notes. length notes.items ≡ length instrs.now) }
     ensures begins { IfOk result (λ notes. (q : ℕ) → q < length instrs.now →
-        notes_of notes.items q ≡ maybe_closure (incoming kind instrs.now 0 q)) }
+        stored_note_at notes.items q ≡ maybe_closure (incoming kind instrs.now 0 q)) }
 {
     let mut notes = vec![in alloc; None; instrs.len()]?;
     notes[0] = Some(Stored::entry(kind));
@@ -102,13 +104,13 @@ pub fn judge(
     requires in_range { All IsInRange instrs.now }
     requires one_each { length notes.old ≡ length instrs.now }
     requires begins { (q : ℕ) → q < length instrs.now →
-        notes_of notes.old q ≡ maybe_closure (incoming kind instrs.now 0 q) }
+        stored_note_at notes.old q ≡ maybe_closure (incoming kind instrs.now 0 q) }
     ensures verdict { let program : Program = record { kind = own; instrs = instrs.now } in
         MatchOption result (IsAccepted kind program) (λ no. IsRefused kind program no.at (reason_number no.reason)) }
     ensures stored { result ≡ None → (q : ℕ) → q < length instrs.now →
-        notes_of notes.new q ≡ maybe_closure (note_at kind instrs.now q) }
+        stored_note_at notes.new q ≡ maybe_closure (note_at kind instrs.now q) }
     ensures judged { IfSome result (λ no. (q : ℕ) → q ≤ no.at →
-        notes_of notes.new q ≡ maybe_closure (note_at kind instrs.now q)) }
+        stored_note_at notes.new q ≡ maybe_closure (note_at kind instrs.now q)) }
 {
     for pc in 0..instrs.len() {
         let instr = instrs[pc];

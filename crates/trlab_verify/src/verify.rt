@@ -6,7 +6,7 @@ ghost use Rattle.std.specs.Option.{option_map_or};
 ghost use Rattle.trlab_code.specs.Flow.{falls, target};
 ghost use Rattle.trlab_verify.specs.Longest.{IsLongest, IsForward};
 ghost use Rattle.trlab_code.specs.declared.program.Kind.TheVariants.{Motion as OfMotion, Change as OfChange};
-ghost use Rattle.trlab_verify.specs.Verified.{IsAcceptedAs, IsRefusedAs};
+ghost use Rattle.trlab_verify.specs.Verified.{IsAcceptedAs, IsVerifyErrorAs};
 
 use crate::program::{AcceptedProgram, Change, Motion, ProgramKind};
 use crate::verdict::{Rejection, verdict};
@@ -87,7 +87,7 @@ pub fn verify_as<K: ProgramKind>(
     alloc: Global,
     code: Code,
 ) -> Result<AcceptedProgram<K>, (Code, VerifyFault)>
-    ensures { MatchResult result (IsAcceptedAs K.KIND code) (IsRefusedAs K.KIND code) }
+    ensures { MatchResult result (IsAcceptedAs K.KIND code) (IsVerifyErrorAs K.KIND code) }
 {
     match verdict(alloc, K::KIND, &code) {
         Ok(None) => {
@@ -111,7 +111,7 @@ pub fn verify_as<K: ProgramKind>(
 ///
 /// `Why` if the program is rejected as a motion program, and `Memory`.
 pub fn verify_motion(alloc: Global, code: Code) -> Result<Motion, (Code, VerifyFault)>
-    ensures { MatchResult result (IsAcceptedAs OfMotion code) (IsRefusedAs OfMotion code) }
+    ensures { MatchResult result (IsAcceptedAs OfMotion code) (IsVerifyErrorAs OfMotion code) }
 {
     verify_as(alloc, code)
 }
@@ -122,7 +122,7 @@ pub fn verify_motion(alloc: Global, code: Code) -> Result<Motion, (Code, VerifyF
 ///
 /// `Why` if the program is rejected as a change program, and `Memory`.
 pub fn verify_change(alloc: Global, code: Code) -> Result<Change, (Code, VerifyFault)>
-    ensures { MatchResult result (IsAcceptedAs OfChange code) (IsRefusedAs OfChange code) }
+    ensures { MatchResult result (IsAcceptedAs OfChange code) (IsVerifyErrorAs OfChange code) }
 {
     verify_as(alloc, code)
 }

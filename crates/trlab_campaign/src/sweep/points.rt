@@ -4,12 +4,12 @@
 ghost use Rattle.std.specs.Prelude.{◌≡◌, IfOk, IfSome, IsTrue, length};
 ghost use Rattle.trlab_diagram.specs.Flow.{IsMeasured};
 ghost use Rattle.trlab_road.specs.Legal.{IsLegal};
-ghost use Rattle.trlab_road.specs.Spreading.{IsEven};
+ghost use Rattle.trlab_road.specs.Spreading.{IsEvenlySpaced};
 ghost use Rattle.trlab_step.specs.Run.{IsTallyAt};
 ghost use Rattle.trlab_step.specs.Progress.{at_start};
 ghost use Rattle.trlab_sequential_book.specs.Jobs.{run_start};
 ghost use Rattle.trlab_jobs.specs.Shapes.{all_steps};
-ghost use Rattle.trlab_jobs.specs.Stored.{Spreads};
+ghost use Rattle.trlab_jobs.specs.Stored.{CanSpreadOn};
 ghost use Rattle.trlab_campaign.specs.SweepOutput.{IsPoint, point_of, point_seed, sweep_sheet};
 
 use std::alloc::{AllocError, Global};
@@ -21,8 +21,8 @@ use trlab_step::{Caller, Run, Schedule, StepTally};
 
 /// The road of a point at its start, with `cars` evenly spaced cars.
 pub fn even_road(alloc: Global, sweep: &Sweep, cars: u32) -> Result<Road, AllocError>
-    requires { Spreads sweep.now.setup.shape cars }
-    ensures even { IfOk result (λ road. IsEven sweep.now.setup.shape.lanes
+    requires { CanSpreadOn sweep.now.setup.shape cars }
+    ensures even { IfOk result (λ road. IsEvenlySpaced sweep.now.setup.shape.lanes
         sweep.now.setup.shape.cells sweep.now.setup.shape.limit cars road) }
     ensures legal { IfOk result IsLegal }
 {
@@ -69,7 +69,7 @@ fn tally_of(alloc: Global, sweep: &Sweep, number: u32, road: Road) -> Result<Ste
 
 /// The point of the diagram with `cars` cars and this sum of tallies.
 fn point_of(sweep: &Sweep, cars: u32, tally: StepTally) -> Point
-    requires { Spreads sweep.now.setup.shape cars }
+    requires { CanSpreadOn sweep.now.setup.shape cars }
     ensures point { result ≡ point_of sweep.now.setup cars tally }
     ensures measured { IsMeasured result }
 {
@@ -91,8 +91,8 @@ pub fn run_point(
     cars: u32,
     road: Road,
 ) -> Result<Point, AllocError>
-    requires spreads { Spreads sweep.now.setup.shape cars }
-    requires even { IsEven sweep.now.setup.shape.lanes
+    requires spreads { CanSpreadOn sweep.now.setup.shape cars }
+    requires even { IsEvenlySpaced sweep.now.setup.shape.lanes
         sweep.now.setup.shape.cells sweep.now.setup.shape.limit cars road }
     ensures is { IfOk result (λ point. IsPoint sweep.now.setup number cars point) }
     ensures measured { IfOk result IsMeasured }
@@ -132,8 +132,8 @@ pub fn point_seen(
     road: &Road,
     seen: &Snapshot,
 ) -> Option<Point>
-    requires spreads { Spreads sweep.now.setup.shape cars }
-    requires even { IsEven sweep.now.setup.shape.lanes
+    requires spreads { CanSpreadOn sweep.now.setup.shape cars }
+    requires even { IsEvenlySpaced sweep.now.setup.shape.lanes
         sweep.now.setup.shape.cells sweep.now.setup.shape.limit cars road.now }
     ensures is { IfSome result (λ point. IsPoint sweep.now.setup number cars point) }
     ensures measured { IfSome result IsMeasured }

@@ -2,7 +2,7 @@
 
 ghost use Rattle.std.specs.Prelude.{◌≡◌, IfOk, Ok, codes, option_map};
 ghost use Rattle.clap.specs.Words.{FailsBy, found_of, kind_of, rows_of};
-ghost use Rattle.trlab_command_line.specs.Explains.{explained, explained_in, error_kinds, subject_of_command, topic_named};
+ghost use Rattle.trlab_command_line.specs.Explains.{explained, request_by_matches, error_kinds, subject_of_command, topic_named};
 ghost use Rattle.trlab_command_line.specs.Numbers.{HasFlag, MayHaveNumber};
 
 use crate::arguments::commands::explain_command;
@@ -108,8 +108,8 @@ fn refusal(alloc: Global, kind: ErrorKind, what: Option<&str>) -> Result<Error, 
 pub fn explaining_of(alloc: Global, matches: &ArgMatches) -> Result<Explaining, Error>
     requires number { MayHaveNumber (codes "number") (rows_of (found_of matches.now)) }
     requires json { HasFlag (codes "json") (rows_of (found_of matches.now)) }
-    ensures answer { IfOk result (λ asked. explained_in (rows_of (found_of matches.now)) ≡ Ok asked) }
-    ensures fault { FailsBy (error_kinds (explained_in (rows_of (found_of matches.now)))) result }
+    ensures answer { IfOk result (λ asked. request_by_matches (rows_of (found_of matches.now)) ≡ Ok asked) }
+    ensures fault { FailsBy (error_kinds (request_by_matches (rows_of (found_of matches.now)))) result }
 {
     let what = matches.get_str("what");
     let number = given_number(matches, "number");

@@ -36,17 +36,12 @@ const OTHER_WORDS: [(&[u8], LineName); 14] = [
     (b"sample", LineName::Measure),
 ];
 
-/// Whether a byte separates words, even one that no valid line has.
-fn separates(byte: u8) -> bool {
-    byte == b' ' || byte == b'\t' || byte == b'\r'
-}
-
 /// The words of a line with a separator between each two, or a space if there is a comma already.
 pub fn joined(alloc: Global, words: &[u8], separator: &[u8]) -> Result<Vec<u8>> {
     let mut bytes = Vec::new(alloc);
     let mut is_after_blank = false;
     for byte in words {
-        if separates(*byte) {
+        if matches!(*byte, b' ' | b'\t' | b'\r') {
             is_after_blank = !bytes.is_empty();
             continue;
         }
@@ -138,15 +133,6 @@ fn rule_candidate(list: &mut Candidates, fault: &Fault<'_>) {
     }
 }
 
-/// Adds candidates that insert the first line of a program above an instruction.
-fn heading_candidates(list: &mut Candidates, fault: &Fault<'_>) {
-    for line in &[LineName::Motion, LineName::Change] {
-        if fault.subject == Subject::Check || fault.wants(*line) {
-            list.above(fault, "the first line of the program is missing.", *line);
-        }
-    }
-}
-
 /// Adds a candidate that inserts a valid line, for each one except `at` lines and those of programs.
 fn missing_candidates(list: &mut Candidates, fault: &Fault<'_>, mistake: &'static str) {
     for line in &LineName::ALL {
@@ -168,23 +154,6 @@ fn command_candidate(list: &mut Candidates, fault: &Fault<'_>, word: &[u8]) {
     }
 }
 
-/// Adds the lines that may be missing at the end of an input.
-fn ended_candidates(list: &mut Candidates, fault: &Fault<'_>) {
-    if fault.wants(LineName::End) {
-        end_candidates(list, fault);
-    } else {
-        let mistake = "the file ends too early: a line is missing, for example this one.";
-        missing_candidates(list, fault, mistake);
-    }
-}
-
-/// Adds the heading of a program that the first word may mean, and a candidate that deletes the line.
-fn check_candidates(list: &mut Candidates, fault: &Fault<'_>, word: &[u8]) {
-    let meant = nearest_word(list.alloc, word, &CHECK_NAMES);
-    list.misspelled(0, word, meant);
-    list.without_line(fault, LATE);
-}
-
 /// Adds candidates for a line of a job or sweep that begins with this word.
 fn word_candidates(list: &mut Candidates, fault: &Fault<'_>, word: &[u8]) {
     name_candidates(list, fault, word);
@@ -199,15 +168,25 @@ fn word_candidates(list: &mut Candidates, fault: &Fault<'_>, word: &[u8]) {
 /// Adds candidates for an unexpected line.
 pub fn line_candidates(list: &mut Candidates, fault: &Fault<'_>) {
     let word = head_word(fault.line);
-    if fault.place.line.is_none() {
-        ended_candidates(list, fault);
+    let has_ended = fault.place.line.is_none();
+    if has_ended && fault.wants(LineName::End) {
+        end_candidates(list, fault);
+    } else if has_ended {
+        let mistake = "the file ends too early: a line is missing, for example this one.";
+        missing_candidates(list, fault, mistake);
     } else if mnemonic_named(name_and_operands(fault.line).0).is_some() {
-        heading_candidates(list, fault);
+        for line in &[LineName::Motion, LineName::Change] {
+            if fault.subject == Subject::Check || fault.wants(*line) {
+                list.above(fault, "the first line of the program is missing.", *line);
+            }
+        }
     } else {
         odd_candidates(list, fault);
         command_candidate(list, fault, word);
         if fault.subject == Subject::Check {
-            check_candidates(list, fault, word);
+            let meant = nearest_word(list.alloc, word, &CHECK_NAMES);
+            list.misspelled(0, word, meant);
+            list.without_line(fault, LATE);
         } else {
             word_candidates(list, fault, word);
         }

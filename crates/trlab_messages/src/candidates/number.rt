@@ -2,9 +2,10 @@
 
 use crate::candidates::{Candidates, DIGITS};
 use crate::fault::Fault;
+use std::num::{nearest_u64_to_f64, saturating_f64_to_u64};
 use trlab_bounds::programs::CERTAIN;
 use trlab_bounds::roads::{MAX_LANES, MAX_LENGTH};
-use trlab_lines::{bytes_at, cut, digits_value, is_numeral, next_line};
+use trlab_lines::{bytes_at, cut, next_line};
 use trlab_texts::word::number_after;
 use trlab_texts::{Quantity, Wanted};
 
@@ -36,15 +37,14 @@ pub fn meanings(
     word: &[u8],
     of_whole: Option<(&'static str, u32)>,
 ) {
-    let Some(fraction) = fraction_of(word) else {
+    let Some(value) = value_of(word) else {
         return;
     };
-    let (mistake, part) = match of_whole {
-        Some((mistake, whole)) => (mistake, nearest_part(fraction, whole)),
-        None => (DIGITS, None),
+    let (mistake, number) = match of_whole {
+        Some((mistake, whole)) if value <= 1.0 => (mistake, Some(nearest_part(value, whole))),
+        _ => (DIGITS, whole_number(value)),
     };
-    let mistake = if part.is_some() { mistake } else { DIGITS };
-    if let Some(number) = part.or(fraction.whole()) {
+    if let Some(number) = number {
         let digits = format!(in list.alloc; "{number}");
         list.rewrite(mistake, at, word.len(), digits.map(String::into_bytes));
     }
@@ -55,9 +55,10 @@ pub fn density_candidate(list: &mut Candidates, fault: &Fault<'_>) {
     let length = number_above(fault, b"length ", MAX_LENGTH);
     let cells = length.saturating_mul(number_above(fault, b"lanes ", MAX_LANES));
     let (_, word) = cut(fault.line, b' ').unwrap_or((b"", b""));
-    if let Some(density) = fraction_of(word)
-        && let Some(count) = nearest_part(density, cells)
+    if let Some(density) = value_of(word)
+        && density <= 1.0
     {
+        let count = nearest_part(density, cells);
         let line = format!(in list.alloc; "cars {count}");
         list.rewrite(DENSITY, 0, fault.line.len(), line.map(String::into_bytes));
     }
@@ -76,93 +77,33 @@ pub fn number_candidates(list: &mut Candidates, fault: &Fault<'_>) {
     meanings(list, at, bytes_at(fault.line, at, length), of_whole);
 }
 
-/// The maximum number of digits of a part of a fraction.
-const MAX_FRACTION_DIGITS: usize = 9;
-
-/// A fraction of two whole numbers.
-#[derive(Clone, Copy)]
-struct Fraction {
-    over: u128,
-    under: u128,
-}
-
-impl Fraction {
-    /// The fraction as a whole number, if it is one.
-    fn whole(self) -> Option<u64> {
-        if self.under == 0 || self.over % self.under != 0 {
-            return None;
-        }
-        u64::try_from(self.over / self.under).ok()
+/// The value of a number without a sign, for example `0.25`, `.25`, `1e4` or `007`.
+fn decimal_of(word: &[u8]) -> Option<f64> {
+    match word.first() {
+        Some(b'.' | b'0'..=b'9') => fast_float::parse(word).ok(),
+        _ => None,
     }
 }
 
-/// The value of these digits: 0 if there are none, `None` if there are too many.
-fn value_of(digits: &[u8]) -> Option<u128> {
-    if digits.is_empty() {
-        return Some(0);
-    }
-    if !is_numeral(digits) || digits.len() > MAX_FRACTION_DIGITS {
-        return None;
-    }
-    Some(u128::from(digits_value(digits)))
-}
-
-fn power_of_ten(exponent: u128) -> u128 {
-    10u128.saturating_pow(exponent.min(18) as u32)
-}
-
-/// The fraction of a word with or without a decimal point.
-fn decimal_of(word: &[u8]) -> Option<Fraction> {
-    let (whole, digits) = cut(word, b'.').unwrap_or((word, b""));
-    if whole.is_empty() && digits.is_empty() {
-        return None;
-    }
-    let under = power_of_ten(digits.len() as u128);
-    let over = value_of(whole)?
-        .saturating_mul(under)
-        .saturating_add(value_of(digits)?);
-    Some(Fraction { over, under })
-}
-
-/// The fraction of a word that may have an exponent after `e`.
-fn power_form_of(word: &[u8]) -> Option<Fraction> {
-    let Some((front, power)) = cut(word, b'e').or(cut(word, b'E')) else {
-        return decimal_of(word);
-    };
-    let Fraction { over, under } = decimal_of(front)?;
-    if let Some(power) = power.strip_prefix(b"-") {
-        let under = under.saturating_mul(power_of_ten(value_of(power)?));
-        return Some(Fraction { over, under });
-    }
-    let over = over.saturating_mul(power_of_ten(value_of(power)?));
-    Some(Fraction { over, under })
-}
-
-/// The fraction of a word, for example `0.25`, `.25`, `25%`, `1/4`, `1e4` or `007`.
-fn fraction_of(word: &[u8]) -> Option<Fraction> {
+/// The value of a number, a percentage such as `25%` or a fraction such as `1/4`.
+fn value_of(word: &[u8]) -> Option<f64> {
     let word = word.strip_prefix(b"+").unwrap_or(word);
-    if let Some(front) = word.strip_suffix(b"%") {
-        let Fraction { over, under } = decimal_of(front)?;
-        let under = under.saturating_mul(100);
-        return Some(Fraction { over, under });
+    if let Some(percent) = word.strip_suffix(b"%") {
+        return Some(decimal_of(percent)? / 100.0);
     }
-    let Some((over, under)) = cut(word, b'/') else {
-        return power_form_of(word);
-    };
-    if over.is_empty() || under.is_empty() {
-        return None;
+    match cut(word, b'/') {
+        Some((over, under)) => Some(decimal_of(over)? / decimal_of(under)?),
+        None => decimal_of(word),
     }
-    let (over, under) = (value_of(over)?, value_of(under)?);
-    Some(Fraction { over, under })
 }
 
-/// A fraction of a whole, rounded to the nearest number, if the fraction is at most 1.
-fn nearest_part(fraction: Fraction, whole: u32) -> Option<u64> {
-    let Fraction { over, under } = fraction;
-    if under == 0 || over > under {
-        return None;
-    }
-    let twice = over.saturating_mul(u128::from(whole)).saturating_mul(2);
-    let part = twice.saturating_add(under) / under.saturating_mul(2).max(1);
-    u64::try_from(part).ok()
+/// A value as a whole number, if it is one.
+fn whole_number(value: f64) -> Option<u64> {
+    let number = saturating_f64_to_u64(value);
+    (nearest_u64_to_f64(number) == value).then_some(number)
+}
+
+/// A part of a whole, rounded to the nearest number.
+fn nearest_part(part: f64, whole: u32) -> u64 {
+    saturating_f64_to_u64(part * f64::from(whole) + 0.5)
 }

@@ -4,7 +4,7 @@ use crate::body::{Body, Rejection};
 use crate::program::Listing;
 use crate::program::marks::push_fact;
 use crate::reasons::{advice, reason_meaning};
-use crate::sentence::{Draft, Shown};
+use crate::sentence::{Draft, Quoted, Shown};
 use std::alloc::Global;
 use trlab_asm::register_text;
 use trlab_code::{Instr, Register};
@@ -36,8 +36,8 @@ fn push_largest(known: &mut Draft, largest: u64) {
     writeln!(known, "The result may be as large as {largest}.");
 }
 
-/// Adds the fact that is missing for an instruction to be accepted, if it can be named.
-fn push_missing(known: &mut Draft, reason: Reason, note: &Note, instr: Instr) {
+/// Adds by how much the known facts fall short for an instruction to be accepted, if that can be said.
+fn push_obstacle(known: &mut Draft, reason: Reason, note: &Note, instr: Instr) {
     match (reason, instr) {
         (Reason::MaybeTooLarge, Instr::Add(_, a, b)) => {
             push_largest(
@@ -97,7 +97,7 @@ fn push_paths(facts: &mut Draft, program: Listing<'_>, at: u32) {
 /// The instruction at which a program is rejected, and why.
 fn rejection_at(alloc: Global, program: Listing<'_>, at: u32, reason: Reason) -> Rejection {
     let mut text = Draft::new(alloc);
-    program.push_text(&mut text, at);
+    write!(text, "{}", Quoted(program.line(at).1));
     let mut instruction = Draft::new(alloc);
     program.push_instruction(&mut instruction, at);
     Rejection {
@@ -111,25 +111,19 @@ fn rejection_at(alloc: Global, program: Listing<'_>, at: u32, reason: Reason) ->
     }
 }
 
-/// Adds the instruction above an unreachable one.
-fn push_above(facts: &mut Draft, program: Listing<'_>, at: u32) {
-    if let Some(above) = at.checked_sub(1) {
-        facts.line("The instruction above never continues here, and no jump comes here:");
-        program.push_instruction(facts, above);
-        facts.say("\n");
-    }
-}
-
 /// Adds why a program with these notes is rejected at an instruction.
 fn add_reason(body: &mut Body, program: Listing<'_>, notes: &[Note], at: u32, reason: Reason) {
     body.rejection = Some(rejection_at(body.alloc, program, at, reason));
     if reason == Reason::Unreachable {
-        return push_above(&mut body.facts, program, at);
+        let facts = &mut body.facts;
+        facts.line("The instruction above never continues here, and no jump comes here:");
+        program.push_instruction(facts, at.saturating_sub(1));
+        return facts.say("\n");
     }
     let instr = program.code.instrs().get(at as usize);
     if let (Some(note), Some(instr)) = (notes.get(at as usize), instr) {
         push_operands(&mut body.known, note, *instr);
-        push_missing(&mut body.known, reason, note, *instr);
+        push_obstacle(&mut body.known, reason, note, *instr);
     }
     push_paths(&mut body.facts, program, at);
 }

@@ -4,7 +4,7 @@
 ghost use Rattle.std.specs.Prelude.{◌≡◌, ◌<◌, IfErr, IfOk, IfSome, OnOk};
 ghost use Rattle.std.specs.Arc.{arc_value};
 ghost use Rattle.trlab_road.specs.Cells.{cars};
-ghost use Rattle.trlab_segments.specs.Drawers.{IsNew};
+ghost use Rattle.trlab_segments.specs.Drawers.{HasDrawnNone};
 ghost use Rattle.trlab_segments.specs.Results.{AnswersAll, CoversAllCars};
 
 use crate::phase::Asked;
@@ -56,7 +56,7 @@ fn shared_task<A: Copy + Drop, P: Asked<A> + Drop>(
     brief: Brief<P>,
     reserve: Option<Drawer>,
 ) -> Result<Arc<Task<A, P>, Global>, Road>
-    requires reserve { IfSome reserve (IsNew brief.tickets) }
+    requires reserve { IfSome reserve (HasDrawnNone brief.tickets) }
     requires lanes { P.can_ask brief.road }
     ensures ok { IfOk result (λ task. (arc_value task).brief ≡ brief) }
     ensures err { IfErr result (λ back. back ≡ brief.road) }
@@ -102,7 +102,7 @@ impl<'a, R: Wait, G: Gate> Pool<'a, R, G> {
         drawer: Drawer,
         observer: &mut O,
     ) -> (Road, Result<(), AllocError>)
-        requires new { IsNew brief.tickets drawer }
+        requires new { HasDrawnNone brief.tickets drawer }
         requires cut { CoversAllCars brief }
         requires lanes { P.can_ask brief.road }
         ensures road { result.0 ≡ brief.road }

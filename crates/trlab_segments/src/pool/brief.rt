@@ -3,8 +3,8 @@
 ghost use Rattle.std.specs.Prelude.{◌≡◌, ◌<◌, ◌≤◌, IfOk, OnErr, OnOk};
 ghost use Rattle.trlab_bounds.specs.declared.runs.TheConstants.{MAX_WORKERS};
 ghost use Rattle.trlab_segments.specs.Answered.{HasParts};
-ghost use Rattle.trlab_segments.specs.Drawers.{IsFrom, IsNew};
-ghost use Rattle.trlab_segments.specs.Results.{AnswersAll, IsBriefOf, HasDone, CoversAllCars, IsRight};
+ghost use Rattle.trlab_segments.specs.Drawers.{IsDrawerOf, HasDrawnNone};
+ghost use Rattle.trlab_segments.specs.Results.{AnswersAll, IsBriefOf, HasDone, CoversAllCars, IsPartOfBrief};
 ghost use Rattle.trlab_segments.specs.Segments.{first_car};
 
 use crate::parts::{Part, collect, work};
@@ -65,7 +65,7 @@ pub fn brief_of<A, P: Asked<A> + Drop>(
     requires few { workers ≤ MAX_WORKERS }
     ensures asked { IfOk result (λ r. IsBriefOf program.now dice.now road.old r.0) }
     ensures cut { IfOk result (λ r. CoversAllCars r.0) }
-    ensures new { IfOk result (λ r. IsNew r.0.tickets r.1) }
+    ensures new { IfOk result (λ r. HasDrawnNone r.0.tickets r.1) }
     ensures err { OnErr result (road.new ≡ road.old) }
 {
     let count = segments_for(road.cars(), workers);
@@ -96,11 +96,11 @@ pub fn draw_all<A: Drop, P: Asked<A>, G: Gate>(
     worker: u32,
     gate: &G,
 ) -> Result<Vec<Part<A>>, AllocError>
-    requires new { IsNew brief.now.tickets drawer.old }
+    requires new { HasDrawnNone brief.now.tickets drawer.old }
     requires lanes { P.can_ask brief.now.road }
-    ensures from { IsFrom brief.now.tickets drawer.new }
+    ensures from { IsDrawerOf brief.now.tickets drawer.new }
     ensures parts { IfOk result (λ parts.
-        HasParts (IsRight P.answers brief.now) drawer.new parts.items) }
+        HasParts (IsPartOfBrief P.answers brief.now) drawer.new parts.items) }
 {
     let phase = Phase {
         program: &brief.program,

@@ -2,7 +2,7 @@
 //! value knows that it fits, and puts back a value that fits too.
 
 ghost use Rattle.std.specs.Prelude.{◌≡◌, IfOk};
-ghost use Rattle.trlab_segments.specs.KeyedLocks.{Acquires, Guarded, HasOnly};
+ghost use Rattle.trlab_segments.specs.KeyedLocks.{Acquires, ObeysLockRule, HasTakenSlot};
 
 use atomic_table::{Play, Refused, Seat, Table, TableRule};
 use std::alloc::{AllocError, Global};
@@ -27,7 +27,7 @@ struct Acquire<T, K> {
 }
 
 impl<K, T: Keyed<K>> TableRule<Option<T>, K, K> for LockRule<T, K> {
-    ghost holds = { λ key. Guarded (T.fits key) };
+    ghost holds = { λ key. ObeysLockRule (T.fits key) };
 
     ghost first = { λ key. key };
 }
@@ -79,7 +79,7 @@ impl<K, T: Keyed<K> + Drop> KeyedLock<T, K> {
     pub fn take<R: Wait>(&self, rt: &R) -> (T, Guard<T, K>)
         ensures fits { T.fits self.now.table.shared.key result.0 }
         ensures from { result.1.seat.table_id ≡ self.now.table.shared.table_id }
-        ensures guard { HasOnly result.1.seat.me }
+        ensures guard { HasTakenSlot result.1.seat.me }
     {
         let shared = &self.table.shared;
         for _ in rt.forever() {
@@ -97,7 +97,7 @@ impl<K, T: Keyed<K> + Drop> KeyedLock<T, K> {
     pub fn put_back(&self, value: T, guard: Guard<T, K>)
         requires fits { T.fits self.now.table.shared.key value }
         requires from { guard.seat.table_id ≡ self.now.table.shared.table_id }
-        requires guard { HasOnly guard.seat.me }
+        requires guard { HasTakenSlot guard.seat.me }
     {
         let Guard { mut seat } = guard;
         let shared = &self.table.shared;

@@ -2,7 +2,7 @@
 
 ghost use Rattle.std.specs.Prelude.{IfSome};
 ghost use Rattle.trlab_segments.specs.Results.{AreResults, IsRightResult};
-ghost use Rattle.trlab_segments.specs.Drawers.{IsFrom, IsJoined, IsNew};
+ghost use Rattle.trlab_segments.specs.Drawers.{IsDrawerOf, IsJoined, HasDrawnNone};
 
 use crate::parts::{Part, joined};
 use crate::phase::Asked;
@@ -31,7 +31,7 @@ pub fn take_pass<A: Drop, P: Asked<A>>(
 ) -> (Results<A>, Option<(Drawer, u32)>)
     requires { AreResults P.answers P.can_ask brief.now results }
     ensures results { AreResults P.answers P.can_ask brief.now result.0 }
-    ensures new { IfSome result.1 (λ taken. IsNew brief.now.tickets taken.0) }
+    ensures new { IfSome result.1 (λ taken. HasDrawnNone brief.now.tickets taken.0) }
 {
     let Results {
         reserve,
@@ -58,9 +58,9 @@ pub fn take_pass<A: Drop, P: Asked<A>>(
 
 /// Splits one pass off a drawer. Returns the rest, which is `None` after the last pass, and the drawer with this pass.
 pub fn split_pass(tickets: &Tickets, drawer: Drawer) -> (Option<Drawer>, Drawer)
-    requires { IsNew tickets.now drawer }
-    ensures left { IfSome result.0 (IsNew tickets.now) }
-    ensures pass { IsNew tickets.now result.1 }
+    requires { HasDrawnNone tickets.now drawer }
+    ensures left { IfSome result.0 (HasDrawnNone tickets.now) }
+    ensures pass { HasDrawnNone tickets.now result.1 }
 {
     let mut drawer = drawer;
     if drawer.passes() < 2 {
@@ -95,8 +95,8 @@ pub fn deposit<A: Drop, P: Asked<A>>(
 
 /// Gathers a drawer into an earlier one, if there is one. The earlier tickets come first.
 fn one_drawer(tickets: &Tickets, before: Option<Drawer>, drawer: Drawer) -> Drawer
-    requires before { IfSome before (IsFrom tickets.now) }
-    requires from { IsFrom tickets.now drawer }
+    requires before { IfSome before (IsDrawerOf tickets.now) }
+    requires from { IsDrawerOf tickets.now drawer }
     ensures { IsJoined tickets.now before drawer result }
 {
     match before {

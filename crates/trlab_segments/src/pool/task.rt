@@ -2,8 +2,8 @@
 
 ghost use Rattle.std.specs.Prelude.{◌≡◌, IfErr, IfOk, IfSome, OnOk};
 ghost use Rattle.trlab_segments.specs.Results.{AnswersAll, AreResults, CoversAllCars, IsRightResult};
-ghost use Rattle.trlab_segments.specs.Drawers.{IsNew};
-ghost use Rattle.trlab_segments.specs.KeyedLocks.{HasOnly};
+ghost use Rattle.trlab_segments.specs.Drawers.{HasDrawnNone};
+ghost use Rattle.trlab_segments.specs.KeyedLocks.{HasTakenSlot};
 
 use crate::parts::Part;
 use crate::phase::Asked;
@@ -36,7 +36,7 @@ impl<A: Copy + Drop, P: Asked<A> + Drop> Task<A, P> {
         brief: Brief<P>,
         reserve: Option<Drawer>,
     ) -> Result<Task<A, P>, Brief<P>>
-        requires reserve { IfSome reserve (IsNew brief.tickets) }
+        requires reserve { IfSome reserve (HasDrawnNone brief.tickets) }
         requires lanes { P.can_ask brief.road }
         ensures ok { IfOk result (λ task. task.brief ≡ brief) }
         ensures err { IfErr result (λ back. back ≡ brief) }
@@ -56,7 +56,7 @@ impl<A: Copy + Drop, P: Asked<A> + Drop> Task<A, P> {
     fn take<R: Wait>(&self, rt: &R) -> (Results<A>, Guard<Results<A>, Brief<P>>)
         ensures results { AreResults P.answers P.can_ask self.now.brief result.0 }
         ensures from { result.1.seat.table_id ≡ self.now.results.table.shared.table_id }
-        ensures guard { HasOnly result.1.seat.me }
+        ensures guard { HasTakenSlot result.1.seat.me }
     {
         self.results.take(rt)
     }
@@ -64,7 +64,7 @@ impl<A: Copy + Drop, P: Asked<A> + Drop> Task<A, P> {
     fn put_back(&self, results: Results<A>, guard: Guard<Results<A>, Brief<P>>)
         requires results { AreResults P.answers P.can_ask self.now.brief results }
         requires from { guard.seat.table_id ≡ self.now.results.table.shared.table_id }
-        requires guard { HasOnly guard.seat.me }
+        requires guard { HasTakenSlot guard.seat.me }
     {
         self.results.put_back(results, guard);
     }
@@ -83,8 +83,8 @@ impl<A: Copy + Drop, P: Asked<A> + Drop> Task<A, P> {
         self.put_back(results, guard);
     }
 
-    /// Replaces `answers` by the answers of all cars, from the parts that helpers deposited and those of the caller, and
-    /// returns the road. All helpers must have left the phase.
+    /// Replaces `answers` by the answers of all cars, from the parts of the helpers and of the caller, and returns the
+    /// road. All helpers must have left the phase.
     ///
     /// # Errors
     ///

@@ -1,26 +1,26 @@
 use Rattle.std.proofs.Common.{◌≡◌, ◌⊎◌, ◌∙◌, refl, inl, inr, ℕ, List}
 use Rattle.trlab_asm.specs.Operands.{no_operand, register, two_registers, three_registers, register_target, two_registers_target}
-use Rattle.trlab_asm.specs.Reading.{whole_draft, jump_draft, draft_of, of_none, of_one, of_two, of_three, of_one_target, of_two_target}
+use Rattle.trlab_asm.specs.Reading.{draft_without_label, jump_draft, draft_of, of_none, of_one, of_two, of_three, of_one_target, of_two_target}
 use Rattle.trlab_asm.specs.Results.{◌>>=◌}
 use Rattle.trlab_asm.specs.declared.names.Mnemonic.{Mnemonic}
 use Rattle.trlab_asm.specs.declared.names.Mnemonic.TheVariants as name
 use Rattle.trlab_asm.proofs.reading.read_draft.Goals as goal
 
 -- what each name of a shape makes of its operands
-without : (n : Mnemonic) (t : List ℕ) → ((n ≡ name.Cross) ⊎ (n ≡ name.Stay)) → (no_operand t >>= λ none. whole_draft (of_none n)) ≡ draft_of n t
+without : (n : Mnemonic) (t : List ℕ) → ((n ≡ name.Cross) ⊎ (n ≡ name.Stay)) → (no_operand t >>= λ none. draft_without_label (of_none n)) ≡ draft_of n t
 without n t (inl e) = rw e refl
 without n t (inr e) = rw e refl
 
-with_one : (n : Mnemonic) (t : List ℕ) → ((n ≡ name.Side) ⊎ (n ≡ name.Go)) → (register t >>= λ a. whole_draft (of_one n a)) ≡ draft_of n t
+with_one : (n : Mnemonic) (t : List ℕ) → ((n ≡ name.Side) ⊎ (n ≡ name.Go)) → (register t >>= λ a. draft_without_label (of_one n a)) ≡ draft_of n t
 with_one n t (inl e) = rw e refl
 with_one n t (inr e) = rw e refl
 
-with_two : (n : Mnemonic) (t : List ℕ) → ((n ≡ name.Copy) ⊎ (n ≡ name.Not)) → (two_registers t >>= λ x. whole_draft (of_two n x.0 x.1)) ≡ draft_of n t
+with_two : (n : Mnemonic) (t : List ℕ) → ((n ≡ name.Copy) ⊎ (n ≡ name.Not)) → (two_registers t >>= λ x. draft_without_label (of_two n x.0 x.1)) ≡ draft_of n t
 with_two n t (inl e) = rw e refl
 with_two n t (inr e) = rw e refl
 
 with_three : (n : Mnemonic) (t : List ℕ) → ((n ≡ name.Add) ⊎ ((n ≡ name.Sub) ⊎ ((n ≡ name.Min) ⊎ ((n ≡ name.Max) ⊎ ((n ≡ name.And) ⊎ (n ≡ name.Or))))))
-    → (three_registers t >>= λ x. whole_draft (of_three n x.0 x.1.0 x.1.1)) ≡ draft_of n t
+    → (three_registers t >>= λ x. draft_without_label (of_three n x.0 x.1.0 x.1.1)) ≡ draft_of n t
 with_three n t (inl e) = rw e refl
 with_three n t (inr (inl e)) = rw e refl
 with_three n t (inr (inr (inl e))) = rw e refl

@@ -3,7 +3,7 @@ use Rattle.std.specs.Prelude.{Option, Result, Ok, Err}
 use Rattle.std.proofs.lemmas.Result.{err_from_is_err_and}
 use Rattle.trlab_lines.specs.Cutting.{without_comment, label_and_rest, without_indent}
 use Rattle.trlab_asm.specs.Results.{◌>>=◌}
-use Rattle.trlab_asm.specs.Reading.{InstrDraft, Labels, Line, body, label_of, parts_say, line_says}
+use Rattle.trlab_asm.specs.Reading.{InstrDraft, Labels, Line, body, label_of, content_of_parts, line_content}
 use Rattle.trlab_asm.specs.declared.fault.Why.{Why}
 use Rattle.trlab_asm.specs.Stored.{pcs}
 use Rattle.trlab_asm.proofs.reading.read_line.Goals as goal
@@ -18,12 +18,12 @@ of_label pc rest label = label >>= λ label. of_draft label (body pc (without_in
 
 -- what is said of the parts of a line is said of the line
 of_line : (labels : Labels) (pc : ℕ) (line before : List ℕ) (parts : Option (List ℕ) × List ℕ)
-    → before ≡ without_comment line → parts ≡ label_and_rest before → parts_say labels pc parts ≡ line_says labels pc line
-of_line labels pc line before parts e f = ap (λ p. parts_say labels pc p) (f ∙ ap label_and_rest e)
+    → before ≡ without_comment line → parts ≡ label_and_rest before → content_of_parts labels pc parts ≡ line_content labels pc line
+of_line labels pc line before parts e f = ap (λ p. content_of_parts labels pc p) (f ∙ ap label_and_rest e)
 
 of_parts : (labels : Labels) (pc : ℕ) (line before : List ℕ) (parts : Option (List ℕ) × List ℕ)
     → before ≡ without_comment line → parts ≡ label_and_rest before → (text : List ℕ) (label : Option (List ℕ)) (draft : Result (Option InstrDraft) Why)
-    → Ok label ≡ label_of labels parts.0 → text ≡ without_indent parts.1 → draft ≡ body pc text → of_draft label draft ≡ line_says labels pc line
+    → Ok label ≡ label_of labels parts.0 → text ≡ without_indent parts.1 → draft ≡ body pc text → of_draft label draft ≡ line_content labels pc line
 of_parts labels pc line before parts e f text label draft h g k =
     ap (of_draft label) (k ∙ ap (body pc) g) ∙ (ap (of_label pc parts.1) h ∙ of_line labels pc line before parts e f)
 

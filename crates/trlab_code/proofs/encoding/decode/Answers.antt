@@ -1,7 +1,7 @@
 use Rattle.std.proofs.Common.{◌≡◌, ◌≢◌, ◌∙◌, ℕ, ◌*◌, take, drop, sym, ap, rules, arith}
 use Rattle.std.proofs.lemmas.Result.{err_from_is_err_and}
 use Rattle.trlab_code.specs.Program.{Program, version_of}
-use Rattle.trlab_code.specs.Faults.{IsFirstFault, stated_version}
+use Rattle.trlab_code.specs.Faults.{IsFirstCodeFault, stated_version}
 use Rattle.trlab_code.specs.declared.fault.CodeFault.TheVariants as fault
 use Rattle.trlab_code.proofs.Versions.{needless, needs_version}
 use Rattle.trlab_code.proofs.Whole.{spelling_of_parts, found_fault, told_fault, found_program, told_program}
@@ -20,7 +20,7 @@ returns-in_err-instrs-clause-found c = let p = err_from_is_err_and c.from_residu
 pub returns-in_err-instrs-clause-told : goal.returns-in_err-instrs-clause-told
 returns-in_err-instrs-clause-told c = let p = err_from_is_err_and c.from_residual-in_err-instrs.result c.from_residual-in_err-instrs.ensures.1 in rw (p.1, p.2) (told_fault _ _ c.in_err-instrs.ensures.fault)
 
-needless_version : (c : After-drop-code) → IsFirstFault c.args.bytes.now fault.NeedlessVersion
+needless_version : (c : After-drop-code) → IsFirstCodeFault c.args.bytes.now fault.NeedlessVersion
 needless_version c =
     let read = c.in_ok-instrs.ensures in
     let program : Program = record { kind = c.in_ok-header.header.kind; instrs = c.in_ok-instrs.instrs.items } in
@@ -37,7 +37,7 @@ returns-then-version-header-clause-found c = found_fault _ _ (needless_version c
 pub returns-then-version-header-clause-told : goal.returns-then-version-header-clause-told
 returns-then-version-header-clause-told c = told_fault _ _ (needless_version c)
 
-trailing : (c : After-drop-code-then-header-bytes) → IsFirstFault c.args.bytes.now fault.Trailing
+trailing : (c : After-drop-code-then-header-bytes) → IsFirstCodeFault c.args.bytes.now fault.Trailing
 trailing c =
     let read = c.in_ok-instrs.ensures in
     let program : Program = record { kind = c.in_ok-header.header.kind; instrs = c.in_ok-instrs.instrs.items } in

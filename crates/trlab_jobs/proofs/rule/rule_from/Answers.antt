@@ -1,17 +1,17 @@
 use Rattle.std.specs.Prelude.{nat_eq}
 use Rattle.trlab_rules.specs.Standard.{nasch_program, vdr_program, rickert_program}
-use Rattle.trlab_jobs.specs.RuleParts.{MotionSays, TwoLaneRuleSays}
+use Rattle.trlab_jobs.specs.RuleParts.{IsMotionRule, IsTwoLaneRule}
 use Rattle.trlab_jobs.proofs.RuleSteps.{line_told}
 use Rattle.trlab_jobs.proofs.rule.rule_from.Goals as goal
 
 pub returns-in-Nasch-clause-told : goal.returns-in-Nasch-clause-told
 returns-in-Nasch-clause-told c = rw c.in-Nasch.is
-    (line_told (MotionSays (nasch_program c.in-Nasch.brake)) c.args.number c.args.rest c.nasch_rule.result c.of_line.result c.nasch_rule.ensures.told c.of_line.ensures)
+    (line_told (IsMotionRule (nasch_program c.in-Nasch.brake)) c.args.number c.args.rest c.nasch_rule.result c.of_line.result c.nasch_rule.ensures.told c.of_line.ensures)
 
 pub returns-in-Vdr-clause-told : goal.returns-in-Vdr-clause-told
 returns-in-Vdr-clause-told c = rw c.in-Vdr.is
-    (line_told (MotionSays (vdr_program c.in-Vdr.moving c.in-Vdr.stopped)) c.args.number c.args.rest c.vdr_rule.result c.of_line-in-Vdr.result c.vdr_rule.ensures.told c.of_line-in-Vdr.ensures)
+    (line_told (IsMotionRule (vdr_program c.in-Vdr.moving c.in-Vdr.stopped)) c.args.number c.args.rest c.vdr_rule.result c.of_line-in-Vdr.result c.vdr_rule.ensures.told c.of_line-in-Vdr.ensures)
 
 pub returns-in-Rickert-clause-told : goal.returns-in-Rickert-clause-told
 returns-in-Rickert-clause-told c = rw c.in-Rickert.is
-    (line_told (TwoLaneRuleSays (nat_eq c.args.lanes.count 1) (nasch_program c.in-Rickert.brake) (rickert_program c.in-Rickert.crossing)) c.args.number c.args.rest c.rickert_rule.result c.of_line-in-Rickert.result c.rickert_rule.ensures.told c.of_line-in-Rickert.ensures)
+    (line_told (IsTwoLaneRule (nat_eq c.args.lanes.count 1) (nasch_program c.in-Rickert.brake) (rickert_program c.in-Rickert.crossing)) c.args.number c.args.rest c.rickert_rule.result c.of_line-in-Rickert.result c.rickert_rule.ensures.told c.of_line-in-Rickert.ensures)

@@ -79,7 +79,7 @@ pub fn ordered_reply(order: &Order) -> Reply {
 }
 
 /// The reply for a snapshot.
-pub fn seen_reply(seen: &Snapshot) -> Reply {
+pub fn read_reply(seen: &Snapshot) -> Reply {
     Reply::Seen {
         step: seen.step(),
         entries: seen.sheet().len() as u32,

@@ -10,7 +10,7 @@ use crate::book::common::books::{events_of, replace, submit};
 use crate::book::common::expected::has_picture;
 use crate::book::common::jobs::{ALWAYS, NEVER, TestJob};
 use crate::book::common::replies::{
-    done_reply, leased_reply, number_reply, ordered_reply, seen_reply,
+    done_reply, leased_reply, number_reply, ordered_reply, read_reply,
 };
 use std::alloc::Global;
 use std::sync::Wait;
@@ -61,7 +61,7 @@ fn run_ordered(alloc: Global, lease: &mut Lease, order: &Order) -> Option<Reply>
 fn reply_if_shown(alloc: Global, seen: &Snapshot, picture: &[u8]) -> Option<Reply> {
     let shown = has_picture(alloc, seen.road(), picture)
         || has_picture(alloc, seen.road(), picture);
-    if shown { Some(seen_reply(seen)) } else { None }
+    if shown { Some(read_reply(seen)) } else { None }
 }
 
 impl<L: Ledger> Table<L> {

@@ -1,7 +1,7 @@
 use Rattle.std.proofs.Common.{◌≡◌, ◌+◌, ◌<◌, ◌≤◌, ◌∙◌, ℕ, List, Vec, Global, Bool, length, take, refl, ap, subst, arith}
 use Rattle.std.specs.Prelude.{sum_by}
 use Rattle.trlab_road.specs.LaneCars.{LaneCar}
-use Rattle.trlab_road.specs.Cells.{lane_cars}
+use Rattle.trlab_road.specs.Cells.{lane_car_count}
 use Rattle.trlab_road.specs.LaneChange.{LaneCrosses}
 use Rattle.trlab_road.specs.Stored.{IsSortedFrom, AreSorted, cells_of, lanes_from, list_at, lane_crosses_at}
 use Rattle.trlab_road.proofs.ListLeaving.{crosses_from}
@@ -15,7 +15,7 @@ lane_1 : (lanes : ℕ) → lanes ≡ 2 → 1 < lanes
 lane_1 lanes two = omega (arith, two)
 
 -- the lists of the two lanes, and as many answers as cars
-module _ (n : ℕ) (lists : List (Vec LaneCar Global)) (answers : List Bool) (own : List LaneCar) (two : length lists ≡ 2) (sorted : AreSorted n lists) (each : sum_by lane_cars (lanes_from n lists) ≤ length answers) (is : own ≡ list_at lists 0) where
+module _ (n : ℕ) (lists : List (Vec LaneCar Global)) (answers : List Bool) (own : List LaneCar) (two : length lists ≡ 2) (sorted : AreSorted n lists) (each : sum_by lane_car_count (lanes_from n lists) ≤ length answers) (is : own ≡ list_at lists 0) where
   each_0 : 0 + length own ≤ length answers
   each_0 =
       let a = list_within n lists 0 sorted (lane_0 (length lists) two) in
@@ -33,7 +33,7 @@ module _ (n : ℕ) (lists : List (Vec LaneCar Global)) (answers : List Bool) (ow
       let d = ap length there in
       omega (arith, a, z, b, d, each)
 
-  count_0 : length own ≡ sum_by lane_cars (take 1 (lanes_from n lists))
+  count_0 : length own ≡ sum_by lane_car_count (take 1 (lanes_from n lists))
   count_0 =
       let z = list_counted n lists 0 sorted (lane_0 (length lists) two) in
       let b = ap length is in
@@ -90,8 +90,8 @@ returns-clause-crosses c = λ limit.
     let n = c.args.cells in
     let lists = c.args.lanes.now in
     let two = c.requires.two in
-    let none : 0 ≡ sum_by lane_cars (take 0 (lanes_from n lists)) = refl in
-    let count : length c.list_of.result.now ≡ sum_by lane_cars (take 1 (lanes_from n lists)) = count_0 n lists c.args.crosses.now _ two c.requires.sorted c.requires.one_each c.list_of.ensures in
+    let none : 0 ≡ sum_by lane_car_count (take 0 (lanes_from n lists)) = refl in
+    let count : length c.list_of.result.now ≡ sum_by lane_car_count (take 1 (lanes_from n lists)) = count_0 n lists c.args.crosses.now _ two c.requires.sorted c.requires.one_each c.list_of.ensures in
     rw (two_written c.in_ok-next.next.items c.change_lane.new.next c.change_lane-2.new.next c.in_ok-next.ensures) (crosses_two n limit lists c.change_lane.new.next c.change_lane-2.new.next c.args.crosses.now two
     (at_ranks n c.args.crosses.now _ _ _ _ _ 0 _ _ _ c.list_of.ensures c.list_of-2.ensures none count
     (crosses_from n _ _ _ _ _ _ (rw c.deref.ensures.value at c.in_ok-change_lane.ensures.crosses) c.in_ok-leaving_cars-2.ensures.leaves))

@@ -3,7 +3,7 @@ use Rattle.std.proofs.lemmas.Bool.{both_ways, eqb-true, eqb-false}
 use Rattle.std.proofs.lemmas.List.{length-map}
 use Rattle.trlab_bounds.specs.declared.roads.TheConstants.{MAX_LIMIT}
 use Rattle.trlab_road.specs.Legal.{LanesFit}
-use Rattle.trlab_road.specs.Pictures.{HaveEqualLengths, HaveShape, IsFaultAt, ShowsAnySpeed, ShowsCell, ShowsSpeed, character_at, picture_at, pictures_of}
+use Rattle.trlab_road.specs.Pictures.{HaveEqualLengths, HaveValidShape, IsFaultAt, ShowsAnySpeed, ShowsCell, ShowsSpeed, character_at, picture_at, pictures_of}
 use Rattle.trlab_road.proofs.PictureLaws.{picture_read}
 use Rattle.trlab_road.proofs.picture.check_pictures.Goals as goal
 use Rattle.trlab_road.proofs.picture.check_pictures.Goals.{then-is_empty-via-then-is_empty, then-is_empty-via-else-is_empty+then-pictures}
@@ -39,7 +39,7 @@ loop-lane-preserved c =
 
 -- pictures of this shape, of which all is well up to a character
 module _ (limit : ℕ) (held : List (Bor (List ℕ))) (some : 1 ≤ length held) (few : length held ≤ 2) (equal : HaveEqualLengths (pictures_of held)) (low : limit ≢ 0) (high : limit ≤ MAX_LIMIT) where
-  shaped : HaveShape limit (pictures_of held)
+  shaped : HaveValidShape limit (pictures_of held)
   shaped =
       record { lanes = fit_pictures held some few; lengths = equal; limit_fits = record { some_limit = omega (arith, low); low_limit = high } }
 

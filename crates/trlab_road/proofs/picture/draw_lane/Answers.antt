@@ -1,14 +1,14 @@
 use Rattle.std.proofs.Common.{◌≡◌, ℕ, refl, sym, ap, ◌∙◌, inl, inr, arith}
 use Rattle.trlab_bounds.specs.declared.roads.TheConstants.{MAX_LIMIT}
-use Rattle.trlab_road.specs.Pictures.{ShowsCell, ShowsSpeed, point}
+use Rattle.trlab_road.specs.Pictures.{ShowsCell, ShowsSpeed, dot}
 use Rattle.trlab_road.specs.Stored.{speed_of_character}
 use Rattle.trlab_road.proofs.Characters.{no_point, speed_back}
 use Rattle.trlab_road.proofs.ListDrawing.{drawn_none, drawn_all, drawn_skip, drawn_more}
 use Rattle.trlab_road.proofs.picture.draw_lane.Goals as goal
 use Rattle.trlab_road.proofs.picture.draw_lane.Goals.{in-Some+in_ok-push, in_default}
 
--- what shows a cell and no speed is a point
-only_point : (character : ℕ) → ShowsCell MAX_LIMIT character → ¬ (ShowsSpeed MAX_LIMIT character) → character ≡ point
+-- what shows a cell and no speed is a dot
+only_point : (character : ℕ) → ShowsCell MAX_LIMIT character → ¬ (ShowsSpeed MAX_LIMIT character) → character ≡ dot
 only_point character (inl is) none = is
 only_point character (inr shows) none = absurd (none shows)
 

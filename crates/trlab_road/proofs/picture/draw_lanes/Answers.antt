@@ -2,7 +2,7 @@ use Rattle.std.proofs.Common.{◌≡◌, ◌+◌, ◌<◌, ◌≤◌, ◌∙◌,
 use Rattle.std.proofs.lemmas.List.{length-map, length_push, map-append, append-nil, at_drop_all}
 use Rattle.trlab_bounds.specs.declared.roads.TheConstants.{MAX_LENGTH, MAX_LIMIT}
 use Rattle.trlab_road.specs.LaneCars.{LaneCar}
-use Rattle.trlab_road.specs.Cells.{Lane, lane_cars}
+use Rattle.trlab_road.specs.Cells.{Lane, lane_car_count}
 use Rattle.trlab_road.specs.Stored.{IsSortedFrom, cells_of, lanes_from, lane_of_picture, lanes_of_pictures}
 use Rattle.trlab_road.specs.Pictures.{ShowsCell, picture_at, character_at}
 use Rattle.trlab_road.proofs.PictureLaws.{picture_read, drawn_few}
@@ -34,7 +34,7 @@ record LaneDrawn (n number : ℕ) (bytes : List ℕ) (cars : List LaneCar) : Typ
   pub rises : IsSortedFrom 0 n cars
   pub is : cells_of n cars ≡ lane_of_picture number bytes
   pub few : length cars ≤ MAX_LENGTH
-  pub counted : length cars ≡ lane_cars (lane_of_picture number bytes)
+  pub counted : length cars ≡ lane_car_count (lane_of_picture number bytes)
 
 one_drawn : (n number : ℕ) (bytes now : List ℕ) (cars : List LaneCar) → bytes ≡ now → length bytes ≡ n → n ≤ MAX_LENGTH
     → IsSortedFrom 0 (length now) cars → cells_of (length now) cars ≡ lane_of_picture number now → LaneDrawn n number bytes cars
@@ -42,7 +42,7 @@ one_drawn n number bytes now cars read size small rises is =
     let e : length now ≡ n = sym (ap length read) ∙ size in
     let r : IsSortedFrom 0 n cars = subst (λ k. IsSortedFrom 0 k cars) e rises in
     let d : cells_of n cars ≡ lane_of_picture number bytes = subst (λ k. cells_of k cars ≡ lane_of_picture number bytes) e (is ∙ ap (lane_of_picture number) (sym read)) in
-    let counted = sym (cars_of_list n cars r) ∙ ap lane_cars d in
+    let counted = sym (cars_of_list n cars r) ∙ ap lane_car_count d in
     let few = drawn_few number bytes in
     record { rises = r; is = d; few = omega (arith, few, counted, size, small); counted = counted }
 
@@ -51,7 +51,7 @@ cons_path e f = cc
 
 -- one more lane
 more_drawn : (cells : ℕ) (lanes : List (Vec LaneCar Global)) (v : Vec LaneCar Global) (ps : List (List ℕ)) (i n k : ℕ) (whole : List Lane)
-    → i < length ps → cells_of cells v.items ≡ lane_of_picture n (picture_at ps i) → k ≡ lane_cars (lane_of_picture n (picture_at ps i))
+    → i < length ps → cells_of cells v.items ≡ lane_of_picture n (picture_at ps i) → k ≡ lane_car_count (lane_of_picture n (picture_at ps i))
     → lanes_from cells lanes ++ lanes_of_pictures n (drop i ps) ≡ whole → lanes_from cells (lanes ++ v ∷ []) ++ lanes_of_pictures (n + k) (drop (i + 1) ps) ≡ whole
 more_drawn cells lanes v ps i n k whole on drawn counted before =
     let rest = drop (i + 1) ps in

@@ -1,13 +1,13 @@
 use Rattle.std.proofs.Common.{◌≡◌, ◌∙◌, ◌+◌, ◌-◌, ◌++◌, ℕ, List, [], length, take, set, replicate, refl, ap, arith}
 use Rattle.std.proofs.lemmas.List.{length-map, length-append, take_all, set-append_right}
-use Rattle.trlab_road.specs.Pictures.{point, picture, speed_character}
+use Rattle.trlab_road.specs.Pictures.{dot, picture, speed_character}
 use Rattle.trlab_road.specs.Stored.{cells_of, place_of}
 use Rattle.trlab_road.proofs.Lists.{length_cells, rises_high}
 use Rattle.trlab_road.proofs.ListPictures.{empty_picture, picture_more}
 use Rattle.trlab_road.proofs.picture.push_picture.Goals as goal
 
 -- the picture of an empty lane behind what stood there
-filled : (old : List ℕ) (start n len : ℕ) → start ≡ len → len ≡ length old → take (start + n) old ++ replicate (start + n - len) point ≡ old ++ picture (cells_of n [])
+filled : (old : List ℕ) (start n len : ℕ) → start ≡ len → len ≡ length old → take (start + n) old ++ replicate (start + n - len) dot ≡ old ++ picture (cells_of n [])
 filled old start n len e f =
     let count : start + n - len ≡ n = omega (arith, e) in
     rw (take_all (start + n) old (omega (arith, e, f)), count) (ap (λ bytes. old ++ bytes) (empty_picture 0 n))

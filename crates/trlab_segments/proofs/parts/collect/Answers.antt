@@ -1,13 +1,13 @@
 use Rattle.std.proofs.Common.{refl, OnOk, subst, sym}
-use Rattle.trlab_segments.specs.Drawers.{count_of}
-use Rattle.trlab_segments.specs.Knowledge.{IsWhole}
+use Rattle.trlab_segments.specs.Drawers.{ticket_count}
+use Rattle.trlab_segments.specs.Knowledge.{IsPermutation}
 use Rattle.trlab_segments.proofs.parts.collect.Goals as goal
 use Rattle.trlab_segments.proofs.parts.collect.Goals.{in-Ok, in-Err}
 
 pub line_up-requires : goal.line_up-requires
 line_up-requires g c = record {
   right = c.requires.parts.right;
-  whole = subst (λ numbers. IsWhole numbers (count_of c.args.tickets)) (sym c.requires.parts.tickets)
+  whole = subst (λ numbers. IsPermutation numbers (ticket_count c.args.tickets)) (sym c.requires.parts.tickets)
       (c.in-Ok.ensures.ok.0 refl).1;
 }
 

@@ -1,7 +1,7 @@
 use Rattle.std.proofs.Common.{rules, List, refl, ap, sym, ◌∙◌}
 use Rattle.std.specs.Prelude.{slice_set}
 use Rattle.trlab_sequential_book.specs.Comparison.{offered}
-use Rattle.trlab_sequential_book.specs.Machine.{JobState, Served, giving_back}
+use Rattle.trlab_sequential_book.specs.Machine.{JobState, JobsOutcome, giving_back}
 use Rattle.trlab_sequential_book.proofs.Booking.{jobs_found, on_none, own_found, reply_found}
 use Rattle.trlab_sequential_book.proofs.book.give_back_in.Goals as goal
 
@@ -23,8 +23,8 @@ returns-clause-jobs c =
 
 pub returns-then-index-len-clause-reply : goal.returns-then-index-len-clause-reply
 returns-then-index-len-clause-reply c =
-    sym (ap (λ (s : Served). s.reply) (on_none c.args.jobs.now.items c.args.lease.job (giving_back (offered c.args.lease c.args.same)) (search (rules, c.if-index-len.true, c.len.ensures, c.job-index.ensures))))
+    sym (ap (λ (s : JobsOutcome). s.reply) (on_none c.args.jobs.now.items c.args.lease.job (giving_back (offered c.args.lease c.args.same)) (search (rules, c.if-index-len.true, c.len.ensures, c.job-index.ensures))))
 
 pub returns-then-index-len-clause-jobs : goal.returns-then-index-len-clause-jobs
 returns-then-index-len-clause-jobs c =
-    sym (ap (λ (s : Served). s.jobs) (on_none c.args.jobs.now.items c.args.lease.job (giving_back (offered c.args.lease c.args.same)) (search (rules, c.if-index-len.true, c.len.ensures, c.job-index.ensures))))
+    sym (ap (λ (s : JobsOutcome). s.jobs) (on_none c.args.jobs.now.items c.args.lease.job (giving_back (offered c.args.lease c.args.same)) (search (rules, c.if-index-len.true, c.len.ensures, c.job-index.ensures))))

@@ -1,5 +1,5 @@
 use Rattle.std.proofs.Common.{rules, ap, sym}
-use Rattle.trlab_sequential_book.specs.Machine.{Served, ordering}
+use Rattle.trlab_sequential_book.specs.Machine.{JobsOutcome, ordering}
 use Rattle.trlab_sequential_book.specs.Comparison.{offered}
 use Rattle.trlab_sequential_book.specs.Answers.{is_memory, order_reply}
 use Rattle.trlab_sequential_book.proofs.Booking.{jobs_made, on_none, reply_made, rule_found}
@@ -22,8 +22,8 @@ returns-clause-rule c =
 
 pub returns-then-index-len-clause-reply : goal.returns-then-index-len-clause-reply
 returns-then-index-len-clause-reply c =
-    sym (ap (λ (s : Served). s.reply) (on_none c.args.jobs.now.items c.args.lease.now.job (ordering (offered c.args.lease.now c.args.same)) (search (rules, c.if-index-len.true, c.len.ensures, c.job-index.ensures))))
+    sym (ap (λ (s : JobsOutcome). s.reply) (on_none c.args.jobs.now.items c.args.lease.now.job (ordering (offered c.args.lease.now c.args.same)) (search (rules, c.if-index-len.true, c.len.ensures, c.job-index.ensures))))
 
 pub returns-then-index-len-clause-jobs : goal.returns-then-index-len-clause-jobs
 returns-then-index-len-clause-jobs c =
-    sym (ap (λ (s : Served). s.jobs) (on_none c.args.jobs.now.items c.args.lease.now.job (ordering (offered c.args.lease.now c.args.same)) (search (rules, c.if-index-len.true, c.len.ensures, c.job-index.ensures))))
+    sym (ap (λ (s : JobsOutcome). s.jobs) (on_none c.args.jobs.now.items c.args.lease.now.job (ordering (offered c.args.lease.now c.args.same)) (search (rules, c.if-index-len.true, c.len.ensures, c.job-index.ensures))))

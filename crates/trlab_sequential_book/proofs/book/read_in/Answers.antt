@@ -1,5 +1,5 @@
 use Rattle.std.proofs.Common.{rules, ap, sym}
-use Rattle.trlab_sequential_book.specs.Machine.{Served, reading}
+use Rattle.trlab_sequential_book.specs.Machine.{JobsOutcome, reading}
 use Rattle.trlab_sequential_book.proofs.Booking.{on_none, reading_stays, seen_found, seen_told}
 use Rattle.trlab_sequential_book.proofs.book.read_in.Goals as goal
 
@@ -22,4 +22,4 @@ returns-clause-jobs c = reading_stays c.args.jobs.now c.args.index
 
 pub returns-then-index-jobs-clause-reply : goal.returns-then-index-jobs-clause-reply
 returns-then-index-jobs-clause-reply c =
-    sym (ap (λ (s : Served). s.reply) (on_none c.args.jobs.now c.args.index reading (search (rules, c.if-index-jobs.true))))
+    sym (ap (λ (s : JobsOutcome). s.reply) (on_none c.args.jobs.now c.args.index reading (search (rules, c.if-index-jobs.true))))

@@ -1,5 +1,5 @@
 use Rattle.std.proofs.Common.{rules, ap, sym}
-use Rattle.trlab_sequential_book.specs.Machine.{Served, replacing}
+use Rattle.trlab_sequential_book.specs.Machine.{JobsOutcome, replacing}
 use Rattle.trlab_sequential_book.specs.Answers.{is_memory, number_reply}
 use Rattle.trlab_sequential_book.proofs.Booking.{jobs_made, on_none, reply_made}
 use Rattle.trlab_sequential_book.proofs.book.replace_in.Goals as goal
@@ -16,8 +16,8 @@ returns-clause-jobs c =
 
 pub returns-then-index-len-clause-reply : goal.returns-then-index-len-clause-reply
 returns-then-index-len-clause-reply c =
-    sym (ap (λ (s : Served). s.reply) (on_none c.args.jobs.now.items c.args.index (replacing c.args.rule) (search (rules, c.if-index-len.true, c.len.ensures))))
+    sym (ap (λ (s : JobsOutcome). s.reply) (on_none c.args.jobs.now.items c.args.index (replacing c.args.rule) (search (rules, c.if-index-len.true, c.len.ensures))))
 
 pub returns-then-index-len-clause-jobs : goal.returns-then-index-len-clause-jobs
 returns-then-index-len-clause-jobs c =
-    sym (ap (λ (s : Served). s.jobs) (on_none c.args.jobs.now.items c.args.index (replacing c.args.rule) (search (rules, c.if-index-len.true, c.len.ensures))))
+    sym (ap (λ (s : JobsOutcome). s.jobs) (on_none c.args.jobs.now.items c.args.index (replacing c.args.rule) (search (rules, c.if-index-len.true, c.len.ensures))))

@@ -2,7 +2,7 @@ use Rattle.std.proofs.Common.{◌≡◌, ◌∙◌, ℕ, arith, sym, subst, inl,
 use Rattle.std.proofs.lemmas.Bool.{cases_lt}
 use Rattle.trlab_code.specs.declared.program.Kind.{Kind}
 use Rattle.trlab_code.specs.Program.{Program}
-use Rattle.trlab_verify.specs.Verdict.{IsRefused, fault_at}
+use Rattle.trlab_verify.specs.Verdict.{IsRefused, reason_number_at}
 use Rattle.trlab_verify.proofs.laws.verdict_is_one.Goals as goal
 
 none_and_some : (o : Option ℕ) (r : ℕ) → o ≡ None → o ≡ Some r → ⊥
@@ -14,17 +14,17 @@ some_is o r q e f = cc (sym e ∙ f)
 same_place : (kind : Kind) (program : Program) (at reason other_at other_reason : ℕ) → IsRefused kind program at reason → IsRefused kind program other_at other_reason → at ≡ other_at
 same_place kind program at reason other_at other_reason one other =
     elim (cases_lt at other_at) [
-      | inl lt ↦ absurd (none_and_some (fault_at kind program at) reason (other.first at lt) one.here)
+      | inl lt ↦ absurd (none_and_some (reason_number_at kind program at) reason (other.first at lt) one.here)
       | inr le ↦ elim (cases_lt other_at at) [
-        | inl lt ↦ absurd (none_and_some (fault_at kind program other_at) other_reason (one.first other_at lt) other.here)
+        | inl lt ↦ absurd (none_and_some (reason_number_at kind program other_at) other_reason (one.first other_at lt) other.here)
         | inr ge ↦ omega arith
       ]
     ]
 
 pub returns-clause-accepted : goal.returns-clause-accepted
-returns-clause-accepted c = λ kind program at reason accepted refused. none_and_some (fault_at kind program at) reason (accepted at refused.within) refused.here
+returns-clause-accepted c = λ kind program at reason accepted refused. none_and_some (reason_number_at kind program at) reason (accepted at refused.within) refused.here
 
 pub returns-clause-refused : goal.returns-clause-refused
 returns-clause-refused c = λ kind program at reason other_at other_reason one other.
     let same = same_place kind program at reason other_at other_reason one other in
-    (same, some_is (fault_at kind program other_at) reason other_reason (subst (λ (z : ℕ). fault_at kind program z ≡ Some reason) same one.here) other.here)
+    (same, some_is (reason_number_at kind program other_at) reason other_reason (subst (λ (z : ℕ). reason_number_at kind program z ≡ Some reason) same one.here) other.here)

@@ -8,7 +8,7 @@ use Rattle.trlab_verify.specs.declared.verdict.Rejection.{Rejection}
 use Rattle.std.proofs.lemmas.List.{get_or-map, length-map}
 use Rattle.trlab_notes.specs.Reasons.{reason_number}
 use Rattle.trlab_verify.specs.declared.note.Note.{Note as Form}
-use Rattle.trlab_verify.specs.Tables.{AreVerdictNotes, blank, note_in}
+use Rattle.trlab_verify.specs.Tables.{AreVerdictNotes, empty_note, note_in}
 use Rattle.trlab_verify.proofs.Verdicts.{incoming_settled}
 use Rattle.trlab_verify.specs.Incoming.{note_at}
 use Rattle.trlab_verify.specs.TableForm.{HasInputRanges, meaning, meaning_at, table_of, empty_form}
@@ -48,7 +48,7 @@ each_best : (kind : Kind) (code : List Instr) (stored : ℕ → Option Note) (no
 each_best kind code stored notes h len first later = record { one_each = length-map notes (meaning kind) ∙ len; each = each }
   where
     listed : (pc : ℕ) → pc < length code → meaning_at kind notes pc ≡ note_in (table_of kind notes) pc
-    listed pc lt = sym (get_or-map (meaning kind) notes pc empty_form blank (omega (arith, lt, len)))
+    listed pc lt = sym (get_or-map (meaning kind) notes pc empty_form empty_note (omega (arith, lt, len)))
 
     each : (pc : ℕ) → pc < length code → note_at kind code pc ≡ Some (note_in (table_of kind notes) pc)
     each zero lt = ap Some (sym (first lt) ∙ listed zero lt)

@@ -3,7 +3,7 @@ use Rattle.std.proofs.lemmas.Bool.{eqb-true, eqb-false}
 use Rattle.std.proofs.lemmas.List.{get_or_default, get_or_push}
 use Rattle.trlab_code.specs.declared.program.Kind.{Kind}
 use Rattle.trlab_notes.specs.Notes.{Note, entry}
-use Rattle.trlab_notes.specs.Stored.{notes_of, maybe_note}
+use Rattle.trlab_notes.specs.Stored.{stored_note_at, maybe_note}
 use Rattle.trlab_verify.specs.declared.note.Note.{Note as Form}
 use Rattle.trlab_verify.specs.TableForm.{meaning, meaning_at, empty_form}
 use Rattle.trlab_verify.proofs.Inputs.{same_shown, never_none}
@@ -48,7 +48,7 @@ loop-pc-preserved c =
     let old = c.loop-pc.notes.items in
     let new = c.push.new.self.items in
     let note = c.write_at.result in
-    let stored : ℕ → _ = λ (k : ℕ). notes_of c.args.stored.now k in
+    let stored : ℕ → _ = λ (k : ℕ). stored_note_at c.args.stored.now k in
     let same : (k : ℕ) → k < pc → get_or new k empty_form ≡ get_or old k empty_form = λ k lt. e.by_index.0 k empty_form (omega (arith, lt)) in
     let at : length old ≡ pc = l.all in
     let here : get_or new pc empty_form ≡ note = rw e.items (get_or_push old note empty_form pc at) in

@@ -3,7 +3,7 @@ use Rattle.trlab_code.specs.declared.instruction.Instr.TheVariants.{Num}
 use Rattle.trlab_code.specs.declared.instruction.Register.TheVariants.{R0}
 use Rattle.std.proofs.lemmas.Option.{slice_get-get_or}
 use Rattle.std.proofs.lemmas.List.{get_or_default}
-use Rattle.trlab_notes.specs.Stored.{note_of, notes_of, maybe_note}
+use Rattle.trlab_notes.specs.Stored.{note_of, stored_note_at, maybe_note}
 use Rattle.trlab_notes.specs.Notes.{maybe_closure}
 use Rattle.trlab_verify.specs.Incoming.{note_at}
 use Rattle.trlab_verify.proofs.Verdicts.{unreached, tested, one_more_kept, is_none, none_back, no_note, whose, reason_same}
@@ -46,7 +46,7 @@ loop-pc-preserved c =
     let w = whose (note_at c.args.kind c.args.instrs.now c.loop-pc.pc) n (sym (ap maybe_note (get_or_default c.loop-pc.notes c.loop-pc.pc None _ (below_same c.loop-pc.pc c.loop-pc.auto.notes c.requires.one_each c.loop-pc-test.true) ∙ c.in-Some.is)) ∙ c.loop-pc.invariant.incoming_so_far c.loop-pc.pc (omega arith) c.loop-pc-test.true) in
     let ei = slice_get-get_or c.args.instrs.now c.loop-pc.pc (Num R0 0) c.loop-pc-test.true in
     let clean = clear c.args.kind c.args.own (length c.args.instrs.now) c.loop-pc.pc n (get_or c.args.instrs.now c.loop-pc.pc (Num R0 0)) (sym c.reason_against.ensures ∙ c.in_default-reason_against.is) in
-    let old : (q : ℕ) → q ≤ c.loop-pc.pc → q < length c.args.instrs.now → notes_of c.loop-pc.notes q ≡ maybe_closure (note_at c.args.kind c.args.instrs.now q) → notes_of c.send.new.notes q ≡ maybe_closure (note_at c.args.kind c.args.instrs.now q) =
+    let old : (q : ℕ) → q ≤ c.loop-pc.pc → q < length c.args.instrs.now → stored_note_at c.loop-pc.notes q ≡ maybe_closure (note_at c.args.kind c.args.instrs.now q) → stored_note_at c.send.new.notes q ≡ maybe_closure (note_at c.args.kind c.args.instrs.now q) =
     λ q le lt e. c.send.ensures q (below_same q c.loop-pc.auto.notes c.requires.one_each lt) ∙ (none_back c.loop-pc.pc q n _ _ le clean.forward ∙ e) in
     record {
       done = below_more _ _ (λ q lt. old q (omega arith) (omega (arith, lt, c.loop-pc-test.true)) (c.loop-pc.invariant.done q lt)) (old c.loop-pc.pc (omega arith) c.loop-pc-test.true (c.loop-pc.invariant.incoming_so_far c.loop-pc.pc (omega arith) c.loop-pc-test.true));

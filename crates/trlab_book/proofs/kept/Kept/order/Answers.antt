@@ -1,7 +1,7 @@
 use Rattle.std.proofs.Common.{◌↔◌, IsTrue, IfOk, ap, subst}
 use Rattle.std.proofs.lemmas.Bool.{OnTrue_from}
 use Rattle.trlab_sequential_book.specs.Answers.{is_memory, order_reply}
-use Rattle.trlab_sequential_book.specs.Comparison.{IsRuleAt, IsSame, OrderCall, offered}
+use Rattle.trlab_sequential_book.specs.Comparison.{HasRuleInForce, RunsRoadOfItsJob, OrderCall, offered}
 use Rattle.trlab_sequential_book.specs.Machine.{BookState}
 use Rattle.trlab_book.proofs.Replaying.{IsPut, makes_offered, memory_free, memory_is, put, replays_put, tells_put}
 use Rattle.trlab_book.proofs.kept.Kept.order.Goals as goal
@@ -20,12 +20,12 @@ returns-clause-made c = λ other is.
 pub returns-clause-noted : goal.returns-clause-noted
 returns-clause-noted c =
     let same = c.is_same-same.result in
-    let is = subst (λ (b : BookState). IsTrue same ↔ IsSame b.jobs c.args.lease.now) c.make_room.ensures.unchanged.book c.is_same-same.ensures in
+    let is = subst (λ (b : BookState). IsTrue same ↔ RunsRoadOfItsJob b.jobs c.args.lease.now) c.make_room.ensures.unchanged.book c.is_same-same.ensures in
     (same, OnTrue_from _ _ (λ _. is), returns-clause-made c same is)
 
 pub returns-clause-rule : goal.returns-clause-rule
 returns-clause-rule c =
-    subst (λ (b : BookState). IfOk c.order_as-answer.result (λ o. IsRuleAt b.jobs o)) c.make_room.ensures.unchanged.book c.order_as-answer.ensures.rule
+    subst (λ (b : BookState). IfOk c.order_as-answer.result (λ o. HasRuleInForce b.jobs o)) c.make_room.ensures.unchanged.book c.order_as-answer.ensures.rule
 
 pub returns-clause-full : goal.returns-clause-full
 returns-clause-full c = tells_put c.args.self.now c.make_room.new.self (order_reply c.order_as-answer.result) c.make_room.ensures.unchanged (event c.before)

@@ -2,7 +2,7 @@ use Rattle.std.proofs.Common.{List, ℕ, true}
 use Rattle.std.specs.Prelude.{Ok, Err}
 use Rattle.trlab_lines.specs.Lines.{lines_of}
 use Rattle.trlab_texts.specs.Reading.{Fault}
-use Rattle.trlab_jobs.specs.Check.{CheckLinesSay, CheckText}
+use Rattle.trlab_jobs.specs.Check.{CheckLinesParseTo, ParsesAsCheck}
 use Rattle.trlab_campaign.specs.CheckOutput.{IsCheckOutput, VerdictOutput}
 use Rattle.trlab_campaign.proofs.Endings.{kept_at_memory, memory_ends, output_ends, read_says, refusal_ends, said_ends}
 use Rattle.trlab_campaign.proofs.WrittenBytes.{kept}
@@ -12,9 +12,9 @@ pub returns-in-Err-At-clause-ends : goal.returns-in-Err-At-clause-ends
 returns-in-Err-At-clause-ends g c = λ input read.
     let fault : Fault = record { line = c.in-Err-At.line; cause = c.in-Err-At.cause } in
     let told = rw c.in-Err-At.field-0-is at c.in-Err-At.ensures.told in
-    let says = read_says (λ (text : List ℕ). CheckLinesSay (lines_of text)) c.args.text.now input (Err fault) read told in
+    let says = read_says (λ (text : List ℕ). CheckLinesParseTo (lines_of text)) c.args.text.now input (Err fault) read told in
     record {
-      answer = refusal_ends CheckText VerdictOutput c.refuse.result input fault _ _ says c.refuse.ensures.answer;
+      answer = refusal_ends ParsesAsCheck VerdictOutput c.refuse.result input fault _ _ says c.refuse.ensures.answer;
       handed = c.refuse.ensures.handed;
       device = c.refuse.ensures.device;
     }
@@ -23,10 +23,10 @@ pub returns-in-Ok-verdict_of-clause-ends : goal.returns-in-Ok-verdict_of-clause-
 returns-in-Ok-verdict_of-clause-ends g c = λ input read.
     let check = c.in-Ok.check in
     let verdict = c.in-Ok-verdict_of.verdict in
-    let says = read_says (λ (text : List ℕ). CheckLinesSay (lines_of text)) c.args.text.now input (Ok check) read c.in-Ok.ensures.told in
+    let says = read_says (λ (text : List ℕ). CheckLinesParseTo (lines_of text)) c.args.text.now input (Ok check) read c.in-Ok.ensures.told in
     let ends = rw c.deref.ensures.value at c.write_output.ensures.answer in
     record {
-      answer = said_ends CheckText VerdictOutput c.write_output.result input check _ _ says
+      answer = said_ends ParsesAsCheck VerdictOutput c.write_output.result input check _ _ says
           (output_ends (VerdictOutput check) verdict.refused verdict.text.items c.write_output.result _ _ c.in-Ok-verdict_of.ensures ends);
       handed = c.write_output.ensures.handed;
       device = c.write_output.ensures.device;

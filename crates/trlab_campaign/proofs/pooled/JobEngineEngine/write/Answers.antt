@@ -1,6 +1,6 @@
 use Rattle.std.specs.Prelude.{Ok, Err}
 use Rattle.trlab_texts.specs.Reading.{Fault}
-use Rattle.trlab_jobs.specs.Job.{JobText, JobLinesSay}
+use Rattle.trlab_jobs.specs.Job.{ParsesAsJob, JobLinesParseTo}
 use Rattle.trlab_campaign.specs.Output.{IsOutputOf}
 use Rattle.trlab_campaign.specs.Writers.{bytes_of}
 use Rattle.trlab_campaign.proofs.Endings.{memory_ends, read_says, refusal_ends, said_ends}
@@ -12,9 +12,9 @@ returns-in-Err-At-clause-ends g c = λ input read.
     let told = rw c.in-Err-At.field-0-is at c.in-Err-At.ensures.told in
     let answer = rw c.in-Err-At.field-0-is at c.refuse.ensures.answer in
     let output = g.C.Account.outputs c.args.self.account.now in
-    let says = read_says JobLinesSay c.args.text.now input (Err fault) read told in
+    let says = read_says JobLinesParseTo c.args.text.now input (Err fault) read told in
     record {
-      answer = refusal_ends JobText output c.refuse.result input fault (bytes_of g.K.Sink c.args.writer.now) (bytes_of g.K.Sink c.refuse.new.writer) says answer;
+      answer = refusal_ends ParsesAsJob output c.refuse.result input fault (bytes_of g.K.Sink c.args.writer.now) (bytes_of g.K.Sink c.refuse.new.writer) says answer;
       handed = c.refuse.ensures.handed;
       device = c.refuse.ensures.device;
     }
@@ -27,9 +27,9 @@ pub returns-clause-ends : goal.returns-clause-ends
 returns-clause-ends g c = λ input read.
     let output = g.C.Account.outputs c.args.self.account.now in
     let ends = c.drive.ensures in
-    let says = read_says JobLinesSay c.args.text.now input (Ok c.in-Ok.job) read c.in-Ok.ensures.told in
+    let says = read_says JobLinesParseTo c.args.text.now input (Ok c.in-Ok.job) read c.in-Ok.ensures.told in
     record {
-      answer = said_ends JobText output c.drive.result input c.in-Ok.job _ _ says ends.answer;
+      answer = said_ends ParsesAsJob output c.drive.result input c.in-Ok.job _ _ says ends.answer;
       handed = ends.handed;
       device = ends.device;
     }

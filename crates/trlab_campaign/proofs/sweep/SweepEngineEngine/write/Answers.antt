@@ -1,7 +1,7 @@
 use Rattle.std.proofs.Common.{true}
 use Rattle.std.specs.Prelude.{Ok, Err}
 use Rattle.trlab_texts.specs.Reading.{Fault}
-use Rattle.trlab_jobs.specs.Sweep.{SweepLinesSay, SweepText}
+use Rattle.trlab_jobs.specs.Sweep.{SweepLinesParseTo, ParsesAsSweep}
 use Rattle.trlab_campaign.specs.SweepOutput.{IsSweepOutput, SweepOutput}
 use Rattle.trlab_campaign.proofs.Endings.{kept_at_memory, memory_ends, read_says, refusal_ends, said_ends}
 use Rattle.trlab_campaign.proofs.WrittenBytes.{kept}
@@ -11,9 +11,9 @@ pub returns-in-Err-At-clause-ends : goal.returns-in-Err-At-clause-ends
 returns-in-Err-At-clause-ends g c = λ input read.
     let fault : Fault = record { line = c.in-Err-At.line; cause = c.in-Err-At.cause } in
     let told = rw c.in-Err-At.field-0-is at c.in-Err-At.ensures.told in
-    let says = read_says SweepLinesSay c.args.text.now input (Err fault) read told in
+    let says = read_says SweepLinesParseTo c.args.text.now input (Err fault) read told in
     record {
-      answer = refusal_ends SweepText SweepOutput c.refuse.result input fault _ _ says c.refuse.ensures.answer;
+      answer = refusal_ends ParsesAsSweep SweepOutput c.refuse.result input fault _ _ says c.refuse.ensures.answer;
       handed = c.refuse.ensures.handed;
       device = c.refuse.ensures.device;
     }
@@ -21,9 +21,9 @@ returns-in-Err-At-clause-ends g c = λ input read.
 pub returns-clause-ends : goal.returns-clause-ends
 returns-clause-ends g c = λ input read.
     let ends = c.write_table-end.ensures.ends in
-    let says = read_says SweepLinesSay c.args.text.now input (Ok c.in-Ok.sweep) read c.in-Ok.ensures.told in
+    let says = read_says SweepLinesParseTo c.args.text.now input (Ok c.in-Ok.sweep) read c.in-Ok.ensures.told in
     record {
-      answer = said_ends SweepText SweepOutput c.write_table-end.result input c.in-Ok.sweep _ _ says ends.answer;
+      answer = said_ends ParsesAsSweep SweepOutput c.write_table-end.result input c.in-Ok.sweep _ _ says ends.answer;
       handed = ends.handed;
       device = ends.device;
     }

@@ -2,7 +2,7 @@ use Rattle.std.proofs.Common.{◌≡◌, ◌∙◌, ap, codes, inl, inr, subst, 
 use Rattle.clap.specs.Kinds.{HasKind}
 use Rattle.clap.specs.Words.{found_of, rows_of}
 use Rattle.clap.proofs.WalkLemmas.{first_value-rows}
-use Rattle.trlab_command_line.specs.Explains.{explained_in, error_kinds}
+use Rattle.trlab_command_line.specs.Explains.{request_by_matches, error_kinds}
 use Rattle.trlab_command_line.proofs.Matches.{explained_same}
 use Rattle.trlab_command_line.proofs.arguments.explain.explaining_of.Goals as goal
 
@@ -16,6 +16,6 @@ returns-in-Ok-clause-fault c =
 
 pub returns-in_ok-refusal-in-Err-clause-fault : goal.returns-in_ok-refusal-in-Err-clause-fault
 returns-in_ok-refusal-in-Err-clause-fault c =
-    let same : c.explained.result ≡ explained_in (rows_of (found_of c.args.matches.now)) =
+    let same : c.explained.result ≡ request_by_matches (rows_of (found_of c.args.matches.now)) =
     explained_same (rows_of (found_of c.args.matches.now)) _ _ _ _ c.explained.ensures (c.get_str-what.ensures ∙ first_value-rows (found_of c.args.matches.now) (codes "what")) c.given_number-number.ensures c.flag_of.ensures in
     subst (λ r. HasKind (error_kinds r) c.in_ok-refusal-in-Err.field-0) (sym (sym same ∙ c.in-Err.is)) (inr (inl c.in_ok-refusal-in-Err.ensures))

@@ -2,9 +2,9 @@ use Rattle.std.proofs.Common.{◌≡◌, ◌<◌, ◌≤◌, ◌-◌, ◌∙◌,
 use Rattle.trlab_bounds.specs.declared.roads.TheConstants.{MAX_LANES}
 use Rattle.trlab_road.specs.declared.gaps.Beside.{Beside}
 use Rattle.trlab_road.specs.LaneCars.{LaneCar}
-use Rattle.trlab_road.specs.Cells.{Cells, Lane, cars_before, lane_cars}
+use Rattle.trlab_road.specs.Cells.{Cells, Lane, cars_before, lane_car_count}
 use Rattle.trlab_road.specs.Gaps.{side, sideback, sidegap}
-use Rattle.trlab_road.specs.LaneChange.{IsOnOtherLane, IsGapBeside, sides}
+use Rattle.trlab_road.specs.LaneChange.{IsValueOnOtherLane, IsGapOnOtherLane, sides}
 use Rattle.trlab_road.specs.Stored.{IsFoundAt, IsListedRoad, DescribesSideCell, cells_of, lanes_from, list_at, lists_of, place_of}
 use Rattle.trlab_road.proofs.ListRoads.{below_counted, few_cells, few_lists, found_by, found_in_order, found_inside, found_later, lane_from, lanes_count, length_first}
 use Rattle.trlab_road.proofs.road.Road.beside.Goals as goal
@@ -12,10 +12,10 @@ use Rattle.trlab_road.proofs.road.Road.beside.Goals as goal
 -- what is told of the k-th car in standing order
 record IsTold (road : Cells) (k : ℕ) (beside : Beside) : Type 0 where
   value : beside.is_empty ≡ get_or (sides road) k false
-  empty : IsOnOtherLane side road k beside.is_empty
-  ahead : IsGapBeside sidegap road k beside.ahead
-  behind : IsGapBeside sideback road k beside.behind
-  next : IsOnOtherLane cars_before road k beside.next
+  empty : IsValueOnOtherLane side road k beside.is_empty
+  ahead : IsGapOnOtherLane sidegap road k beside.ahead
+  behind : IsGapOnOtherLane sideback road k beside.behind
+  next : IsValueOnOtherLane cars_before road k beside.next
 
 -- what stands beside its place in the list of the other lane is told of a car that was found
 module _ (n : ℕ) (lists : List (Vec LaneCar Global)) (limit k l i x : ℕ) (own other : List LaneCar) (beside : Beside) where
@@ -99,7 +99,7 @@ module _ (n : ℕ) (lists given read : List (Vec LaneCar Global)) (limit k x : �
       let both = two_lists lists _ two (lanes_count n lists limit stored) in
       told n lists limit k 0 k x first second beside stored both.1 (first_of lists k first both.0 (first_is r) low) (first_is r) (second_is r) at stands next
 
-  second_told : IsListedRoad n lists cells → length (lanes_from n lists) ≡ 2 → IsRead → k < sum_by lane_cars (lanes_from n lists) → length first ≤ k → x ≡ place_of second (k - length first)
+  second_told : IsListedRoad n lists cells → length (lanes_from n lists) ≡ 2 → IsRead → k < sum_by lane_car_count (lanes_from n lists) → length first ≤ k → x ≡ place_of second (k - length first)
       → DescribesSideCell n first x beside → beside.next ≡ cars_before (cells_of n first) x → IsTold cells k beside
   second_told stored two r below past at stands next =
       let both = two_lists lists _ two (lanes_count n lists limit stored) in

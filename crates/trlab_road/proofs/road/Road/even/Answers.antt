@@ -2,7 +2,7 @@ use Rattle.std.proofs.Common.{◌≡◌, ◌<◌, ℕ, List, Vec, Global, length
 use Rattle.std.proofs.lemmas.List.{length-map}
 use Rattle.trlab_road.specs.LaneCars.{LaneCar}
 use Rattle.trlab_road.specs.Cells.{Lane}
-use Rattle.trlab_road.specs.Spreading.{IsEvenLane, IsEven}
+use Rattle.trlab_road.specs.Spreading.{IsEvenlySpacedLane, IsEvenlySpaced}
 use Rattle.trlab_road.specs.Stored.{cells_of, lanes_from, list_at}
 use Rattle.trlab_road.proofs.EvenRoads.{even_legal, even_count}
 use Rattle.trlab_road.proofs.ListRoads.{lane_from}
@@ -12,12 +12,12 @@ use Rattle.trlab_road.proofs.road.Road.even.Goals as goal
 
 -- even lists make an even road
 road_of : (lanes cells limit n : ℕ) (made : List (Vec LaneCar Global)) → length made ≡ lanes
-    → ((l : ℕ) → l < lanes → IsEvenLane lanes cells n l (cells_of cells (list_at made l)))
-    → IsEven lanes cells limit n (record { limit = limit; lanes = lanes_from cells made })
+    → ((l : ℕ) → l < lanes → IsEvenlySpacedLane lanes cells n l (cells_of cells (list_at made l)))
+    → IsEvenlySpaced lanes cells limit n (record { limit = limit; lanes = lanes_from cells made })
 road_of lanes cells limit n made size each = record {
   same_limit = refl;
   same_lanes = length-map made (λ (v : Vec LaneCar Global). cells_of cells v.items) ∙ size;
-  each_lane = λ l h. subst (λ (lane : Lane). IsEvenLane lanes cells n l lane) (sym (lane_from cells made l (omega (arith, size, h)))) (each l h);
+  each_lane = λ l h. subst (λ (lane : Lane). IsEvenlySpacedLane lanes cells n l lane) (sym (lane_from cells made l (omega (arith, size, h)))) (each l h);
 }
 
 pub invariant_of-result : goal.invariant_of-result

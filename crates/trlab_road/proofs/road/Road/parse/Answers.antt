@@ -4,17 +4,17 @@ use Rattle.std.proofs.lemmas.List.{length-map}
 use Rattle.trlab_bounds.specs.declared.roads.TheConstants.{MAX_LIMIT}
 use Rattle.trlab_road.specs.Cells.{Lane, Cells}
 use Rattle.trlab_road.specs.Legal.{IsLegal}
-use Rattle.trlab_road.specs.Pictures.{AreGoodPictures, Shows, ShowsCell}
+use Rattle.trlab_road.specs.Pictures.{AreValidPictures, PicturesShow, ShowsCell}
 use Rattle.trlab_road.proofs.PictureLaws.{picture_read, draws, shown_legal, one_shown}
 use Rattle.trlab_road.proofs.PictureFaults.{no_fault_shown, told_fault, told_road}
 use Rattle.trlab_road.proofs.road.Road.parse.Goals as goal
 use Rattle.trlab_road.specs.Stored.{lanes_of_pictures}
 
 -- what was drawn shows, and is legal
-shows : (limit : ℕ) (ps : List (List ℕ)) (lanes : List Lane) → AreGoodPictures limit ps → lanes ≡ lanes_of_pictures 0 ps → Shows limit ps (record { limit = limit; lanes = lanes })
-shows limit ps lanes good is = subst (λ (xs : List Lane). Shows limit ps (record { limit = limit; lanes = xs })) (sym is) (draws limit ps good)
+shows : (limit : ℕ) (ps : List (List ℕ)) (lanes : List Lane) → AreValidPictures limit ps → lanes ≡ lanes_of_pictures 0 ps → PicturesShow limit ps (record { limit = limit; lanes = lanes })
+shows limit ps lanes good is = subst (λ (xs : List Lane). PicturesShow limit ps (record { limit = limit; lanes = xs })) (sym is) (draws limit ps good)
 
-legal : (limit : ℕ) (ps : List (List ℕ)) (lanes : List Lane) → AreGoodPictures limit ps → lanes ≡ lanes_of_pictures 0 ps → IsLegal (record { limit = limit; lanes = lanes })
+legal : (limit : ℕ) (ps : List (List ℕ)) (lanes : List Lane) → AreValidPictures limit ps → lanes ≡ lanes_of_pictures 0 ps → IsLegal (record { limit = limit; lanes = lanes })
 legal limit ps lanes good is = shown_legal limit ps _ good (shows limit ps lanes good is)
 
 pub invariant_of-result : goal.invariant_of-result
@@ -29,8 +29,8 @@ returns-clause-shown c = shows c.args.limit _ _ c.in_ok-check_pictures.ensures c
 pub returns-clause-legal : goal.returns-clause-legal
 returns-clause-legal c = legal c.args.limit _ _ c.in_ok-check_pictures.ensures c.in_ok-lanes.ensures.drawn
 
-same_road : (limit : ℕ) (ps : List (List ℕ)) (next : Cells) → Shows limit ps next → (road : Cells)
-    → IsLegal road → Shows limit ps road → next ≡ road
+same_road : (limit : ℕ) (ps : List (List ℕ)) (next : Cells) → PicturesShow limit ps next → (road : Cells)
+    → IsLegal road → PicturesShow limit ps road → next ≡ road
 same_road limit ps next s road legal other = one_shown limit ps next road s other
 
 pub returns-clause-back : goal.returns-clause-back
@@ -68,7 +68,7 @@ shows_more : (limit character : ℕ) → limit ≤ MAX_LIMIT → ShowsCell limit
 shows_more limit character low (inl empty) = inl empty
 shows_more limit character low (inr shown) = inr (record { speed = shown.speed; within = (let within = shown.within in omega (arith, low, within)); shown = shown.shown })
 
-good_more : (limit : ℕ) (ps : List (List ℕ)) → AreGoodPictures limit ps → AreGoodPictures MAX_LIMIT ps
+good_more : (limit : ℕ) (ps : List (List ℕ)) → AreValidPictures limit ps → AreValidPictures MAX_LIMIT ps
 good_more limit ps good = record {
   shape = record { lanes = good.shape.lanes; lengths = good.shape.lengths; limit_fits = record { some_limit = omega arith; low_limit = omega arith } };
   cells = λ l x on h. shows_more limit _ good.shape.limit_fits.low_limit (good.cells l x on h);

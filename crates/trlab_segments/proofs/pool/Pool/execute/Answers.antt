@@ -1,5 +1,5 @@
 use Rattle.std.proofs.Common.{◌≡◌, OnOk, ap, subst, sym, ◌∙◌}
-use Rattle.trlab_segments.specs.Drawers.{IsNew}
+use Rattle.trlab_segments.specs.Drawers.{HasDrawnNone}
 use Rattle.trlab_segments.specs.Results.{AnswersAll, CoversAllCars, IsRightResult}
 use Rattle.trlab_segments.specs.declared.pool.brief.Brief.{Brief}
 use Rattle.trlab_segments.specs.declared.pool.task.Task.{Task}
@@ -12,7 +12,7 @@ asked task = task.brief
 pub draw_all-parts-requires : goal.draw_all-parts-requires
 draw_all-parts-requires g c =
     let shown = sym (ap asked c.deref.ensures ∙ c.in-Ok.ensures.ok) in record {
-      new = subst (λ b. IsNew b.tickets c.split_pass-reserve.result.1) shown c.split_pass-reserve.ensures.pass;
+      new = subst (λ b. HasDrawnNone b.tickets c.split_pass-reserve.result.1) shown c.split_pass-reserve.ensures.pass;
       lanes = subst (λ b. g.P.Asked.can_ask b.road) shown c.requires.lanes;
     }
 

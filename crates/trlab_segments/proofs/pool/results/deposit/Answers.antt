@@ -1,4 +1,4 @@
-use Rattle.trlab_segments.specs.Results.{IsRight}
+use Rattle.trlab_segments.specs.Results.{IsPartOfBrief}
 use Rattle.trlab_segments.proofs.Joining.{all_told}
 use Rattle.trlab_segments.proofs.pool.results.deposit.Goals as goal
 
@@ -6,6 +6,6 @@ pub returns : goal.returns
 returns g c = record {
   lanes = c.requires.results.lanes;
   reserve = c.requires.results.reserve;
-  done = all_told (IsRight g.P.Asked.answers c.args.brief.now) c.args.brief.now.tickets c.args.results.done _ _ c.args.results.parts c.args.more _
+  done = all_told (IsPartOfBrief g.P.Asked.answers c.args.brief.now) c.args.brief.now.tickets c.args.results.done _ _ c.args.results.parts c.args.more _
       c.requires.results.done c.requires.done c.joined.ensures c.one_drawer.ensures;
 }

@@ -1,6 +1,6 @@
 use Rattle.std.proofs.Common.{◌≡◌, min, sym, refl, ◌∙◌, subst, arith, true≢false}
 use Rattle.trlab_segments.specs.Drawers.{tickets_of}
-use Rattle.trlab_segments.specs.Knowledge.{IsWhole}
+use Rattle.trlab_segments.specs.Knowledge.{IsPermutation}
 use Rattle.trlab_segments.proofs.Steps.{adds_none, not_whole}
 use Rattle.trlab_segments.proofs.tickets.Tickets.finish.Goals as goal
 use Rattle.trlab_segments.proofs.tickets.Tickets.finish.Goals.{else-drawer-self-via-then-drawer-self+else-next-self, else-drawer-self-via-else-drawer-self}
@@ -21,7 +21,7 @@ returns-then-next-self-clause-ok c =
     let plan = c.requires.1 in
     let known = c.fetch_add-next.ensures.2.1.whole (rw (plan, d.passes_are) all) in
     let enough : min c.args.self.plan.count c.fetch_add-next.result ≡ c.args.self.plan.count = omega (arith, c.if-next-self.true) in
-    ((λ _. (all, subst (IsWhole (tickets_of d)) enough (rw plan at known))), λ _. refl)
+    ((λ _. (all, subst (IsPermutation (tickets_of d)) enough (rw plan at known))), λ _. refl)
 
 pub returns-else-drawer-self-clause-ok : goal.returns-else-drawer-self-clause-ok
 returns-else-drawer-self-clause-ok c =

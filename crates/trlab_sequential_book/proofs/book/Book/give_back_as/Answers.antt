@@ -1,7 +1,7 @@
 use Rattle.std.proofs.Common.{false, refl, sym, ◌∙◌}
 use Rattle.trlab_sequential_book.specs.declared.event.Call.TheVariants.{GiveBack}
 use Rattle.trlab_sequential_book.specs.Comparison.{offered}
-use Rattle.trlab_sequential_book.specs.Answers.{back_reply}
+use Rattle.trlab_sequential_book.specs.Answers.{give_back_reply}
 use Rattle.trlab_sequential_book.specs.Machine.{BookState}
 use Rattle.trlab_sequential_book.proofs.Booking.{full_stays, full_told, leads_made, next_back, told_made}
 use Rattle.trlab_sequential_book.proofs.book.Book.give_back_as.Goals as goal
@@ -16,11 +16,11 @@ pub returns-clause-reply : goal.returns-clause-reply
 returns-clause-reply c =
     let book = c.self.inside in
     let state : BookState = record { count = book.count; next = book.next; jobs = book.jobs.items } in
-    told_made state c.args.self.now false (GiveBack (offered c.args.lease c.args.same)) (back_reply c.give_back_in.result) c.self.view_is (sym c.is_full.ensures ∙ c.if-is_full.false) c.give_back_in.ensures.reply
+    told_made state c.args.self.now false (GiveBack (offered c.args.lease c.args.same)) (give_back_reply c.give_back_in.result) c.self.view_is (sym c.is_full.ensures ∙ c.if-is_full.false) c.give_back_in.ensures.reply
 
 pub returns-clause-state : goal.returns-clause-state
 returns-clause-state c =
     let book = c.self.inside in
     let state : BookState = record { count = book.count; next = book.next; jobs = book.jobs.items } in
     let answer = c.give_back_in.result in
-    leads_made state c.args.self.now false (GiveBack (offered c.args.lease c.args.same)) (back_reply answer) c.give_back_in.new.jobs.items c.self.view_is (sym c.is_full.ensures ∙ c.if-is_full.false) refl (next_back book.next answer) c.give_back_in.ensures.reply c.give_back_in.ensures.jobs
+    leads_made state c.args.self.now false (GiveBack (offered c.args.lease c.args.same)) (give_back_reply answer) c.give_back_in.new.jobs.items c.self.view_is (sym c.is_full.ensures ∙ c.if-is_full.false) refl (next_back book.next answer) c.give_back_in.ensures.reply c.give_back_in.ensures.jobs

@@ -1,18 +1,18 @@
 use Rattle.std.proofs.Common.{◌≡◌, true, ap, refl, subst, sym, ◌∙◌}
-use Rattle.trlab_step.specs.Progress.{IsUnderway}
+use Rattle.trlab_step.specs.Progress.{IsReachedByRun}
 use Rattle.trlab_sequential_book.specs.Comparison.{offered}
-use Rattle.trlab_sequential_book.specs.Jobs.{run_of}
-use Rattle.trlab_sequential_book.specs.Machine.{JobState, Outcome, is_own, job_state}
+use Rattle.trlab_sequential_book.specs.Jobs.{progress_of}
+use Rattle.trlab_sequential_book.specs.Machine.{JobState, JobOutcome, accepts_lease, job_state}
 use Rattle.trlab_sequential_book.proofs.Booking.{back_made, back_refused, back_taken, own_parts}
 use Rattle.trlab_sequential_book.proofs.job.JobRecord.give_back.Goals as goal
 
 pub returns-then-not-owns-clause-reply : goal.returns-then-not-owns-clause-reply
 returns-then-not-owns-clause-reply c =
-    sym (ap (λ (o : Outcome). o.reply) (back_refused (offered c.args.lease c.args.same) c.args.self.now (sym c.owns.ensures ∙ c.if-not-owns.true)))
+    sym (ap (λ (o : JobOutcome). o.reply) (back_refused (offered c.args.lease c.args.same) c.args.self.now (sym c.owns.ensures ∙ c.if-not-owns.true)))
 
 pub returns-then-not-owns-clause-job : goal.returns-then-not-owns-clause-job
 returns-then-not-owns-clause-job c =
-    sym (ap (λ (o : Outcome). o.job) (back_refused (offered c.args.lease c.args.same) c.args.self.now (sym c.owns.ensures ∙ c.if-not-owns.true)))
+    sym (ap (λ (o : JobOutcome). o.job) (back_refused (offered c.args.lease c.args.same) c.args.self.now (sym c.owns.ensures ∙ c.if-not-owns.true)))
 
 pub returns-then-not-owns-clause-handed : goal.returns-then-not-owns-clause-handed
 returns-then-not-owns-clause-handed c = refl
@@ -30,13 +30,13 @@ invariant_of-self c =
     let j = c.self.inside in
     let lease = c.args.lease in
     let state = job_state j.seed j.sheet j.steps j.high j.done j.cancelled j.out in
-    let own : is_own (offered lease c.args.same) c.args.self.now ≡ true = sym c.owns.ensures ∙ c.if-not-owns.false in
-    let parts = own_parts (offered lease c.args.same) state (subst (λ (s : JobState). is_own (offered lease c.args.same) s ≡ true) (sym c.self.view_is) own) in
+    let own : accepts_lease (offered lease c.args.same) c.args.self.now ≡ true = sym c.owns.ensures ∙ c.if-not-owns.false in
+    let parts = own_parts (offered lease c.args.same) state (subst (λ (s : JobState). accepts_lease (offered lease c.args.same) s ≡ true) (sym c.self.view_is) own) in
     rw (c.step-self-inside.ensures.value, c.come_to.ensures, c.into_road.ensures) (record {
       ordered = parts.1;
       within = c.self.invariant.within;
       begin = c.self.invariant.begin;
-      run = subst (λ (s : JobState). IsUnderway (run_of s.seed s.sheet lease.step lease.road c.tally_with-self-inside.result)) (sym c.self.view_is) c.tally_with-self-inside.ensures;
+      run = subst (λ (s : JobState). IsReachedByRun (progress_of s.seed s.sheet lease.step lease.road c.tally_with-self-inside.result)) (sym c.self.view_is) c.tally_with-self-inside.ensures;
     })
 
 pub returns-clause-reply : goal.returns-clause-reply

@@ -1,6 +1,6 @@
 use Rattle.std.proofs.Common.{refl, subst}
-use Rattle.trlab_step.specs.Progress.{IsUnderway}
-use Rattle.trlab_sequential_book.specs.Jobs.{run_of}
+use Rattle.trlab_step.specs.Progress.{IsReachedByRun}
+use Rattle.trlab_sequential_book.specs.Jobs.{progress_of}
 use Rattle.trlab_sequential_book.specs.Machine.{JobState, job_state}
 use Rattle.trlab_sequential_book.proofs.Booking.{lent}
 use Rattle.trlab_sequential_book.proofs.job.JobRecord.lend.Goals as goal
@@ -9,5 +9,5 @@ pub returns-clause-lease : goal.returns-clause-lease
 returns-clause-lease c =
     let j = c.self.inside in
     let state = job_state j.seed j.sheet j.steps j.high j.done j.cancelled j.out in
-    let run = subst (λ (s : JobState). IsUnderway (run_of s.seed s.sheet s.done j.road j.tally)) c.self.view_is c.self.invariant.run in
+    let run = subst (λ (s : JobState). IsReachedByRun (progress_of s.seed s.sheet s.done j.road j.tally)) c.self.view_is c.self.invariant.run in
     rw c.get-seed.ensures (refl, lent state c.args.self.now c.args.number _ _ _ c.self.view_is run refl refl c.in_ok-base_road.ensures c.new-2.ensures.items refl refl refl refl)

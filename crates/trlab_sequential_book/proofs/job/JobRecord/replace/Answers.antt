@@ -1,7 +1,7 @@
 use Rattle.std.proofs.Common.{rules, ap, length, subst, sym}
 use Rattle.trlab_step.specs.Laws.{IsRuleFor}
 use Rattle.trlab_step.specs.Run.{IsSheet}
-use Rattle.trlab_sequential_book.specs.Machine.{JobState, Outcome}
+use Rattle.trlab_sequential_book.specs.Machine.{JobState, JobOutcome}
 use Rattle.trlab_sequential_book.specs.Jobs.{run_start}
 use Rattle.trlab_sequential_book.proofs.Entering.{begin_entered, rule_taken, underway_entered}
 use Rattle.trlab_sequential_book.proofs.job.JobRecord.replace.Goals as goal
@@ -32,10 +32,10 @@ pub returns-clause-reply : goal.returns-clause-reply
 returns-clause-reply c =
     let admitted = c.in_ok-admits.ensures.ok in
     let entered = c.in_ok-enter.ensures.ok in
-    ap (λ (o : Outcome). o.reply) (rule_taken _ c.args.self.now c.args.rule _ c.self.view_is admitted.0 admitted.1 entered.0 entered.1)
+    ap (λ (o : JobOutcome). o.reply) (rule_taken _ c.args.self.now c.args.rule _ c.self.view_is admitted.0 admitted.1 entered.0 entered.1)
 
 pub returns-clause-job : goal.returns-clause-job
 returns-clause-job c =
     let admitted = c.in_ok-admits.ensures.ok in
     let entered = c.in_ok-enter.ensures.ok in
-    ap (λ (o : Outcome). o.job) (rule_taken _ c.args.self.now c.args.rule _ c.self.view_is admitted.0 admitted.1 entered.0 entered.1)
+    ap (λ (o : JobOutcome). o.job) (rule_taken _ c.args.self.now c.args.rule _ c.self.view_is admitted.0 admitted.1 entered.0 entered.1)

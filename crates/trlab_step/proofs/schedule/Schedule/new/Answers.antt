@@ -2,7 +2,7 @@ use Rattle.std.proofs.Common.{◌≡◌, ◌∙◌, ℕ, ◌+◌, ◌<◌, Bool,
 use Rattle.std.proofs.lemmas.Bool.{false≢true, eqb-true, eqb-false}
 use Rattle.std.specs.Prelude.{MatchOption, nat_eq, option_copied, slice_get}
 use Rattle.trlab_rules.specs.Rules.{Programs}
-use Rattle.trlab_step.specs.Run.{Rises, Sheet, sheet_with}
+use Rattle.trlab_step.specs.Run.{StepsIncreaseFrom, Sheet, sheet_with}
 use Rattle.trlab_step.proofs.schedule.Schedule.new.Goals as goal
 use Rattle.trlab_step.proofs.schedule.Schedule.new.Goals.{then-begins, else-begins}
 
@@ -34,16 +34,16 @@ sheet_begun first rule (one ∷ later) rest entry h is same after =
     let here = at_zero one rule (eqb-true one.0 0 h) (same ∙ ap (λ (e : ℕ × Programs). e.1) is) in
     rw (h, after) (ap (λ e. e ∷ later) here)
 
-rises_begun : (later rest : Sheet) → Rises 0 later → begins later ≡ true → rest ≡ drop 1 later → Rises 1 rest
+rises_begun : (later rest : Sheet) → StepsIncreaseFrom 0 later → begins later ≡ true → rest ≡ drop 1 later → StepsIncreaseFrom 1 rest
 rises_begun [] rest rises h after = absurd (false≢true h)
-rises_begun (one ∷ later) rest rises h after = rw after (subst (λ step. Rises (step + 1) later) (eqb-true one.0 0 h) rises.1)
+rises_begun (one ∷ later) rest rises h after = rw after (subst (λ step. StepsIncreaseFrom (step + 1) later) (eqb-true one.0 0 h) rises.1)
 
 -- where it does not, it is later than step 0
 sheet_late : (first : Programs) (later : Sheet) → begins later ≡ false → ◌≡◌ {A = Sheet} ((0, first) ∷ later) (sheet_with first later)
 sheet_late first [] h = refl
 sheet_late first (one ∷ later) h = rw h refl
 
-rises_late : (later : Sheet) → Rises 0 later → begins later ≡ false → Rises 1 later
+rises_late : (later : Sheet) → StepsIncreaseFrom 0 later → begins later ≡ false → StepsIncreaseFrom 1 later
 rises_late [] rises h = tt
 rises_late (one ∷ later) rises h = let other = eqb-false one.0 0 h in (omega (arith, other), rises.1)
 

@@ -18,12 +18,12 @@ pub split_seat-requires : goal.split_seat-requires
 split_seat-requires g c = let t = c.args.strands.now in
     (c.load.ensures.0 ∙ (c.join_seat.ensures.0 ∙ (c.args.strand.now.at ∙ sym t.at)), omega (arith, t.one_word), apart c.load.new.seat.id c.load.new.seat.me.0)
 
-pub returns-clause-stand : goal.returns-clause-stand
-returns-clause-stand g c =
+pub returns-clause-in_list : goal.returns-clause-in_list
+returns-clause-in_list g c =
     let s = c.args.strand.now in
     let k = c.args.self.now in
     let learnt = learns_met s.seat.me.0 k.seat.me.0 s.seat.me.1 c.split_seat-list.result.me c.join_seat.new.seat.me k.keeps c.split_seat-list.ensures.4 c.join_seat.ensures.2 c.load.ensures.2.1 in
-    learnt.stand refl
+    learnt.in_list refl
 
 pub returns-clause-most : goal.returns-clause-most
 returns-clause-most g c =
@@ -37,4 +37,4 @@ returns-clause-all g c =
     let s = c.args.strand.now in
     let k = c.args.self.now in
     let learnt = learns_met s.seat.me.0 k.seat.me.0 s.seat.me.1 c.split_seat-list.result.me c.join_seat.new.seat.me k.keeps c.split_seat-list.ensures.4 c.join_seat.ensures.2 c.load.ensures.2.1 in
-    λ long. record { count = long; stand = learnt.stand refl; once = learnt.once refl long }
+    λ long. record { count = long; in_list = learnt.in_list refl; once = learnt.once refl long }
