@@ -76,12 +76,14 @@ class Study(NamedTuple):
         return self.folder / "outputs.parts"
 
     def write_texts(self, texts: Mapping[str, Union[Job, Sweep]]) -> None:
-        """Writes texts beside the tables; of jobs that differ in their key alone those of key 1."""
+        """Writes texts beside the tables, a sweep of several inputs as NAME.sweep, NAME_1.sweep and so on; of jobs that
+        differ in their key alone those of key 1."""
         place = self.folder / "texts"
         place.mkdir(parents=True, exist_ok=True)
         for name, text in texts.items():
             if isinstance(text, Sweep):
-                (place / f"{name}.sweep").write_text(text.text())
+                for number, part in enumerate(text.parts()):
+                    (place / (f"{name}_{number}.sweep" if number else f"{name}.sweep")).write_text(part.text())
             elif text.key == 1:
                 (place / f"{name}.job").write_text(text.text())
 
