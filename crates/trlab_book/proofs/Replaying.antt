@@ -5,6 +5,8 @@ use Rattle.std.specs.Prelude.{Result, Ok, Err, ◌⊎◌, is_some, not, ltb, len
 use Rattle.std.proofs.lemmas.Bool.{MatchBool-at_false, MatchBool-at_true, cond-false, cond-true, cond_both, false≢true}
 use Rattle.std.proofs.lemmas.List.{map-append}
 use Rattle.std.proofs.Math.Logic.{∥∥₁_map}
+use Rattle.trlab_sequential_book.specs.declared.book.TheConstants.{MAX_JOBS}
+use Rattle.trlab_sequential_book.specs.declared.sheet.TheConstants.{MAX_ENTRIES}
 use Rattle.trlab_sequential_book.specs.declared.event.Call.{Call}
 use Rattle.trlab_sequential_book.specs.declared.event.Event.{Event}
 use Rattle.trlab_sequential_book.specs.declared.event.Call.TheVariants.{Cancel, GiveBack, Read, Replace, Revoke, Submit}
@@ -121,12 +123,12 @@ replace_is_event s i rule free = reply_is_event s (Replace i rule) free (job_is_
     taken job =
         let sheet = with_rule_from job.sheet job.high rule in
         let made : JobOutcome = record { reply = Number job.high; job = record job { sheet = sheet } } in
-        let full : JobOutcome = if ltb 1024 (length sheet) then refused SheetFull job else made in
+        let full : JobOutcome = if ltb MAX_ENTRIES (length sheet) then refused SheetFull job else made in
         let lanes : JobOutcome = if not (suits rule job.seed.road) then refused LanesMismatch job else full in
         let P : JobOutcome → Type 0 = λ (o : JobOutcome). is_event o.reply ≡ true in
         cond_both (job.cancelled || (job.high == job.steps)) (refused Ended job) lanes P (λ _. refl)
         (λ _. cond_both (not (suits rule job.seed.road)) (refused LanesMismatch job) full P (λ _. refl)
-        (λ _. cond_both (ltb 1024 (length sheet)) (refused SheetFull job) made P (λ _. refl) (λ _. refl)))
+        (λ _. cond_both (ltb MAX_ENTRIES (length sheet)) (refused SheetFull job) made P (λ _. refl) (λ _. refl)))
 
 submit_is_event : (s : BookState) (seed : Seed) (rule : Programs) (steps : ℕ) → is_full s ≡ false → is_event (reply_of s (Submit seed rule steps)) ≡ true
 submit_is_event s seed rule steps free = reply_is_event s (Submit seed rule steps) free taken
@@ -136,10 +138,10 @@ submit_is_event s seed rule steps free = reply_is_event s (Submit seed rule step
         let lanes : JobsOutcome = record { reply = Refused LanesMismatch; jobs = s.jobs } in
         let made : JobsOutcome = record { reply = Number (length s.jobs); jobs = s.jobs ++ new_job seed rule steps ∷ [] } in
         let full : JobsOutcome = record { reply = Refused Full; jobs = s.jobs } in
-        let some : JobsOutcome = if ltb (length s.jobs) 256 then made else full in
+        let some : JobsOutcome = if ltb (length s.jobs) MAX_JOBS then made else full in
         let P : JobsOutcome → Type 0 = λ (o : JobsOutcome). is_event o.reply ≡ true in
         cond_both (not (suits rule seed.road)) lanes some P (λ _. refl)
-        (λ _. cond_both (ltb (length s.jobs) 256) made full P (λ _. refl) (λ _. refl))
+        (λ _. cond_both (ltb (length s.jobs) MAX_JOBS) made full P (λ _. refl) (λ _. refl))
 
 read_is_event : (s : BookState) (i : ℕ) → is_full s ≡ false → is_event (reply_of s (Read i)) ≡ true
 read_is_event s i free = reply_is_event s (Read i) free (job_is_event s.jobs i reading (λ _. refl))

@@ -7,6 +7,8 @@ use Rattle.std.specs.Prelude.{MatchOption, is_some, if◌then◌else◌}
 use Rattle.std.specs.List.{position}
 use Rattle.trlab_rules.specs.Rules.{Programs}
 use Rattle.trlab_step.specs.Progress.{Progress}
+use Rattle.trlab_sequential_book.specs.declared.book.TheConstants.{MAX_JOBS}
+use Rattle.trlab_sequential_book.specs.declared.sheet.TheConstants.{MAX_ENTRIES}
 use Rattle.trlab_sequential_book.specs.declared.seed.Seed.{Seed}
 use Rattle.trlab_sequential_book.specs.declared.event.Offered.{Offered}
 use Rattle.trlab_sequential_book.specs.declared.event.Event.{Event}
@@ -46,7 +48,7 @@ replacing_keeps : (rule : Programs) → Leaves (replacing rule)
 replacing_keeps rule job =
     let P : JobOutcome → Type 0 = λ (o : JobOutcome). Keeps job o.job in
     let same = same_job job in
-    by_if P (job.cancelled || (job.high == job.steps)) _ _ same (by_if P (not (suits rule job.seed.road)) _ _ same (by_if P (ltb 1024 (length (with_rule_from job.sheet job.high rule))) _ _ same (record { seed = refl; steps = refl })))
+    by_if P (job.cancelled || (job.high == job.steps)) _ _ same (by_if P (not (suits rule job.seed.road)) _ _ same (by_if P (ltb MAX_ENTRIES (length (with_rule_from job.sheet job.high rule))) _ _ same (record { seed = refl; steps = refl })))
 
 ordering_keeps : (lease : Offered) → Leaves (ordering lease)
 ordering_keeps lease job =
@@ -182,7 +184,7 @@ submit_by false true jobs seed rule steps = pushed jobs seed rule steps
 submit_by false false jobs seed rule steps = nothing_done jobs (call.Submit seed rule steps) (reply.Refused fault.Full) not_full
 
 served_left : (book : BookState) (asked : Call) → Left book.jobs asked (outcome_of_call book asked).reply (outcome_of_call book asked).jobs
-served_left book (call.Submit seed rule steps) = submit_by (not (suits rule seed.road)) (ltb (length book.jobs) 256) book.jobs seed rule steps
+served_left book (call.Submit seed rule steps) = submit_by (not (suits rule seed.road)) (ltb (length book.jobs) MAX_JOBS) book.jobs seed rule steps
 served_left book (call.Replace job rule) = left_one _ _ _ _ (λ s r n is. absurd cc) (on_one book.jobs job (replacing rule) (replacing_keeps rule))
 served_left book call.Lease = left_one _ _ _ _ (λ s r n is. absurd cc) (after_lease book.jobs book.next (position is_free book.jobs))
 served_left book (call.Order lease) = left_one _ _ _ _ (λ s r n is. absurd cc) (on_one book.jobs lease.job (ordering lease) (ordering_keeps lease))

@@ -4,6 +4,8 @@ use Rattle.std.specs.Prelude.{ℕ, ◌+◌, ◌==◌, max, Bool, true, false, �
 use Rattle.std.specs.List.{position}
 use Rattle.trlab_rules.specs.Rules.{Programs}
 use Rattle.trlab_step.specs.Run.{Sheet}
+use Rattle.trlab_sequential_book.specs.declared.book.TheConstants.{MAX_EVENTS, MAX_JOBS}
+use Rattle.trlab_sequential_book.specs.declared.sheet.TheConstants.{MAX_ENTRIES}
 use Rattle.trlab_sequential_book.specs.declared.seed.Seed.{Seed}
 use Rattle.trlab_sequential_book.specs.declared.fault.BookFault.{BookFault}
 use Rattle.trlab_sequential_book.specs.declared.fault.BookFault.TheVariants as fault
@@ -65,13 +67,13 @@ new_job seed rule steps = job_state seed ((0, rule) ∷ []) steps 0 0 false None
 
 -- the rule is in force from step `high` on, the first that was never ordered, and the reply has this step.
 -- The fault is the first that applies: `Ended` if the job was cancelled or all its steps were ordered,
--- `LanesMismatch` if the rule does not suit the road, `SheetFull` if the sheet would have more than 1024
--- entries
+-- `LanesMismatch` if the rule does not suit the road, `SheetFull` if the sheet would have more than
+-- MAX_ENTRIES entries
 abbrev pub replacing : Programs → JobState → JobOutcome
 replacing rule job =
     if job.cancelled || (job.high == job.steps) then refused fault.Ended job
     else if not (suits rule job.seed.road) then refused fault.LanesMismatch job
-    else if ltb 1024 (length (with_rule_from job.sheet job.high rule)) then refused fault.SheetFull job
+    else if ltb MAX_ENTRIES (length (with_rule_from job.sheet job.high rule)) then refused fault.SheetFull job
     else record {
       reply = reply.Number job.high;
       job = record job { sheet = with_rule_from job.sheet job.high rule };
@@ -156,11 +158,11 @@ on_free jobs number None = record { reply = reply.NoLease; jobs = jobs }
 on_free jobs number (Some index) = on_job jobs index (leasing index number)
 
 -- a job is added as the last one, and the reply is its number, counted from 0. The fault is `LanesMismatch`
--- if its rule does not suit its road, otherwise `Full` if there are 256 jobs
+-- if its rule does not suit its road, otherwise `Full` if there are MAX_JOBS jobs
 abbrev pub submitting : List JobState → Seed → Programs → ℕ → JobsOutcome
 submitting jobs seed rule steps =
     if not (suits rule seed.road) then record { reply = reply.Refused fault.LanesMismatch; jobs = jobs }
-    else if ltb (length jobs) 256
+    else if ltb (length jobs) MAX_JOBS
     then record { reply = reply.Number (length jobs); jobs = jobs ++ new_job seed rule steps ∷ [] }
     else record { reply = reply.Refused fault.Full; jobs = jobs }
 
@@ -181,9 +183,10 @@ abbrev pub next_after : ℕ → Reply → ℕ
 next_after next (reply.Leased job number step steps) = next + 1
 next_after next _ = next
 
--- is the history of a book full? It is after 1000000 events; the book then refuses each call as `HistoryFull`
+-- is the history of a book full? It is after MAX_EVENTS events; the book then refuses each call as
+-- `HistoryFull`
 abbrev pub is_full : BookState → Bool
-is_full book = not (ltb book.count 1000000)
+is_full book = not (ltb book.count MAX_EVENTS)
 
 -- the reply of a book to a call: `HistoryFull` if its history is full
 abbrev pub reply_of : BookState → Call → Reply

@@ -29,7 +29,7 @@ pub const MAX_JOBS: usize = 256;
 /// The maximum number of events of a book. After that many it refuses each call.
 pub const MAX_EVENTS: u32 = 1000000;
 
-/// A book of up to 256 jobs, which are numbered from 0 and never removed.
+/// A book of up to `MAX_JOBS` jobs, which are numbered from 0 and never removed.
 ///
 /// Each call is an event, even if it is refused. Only a call refused as `HistoryFull` or `Memory` is not an event, and
 /// changes nothing.
@@ -55,13 +55,14 @@ impl Drop for Book {
 impl Model for Book {
     ghost use Rattle.std.specs.Prelude.{◌≤◌, vec_len};
     ghost use Rattle.trlab_sequential_book.specs.Machine.{BookState};
+    ghost use Rattle.trlab_sequential_book.specs.declared.book.TheConstants.{MAX_EVENTS, MAX_JOBS};
 
     ghost Value = { BookState };
 
     ghost view = { λ book. record { count = book.count; next = book.next; jobs = book.jobs.items } };
 
-    ghost invariant = { λ book. (book.count ≤ 1000000) × (book.next ≤ book.count)
-        × (vec_len book.jobs ≤ 256) };
+    ghost invariant = { λ book. (book.count ≤ MAX_EVENTS) × (book.next ≤ book.count)
+        × (vec_len book.jobs ≤ MAX_JOBS) };
 }
 
 impl Book {
@@ -76,7 +77,7 @@ impl Book {
         }
     }
 
-    /// Whether there were 1,000,000 events, after which each call is refused as `HistoryFull`.
+    /// Whether there were `MAX_EVENTS` events, after which each call is refused as `HistoryFull`.
     pub fn is_full(&self) -> bool
         ensures { result ≡ is_full self.now }
     {
@@ -328,9 +329,9 @@ impl Book {
 
 /// The number of events after a call with this answer; `count` is the number before the call.
 fn count_after<T>(count: u32, answer: &Result<T, BookFault>) -> u32
-    requires { count < 1000000 }
+    requires { count < MAX_EVENTS }
     ensures value { MatchBool (is_memory answer.now) (result ≡ count) (result ≡ count + 1) }
-    ensures within { (count ≤ result) × (result ≤ 1000000) }
+    ensures within { (count ≤ result) × (result ≤ MAX_EVENTS) }
 {
     match answer {
         Err(BookFault::Memory) => count,
@@ -347,12 +348,12 @@ fn submit_in(
     rule: Rule,
     steps: u32,
 ) -> Result<u32, BookFault>
-    requires { length jobs.old.items ≤ 256 }
+    requires { length jobs.old.items ≤ MAX_JOBS }
     ensures reply { MatchBool (is_memory result) (Unit {0})
         (number_reply result ≡ (submitting jobs.old.items seed rule steps).reply) }
     ensures jobs { MatchBool (is_memory result) (jobs.new.items ≡ jobs.old.items)
         (jobs.new.items ≡ (submitting jobs.old.items seed rule steps).jobs) }
-    ensures at_most_max { length jobs.new.items ≤ 256 }
+    ensures at_most_max { length jobs.new.items ≤ MAX_JOBS }
 {
     make_room(jobs, seed.get(), &rule)?;
     let job = JobRecord::new(alloc, seed, rule, steps)?;
@@ -361,11 +362,11 @@ fn submit_in(
     Ok(number)
 }
 
-/// Makes room for one more job, if there are fewer than 256 and its rule suits its road.
+/// Makes room for one more job, if there are fewer than `MAX_JOBS` and its rule suits its road.
 fn make_room(jobs: &mut Vec<JobRecord>, seed: &Seed, rule: &Rule) -> Result<(), BookFault>
     ensures jobs { jobs.new.items ≡ jobs.old.items }
     ensures room { IfOk result (λ _. vec_len jobs.new < vec_capacity jobs.new) }
-    ensures taken { IfOk result (λ _. (suits rule.now seed.now.road ≡ true) × (length jobs.old.items < 256)) }
+    ensures taken { IfOk result (λ _. (suits rule.now seed.now.road ≡ true) × (length jobs.old.items < MAX_JOBS)) }
     ensures rule { IfOk result (λ _. IsRuleFor (length seed.now.road.lanes) rule.now) }
     ensures refused { IfErr result (λ fault. MatchBool (is_memory result) (Unit {0})
         ((steps : ℕ) → submitting jobs.old.items seed.now rule.now steps
@@ -383,7 +384,7 @@ fn make_room(jobs: &mut Vec<JobRecord>, seed: &Seed, rule: &Rule) -> Result<(), 
 
 /// Whether a book with this many jobs is full.
 fn has_all_jobs(jobs: usize) -> bool
-    ensures { result ≡ not (ltb jobs 256) }
+    ensures { result ≡ not (ltb jobs MAX_JOBS) }
 {
     jobs >= MAX_JOBS
 }

@@ -50,10 +50,10 @@ impl Sheet {
         Ok(Sheet { entries })
     }
 
-    /// The number of entries, 1 to 1024. Their steps rise from 0.
+    /// The number of entries, 1 to `MAX_ENTRIES`. Their steps rise from 0.
     pub fn len(&self) -> usize
         ensures value { result ≡ length self.now }
-        ensures at_most_max { result ≤ 1024 }
+        ensures at_most_max { result ≤ MAX_ENTRIES }
         ensures rules { IsSheet self.now }
     {
         self.entries.len()
@@ -136,12 +136,12 @@ impl Sheet {
     ///
     /// # Errors
     ///
-    /// `SheetFull` if the sheet would have more than 1024 entries, `Memory` if an allocation fails. Then
+    /// `SheetFull` if the sheet would have more than `MAX_ENTRIES` entries, `Memory` if an allocation fails. Then
     /// nothing changes.
     pub(crate) fn enter(&mut self, from: u32, rule: Rule) -> Result<(), BookFault>
         requires { BeginBy from self.old }
         ensures ok { OnOk result
-            ((self.new ≡ with_rule_from self.old from rule) × (length self.new ≤ 1024) × IsSheet self.new) }
+            ((self.new ≡ with_rule_from self.old from rule) × (length self.new ≤ MAX_ENTRIES) × IsSheet self.new) }
         ensures err { IfErr result (λ fault. MayRefuse fault (with_rule_from self.old from rule)) }
         ensures unchanged { OnErr result (self.new ≡ self.old) }
     {
