@@ -54,7 +54,7 @@ pub struct Candidates {
 
 impl Candidates {
     /// Returns the value, or remembers that its allocation failed.
-    pub fn value<T>(&mut self, value: Result<T>) -> Option<T> {
+    pub fn ok_or_fail<T>(&mut self, value: Result<T>) -> Option<T> {
         self.has_failed |= value.is_err();
         value.ok()
     }
@@ -69,7 +69,7 @@ impl Candidates {
 
     /// Adds a candidate that replaces `removed` bytes of the input, from position `at` on.
     pub fn edit(&mut self, mistake: &'static str, at: usize, removed: usize, put: Result<Vec<u8>>) {
-        if let Some(inserted) = self.value(put) {
+        if let Some(inserted) = self.ok_or_fail(put) {
             let edit = Edit {
                 at,
                 removed,
@@ -111,7 +111,7 @@ impl Candidates {
 
     /// Adds a candidate that replaces a word of the line at fault by the name that was meant, if there is one.
     pub fn misspelled(&mut self, at: usize, word: &[u8], meant: Result<Option<&[u8]>>) {
-        if let Some(Some(meant)) = self.value(meant)
+        if let Some(Some(meant)) = self.ok_or_fail(meant)
             && meant != word
         {
             self.in_line(MISSPELLED, at, word.len(), meant);

@@ -46,18 +46,18 @@ fn push_orders(fact: &mut Draft, note: &Note, register: Register, high: u32) {
 }
 
 /// Adds a line with a note's fact about a register: the range of its number, or that it holds a flag or may be unset.
-pub fn push_fact(facts: &mut Draft, note: &Note, register: Register) {
+pub fn push_register_fact(facts: &mut Draft, note: &Note, register: Register) {
     write!(facts, "{}: ", Shown(register_text(register)));
     match note.regs[register.number()] {
-        Mark::Unset => facts.line("not set on every path"),
+        Mark::Unset => facts.push_line("not set on every path"),
         Mark::Num(low, high) => {
             write!(facts, "{low}..{high}");
             push_orders(facts, note, register, high);
-            facts.say("\n");
+            facts.push_str("\n");
         }
         Mark::Flag(implies_side) if implies_side || note.side => {
-            facts.line("a flag; if true, the side cell is empty")
+            facts.push_line("a flag; if true, the side cell is empty")
         }
-        Mark::Flag(_) => facts.line("a flag"),
+        Mark::Flag(_) => facts.push_line("a flag"),
     }
 }

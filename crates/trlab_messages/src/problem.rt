@@ -4,10 +4,11 @@ mod line;
 mod program;
 
 use crate::fault::Fault;
-use crate::found::line::push_line_problem;
-use crate::found::program::{push_program_problem, word_span};
 use crate::instruction::operand_at_fault;
+use crate::problem::line::push_line_problem;
+use crate::problem::program::{push_program_problem, word_span};
 use crate::sentence::{Draft, Quoted};
+use crate::span::Span;
 use trlab_asm::Why;
 use trlab_lines::bytes_at;
 use trlab_road::RoadFault;
@@ -74,8 +75,8 @@ fn push_cells_problem(found: &mut Draft, line: &[u8], first: u32) {
 
 /// Adds the speed of a car that is faster than the maximum speed.
 fn push_speed_problem(found: &mut Draft, fault: &Fault<'_>, limit: u32) {
-    if let Some((at, _)) = span_of(fault)
-        && let Some(car) = fault.line.get(at)
+    if let Some(span) = span_of(fault)
+        && let Some(car) = fault.line.get(span.start)
         && let Some(speed) = char::from(*car).to_digit(36)
     {
         write!(
@@ -85,27 +86,35 @@ fn push_speed_problem(found: &mut Draft, fault: &Fault<'_>, limit: u32) {
     }
 }
 
-/// The position and the number of the bytes at fault in their line. `None` means the whole line.
-pub fn span_of(fault: &Fault<'_>) -> Option<(usize, usize)> {
+/// The bytes at fault in their line. `None` means the whole line.
+pub fn span_of(fault: &Fault<'_>) -> Option<Span> {
     let line = fault.line;
     match fault.cause {
         Cause::Road(
             RoadFault::Character { place, .. } | RoadFault::SpeedAboveLimit { place, .. },
-        ) => Some((BEFORE_CELLS.saturating_add(place as usize), 1)),
+        ) => Some(Span {
+            start: BEFORE_CELLS.saturating_add(place as usize),
+            length: 1,
+        }),
         Cause::Program(Why::Word) => word_span(line),
         Cause::Program(why) => {
             let found = operand_at_fault(line, why)?;
-            Some((found.at, found.word.len()))
+            Some(Span {
+                start: found.at,
+                length: found.word.len(),
+            })
         }
         _ => fault.word(),
     }
 }
 
 /// Adds the problem at a fault, unless the meaning of the cause is enough.
-pub fn push_found(found: &mut Draft, fault: &Fault<'_>) {
+pub fn describe_problem(found: &mut Draft, fault: &Fault<'_>) {
     let line = fault.line;
-    let (at, length) = fault.word().unwrap_or((0, 0));
-    let word = bytes_at(line, at, length);
+    let word = match fault.word() {
+        Some(span) => bytes_at(line, span.start, span.length),
+        None => b"",
+    };
     match fault.wanted {
         Wanted::Lines(names) => push_line_problem(found, fault, *names),
         Wanted::Number { least, most, .. } if fault.cause == Cause::Number => {

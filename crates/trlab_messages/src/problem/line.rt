@@ -1,7 +1,7 @@
 //! The problem with an unexpected line.
 
 use crate::fault::Fault;
-use crate::names::{after_rule, count_probabilities, is_of, named};
+use crate::names::{after_rule, belongs_in, count_probabilities, line_named};
 use crate::sentence::{Draft, Quoted};
 use trlab_jobs::Subject;
 use trlab_lines::{Oddity, oddity_of};
@@ -30,8 +30,8 @@ fn push_rule_problem(problem: &mut Draft, words: &[u8]) {
 
 /// Adds the problem with a line whose first word is not valid there.
 fn push_name_problem(problem: &mut Draft, subject: Subject, word: &[u8]) {
-    match named(word) {
-        Some(name) if !is_of(name, subject) => {
+    match line_named(word) {
+        Some(name) if !belongs_in(name, subject) => {
             let belongs = match subject {
                 Subject::Job => "belongs in a sweep, not in a job",
                 Subject::Sweep => "belongs in a job, not in a sweep",
@@ -42,7 +42,7 @@ fn push_name_problem(problem: &mut Draft, subject: Subject, word: &[u8]) {
         }
         None if word != b"code".as_slice() && word != b"end".as_slice() => {}
         _ if subject == Subject::Check => {}
-        _ => problem.say(
+        _ => problem.push_str(
             "this line does not belong here: a line above it is missing, or it is a duplicate.",
         ),
     }
@@ -51,10 +51,10 @@ fn push_name_problem(problem: &mut Draft, subject: Subject, word: &[u8]) {
 /// Adds the problem with a line by its first word.
 fn push_word_problem(problem: &mut Draft, subject: Subject, word: &[u8], names: LineNames) {
     let is_program = names.has(LineName::Motion) || names.has(LineName::Change);
-    match named(word) {
+    match line_named(word) {
         Some(name) if names.has(name) => {
             if matches!(name, LineName::Road | LineName::Sweep) {
-                problem.say("the format version must be 1.");
+                problem.push_str("the format version must be 1.");
             }
         }
         None if is_program && word == b"code".as_slice() => {}
@@ -80,14 +80,14 @@ fn odd_words(oddity: Oddity) -> &'static str {
 /// Adds the problem with an unexpected line.
 pub fn push_line_problem(problem: &mut Draft, fault: &Fault<'_>, names: LineNames) {
     let Some(line) = fault.place.line else {
-        return problem.say(if names.has(LineName::End) {
+        return problem.push_str(if names.has(LineName::End) {
             "the end of the file: a program has no line `end`."
         } else {
             "the end of the file: a line is missing."
         });
     };
     if let Some(oddity) = oddity_of(line) {
-        return problem.say(odd_words(oddity));
+        return problem.push_str(odd_words(oddity));
     }
     if let Some(words) = after_rule(line) {
         push_rule_problem(problem, words);

@@ -1,8 +1,9 @@
 //! The problem with a line of a program.
 
-use crate::found::push_number_problem;
 use crate::instruction::{operand_at_fault, start_of_name};
+use crate::problem::push_number_problem;
 use crate::sentence::{Draft, Quoted};
+use crate::span::Span;
 use trlab_asm::{OperandKind, Why, is_label, mnemonic_named, operand_kinds};
 use trlab_lines::{label_and_rest, name_and_operands, without_comment};
 
@@ -77,14 +78,14 @@ pub fn push_program_problem(problem: &mut Draft, line: &[u8], why: Why) {
     }
 }
 
-/// The position and length of an invalid label, else of the name of the instruction.
-pub fn word_span(line: &[u8]) -> Option<(usize, usize)> {
-    let (before, length) = match label_and_rest(without_comment(line)) {
+/// An invalid label, or else the name of the instruction.
+pub fn word_span(line: &[u8]) -> Option<Span> {
+    let (start, length) = match label_and_rest(without_comment(line)) {
         (Some(label), _) if !is_label(label) => (0, label.len()),
         _ => (start_of_name(line), name_and_operands(line).0.len()),
     };
     if length == 0 {
         return None;
     }
-    Some((before, length))
+    Some(Span { start, length })
 }

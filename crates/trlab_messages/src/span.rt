@@ -1,0 +1,9 @@
+//! Parts of lines.
+
+/// Some bytes of a line.
+#[derive(Clone, Copy)]
+pub struct Span {
+    /// The number of bytes before them.
+    pub start: usize,
+    pub length: usize,
+}
