@@ -1,5 +1,5 @@
--- Lanes as cells that are taken or empty: the rule of 1992 with the limit 1 and without randomization is rule
--- 184 of Wolfram's elementary cellular automata (1983).
+-- Lanes as cells that are taken or empty: the Nagel-Schreckenberg model with v_max = 1 and without
+-- randomization is rule 184 of Wolfram's elementary cellular automata (1983).
 use Rattle.std.specs.Prelude.{◌≡◌, ℕ, ◌+◌, ◌*◌, ◌/◌, ◌%◌, ◌^◌, ◌<◌, Bool, not, is_some, length, nat_eq, if◌then◌else◌}
 use Rattle.trlab_road.specs.Cells.{Cells, Lane, at, lane_of}
 use Rattle.trlab_road.specs.Gaps.{ahead, behind}
@@ -34,8 +34,8 @@ IsElementaryStep number old new = (x : ℕ) → x < length old
     let taken_ahead = is_taken old (ahead (length old) x 1) in
     is_taken new x ≡ elementary number taken_behind (is_taken old x) taken_ahead
 
--- with the limit 1 and without randomization the rule of 1992 takes each lane of a legal road through a step
--- of rule 184, for any speeds of its cars
+-- with v_max = 1 and without randomization a step of the Nagel-Schreckenberg model is a step of rule 184 on
+-- each lane of a legal road, for any speeds of its cars
 abbrev pub NaschIsRule184 : Type 0
 NaschIsRule184 =
     (rule : Programs) (dice : Dice) (old new : Cells) (tally : StepTally) (l : ℕ)

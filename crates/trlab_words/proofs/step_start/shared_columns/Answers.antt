@@ -1,8 +1,8 @@
-use Rattle.trlab_words.specs.FirstRound.{other_columns}
-use Rattle.trlab_words.proofs.step_start.other_columns.Goals as goal
+use Rattle.trlab_words.specs.FirstRound.{shared_columns}
+use Rattle.trlab_words.proofs.step_start.shared_columns.Goals as goal
 
 pub returns : goal.returns
-unfolding other_columns
+unfolding shared_columns
 returns c =
     rw (
       ← c.quarter_round-a0.ensures,

@@ -1,5 +1,5 @@
 use Rattle.trlab_words.proofs.KeyBytes.{seed_of-key_of}
-use Rattle.trlab_words.proofs.key.read_words.Goals as goal
+use Rattle.trlab_words.proofs.key.read_key_words.Goals as goal
 
 pub returns-clause-bytes : goal.returns-clause-bytes
 returns-clause-bytes c =
