@@ -14,13 +14,13 @@ use Rattle.trlab_rules.specs.Rules.{Programs}
 use Rattle.trlab_step.specs.declared.tally.StepTally.{StepTally}
 use Rattle.trlab_machine.specs.declared.dice.Dice.{Dice}
 use Rattle.trlab_step.specs.Answers.{AnswersCrossing, AnswersSpeed, AnswersSpeedsPart, AnswersCrossingsPart, IsSpeedsPart}
-use Rattle.trlab_step.specs.Block.{view_by}
+use Rattle.trlab_step.specs.Block.{view_for_kind}
 use Rattle.trlab_step.specs.Calls.{StepCallsAreSafe}
 use Rattle.trlab_step.specs.Next.{IsNext, IsCleanNext, IsStep}
 use Rattle.trlab_step.specs.Run.{Seed, Sheet, IsSheet, in_force, tally_sum, dice_at, ComesTo}
 
--- a rule for roads with `lanes` lanes: its programs are valid programs of their kind, and safe within their
--- budgets; if it has a change program, there are two lanes
+-- a rule for roads with `lanes` lanes: its motion program and, if there is one, its change program are
+-- accepted programs, which end within their budgets; if it has a change program, `lanes` is 2
 pub record IsRuleFor (lanes : ℕ) (rule : Programs) : Type 0 where
   pub motion : IsChecked Motion rule.motion
   pub change : IfSome rule.change (λ change. IsChecked Change change)
@@ -109,7 +109,7 @@ AnswersLeadToNextRoad =
 abbrev pub ViewsAreInRange : Type 0
 ViewsAreInRange =
     (kind : Kind) (road : Cells) (car : Car) → IsLegal road → (kind ≡ Change → length road.lanes ≡ 2)
-    → IsAt road car → IsViewInRange (view_by kind road car)
+    → IsAt road car → IsViewInRange (view_for_kind kind road car)
 
 -- if an accepted motion program answers a speed for a car of a legal road, it has executed at most as many
 -- instructions as its budget

@@ -1,9 +1,9 @@
 use Rattle.std.proofs.Common.{◌∙◌, ◌++◌, [], ◌∷◌, take, ap, sym, arith}
 use Rattle.std.proofs.lemmas.List.{take_more, take_all}
-use Rattle.trlab_step.proofs.motion.in_words.Goals as goal
+use Rattle.trlab_step.proofs.motion.speeds_to_u32.Goals as goal
 
 pub loop-speed-init : goal.loop-speed-init
-loop-speed-init c = c.in_ok-words.ensures.items
+loop-speed-init c = c.in_ok-numbers.ensures.items
 
 pub loop-speed-preserved : goal.loop-speed-preserved
 loop-speed-preserved c =
