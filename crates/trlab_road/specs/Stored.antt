@@ -25,7 +25,7 @@ abbrev pub IsSortedFrom : ℕ → ℕ → List LaneCar → Type 0
 IsSortedFrom x n [] = Unit {0}
 IsSortedFrom x n (car ∷ cars) = (x ≤ car.place) × (car.place < n) × IsSortedFrom (suc car.place) n cars
 
--- the places of the listed cars strictly increase; so they are below some n
+-- the places of the listed cars strictly increase (n is a number above all of them)
 abbrev pub IsRising : List LaneCar → Type 0
 IsRising cars = (n : ℕ) × IsSortedFrom 0 n cars
 
@@ -89,7 +89,7 @@ pub record DescribesSideCell (n : ℕ) (cars : List LaneCar) (x : ℕ) (beside :
   pub ahead_within : beside.ahead < n
   pub behind_within : beside.behind < n
 
--- lane `leaving` has the cars of lane `old` that cross, at their places, and no others
+-- lane `leaving` has the cars of lane `old` that cross, each in its cell, and no others
 pub record HasLeavingCars (crosses : ℕ → Bool) (old leaving : Lane) : Type 0 where
   pub same_length : length leaving ≡ length old
   pub each_cell : (x : ℕ) → x < length old → at leaving x ≡ cond (crosses x) (at old x) None

@@ -11,7 +11,7 @@ moved_ahead car speed = record { number = car.number; place = car.place + speed;
 -- `from` + j of `speeds`; the other cars are unchanged
 pub record HaveMovedAhead (speeds : List ℕ) (from : ℕ) (old new : List LaneCar) (k : ℕ) : Type 0 where
   pub same_count : length new ≡ length old
-  pub gone : (j : ℕ) → j < k
+  pub moved : (j : ℕ) → j < k
       → slice_index_or new j no_car
       ≡ moved_ahead (slice_index_or old j no_car) (slice_index speeds (from + j))
   pub others : (j : ℕ) → k ≤ j → slice_index_or new j no_car ≡ slice_index_or old j no_car

@@ -1,6 +1,6 @@
 use Rattle.std.proofs.Common.{◌<◌, ℕ, get_or}
 use Rattle.trlab_road.specs.Pictures.{ShowsCell}
-use Rattle.trlab_road.proofs.picture.first_bad.Given as goal
+use Rattle.trlab_road.proofs.picture.first_invalid.Given as goal
 
 -- the bytes so far show cells
 abbrev pub invariant-loop-place : goal.invariant-loop-place

@@ -4,7 +4,7 @@ use Rattle.std.proofs.lemmas.Bool.Decides.{nat_tests}
 use Rattle.trlab_road.specs.LaneCars.{LaneCar}
 use Rattle.trlab_road.specs.Stored.{IsSortedFrom, place_of}
 use Rattle.trlab_road.proofs.Lists.{rises_weakly}
-use Rattle.trlab_road.proofs.gaps.past_four.Goals as goal
+use Rattle.trlab_road.proofs.gaps.pass_four.Goals as goal
 use mir.Val.{bool_byte}
 
 not_lower : (p x : ℕ) → x ≤ p → nat_lt p x ≡ false

@@ -1,6 +1,6 @@
 use Rattle.std.proofs.Common.{ℕ, ◌<◌, ◌≤◌, length}
 use Rattle.trlab_road.specs.Stored.{place_of}
-use Rattle.trlab_road.proofs.gaps.past_four.Given as goal
+use Rattle.trlab_road.proofs.gaps.pass_four.Given as goal
 
 abbrev pub invariant-loop-k : goal.invariant-loop-k
 invariant-loop-k l = record {
