@@ -49,7 +49,7 @@ pub record IsClearAhead (lane : Lane) (x g : ℕ) : Type 0 where
 -- the car from place x of lane `old` is `speed` cells ahead on lane `new`, with this number and speed, and it
 -- has moved over cells that were empty
 pub record GoesAhead (old new : Lane) (x number speed : ℕ) : Type 0 where
-  pub stands : at new (ahead (length old) x speed) ≡ Some (number, speed)
+  pub arrives : at new (ahead (length old) x speed) ≡ Some (number, speed)
   pub over_empty : IsClearAhead old x speed
 
 -- the motion of a lane from `old` to `new` is clean: no car is lost or added, and each has moved ahead over

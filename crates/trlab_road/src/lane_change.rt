@@ -25,10 +25,9 @@ fn place_or_end(cars: &[LaneCar], k: usize, cells: u32) -> u32
     ensures here { k < length cars.now → result ≡ place_of cars.now k }
     ensures past { length cars.now ≤ k → result ≡ cells }
 {
-    if k < cars.len() {
-        place_at(cars, k)
-    } else {
-        cells
+    match cars.get(k) {
+        Some(car) => car.place(),
+        None => cells,
     }
 }
 

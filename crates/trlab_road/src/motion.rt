@@ -15,12 +15,7 @@ const MOVED_TOGETHER: usize = 32;
 /// `MOVED_TOGETHER` cars of a list, from the index `at` on, after they have moved. Their speeds begin at the index
 /// `from` of `speeds`.
 #[inline(always)]
-fn move_block(
-    cars: &[LaneCar],
-    at: usize,
-    speeds: &[u8],
-    from: usize,
-) -> [LaneCar; MOVED_TOGETHER]
+fn move_block(cars: &[LaneCar], at: usize, speeds: &[u8], from: usize) -> [LaneCar; MOVED_TOGETHER]
     requires within { at + MOVED_TOGETHER ≤ length cars.now }
     requires one_each { from + MOVED_TOGETHER ≤ length speeds.now }
     requires slow { (k : ℕ) → k < MOVED_TOGETHER → slice_index speeds.now (from + k) ≤ MAX_LIMIT }

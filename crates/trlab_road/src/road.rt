@@ -19,7 +19,7 @@ use crate::car::{Car, LaneCar, place_at};
 use crate::fault::RoadFault;
 use crate::gaps::{Ahead, Beside, look_ahead, look_beside};
 use crate::lane_change::{Room, change_lanes};
-use crate::lanes::{car_of, copy_lanes, count_cars, find, list_of, are_same_lanes};
+use crate::lanes::{are_same_lanes, car_of, copy_lanes, count_cars, find, list_of};
 use crate::motion::move_lanes;
 use crate::picture::{check_pictures, draw_lanes, push_picture};
 use crate::spreading::{check_even, even_lanes};

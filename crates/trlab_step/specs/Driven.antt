@@ -1,4 +1,4 @@
--- Driven runs: everything that is promised of a run, step by step.
+-- Driven runs: all guarantees of a run, step by step.
 use Rattle.std.specs.Prelude.{◌≡◌, ◌<◌, ◌≤◌, ℕ, suc, Some, length}
 use Rattle.trlab_road.specs.Cells.{Cells}
 use Rattle.trlab_road.specs.Legal.{IsLegal}
@@ -8,8 +8,9 @@ use Rattle.trlab_step.specs.Next.{IsCleanNext}
 use Rattle.trlab_step.specs.Laws.{IsLegalLike, IsRuleFor, IsSheetFor}
 use Rattle.trlab_step.specs.Run.{Seed, Sheet, dice_at, in_force, IsRoadAt}
 
--- step `step` of a run is driven: the rule in force fits the lanes and leads from `road` to `next`, no car
--- moves onto or through another, no car is lost or added, and each called program ends within its budget
+-- step `step` of a run is driven: the rule in force is for the number of lanes and leads from `road` to
+-- `next`, no car moves onto or through another, no car is lost or added, and each call of a program is safe:
+-- its view is in range, and it ends within its budget
 pub record IsDrivenStep (seed : Seed) (sheet : Sheet) (step : ℕ) (road next : Cells) : Type 0 where
   pub rule : Programs
   pub tally : StepTally

@@ -65,8 +65,8 @@ pub record IsStep (rule : Programs) (dice : Dice) (road middle next : Cells)
 abbrev pub IsNext : Programs → Dice → Cells → Cells → StepTally → Type 0
 IsNext rule dice road next tally = (middle : Cells) × IsStep rule dice road middle next tally
 
--- a clean step: no car moves onto or through another, no car is lost or added, and each called program sees a
--- view in range and ends within its budget
+-- a clean step: no car moves onto or through another, no car is lost or added, and each call of a program is
+-- safe: its view is in range, and it ends within its budget
 pub record IsCleanStep (rule : Programs) (dice : Dice) (road middle next : Cells)
     (tally : StepTally) : Type 0 where
   pub step : IsStep rule dice road middle next tally

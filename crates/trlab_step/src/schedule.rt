@@ -41,8 +41,12 @@ impl Schedule {
         requires { StepsIncreaseFrom 0 later.items }
         ensures { result ≡ sheet_with first later.items }
     {
-        let begins = later.first().is_some_and(|entry| entry.0 == 0);
-        let first = if begins { later.remove(0).1 } else { first };
+        let is_replaced = later.first().is_some_and(|entry| entry.0 == 0);
+        let first = if is_replaced {
+            later.remove(0).1
+        } else {
+            first
+        };
         Schedule { first, later }
     }
 

@@ -1,4 +1,4 @@
--- Steps and runs keep to the capacity of their road.
+-- Steps and runs stay under the triangle of their road.
 use Rattle.std.proofs.Common.{◌≡◌, ℕ, zero, suc, ◌+◌, ◌-◌, ◌*◌, ◌<◌, ◌≤◌, Bool, true, false, Option, Some, None, List, [], ◌∷◌, length, get_or, refl, sym, ◌∙◌, ap, subst, inl, inr, arith, mul_comm, suc-mul, true≢false, if◌then◌else◌}
 use Rattle.std.specs.Prelude.{All, nat_le, slice_index, sum_by}
 use Rattle.std.proofs.lemmas.Bool.{cases_lt, le-leb, lt-leb}
