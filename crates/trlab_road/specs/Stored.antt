@@ -3,7 +3,7 @@ use Rattle.std.specs.Prelude.{◌≡◌, ℕ, suc, ◌+◌, ◌<◌, ◌≤◌, 
 use Rattle.std.specs.Global.{Global}
 use Rattle.std.specs.List.{range_with_len}
 use Rattle.trlab_road.specs.declared.car.Car.{Car}
-use Rattle.trlab_road.specs.declared.gaps.Beside.{Beside}
+use Rattle.trlab_road.specs.declared.gaps.SideGaps.{SideGaps}
 use Rattle.trlab_road.specs.LaneCars.{LaneCar}
 use Rattle.trlab_road.specs.Cells.{Cell, Lane, Cells, at, lane_car_count}
 use Rattle.trlab_road.specs.Gaps.{greatest, side, sideback, sidegap}
@@ -82,7 +82,7 @@ pub record IsFirstFrom (cars : List LaneCar) (x index : ℕ) : Type 0 where
 
 -- `beside` describes the cell at place x of a lane with n cells and these cars, the side cell of a car on the
 -- other lane: is it empty, and how many cells are empty ahead of it and behind it?
-pub record DescribesSideCell (n : ℕ) (cars : List LaneCar) (x : ℕ) (beside : Beside) : Type 0 where
+pub record DescribesSideCell (n : ℕ) (cars : List LaneCar) (x : ℕ) (beside : SideGaps) : Type 0 where
   pub empty : beside.is_empty ≡ side (cells_of n cars) x
   pub ahead : beside.ahead ≡ sidegap (cells_of n cars) x
   pub behind : beside.behind ≡ sideback (cells_of n cars) x

@@ -11,7 +11,7 @@ ghost use Rattle.trlab_road.specs.Cells.{cars_before};
 
 use crate::car::{LaneCar, place_at, speed_at};
 
-/// The gap ahead of a car on its own lane, and the speed of its leader.
+/// The leader of a car, which is the next car ahead on its own lane: the gap up to it, and its speed.
 #[derive(Clone, Copy)]
 pub struct Ahead {
     /// The number of empty cells ahead of the car.
@@ -96,7 +96,7 @@ fn first_from(cars: &[LaneCar], place: u32) -> usize
 
 /// The surroundings of a car on the other lane. Its side cell is the cell at its place on that lane.
 #[derive(Clone, Copy)]
-pub struct Beside {
+pub struct SideGaps {
     /// Whether the side cell is empty.
     pub is_empty: bool,
     /// The number of empty cells ahead of the side cell, 0 if the side cell is taken.
@@ -178,7 +178,7 @@ fn only_if(test: bool, number: u32) -> u32
 /// The surroundings of a place between two cars of the list, or at the second of them. They are computed as
 /// differences, so that no branch depends on whether the side cell is taken. Only the proof reads the number of cells.
 #[inline(always)]
-fn look_between(cars: &[LaneCar], cells: usize, place: u32, next: usize) -> Beside
+fn look_between(cars: &[LaneCar], cells: usize, place: u32, next: usize) -> SideGaps
     requires inside { place < cells }
     requires sorted { IsSortedFrom 0 cells cars.now }
     requires found { IsFirstFrom cars.now place next }
@@ -189,7 +189,7 @@ fn look_between(cars: &[LaneCar], cells: usize, place: u32, next: usize) -> Besi
 {
     let to_next = place_at(cars, next) - place;
     let is_empty = to_next != 0;
-    Beside {
+    SideGaps {
         is_empty,
         ahead: to_next.saturating_sub(1),
         behind: only_if(is_empty, place - place_at(cars, next - 1) - 1),
@@ -199,7 +199,7 @@ fn look_between(cars: &[LaneCar], cells: usize, place: u32, next: usize) -> Besi
 
 /// The surroundings of any place, even before the first car or past the last. `next` is the index of the first car from
 /// the place on.
-fn look_anywhere(cars: &[LaneCar], cells: usize, place: u32, next: usize) -> Beside
+fn look_anywhere(cars: &[LaneCar], cells: usize, place: u32, next: usize) -> SideGaps
     requires small { cells ≤ MAX_LENGTH }
     requires inside { place < cells }
     requires sorted { IsSortedFrom 0 cells cars.now }
@@ -208,14 +208,14 @@ fn look_anywhere(cars: &[LaneCar], cells: usize, place: u32, next: usize) -> Bes
     ensures next { result.next ≡ next }
 {
     if next < cars.len() && place_at(cars, next) == place {
-        return Beside {
+        return SideGaps {
             is_empty: false,
             ahead: 0,
             behind: 0,
             next,
         };
     }
-    Beside {
+    SideGaps {
         is_empty: true,
         ahead: gap_ahead(cars, cells, place as usize, next) as u32,
         behind: gap_behind(cars, cells, place as usize, next) as u32,
@@ -226,7 +226,7 @@ fn look_anywhere(cars: &[LaneCar], cells: usize, place: u32, next: usize) -> Bes
 /// The surroundings of a place. The index `near` affects only the running time: if it is near the place, usually only
 /// five cars are checked.
 #[inline(always)]
-pub fn look_beside(cars: &[LaneCar], cells: usize, place: u32, near: usize) -> Beside
+pub fn look_beside(cars: &[LaneCar], cells: usize, place: u32, near: usize) -> SideGaps
     requires small { cells ≤ MAX_LENGTH }
     requires inside { place < cells }
     requires sorted { IsSortedFrom 0 cells cars.now }

@@ -17,7 +17,7 @@ ghost use Rattle.trlab_road.specs.Motion.{IsValueOnOwnLane, gaps, MayMove, IsCle
 
 use crate::car::{Car, LaneCar, place_at};
 use crate::fault::RoadFault;
-use crate::gaps::{Ahead, Beside, look_ahead, look_beside};
+use crate::gaps::{Ahead, SideGaps, look_ahead, look_beside};
 use crate::lane_change::{Room, change_lanes};
 use crate::lanes::{are_same_lanes, car_of, copy_lanes, count_cars, find, list_of};
 use crate::motion::move_lanes;
@@ -325,7 +325,7 @@ impl Road {
     ///
     /// If you go car by car along a lane and pass the `next` of the previous result as `near`, the search
     /// continues from there; with any other `near`, such as 0, it is a binary search.
-    pub fn beside(&self, k: u32, near: usize) -> Beside
+    pub fn beside(&self, k: u32, near: usize) -> SideGaps
         requires below { k < cars self.now }
         requires two { length self.now.lanes ≡ 2 }
         ensures value { result.is_empty ≡ slice_index_or (sides self.now) k false }

@@ -24,7 +24,7 @@ use Rattle.trlab_step.specs.Next.{IsLaneChangePhase, IsNext, total_speed}
 use Rattle.trlab_step.specs.Run.{ComesTo, Seed, Sheet, dice_at, tally_sum}
 use Rattle.trlab_step.proofs.NextLaws.{like_itself, like_next}
 use Rattle.trlab_step.proofs.SumsOverCars.{total_speed-moved}
-use Rattle.trlab_traffic.specs.Capacity.{IsUnderTriangle, RunStaysUnderTriangle, StepStaysUnderTriangle, all_cells, empty_cells, lane_cells}
+use Rattle.trlab_traffic.specs.Capacity.{IsDistanceUnderTriangle, RunStaysUnderTriangle, StepStaysUnderTriangle, all_cells, empty_cells, lane_cells}
 use Rattle.trlab_traffic.proofs.AnyRule.{answers_fit, middle_like, next_legal_like}
 use Rattle.trlab_traffic.proofs.RoomAhead.{lanes_room, taken_or_empty}
 
@@ -143,7 +143,7 @@ distance_uncounted false sum so_far tally is h = ap (λ (t : StepTally). t.dista
 record OnItsWay (seed : Seed) (step : ℕ) (road : Cells) (sum : StepTally) : Type 0 where
   like : IsLegalLike seed.road road
   cells : all_cells road ≡ all_cells seed.road
-  within : IsUnderTriangle seed.road (step - seed.warm) sum.distance
+  within : IsDistanceUnderTriangle seed.road (step - seed.warm) sum.distance
 
 -- the distance of one more step, where it is counted and where it is not
 one_more : (m n most step warm : ℕ) → m ≤ (step - warm) * most → n ≤ most → warm ≤ step → m + n ≤ (suc step - warm) * most

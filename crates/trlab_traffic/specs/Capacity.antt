@@ -48,7 +48,7 @@ lane_max_distance limit lane = min (limit * lane_car_count lane) (lane_empty_cel
 
 -- the distance of all cars of a road in `steps` steps is under the triangle: per step it is at most the
 -- number of empty cells, and at most the limit times the number of cars
-pub record IsUnderTriangle (road : Cells) (steps distance : ℕ) : Type 0 where
+pub record IsDistanceUnderTriangle (road : Cells) (steps distance : ℕ) : Type 0 where
   pub by_empty_cells : distance ≤ steps * empty_cells road
   pub by_limit : distance ≤ steps * distance_at_limit road
 
@@ -57,7 +57,7 @@ pub record IsUnderTriangle (road : Cells) (steps distance : ℕ) : Type 0 where
 abbrev pub StepStaysUnderTriangle : Type 0
 StepStaysUnderTriangle =
     (rule : Programs) (dice : Dice) (road next : Cells) (tally : StepTally)
-    → IsLegal road → IsNext rule dice road next tally → IsUnderTriangle road 1 tally.distance
+    → IsLegal road → IsNext rule dice road next tally → IsDistanceUnderTriangle road 1 tally.distance
 
 -- under any sheet of rules the distance of a run from a legal road is, per counted step, at most the number
 -- of empty cells, and at most the limit times the number of cars
@@ -65,7 +65,7 @@ abbrev pub RunStaysUnderTriangle : Type 0
 RunStaysUnderTriangle =
     (seed : Seed) (sheet : Sheet) (step : ℕ) (road : Cells) (sum : StepTally)
     → IsLegal seed.road → ComesTo seed sheet step road sum
-    → IsUnderTriangle seed.road (counted_steps seed step) sum.distance
+    → IsDistanceUnderTriangle seed.road (counted_steps seed step) sum.distance
 
 -- under any sheet of rules the flow of a run from a legal road, which is its distance per counted step and
 -- cell, is at most v / (v + 1), the peak of the triangle; v is the limit. To have only whole numbers, both
