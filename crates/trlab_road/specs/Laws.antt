@@ -86,7 +86,8 @@ abbrev pub MotionDependsOnlyOnCars : Type 0
 MotionDependsOnlyOnCars = (answer other : ℕ → ℕ → ℕ) (old new : Cells)
     → AgreeAtCars answer other old → Moves answer old new → Moves other old new
 
--- the motion of a legal road is clean if the answer of each car is at most its gap and the limit
+-- in the motion of a legal road no car is lost or added, and each moves ahead over empty cells, if the answer
+-- of each car is at most its gap and the limit
 abbrev pub MotionIsClean : Type 0
 MotionIsClean = (answer : ℕ → ℕ → ℕ) (old new : Cells)
     → IsLegal old → Fits answer old → Moves answer old new → IsCleanMotion old new
@@ -118,7 +119,8 @@ abbrev pub LaneChangeDependsOnlyOnCars : Type 0
 LaneChangeDependsOnlyOnCars = (crosses others : ℕ → ℕ → Bool) (old new : Cells)
     → AgreeAtCars crosses others old → ChangesLanes crosses old new → ChangesLanes others old new
 
--- the lane change of a legal road with two lanes is clean if cars cross only to empty side cells
+-- in the lane change of a legal road with two lanes no car is lost or added, and each stays or crosses to an
+-- empty side cell, if cars cross only to empty side cells
 abbrev pub LaneChangeIsClean : Type 0
 LaneChangeIsClean = (crosses : ℕ → ℕ → Bool) (old new : Cells)
     → IsLegal old → CrossesToEmpty crosses old → ChangesLanes crosses old new → IsCleanLaneChange old new

@@ -49,8 +49,8 @@ pub fn motion_gives_one_road()
     ensures by_cars { MotionDependsOnlyOnCars }
 {}
 
-/// If the answer of each car is at most its gap and the limit, the motion of a legal road is clean and gives a legal
-/// road with the same number of cars.
+/// If the answer of each car is at most its gap and the limit, the motion of a legal road is clean (no car is lost or
+/// added, and each moves over empty cells) and gives a legal road with the same number of cars.
 pub fn motion_is_clean()
     ensures clean { MotionIsClean }
     ensures legal { MotionKeepsRoadLegal }

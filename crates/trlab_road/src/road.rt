@@ -35,7 +35,7 @@ pub struct Road {
     limit: u32,
     /// The number of cells of each lane.
     cells: u32,
-    /// The cars of each lane by increasing place.
+    /// The cars of each lane, in order of place.
     lanes: Vec<Vec<LaneCar>>,
 }
 
@@ -232,7 +232,7 @@ impl Road {
         self.limit
     }
 
-    /// The number of cars.
+    /// The number of cars on all lanes.
     pub fn cars(&self) -> u32
         ensures value { result ≡ cars self.now }
         ensures few { result ≤ MAX_LANES * MAX_LENGTH }

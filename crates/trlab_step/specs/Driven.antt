@@ -25,8 +25,8 @@ pub record IsDriven (seed : Seed) (sheet : Sheet) (steps : ℕ) (roads : ℕ →
   pub legal : (step : ℕ) → step ≤ steps → IsLegalLike seed.road (roads step)
   pub each : (step : ℕ) → step < steps → IsDrivenStep seed sheet step (roads step) (roads (suc step))
 
--- if a run starts from a legal road, with rules for its lanes, and `roads` gives its road at each step up to
--- `steps`, then the run is driven
+-- if a run starts from a legal road, with rules for its number of lanes, and `roads` gives its road at each
+-- step up to `steps`, then the run is driven
 abbrev pub RunsAreDriven : Type 0
 RunsAreDriven =
     (seed : Seed) (sheet : Sheet) (steps : ℕ) (roads : ℕ → Cells)

@@ -11,14 +11,14 @@ use Rattle.trlab_step.specs.Run.{Seed, ComesTo}
 use Rattle.trlab_traffic.specs.Capacity.{all_cells, capacity, lane_max_distance}
 use Rattle.trlab_traffic.specs.Runs.{always, counted_steps}
 
--- a run flows on the triangle: per counted step its distance is v_max times the number of cars, or the number
--- of empty cells, whichever is smaller
+-- the flow of a run is that of the triangle, min(v_max * density, 1 - density): per counted step its distance
+-- is v_max times the number of cars, or the number of empty cells, whichever is smaller
 abbrev pub FlowsOnTriangle : Seed → ℕ → StepTally → Type 0
 FlowsOnTriangle seed step sum = sum.distance ≡ counted_steps seed step * capacity seed.road
 
--- in the Nagel-Schreckenberg model without randomization a run from any legal road of one lane with L cells
--- flows on the triangle if `warm` is at least v_max + L - 1: time to reach v_max, and then to go once round
--- the ring
+-- in the Nagel-Schreckenberg model without randomization the flow of a run from any legal road of one lane
+-- with L cells is min(v_max * density, 1 - density) if `warm` is at least v_max + L - 1: time to reach v_max,
+-- and then to go once round the ring
 abbrev pub NaschReachesTriangle : Type 0
 NaschReachesTriangle =
     (rule : Programs) (seed : Seed) (step : ℕ) (road : Cells) (sum : StepTally)
@@ -26,10 +26,10 @@ NaschReachesTriangle =
     → seed.road.limit + all_cells seed.road ≤ seed.warm + 1 → ComesTo seed (always rule) step road sum
     → FlowsOnTriangle seed step sum
 
--- in the Nagel-Schreckenberg model without randomization each lane of a run from a legal road flows on its
--- own triangle if `warm` is at least v_max + L - 1, with L cells per lane. The sum over the lanes is less
--- than the triangle of the whole road if v_max bounds the flow of one lane and the empty cells bound that of
--- the other
+-- in the Nagel-Schreckenberg model without randomization the distance of a run from a legal road is, per
+-- counted step, the sum over its lanes of v_max times the number of cars or the number of empty cells,
+-- whichever is smaller on the lane, if `warm` is at least v_max + L - 1, with L cells per lane. This is less
+-- than the minimum for the whole road if v_max bounds one lane and the empty cells bound the other
 abbrev pub NaschReachesTriangleByLane : Type 0
 NaschReachesTriangleByLane =
     (rule : Programs) (seed : Seed) (step : ℕ) (road : Cells) (sum : StepTally)
@@ -37,9 +37,9 @@ NaschReachesTriangleByLane =
     → ComesTo seed (always rule) step road sum
     → sum.distance ≡ counted_steps seed step * sum_by (lane_max_distance seed.road.limit) seed.road.lanes
 
--- in the Nagel-Schreckenberg model without randomization and with v_max = 1, which is Wolfram's rule 184, a
--- run from any legal road of one lane with L cells flows on the triangle if `warm` is at least L - 1: time to
--- go once round the ring
+-- in the Nagel-Schreckenberg model without randomization and with v_max = 1, which is Wolfram's rule 184, the
+-- flow of a run from any legal road of one lane with L cells is min(density, 1 - density) if `warm` is at
+-- least L - 1: time to go once round the ring
 abbrev pub Rule184ReachesTriangle : Type 0
 Rule184ReachesTriangle =
     (rule : Programs) (seed : Seed) (step : ℕ) (road : Cells) (sum : StepTally)
@@ -47,8 +47,8 @@ Rule184ReachesTriangle =
     → all_cells seed.road ≤ seed.warm + 1 → ComesTo seed (always rule) step road sum
     → FlowsOnTriangle seed step sum
 
--- in the Nagel-Schreckenberg model without randomization a run from n evenly spaced, stopped cars on one lane
--- flows on the triangle if `warm` is at least v_max - 1: time to reach v_max
+-- in the Nagel-Schreckenberg model without randomization the flow of a run from n evenly spaced, stopped cars
+-- on one lane is min(v_max * density, 1 - density) if `warm` is at least v_max - 1: time to reach v_max
 abbrev pub EvenCarsFlowOnTriangle : Type 0
 EvenCarsFlowOnTriangle =
     (cells limit n : ℕ) (rule : Programs) (seed : Seed) (step : ℕ) (road : Cells) (sum : StepTally)
