@@ -166,7 +166,7 @@ pub fn draw_lanes(
     pictures: &[&[u8]],
     cells: usize,
 ) -> Result<Vec<Vec<LaneCar>>, AllocError>
-    requires good { AreValidPictures MAX_LIMIT (pictures_of pictures.now) }
+    requires valid { AreValidPictures MAX_LIMIT (pictures_of pictures.now) }
     requires first { cells ≡ length (picture_at (pictures_of pictures.now) 0) }
     ensures sorted { IfOk result (λ lanes. AreSorted cells lanes.items) }
     ensures drawn { IfOk result (λ lanes.

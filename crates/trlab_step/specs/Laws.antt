@@ -26,7 +26,8 @@ pub record IsRuleFor (lanes : ℕ) (rule : Programs) : Type 0 where
   pub change : IfSome rule.change (λ change. IsChecked Change change)
   pub two_lanes : IsSome rule.change → lanes ≡ 2
 
--- a valid sheet all of whose rules are for roads with `lanes` lanes: change programs only on two lanes
+-- a sheet for roads with `lanes` lanes: its entries begin with one for step 0, their steps strictly increase,
+-- and their rules have accepted programs, with change programs only if `lanes` is 2
 pub record IsSheetFor (lanes : ℕ) (sheet : Sheet) : Type 0 where
   pub is_sheet : IsSheet sheet
   pub rules : All (λ (entry : ℕ × Programs). IsRuleFor lanes entry.1) sheet

@@ -178,7 +178,7 @@ pub fn take_step<A: Executor, O: StepObserver>(
 fn move_after_lane_change<A: Executor>(
     asking: &Asking<A>,
     road: &mut Road,
-    middle: Road,
+    mut middle: Road,
     room: &mut StepRoom,
     motion: &Motion,
 ) -> Result<StepTally, AllocError>
@@ -187,7 +187,6 @@ fn move_after_lane_change<A: Executor>(
         IsCountedMotion motion.now asking.now.dice.now middle road.new tally) }
     ensures unchanged { OnErr result (road.new ≡ road.old) }
 {
-    let mut middle = middle;
     let speeds = &mut room.speeds;
     let tally = move_cars(asking, &mut middle, speeds, motion, &mut NoObserver)?;
     mem::replace(road, middle).leave_to(&mut room.lanes);
