@@ -23,22 +23,22 @@ pub fn pictures_show_one_road()
 {}
 
 /// A limit and pictures have exactly one meaning: the legal road that they show, or their first fault.
-pub fn pictures_say_one_thing()
-    ensures something { PicturesHaveMeaning }
-    ensures one_thing { PicturesHaveOneMeaning }
+pub fn pictures_have_one_meaning()
+    ensures some_meaning { PicturesHaveMeaning }
+    ensures one_meaning { PicturesHaveOneMeaning }
 {}
 
 /// Each legal road has valid pictures. If its cars are numbered in standing order, reading its pictures gives
 /// the same road.
-pub fn pictures_say_the_road()
-    ensures good { PicturesOfLegalRoads }
+pub fn pictures_mean_the_road()
+    ensures valid { PicturesOfLegalRoads }
     ensures same { PicturesMeanTheRoad }
 {}
 
 /// The headspeed is the speed of the next car ahead on the ring, and the car's own speed if it is the only car.
 pub fn headspeed_is_of_the_next_car()
     ensures next { HeadspeedIsOfNextCar }
-    ensures alone { HeadspeedOfLoneCar }
+    ensures lone { HeadspeedOfLoneCar }
 {}
 
 /// If the answer of each car is at most its gap and the limit, exactly one road results from the motion. It depends
@@ -84,7 +84,7 @@ pub fn even_cars_make_one_road()
 
 /// Numbers of lanes, cells and evenly spaced cars, with a limit, have exactly one meaning: a legal road, or the first
 /// fault.
-pub fn even_cars_say_one_thing()
-    ensures something { EvenCarsHaveMeaning }
-    ensures one_thing { EvenCarsHaveOneMeaning }
+pub fn even_cars_have_one_meaning()
+    ensures some_meaning { EvenCarsHaveMeaning }
+    ensures one_meaning { EvenCarsHaveOneMeaning }
 {}
