@@ -16,7 +16,8 @@ abbrev pub cell_at : List LaneCar → ℕ → Cell
 cell_at [] x = None
 cell_at (car ∷ cars) x = cond (nat_eq car.place x) (Some (car.number, car.speed)) (cell_at cars x)
 
--- the lane of n cells with the listed cars, all other cells empty
+-- the lane of n cells with the listed cars, all other cells empty; for example, a lane of 4 cells with only a
+-- car of speed 2 at place 1 is `.2..`
 abbrev pub cells_of : ℕ → List LaneCar → Lane
 cells_of n cars = map (cell_at cars) (range_with_len 0 n)
 

@@ -19,7 +19,8 @@ pub record Seed : Type 0 where
 abbrev pub Sheet : Type 0
 Sheet = List (ℕ × Programs)
 
--- the steps of the entries strictly increase, and the first is at least `least`; true without entries
+-- the steps of the entries strictly increase, and the first is at least `least`; true without entries. For
+-- example, the steps 3, 5 and 9 increase from 3
 abbrev pub StepsIncreaseFrom : ℕ → Sheet → Type 0
 StepsIncreaseFrom least [] = Unit {0}
 StepsIncreaseFrom least (entry ∷ later) = (least ≤ entry.0) × StepsIncreaseFrom (entry.0 + 1) later
