@@ -51,7 +51,7 @@ pub fn choose_part(
     Ok(crosses)
 }
 
-/// Replaces the contents of a list by the answers that `choose_part` returns.
+/// Replaces the contents of a list with the answers that `choose_part` returns.
 ///
 /// # Errors
 ///

@@ -48,19 +48,19 @@ pub fn move_part(
         from,
         to,
     )?;
-    let speeds = in_words(alloc, &answers)?;
+    let speeds = speeds_to_u32(alloc, &answers)?;
     Ok(speeds)
 }
 
-/// The speeds as numbers of 32 bits.
-fn in_words(alloc: Global, speeds: &[u8]) -> Result<Vec<u32>, AllocError>
-    ensures { IfOk result (λ words. words.items ≡ speeds.now) }
+/// The speeds as `u32` numbers.
+fn speeds_to_u32(alloc: Global, speeds: &[u8]) -> Result<Vec<u32>, AllocError>
+    ensures { IfOk result (λ numbers. numbers.items ≡ speeds.now) }
 {
-    let mut words = Vec::with_capacity(alloc, speeds.len())?;
+    let mut numbers = Vec::with_capacity(alloc, speeds.len())?;
     for speed in speeds {
-        words.push(u32::from(*speed))?;
+        numbers.push(u32::from(*speed))?;
     }
-    Ok(words)
+    Ok(numbers)
 }
 
 /// The lowest byte of each number of a column: the number itself, if it is at most 255.
@@ -75,7 +75,7 @@ fn low_bytes<const N: usize>(numbers: &Column<N>) -> [u8; N]
     bytes
 }
 
-/// Replaces the contents of a list by the speeds that `move_part` returns, each in a byte.
+/// Replaces the contents of a list with the speeds that `move_part` returns, each in a byte.
 ///
 /// # Errors
 ///
@@ -110,10 +110,6 @@ pub fn compute_speeds(
 }
 
 /// `compute_speeds` for cars that fit into one small block.
-///
-/// # Errors
-///
-/// If an allocation fails.
 fn compute_few_speeds(
     speeds: &mut Vec<u8>,
     road: &Road,
@@ -154,12 +150,12 @@ pub fn commit_motion(alloc: Global, road: &Road, speeds: &[u32]) -> Result<Road,
     // only the proof reads it: the road is legal, so each speed fits into a byte
     let _start = road.snapshot();
     let mut next = road.copy(alloc)?;
-    next.move_cars(&in_bytes(alloc, speeds)?);
+    next.move_cars(&speeds_to_bytes(alloc, speeds)?);
     Ok(next)
 }
 
 /// The speeds as bytes; each is at most `MAX_LIMIT`.
-fn in_bytes(alloc: Global, speeds: &[u32]) -> Result<Vec<u8>, AllocError>
+fn speeds_to_bytes(alloc: Global, speeds: &[u32]) -> Result<Vec<u8>, AllocError>
     requires { (k : ℕ) → k < length speeds.now → slice_index speeds.now k ≤ MAX_LIMIT }
     ensures { IfOk result (λ bytes. bytes.items ≡ speeds.now) }
 {

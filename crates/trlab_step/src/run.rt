@@ -122,7 +122,7 @@ impl Run {
         requires ready { A.is_ready executor.now }
         requires steps { self.old.step + 1 < 2 ^ 32 }
         ensures on { OnOk result (IsOneStepOn self.old self.new) }
-        ensures same { OnErr result (self.new ≡ self.old) }
+        ensures unchanged { OnErr result (self.new ≡ self.old) }
     {
         self.advance_showing(executor, alloc, &mut NoObserver)
     }
@@ -143,7 +143,7 @@ impl Run {
         ensures on { OnOk result (IsOneStepOn self.old self.new) }
         ensures seen { O.observes observer.old self.old.road observer.new }
         ensures run { IsRoadAt self.old.seed self.old.sheet self.old.step self.old.road }
-        ensures same { OnErr result (self.new ≡ self.old) }
+        ensures unchanged { OnErr result (self.new ≡ self.old) }
     {
         let dice = Dice::new(&self.key, self.number, self.step);
         let asking = Asking {

@@ -21,7 +21,7 @@ use trlab_words::Key;
 /// Why a step was not taken.
 #[derive(Clone, Copy, Debug, PartialEq, Eq, Error)]
 pub enum StepFault {
-    /// The rule has a change program, but the road has one lane.
+    /// The rule has a change program, but the road has only one lane.
     #[error("a change program needs two lanes")]
     LanesMismatch,
     /// An allocation failed.
@@ -37,13 +37,14 @@ impl From<AllocError> for StepFault {
     }
 }
 
-/// Memory that is kept from step to step, so that most steps of one thread allocate nothing. No result depends on its
+/// Memory that is kept from step to step, so that most steps on one thread allocate nothing. No result depends on its
 /// contents.
 pub struct StepRoom {
-    /// For the lanes.
+    /// The lists for a lane change.
     pub(crate) lanes: Room,
-    /// For the answers of the cars.
+    /// The answers of the motion program.
     pub(crate) speeds: Vec<u8>,
+    /// The answers of the change program.
     pub(crate) crosses: Vec<bool>,
 }
 
@@ -77,7 +78,7 @@ pub struct Asking<'a, A> {
     pub dice: &'a Dice,
 }
 
-/// Whether the rule has a change program, but the road has only one lane.
+/// Whether the rule has a change program but the road has only one lane.
 fn lanes_mismatch(road: &Road, rule: &Rule) -> bool
     ensures value { IsTrue result ↔ (IsSome rule.now.change × (length road.now.lanes ≡ 1)) }
     ensures legal { IsLegal road.now }
@@ -157,7 +158,7 @@ pub fn take_step<A: Executor, O: StepObserver>(
     ensures clean { IfOk result (λ tally. IsCleanNext rule.now asking.now.dice.now road.old road.new tally) }
     ensures legal { OnOk result (IsLegal road.new) }
     ensures seen { O.observes observer.old road.old observer.new }
-    ensures same { OnErr result (road.new ≡ road.old) }
+    ensures unchanged { OnErr result (road.new ≡ road.old) }
 {
     // only the proof reads it: the road is legal, so each call of a program is safe
     let _start = road.snapshot();
@@ -166,7 +167,7 @@ pub fn take_step<A: Executor, O: StepObserver>(
         None => move_cars(asking, road, &mut room.speeds, motion, observer),
         Some(change) => {
             let (middle, changes) = change_lanes(asking, road, room, change, observer)?;
-            let tally = move_on(asking, road, middle, room, motion)?;
+            let tally = move_after_lane_change(asking, road, middle, room, motion)?;
             Ok(StepTally { changes, ..tally })
         }
     }
@@ -174,19 +175,18 @@ pub fn take_step<A: Executor, O: StepObserver>(
 
 /// Runs the motion on `middle`, the road after the lane change, and replaces `road` by the result. Returns the tally of
 /// the motion.
-fn move_on<A: Executor>(
+fn move_after_lane_change<A: Executor>(
     asking: &Asking<A>,
     road: &mut Road,
-    middle: Road,
+    mut middle: Road,
     room: &mut StepRoom,
     motion: &Motion,
 ) -> Result<StepTally, AllocError>
     requires { A.is_ready asking.now.executor.now }
     ensures moved { IfOk result (λ tally.
         IsCountedMotion motion.now asking.now.dice.now middle road.new tally) }
-    ensures same { OnErr result (road.new ≡ road.old) }
+    ensures unchanged { OnErr result (road.new ≡ road.old) }
 {
-    let mut middle = middle;
     let speeds = &mut room.speeds;
     let tally = move_cars(asking, &mut middle, speeds, motion, &mut NoObserver)?;
     mem::replace(road, middle).leave_to(&mut room.lanes);
@@ -235,7 +235,7 @@ fn move_cars<A: Executor, O: StepObserver>(
     ensures moved { IfOk result (λ tally.
         IsCountedMotion motion.now asking.now.dice.now road.old road.new tally) }
     ensures seen { O.observes observer.old road.old observer.new }
-    ensures same { OnErr result (road.new ≡ road.old) }
+    ensures unchanged { OnErr result (road.new ≡ road.old) }
 {
     // only the proof reads it: the road is legal, so its cars are few enough to be counted
     let _start = road.snapshot();

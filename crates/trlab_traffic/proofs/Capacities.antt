@@ -1,4 +1,4 @@
--- Steps and runs keep to the capacity of their road.
+-- Steps and runs stay under the triangle of their road.
 use Rattle.std.proofs.Common.{◌≡◌, ℕ, zero, suc, ◌+◌, ◌-◌, ◌*◌, ◌<◌, ◌≤◌, Bool, true, false, Option, Some, None, List, [], ◌∷◌, length, get_or, refl, sym, ◌∙◌, ap, subst, inl, inr, arith, mul_comm, suc-mul, true≢false, if◌then◌else◌}
 use Rattle.std.specs.Prelude.{All, nat_le, slice_index, sum_by}
 use Rattle.std.proofs.lemmas.Bool.{cases_lt, le-leb, lt-leb}
@@ -24,7 +24,7 @@ use Rattle.trlab_step.specs.Next.{IsLaneChangePhase, IsNext, total_speed}
 use Rattle.trlab_step.specs.Run.{ComesTo, Seed, Sheet, dice_at, tally_sum}
 use Rattle.trlab_step.proofs.NextLaws.{like_itself, like_next}
 use Rattle.trlab_step.proofs.SumsOverCars.{total_speed-moved}
-use Rattle.trlab_traffic.specs.Capacity.{IsWithinCapacity, RunKeepsToCapacity, StepKeepsToCapacity, all_cells, empty_cells, lane_cells}
+use Rattle.trlab_traffic.specs.Capacity.{IsDistanceUnderTriangle, RunStaysUnderTriangle, StepStaysUnderTriangle, all_cells, empty_cells, lane_cells}
 use Rattle.trlab_traffic.proofs.AnyRule.{answers_fit, middle_like, next_legal_like}
 use Rattle.trlab_traffic.proofs.RoomAhead.{lanes_room, taken_or_empty}
 
@@ -125,7 +125,7 @@ step_within rule dice road next tally legal is =
 one_step : (m n : ℕ) → m ≤ n → m ≤ 1 * n
 one_step m n h = omega arith
 
-pub step_keeps_to_capacity : StepKeepsToCapacity
+pub step_keeps_to_capacity : StepStaysUnderTriangle
 step_keeps_to_capacity rule dice road next tally legal is =
     let within = step_within rule dice road next tally legal is in
     record { by_empty_cells = one_step tally.distance (empty_cells road) within.by_cells; by_limit = one_step tally.distance (road.limit * cars road) within.by_limit }
@@ -143,7 +143,7 @@ distance_uncounted false sum so_far tally is h = ap (λ (t : StepTally). t.dista
 record OnItsWay (seed : Seed) (step : ℕ) (road : Cells) (sum : StepTally) : Type 0 where
   like : IsLegalLike seed.road road
   cells : all_cells road ≡ all_cells seed.road
-  within : IsWithinCapacity seed.road (step - seed.warm) sum.distance
+  within : IsDistanceUnderTriangle seed.road (step - seed.warm) sum.distance
 
 -- the distance of one more step, where it is counted and where it is not
 one_more : (m n most step warm : ℕ) → m ≤ (step - warm) * most → n ≤ most → warm ≤ step → m + n ≤ (suc step - warm) * most
@@ -202,5 +202,5 @@ run_on_its_way seed sheet (suc step) road sum legal is =
       ];
     }
 
-pub run_keeps_to_capacity : RunKeepsToCapacity
+pub run_keeps_to_capacity : RunStaysUnderTriangle
 run_keeps_to_capacity seed sheet step road sum legal is = (run_on_its_way seed sheet step road sum legal is).within

@@ -1,4 +1,4 @@
--- Cars that start evenly spread flow at the capacity of their road.
+-- Evenly spaced cars flow on the triangle of their road.
 use Rattle.std.proofs.Common.{◌≡◌, ℕ, zero, suc, ◌+◌, ◌-◌, ◌*◌, ◌/◌, ◌<◌, ◌≤◌, min, Some, length, refl, sym, ◌∙◌, ap, subst, inl, inr, arith, div-lt_iff_lt-mul, le-div_iff_mul-le, mul_comm}
 use Rattle.std.proofs.lemmas.Bool.{cases_lt}
 use Rattle.trlab_road.specs.declared.car.Car.{Car}
@@ -9,7 +9,7 @@ use Rattle.trlab_road.specs.Standing.{standing_from}
 use Rattle.trlab_road.proofs.EvenRoads.{even_count, even_legal}
 use Rattle.trlab_road.proofs.StandingOrder.{length-standing_from}
 use Rattle.trlab_traffic.specs.Capacity.{capacity, empty_cells, lane_empty_cells}
-use Rattle.trlab_traffic.specs.Diagram.{EvenCarsFlowAtCapacity}
+use Rattle.trlab_traffic.specs.Diagram.{EvenCarsFlowOnTriangle}
 use Rattle.trlab_traffic.proofs.EvenGaps.{gap_high, gap_low, who}
 use Rattle.trlab_traffic.proofs.Freely.{sum_by-same}
 use Rattle.trlab_traffic.proofs.GapsAfter.{gap_after, next_taken}
@@ -179,7 +179,7 @@ dense limit count cells g fast some = record {
       ∙ (let e : lane_empty_cells old ≡ cells - count = omega (arith, size, whole, now) in e);
 }
 
-pub even_cars_flow_at_capacity : EvenCarsFlowAtCapacity
+pub even_cars_flow_at_capacity : EvenCarsFlowOnTriangle
 unfolding dense free
 even_cars_flow_at_capacity cells limit n rule seed step road sum is fits even warm comes =
     let legal = even_legal 1 cells limit n seed.road fits even in

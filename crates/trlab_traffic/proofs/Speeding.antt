@@ -219,6 +219,6 @@ two_flows_at_one_density cells limit n rule is fits few =
       flows = λ seed step after sum start comes.
           let way = slow_starts_keep_free_flow CERTAIN rule seed step after sum is (subst IsLegal (sym start) free_ring.legal) (subst IsInFreeFlow (sym start) free) comes in
           way.1 ∙ ap (λ m. (step - seed.warm) * m) (ap (λ (r : Cells). r.limit * cars r) start ∙ ap (λ k. k * cars (sped_road road.limit road)) ring.same_limit ∙ ap (λ k. limit * k) free_ring.same_cars);
-      stands = λ seed step after sum start comes.
+      stays = λ seed step after sum start comes.
           (slow_starts_keep_jams 0 rule seed step after sum is (subst IsLegal (sym start) ring.legal) (subst IsStopped (sym start) (stopped cells limit n road even)) comes).1;
     }

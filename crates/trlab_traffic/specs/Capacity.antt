@@ -1,6 +1,6 @@
--- Capacity: a bound on the distance of all cars of a road in one step, under any rule. Cars pass only over
--- empty cells, no two over the same, and none is faster than the limit. So flow against density lies under a
--- triangle, whose sides are the limit times the density, and one minus the density.
+-- A bound on the distance of all cars of a road in one step, under any rule. Cars pass only over empty cells,
+-- no two over the same, and none is faster than v_max, the limit. So flow against density is always under the
+-- triangle min(v_max * density, 1 - density).
 use Rattle.std.specs.Prelude.{◌≡◌, ℕ, ◌+◌, ◌*◌, ◌≤◌, count_by, is_none, length, min, sum_by}
 use Rattle.trlab_road.specs.Cells.{Cells, Lane, cars, lane_car_count}
 use Rattle.trlab_road.specs.Legal.{IsLegal}
@@ -35,40 +35,41 @@ CellsAreTakenOrEmpty = (road : Cells) → cars road + empty_cells road ≡ all_c
 abbrev pub distance_at_limit : Cells → ℕ
 distance_at_limit road = road.limit * cars road
 
--- the capacity of a road, in cells per step, which the distance of no step exceeds: the limit times the
--- number of cars, or the number of empty cells, whichever is smaller. For example, on 20 cells with the limit
--- 5 it is 15 for 3 cars, and 10 for 10 cars
+-- the maximum distance of all cars of a road in a step, in cells: the limit times the number of cars, or the
+-- number of empty cells, whichever is smaller. For example, on 20 cells with the limit 5 it is 15 for 3 cars,
+-- and 10 for 10 cars
 abbrev pub capacity : Cells → ℕ
 capacity road = min (distance_at_limit road) (empty_cells road)
 
--- the capacity of one lane of a road with this limit: the limit times the number of its cars, or the number
--- of its empty cells, whichever is smaller
-abbrev pub lane_capacity : ℕ → Lane → ℕ
-lane_capacity limit lane = min (limit * lane_car_count lane) (lane_empty_cells lane)
+-- the maximum distance of all cars of one lane in a step, in cells: the limit times the number of its cars,
+-- or the number of its empty cells, whichever is smaller
+abbrev pub lane_max_distance : ℕ → Lane → ℕ
+lane_max_distance limit lane = min (limit * lane_car_count lane) (lane_empty_cells lane)
 
--- `distance`, added up over `steps` steps, is within the capacity of a road: per step it is at most the
+-- the distance of all cars of a road in `steps` steps is under the triangle: per step it is at most the
 -- number of empty cells, and at most the limit times the number of cars
-pub record IsWithinCapacity (road : Cells) (steps distance : ℕ) : Type 0 where
+pub record IsDistanceUnderTriangle (road : Cells) (steps distance : ℕ) : Type 0 where
   pub by_empty_cells : distance ≤ steps * empty_cells road
   pub by_limit : distance ≤ steps * distance_at_limit road
 
--- under any rule the distance of a step of a legal road is within the capacity of the road
-abbrev pub StepKeepsToCapacity : Type 0
-StepKeepsToCapacity =
+-- under any rule the distance of a step of a legal road is at most the number of empty cells, and at most the
+-- limit times the number of cars
+abbrev pub StepStaysUnderTriangle : Type 0
+StepStaysUnderTriangle =
     (rule : Programs) (dice : Dice) (road next : Cells) (tally : StepTally)
-    → IsLegal road → IsNext rule dice road next tally → IsWithinCapacity road 1 tally.distance
+    → IsLegal road → IsNext rule dice road next tally → IsDistanceUnderTriangle road 1 tally.distance
 
--- under any sheet of rules the distance of the counted steps of a run from a legal road is within the
--- capacity of this road
-abbrev pub RunKeepsToCapacity : Type 0
-RunKeepsToCapacity =
+-- under any sheet of rules the distance of a run from a legal road is, per counted step, at most the number
+-- of empty cells, and at most the limit times the number of cars
+abbrev pub RunStaysUnderTriangle : Type 0
+RunStaysUnderTriangle =
     (seed : Seed) (sheet : Sheet) (step : ℕ) (road : Cells) (sum : StepTally)
     → IsLegal seed.road → ComesTo seed sheet step road sum
-    → IsWithinCapacity seed.road (counted_steps seed step) sum.distance
+    → IsDistanceUnderTriangle seed.road (counted_steps seed step) sum.distance
 
 -- under any sheet of rules the flow of a run from a legal road, which is its distance per counted step and
--- cell, is at most v / (v + 1), the peak of the triangle; v is the limit. Both sides are multiplied by the
--- denominators
+-- cell, is at most v / (v + 1), the peak of the triangle; v is the limit. To have only whole numbers, both
+-- sides are multiplied by (v + 1) * (counted steps) * (cells)
 abbrev pub RunKeepsBelowPeak : Type 0
 RunKeepsBelowPeak =
     (seed : Seed) (sheet : Sheet) (step : ℕ) (road : Cells) (sum : StepTally)

@@ -23,12 +23,12 @@ pub record IsDeterministic (rule : Programs) : Type 0 where
   pub motion : All HasOneOutcome rule.motion.program.instrs
   pub change : IfSome rule.change (λ change. All HasOneOutcome change.program.instrs)
 
--- the rule of 1992 without randomization is deterministic
+-- the Nagel-Schreckenberg model without randomization is deterministic
 abbrev pub NaschWithoutRandomizationIsDeterministic : Type 0
 NaschWithoutRandomizationIsDeterministic = (rule : Programs) → IsNasch 0 rule → IsDeterministic rule
 
--- under a deterministic rule the next road and the tally are the same for all dice, so for all keys, road
--- numbers and steps
+-- under a deterministic rule the next road and the tally do not depend on the dice, so not on the key, the
+-- road number or the step
 abbrev pub StepIsDeterministic : Type 0
 StepIsDeterministic =
     (rule : Programs) (dice other : Dice) (road next : Cells) (tally : StepTally)

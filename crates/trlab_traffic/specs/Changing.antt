@@ -1,4 +1,4 @@
--- How many cars change lanes: at most all cars, and at most as many as there are empty cells.
+-- Bounds on the number of lane changes in a step: the number of cars, and the number of empty cells.
 use Rattle.std.specs.Prelude.{ℕ, ◌*◌, ◌≤◌}
 use Rattle.trlab_road.specs.Cells.{Cells, cars}
 use Rattle.trlab_road.specs.Legal.{IsLegal}

@@ -1,4 +1,4 @@
--- words for rules and runs
+-- definitions for rules and runs
 pub mod Runs
 -- how far cars go
 pub mod Capacity

@@ -16,8 +16,8 @@ pub record IsPeriodic (seed : Seed) (sheet : Sheet) (first period : ℕ) : Type 
   pub comes_again : (step : ℕ) (road later : Cells) → first ≤ step
       → IsRoadAt seed sheet step road → IsRoadAt seed sheet (step + period) later → later ≡ road
 
--- the number of ways to give each car of a road one of all cells and a speed from 0 to the limit, even if
--- cars share a cell: a bound on the number of roads that its cars can form
+-- an upper bound on the number of roads that the cars of a road can form: each car has one of all cells, and
+-- a speed from 0 to the limit
 abbrev pub state_count : Cells → ℕ
 state_count road = (all_cells road * (road.limit + 1)) ^ cars road
 

@@ -74,8 +74,8 @@ good_more limit ps good = record {
   cells = λ l x on h. shows_more limit _ good.shape.limit_fits.low_limit (good.cells l x on h);
 }
 
-pub draw_lanes-requires-clause-good : goal.draw_lanes-requires-clause-good
-draw_lanes-requires-clause-good c = good_more c.args.limit _ c.in_ok-check_pictures.ensures
+pub draw_lanes-requires-clause-valid : goal.draw_lanes-requires-clause-valid
+draw_lanes-requires-clause-valid c = good_more c.args.limit _ c.in_ok-check_pictures.ensures
 
 pub draw_lanes-requires-clause-first : goal.draw_lanes-requires-clause-first
 draw_lanes-requires-clause-first c = sym (ap length (picture_read c.args.lanes.now 0))
