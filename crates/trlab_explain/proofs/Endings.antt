@@ -25,12 +25,12 @@ use Rattle.trlab_explain.specs.Explanations.{Explains, IsReadAs, IsHeadAs, IsChe
 use Rattle.trlab_explain.specs.declared.explain.Form.{Form}
 
 -- the end of a written output
-pub output_ends_so : {A E : Type 0} (told : Result (Bool × A) E) (bytes : A → List ℕ) (IsWhole : Outputs) (e : End) (old new : SinkBytes)
-    → IfOk told (λ t. IsWhole t.0 (bytes t.1))
-    → MatchResult told (λ t. WroteOutputAtEnd t.0 (bytes t.1) e old new) (λ _. (e ≡ Memory) × AddsNone old new)
+pub output_ends_so : {A E : Type 0} (told : Result A E) (rejected : A → Bool) (bytes : A → List ℕ) (IsWhole : Outputs) (e : End) (old new : SinkBytes)
+    → IfOk told (λ t. IsWhole (rejected t) (bytes t))
+    → MatchResult told (λ t. WroteOutputAtEnd (rejected t) (bytes t) e old new) (λ _. (e ≡ Memory) × AddsNone old new)
     → WroteAtEnd IsWhole e old new
-output_ends_so (Ok t) bytes IsWhole e old new whole ends = output_ends IsWhole t.0 (bytes t.1) e old new whole ends
-output_ends_so (Err x) bytes IsWhole e old new whole ends = rw ends.0 (inl ends.1)
+output_ends_so (Ok t) rejected bytes IsWhole e old new whole ends = output_ends IsWhole (rejected t) (bytes t) e old new whole ends
+output_ends_so (Err x) rejected bytes IsWhole e old new whole ends = rw ends.0 (inl ends.1)
 
 -- each text is meant to be something
 meant_by : (word : List ℕ) (named : Option Subject) → (subject : Subject) × MatchOption named (MayBeMeantAs word subject) (λ s. subject ≡ s)
@@ -80,13 +80,13 @@ read_explains form wanted text input refused out (inr long) explains =
     let read = some_read wanted input in
     (explains.0, explains.1, (read.0, read.1, rw (big.0, big.1, big.2) (big_as read.0 input long.1)), explains.3, explains.4)
 
-pub reads : {A E : Type 0} (told : Result (Bool × A) E) (bytes : A → List ℕ) (form : Form) (wanted : Option Subject) (text input : List ℕ) → IsInputOrTooLong text input
-    → IfOk told (λ t. Explains form wanted text t.0 (bytes t.1)) → IfOk told (λ t. Explains form wanted input t.0 (bytes t.1))
-reads (Ok t) bytes form wanted text input read explains = read_explains form wanted text input t.0 (bytes t.1) read explains
-reads (Err x) bytes form wanted text input read explains = tt
+pub reads : {A E : Type 0} (told : Result A E) (rejected : A → Bool) (bytes : A → List ℕ) (form : Form) (wanted : Option Subject) (text input : List ℕ) → IsInputOrTooLong text input
+    → IfOk told (λ t. Explains form wanted text (rejected t) (bytes t)) → IfOk told (λ t. Explains form wanted input (rejected t) (bytes t))
+reads (Ok t) rejected bytes form wanted text input read explains = read_explains form wanted text input (rejected t) (bytes t) read explains
+reads (Err x) rejected bytes form wanted text input read explains = tt
 
 -- if an allocation fails, nothing was written
-pub nothing_written : {A E : Type 0} (told : Result (Bool × A) E) (bytes : A → List ℕ) (e : End) (old new : SinkBytes)
-    → MatchResult told (λ t. WroteOutputAtEnd t.0 (bytes t.1) e old new) (λ _. (e ≡ Memory) × AddsNone old new) → e ≡ Memory → AddsNone old new
-nothing_written (Ok t) bytes e old new ends is = kept_at_memory t.0 (bytes t.1) e old new ends is
-nothing_written (Err x) bytes e old new ends is = ends.1
+pub nothing_written : {A E : Type 0} (told : Result A E) (rejected : A → Bool) (bytes : A → List ℕ) (e : End) (old new : SinkBytes)
+    → MatchResult told (λ t. WroteOutputAtEnd (rejected t) (bytes t) e old new) (λ _. (e ≡ Memory) × AddsNone old new) → e ≡ Memory → AddsNone old new
+nothing_written (Ok t) rejected bytes e old new ends is = kept_at_memory (rejected t) (bytes t) e old new ends is
+nothing_written (Err x) rejected bytes e old new ends is = ends.1

@@ -5,10 +5,10 @@ use Rattle.trlab_texts.specs.declared.fault.Cause.{Cause}
 use Rattle.trlab_texts.specs.declared.fault.TextFault.TheVariants.{At}
 use Rattle.trlab_jobs.specs.declared.subject.Subject.{Subject}
 use Rattle.trlab_jobs.specs.declared.subject.Subject.TheVariants.{Job, Sweep, Check}
-use Rattle.trlab_explain.specs.Explanations.{IsRefusedWith, IsHeadAs, IsFaultHead}
+use Rattle.trlab_explain.specs.Explanations.{IsRejectedWith, IsHeadAs, IsFaultHead}
 
 pub refusal_has_head : {U E : Type 0} (r : Result U E) (subject : Subject) (text : List ℕ) (line : ℕ) (cause : Cause) (refused : Bool) (answer quote : List ℕ)
-    → IsRefusedWith subject text (At line cause) → OnOk r (IsFaultHead text (record { line = line; cause = cause }) refused answer quote)
+    → IsRejectedWith subject text (At line cause) → OnOk r (IsFaultHead text (record { line = line; cause = cause }) refused answer quote)
     → OnOk r (IsHeadAs subject text refused answer quote)
 refusal_has_head (Ok x) Job text line cause refused answer quote reads head = (Err (record { line = line; cause = cause }), reads, head)
 refusal_has_head (Ok x) Sweep text line cause refused answer quote reads head = (Err (record { line = line; cause = cause }), reads, head)

@@ -1,4 +1,4 @@
--- Changes of texts, and whether a change lets a text get further.
+-- Edits of texts, and whether an edited text gets further.
 use Rattle.std.specs.Prelude.{◌≡◌, ℕ, ◌+◌, ◌<◌, List, ◌++◌, drop, length, take, Option, None, Some, Result, Ok, Err}
 use Rattle.trlab_lines.specs.Lines.{lines_of}
 use Rattle.trlab_texts.specs.declared.fault.Cause.{Cause}
@@ -19,8 +19,8 @@ abbrev pub fault_of : {A : Type 0} → Result A Fault → Option (ℕ × Cause)
 fault_of (Ok x) = None
 fault_of (Err fault) = Some (fault.line, fault.cause)
 
--- `fault` is the line and the cause of the first fault of a text that is read as this kind of input; none if
--- the text has no fault
+-- `fault` is the line and the cause of the first fault of a text that is read as a job, a sweep or a check; none
+-- if the text is valid
 abbrev pub HasFirstFault : Subject → List ℕ → Option (ℕ × Cause) → Type 0
 HasFirstFault Job text fault =
     (result : Result JobSaid Fault) × ParsesAsJob text result × (fault ≡ fault_of result)
@@ -37,8 +37,8 @@ IsLaterOrNone lines number changed None = Unit {0}
 IsLaterOrNone lines number changed (Some fault) =
     (number < fault.0) × (length changed + number < length lines + fault.0)
 
--- the text `changed`, read as this kind of input, gets further than `text`, whose first fault is at the line
--- `number`
+-- the text `changed`, read as `subject`, gets further than `text`, whose first fault is at the line `number`:
+-- it is valid, or its first fault is later in the sense of `IsLaterOrNone`
 abbrev pub GetsFurther : List ℕ → ℕ → Subject → List ℕ → Type 0
 GetsFurther text number subject changed = (fault : Option (ℕ × Cause))
     × HasFirstFault subject changed fault × IsLaterOrNone (lines_of text) number (lines_of changed) fault

@@ -14,8 +14,8 @@ use trlab_messages::{Body, Draft, Result, add_body, page_of, push_text};
 /// An explanation of an input: its head and its body.
 pub struct Explanation {
     /// Whether the input or its program is rejected.
-    pub refused: bool,
-    /// The line that the command prints for a rejected input or for a program; else empty.
+    pub is_rejected: bool,
+    /// The line that the command prints for a rejected input or for a program; otherwise empty.
     pub answer: Page,
     /// The line at fault with its number, if there is one.
     pub quote: Page,
@@ -26,7 +26,7 @@ pub struct Explanation {
 impl Drop for Explanation {
     fn drop(self) {
         let Explanation {
-            refused: _refused,
+            is_rejected: _is_rejected,
             answer: _answer,
             quote: _quote,
             body: _body,
@@ -37,12 +37,12 @@ impl Drop for Explanation {
 impl Explanation {
     /// A blank explanation of an input that is not rejected.
     pub fn new(alloc: Global, subject: Subject) -> Explanation
-        ensures refused { result.refused ≡ false }
+        ensures rejected { result.is_rejected ≡ false }
         ensures answer { result.answer ≡ [] }
         ensures quote { result.quote ≡ [] }
     {
         Explanation {
-            refused: false,
+            is_rejected: false,
             answer: Page::new(alloc),
             quote: Page::new(alloc),
             body: Body::new(alloc, subject),
@@ -50,15 +50,16 @@ impl Explanation {
     }
 }
 
+/// The text form of an explanation: for a rejected input first its answer and its quote, then the body.
 pub fn text_form(alloc: Global, explanation: &Explanation) -> Result<Page>
     ensures { IfOk result (BeginsWith
-        (text_front explanation.now.refused explanation.now.answer explanation.now.quote)) }
+        (text_front explanation.now.is_rejected explanation.now.answer explanation.now.quote)) }
 {
     let mut text = Draft::new(alloc);
     push_text(&mut text, &explanation.body);
     let body = page_of(alloc, text.text()?)?;
     let mut page = Page::new(alloc);
-    if explanation.refused {
+    if explanation.is_rejected {
         page.add(&explanation.answer)?;
         page.add(&explanation.quote)?;
     }
@@ -69,10 +70,10 @@ pub fn text_form(alloc: Global, explanation: &Explanation) -> Result<Page>
 /// The JSON form of an explanation: one object on one line.
 pub fn json_form(alloc: Global, explanation: &Explanation) -> Result<Vec<u8>>
     ensures plain { IfOk result (λ text. All IsPlain text.items) }
-    ensures object { IfOk result (λ text. EndsObject explanation.now.refused explanation.now.answer text.items) }
+    ensures object { IfOk result (λ text. EndsObject explanation.now.is_rejected explanation.now.answer text.items) }
 {
     let mut out = Object::new(alloc);
     add_body(&mut out, &explanation.body);
-    out.finish(explanation.refused, &explanation.answer)?;
+    out.finish(explanation.is_rejected, &explanation.answer)?;
     out.into_line()
 }

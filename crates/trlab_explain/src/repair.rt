@@ -55,7 +55,7 @@ fn is_after(text: &[u8], number: u32, changed: &[u8], fault: Option<(u32, Cause)
     }
 }
 
-/// Whether `changed`, read as `subject`, gets further than the text with this first fault.
+/// Whether `changed`, read as `subject`, gets further than the input whose first fault is `fault`.
 fn gets_further(alloc: Global, fault: Fault<'_>, subject: Subject, changed: &[u8]) -> Result<bool>
     ensures { IfOk result (λ is_so. is_so ≡ true
         → GetsFurther fault.entry.place.text.now fault.entry.place.number subject changed.now) }

@@ -58,7 +58,7 @@ fn has_entered(seen: &Snapshot, entered: Option<u32>) -> bool {
     }
 }
 
-/// Whether job 0 has come to its end, with the rule that entered.
+/// Whether job 0 has done its 100 steps, and its sheet has the rule that entered.
 fn has_ended<L: Ledger, R: Wait>(
     rt: &R,
     alloc: Global,
@@ -72,7 +72,7 @@ fn has_ended<L: Ledger, R: Wait>(
     }
 }
 
-/// Whether the new rule is in the sheet of a job that two runners run meanwhile, and the book closes.
+/// Whether the sheet of job 0 has the rule that replaces its first one while two runners run it, and the book closes.
 fn is_in_the_sheet<L: Ledger + Send + Sync, R: Threads + Wait + Sync>(
     rt: &R,
     alloc: Global,
