@@ -3,7 +3,7 @@
 ghost use Rattle.std.specs.Prelude.{◌≡◌, length};
 
 use crate::report::{Outcome, Report};
-use crate::roads::add_pictures;
+use crate::roads::push_pictures;
 use std::alloc::AllocError;
 use trlab_jobs::{Job, read_job};
 use trlab_road::Road;

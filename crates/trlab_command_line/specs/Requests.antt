@@ -18,7 +18,7 @@ command_name Check = codes "check"
 command_name (Run workers every from progress) = codes "run"
 command_name (Sweep runners workers progress) = codes "sweep"
 command_name (Series workers every from progress) = codes "series"
-command_name (Explain explained) = codes "explain"
+command_name (Explain request) = codes "explain"
 
 -- the matches of a command give the values of a request: the numbers of its options and whether progress is
 -- reported; for `explain` the request of its arguments
@@ -33,7 +33,7 @@ MatchesGive matches (Sweep runners workers progress) =
 MatchesGive matches (Series workers every from progress) =
     GivesNumber (codes "workers") matches workers × GivesNumber (codes "every") matches every
     × GivesNumber (codes "from") matches from × GivesFlag (codes "progress") matches progress
-MatchesGive matches (Explain explained) = request_by_matches matches ≡ Ok explained
+MatchesGive matches (Explain request) = request_by_matches matches ≡ Ok request
 
 -- the request of the command that was entered with these matches: it names this command and has the values of
 -- its matches
@@ -53,9 +53,9 @@ FitsEngines (Sweep runners workers progress) =
 FitsEngines (Series workers every from progress) =
     ((1 ≤ workers) × (workers ≤ MAX_WORKERS))
     × ((1 ≤ every) × (every ≤ MAX_STEPS)) × (from ≤ MAX_STEPS)
-FitsEngines (Explain explained) = ⊤
+FitsEngines (Explain request) = ⊤
 
--- the first argument is the name of the command of the request
+-- the first of the arguments is the name of the command of the request, for example `run`
 abbrev pub IsNamedFirst : List Text → Request → Type 0
 IsNamedFirst arguments request = (rest : List Text) × (arguments ≡ command_name request ∷ rest)
 

@@ -19,8 +19,8 @@ abbrev pub fault_of : {A : Type 0} → Result A Fault → Option (ℕ × Cause)
 fault_of (Ok x) = None
 fault_of (Err fault) = Some (fault.line, fault.cause)
 
--- `fault` is the line and the cause of the first fault of a text that is read as a job, a sweep or a check; none
--- if the text is valid
+-- `fault` is the line and the cause of the first fault of a text that is read as a job, a sweep or a check;
+-- none if the text is valid
 abbrev pub HasFirstFault : Subject → List ℕ → Option (ℕ × Cause) → Type 0
 HasFirstFault Job text fault =
     (result : Result JobSaid Fault) × ParsesAsJob text result × (fault ≡ fault_of result)

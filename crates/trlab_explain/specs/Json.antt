@@ -17,12 +17,12 @@ HasPlainText (boolean b) = ⊤
 HasPlainText null = ⊤
 HasPlainText bad = ⊤
 
--- the JSON string for a printed line, without the LF that ends it; null for the empty list, if no line is printed
+-- the JSON string for a printed line, without the LF that ends it; null if no line is printed (`line` is empty)
 abbrev pub answer_token : List ℕ → Token
 answer_token line = if length line == 0 then null else string (take (length line - 1) line)
 
--- the last tokens of an explanation's object: its members `status`, which is the exit status (1 if the input is
--- rejected, otherwise 0), and `answer`, the line that the command prints; and the end of the object
+-- the last tokens of an explanation's object: the member `status`, the exit status (1 if the input is
+-- rejected, otherwise 0); the member `answer`, the line that the command prints; and the end of the object
 abbrev pub object_end : Bool → List ℕ → List Token
 object_end rejected answer =
     key (codes "status") ∷ number (decimal (if rejected then 1 else 0))
