@@ -22,7 +22,8 @@ pub fn write_parsed_road(report: &mut Report, text: &str) -> Outcome {
 /// Reads a number of lanes, a length, a limit and a number of evenly spaced cars, and writes the road, or the fault.
 pub fn write_even_road(report: &mut Report, text: &str) -> Outcome {
     match four_numbers(text) {
-        Some([lanes, length, limit, cars]) => {
+        Some(numbers) => {
+            let [lanes, length, limit, cars] = numbers;
             write_road_or_fault(report, Road::even(report.alloc, lanes, length, limit, cars))
         }
         None => report.finish(Outcome::Refused, "not four numbers\n"),
