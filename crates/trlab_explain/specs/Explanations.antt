@@ -18,20 +18,15 @@ use Rattle.trlab_jobs.specs.declared.subject.Subject.TheVariants.{Job, Sweep, Ch
 use Rattle.trlab_explain.specs.Quotes.{quote_line}
 use Rattle.trlab_explain.specs.Json.{EndsObject}
 use Rattle.trlab_explain.specs.Numbers.{is_known}
+use Rattle.trlab_explain.specs.declared.explanation.Head.{Head}
 use Rattle.trlab_explain.specs.declared.explain.Form.{Form}
 use Rattle.trlab_explain.specs.declared.explain.Form.TheVariants.{Text, Json}
 use Rattle.trlab_explain.specs.declared.topics.Topic.{Topic}
 use Rattle.trlab_explain.specs.declared.topics.Topic.TheVariants.{Cause, Reason}
 
--- a relation on the parts of the head of an explanation: whether the input or its program is rejected, the
--- line that the command prints (empty if it prints none), and the quote of the line at fault (empty if there
--- is none)
-abbrev pub Heads : Type 1
-Heads = Bool → List ℕ → List ℕ → Type 0
-
--- the head before an input is read: not rejected, with no printed line and no quote
-abbrev pub IsBlankHead : Heads
-IsBlankHead rejected answer quote = (rejected ≡ false) × (answer ≡ []) × (quote ≡ [])
+-- the blank head: not rejected, with no printed line and no quote
+abbrev pub IsBlankHead : Head → Type 0
+IsBlankHead head = (head.is_rejected ≡ false) × (head.answer ≡ []) × (head.quote ≡ [])
 
 -- the text `out` begins with the text `front`
 abbrev pub BeginsWith : List ℕ → List ℕ → Type 0
@@ -39,47 +34,51 @@ BeginsWith front out = (more : List ℕ) × (out ≡ front ++ more)
 
 -- the head for a text whose first fault is `fault`: rejected, with the line `fault line N cause K` and the
 -- quote of line N, which is empty if the text has no line N
-abbrev pub IsFaultHead : List ℕ → Fault → Heads
-IsFaultHead text fault rejected answer quote = (rejected ≡ true) × (answer ≡ fault_line fault)
-    × (quote ≡ quote_line fault.line (line_at fault.line (lines_of text)))
+abbrev pub IsFaultHead : List ℕ → Fault → Head → Type 0
+IsFaultHead text fault head = (head.is_rejected ≡ true) × (head.answer ≡ fault_line fault)
+    × (head.quote ≡ quote_line fault.line (line_at fault.line (lines_of text)))
 
--- the head for the text of a job or a sweep, by the result of reading it: for a valid text, not rejected and
--- without a printed line (the quote may be any text); for an invalid one, the head for its fault
-abbrev pub IsTextHead : {A : Type 0} → List ℕ → Result A Fault → Heads
-IsTextHead text (Ok x) rejected answer quote = (rejected ≡ false) × (answer ≡ [])
-IsTextHead text (Err fault) rejected answer quote = IsFaultHead text fault rejected answer quote
+-- the head for the text of a job or a sweep, by the result of reading it: for a valid text, the blank head; for
+-- an invalid one, the head for its fault
+abbrev pub IsTextHead : {A : Type 0} → List ℕ → Result A Fault → Head → Type 0
+IsTextHead text (Ok x) head = IsBlankHead head
+IsTextHead text (Err fault) head = IsFaultHead text fault head
 
 -- the line for an accepted program with its LF, for example `accepted budget 8`
 abbrev pub accepted_line : ℕ → List ℕ
 accepted_line budget = codes "accepted budget " ++ (decimal budget ++ (10 ∷ []))
 
--- the head for the program of a check. If the verifier accepts it: not rejected (`false`), with the line
--- `accepted budget B`, where B is the length of the program's longest path. If the verifier rejects it:
--- rejected (`true`), with the line `refused at N reason R` of the instruction N, and no quote
-abbrev pub IsProgramHead : CheckSaid → Heads
-IsProgramHead check false answer quote = IsAccepted check.program.kind check.program × ((budget : ℕ)
+-- the parts of the head for the program of a check. If the verifier accepts it: not rejected (`false`), with
+-- the line `accepted budget B`, where B is the number of instructions on the program's longest path. If the
+-- verifier rejects it: rejected (`true`), with the line `refused at N reason R` of instruction N, and no quote
+abbrev pub IsVerdict : CheckSaid → Bool → List ℕ → List ℕ → Type 0
+IsVerdict check false answer quote = IsAccepted check.program.kind check.program × ((budget : ℕ)
     × IsLongest check.program.instrs 0 budget × (answer ≡ accepted_line budget))
-IsProgramHead check true answer quote =
+IsVerdict check true answer quote =
     (at reason : ℕ) × IsRefused check.program.kind check.program at reason
     × (answer ≡ refused_line at reason) × (quote ≡ [])
 
+-- the head for the program of a check, by the verdict of the verifier
+abbrev pub IsProgramHead : CheckSaid → Head → Type 0
+IsProgramHead check head = IsVerdict check head.is_rejected head.answer head.quote
+
 -- the head for the text of a check, by the result of reading it: for a valid text, the head for its program;
 -- for an invalid one, the head for its fault
-abbrev pub IsCheckHead : List ℕ → Result CheckSaid Fault → Heads
-IsCheckHead text (Ok check) rejected answer quote = IsProgramHead check rejected answer quote
-IsCheckHead text (Err fault) rejected answer quote = IsFaultHead text fault rejected answer quote
+abbrev pub IsCheckHead : List ℕ → Result CheckSaid Fault → Head → Type 0
+IsCheckHead text (Ok check) head = IsProgramHead check head
+IsCheckHead text (Err fault) head = IsFaultHead text fault head
 
 -- the head for a text that is read as a job, a sweep or a check
-abbrev pub IsHeadAs : Subject → List ℕ → Heads
-IsHeadAs Job text rejected answer quote =
+abbrev pub IsHeadAs : Subject → List ℕ → Head → Type 0
+IsHeadAs Job text head =
     (result : Result JobSaid Fault) × ParsesAsJob text result
-    × IsTextHead text result rejected answer quote
-IsHeadAs Sweep text rejected answer quote =
+    × IsTextHead text result head
+IsHeadAs Sweep text head =
     (result : Result SweepSaid Fault) × ParsesAsSweep text result
-    × IsTextHead text result rejected answer quote
-IsHeadAs Check text rejected answer quote =
+    × IsTextHead text result head
+IsHeadAs Check text head =
     (result : Result CheckSaid Fault) × ParsesAsCheck text result
-    × IsCheckHead text result rejected answer quote
+    × IsCheckHead text result head
 
 -- a text that is read as a job, a sweep or a check is rejected with `fault`: its first fault, or that an
 -- allocation failed
@@ -95,26 +94,25 @@ IsReadAs None text subject = IsMeant (lines_of text) subject
 
 -- the head for a text that is read as the wanted kind of input, or if none is wanted, as a kind that
 -- `IsMeant` allows
-abbrev pub IsHead : Option Subject → List ℕ → Heads
-IsHead wanted text rejected answer quote =
-    (subject : Subject) × IsReadAs wanted text subject × IsHeadAs subject text rejected answer quote
+abbrev pub IsHead : Option Subject → List ℕ → Head → Type 0
+IsHead wanted text head = (subject : Subject) × IsReadAs wanted text subject × IsHeadAs subject text head
 
 -- the beginning of an explanation in text form: for a rejected input the printed line and then the quote, for
 -- a valid one nothing
-abbrev pub text_front : Bool → List ℕ → List ℕ → List ℕ
-text_front rejected answer quote = if rejected then answer ++ quote else []
+abbrev pub text_front : Head → List ℕ
+text_front head = if head.is_rejected then head.answer ++ head.quote else []
 
 -- the explanation `out` has this head: in text form it begins with `text_front`; in JSON form its object ends
 -- with the exit status and the printed line, and the quote is not fixed
-abbrev pub HasHead : Form → Bool → List ℕ → List ℕ → List ℕ → Type 0
-HasHead Text rejected answer quote out = BeginsWith (text_front rejected answer quote) out
-HasHead Json rejected answer quote out = EndsObject rejected answer out
+abbrev pub HasHead : Form → Head → List ℕ → Type 0
+HasHead Text head out = BeginsWith (text_front head) out
+HasHead Json head out = EndsObject head.is_rejected head.answer out
 
 -- `out` is an explanation of the text, and `rejected` is true exactly if the text or its program is rejected;
 -- all bytes of `out` are printable ASCII or LF, even if those of the text are not
 abbrev pub Explains : Form → Option Subject → List ℕ → Outputs
-Explains form wanted text rejected out = (answer quote : List ℕ)
-    × IsHead wanted text rejected answer quote × HasHead form rejected answer quote out × All IsPlain out
+Explains form wanted text rejected out = (head : Head) × (rejected ≡ head.is_rejected)
+    × IsHead wanted text head × HasHead form head out × All IsPlain out
 
 -- the beginning of the page on the number of a cause or a reason, for example `Cause 5: `
 abbrev pub topic_front : Topic → ℕ → List ℕ

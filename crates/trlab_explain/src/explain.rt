@@ -58,9 +58,8 @@ fn explain_fault(
     within: &[u8],
     wanted: &Wanted,
 ) -> Result<()>
-    requires { IsBlankHead explanation.old.is_rejected explanation.old.answer explanation.old.quote }
-    ensures { OnOk result (IsFaultHead text.now (record { line = line; cause = cause })
-        explanation.new.is_rejected explanation.new.answer explanation.new.quote) }
+    requires { IsBlankHead explanation.old.head }
+    ensures { OnOk result (IsFaultHead text.now (record { line = line; cause = cause }) explanation.new.head) }
 {
     let place = Place::at(text, line);
     let fault = Fault {
@@ -71,9 +70,9 @@ fn explain_fault(
         wanted,
         within,
     };
-    explanation.is_rejected = true;
-    push_fault_line(&mut explanation.answer, line, cause)?;
-    push_quote(&mut explanation.quote, line, place.line)?;
+    explanation.head.is_rejected = true;
+    push_fault_line(&mut explanation.head.answer, line, cause)?;
+    push_quote(&mut explanation.head.quote, line, place.line)?;
     let repair = likely_repair(explanation.body.alloc, fault)?;
     add_fault(&mut explanation.body, &fault, repair);
     Ok(())
@@ -87,10 +86,9 @@ fn explain_refusal(
     text: &[u8],
     refusal: Refusal<'_>,
 ) -> Result<()>
-    requires new { IsBlankHead explanation.old.is_rejected explanation.old.answer explanation.old.quote }
+    requires new { IsBlankHead explanation.old.head }
     requires rejected { IsRejectedWith subject text.now refusal }
-    ensures { OnOk result (IsHeadAs subject text.now
-        explanation.new.is_rejected explanation.new.answer explanation.new.quote) }
+    ensures { OnOk result (IsHeadAs subject text.now explanation.new.head) }
 {
     match refusal.into_parts() {
         (TextFault::At { line, cause }, within, wanted) => {
@@ -107,13 +105,13 @@ fn explain_accepted(
     code: &Code,
     budget: u32,
 ) -> Result<()>
-    requires { explanation.old.answer ≡ [] }
-    ensures rejected { explanation.new.is_rejected ≡ explanation.old.is_rejected }
-    ensures answer { OnOk result (explanation.new.answer ≡ accepted_line budget) }
+    requires { explanation.old.head.answer ≡ [] }
+    ensures rejected { explanation.new.head.is_rejected ≡ explanation.old.head.is_rejected }
+    ensures answer { OnOk result (explanation.new.head.answer ≡ accepted_line budget) }
 {
-    explanation.answer.say("accepted budget ")?;
-    explanation.answer.number(u64::from(budget))?;
-    explanation.answer.end_line()?;
+    explanation.head.answer.say("accepted budget ")?;
+    explanation.head.answer.number(u64::from(budget))?;
+    explanation.head.answer.end_line()?;
     add_program(
         &mut explanation.body,
         text,
@@ -130,15 +128,15 @@ fn explain_rejected(
     code: &Code,
     fault: VerifyFault,
 ) -> Result<()>
-    requires { IsBlankHead explanation.old.is_rejected explanation.old.answer explanation.old.quote }
+    requires { IsBlankHead explanation.old.head }
     ensures { (check : CheckSaid) → IsFaultOf check.program.kind check.program fault
-        → OnOk result (IsProgramHead check explanation.new.is_rejected explanation.new.answer explanation.new.quote) }
+        → OnOk result (IsProgramHead check explanation.new.head) }
 {
     let VerifyFault::Why { at, reason } = fault else {
         return Err(AllocError);
     };
-    explanation.is_rejected = true;
-    push_refused_line(&mut explanation.answer, at, reason)?;
+    explanation.head.is_rejected = true;
+    push_refused_line(&mut explanation.head.answer, at, reason)?;
     add_program(
         &mut explanation.body,
         text,
@@ -150,8 +148,8 @@ fn explain_rejected(
 
 /// Explains the program of a check, by the verdict of the verifier.
 fn explain_program(explanation: &mut Explanation, text: &[u8], check: Check) -> Result<()>
-    requires { IsBlankHead explanation.old.is_rejected explanation.old.answer explanation.old.quote }
-    ensures { OnOk result (IsProgramHead check explanation.new.is_rejected explanation.new.answer explanation.new.quote) }
+    requires { IsBlankHead explanation.old.head }
+    ensures { OnOk result (IsProgramHead check explanation.new.head) }
 {
     let Check { code, .. } = check;
     let alloc = explanation.body.alloc;
@@ -169,9 +167,8 @@ fn explain_program(explanation: &mut Explanation, text: &[u8], check: Check) -> 
 
 /// Explains an input that is read as `subject`.
 fn explain_as(explanation: &mut Explanation, subject: Subject, text: &[u8]) -> Result<()>
-    requires { IsBlankHead explanation.old.is_rejected explanation.old.answer explanation.old.quote }
-    ensures { OnOk result (IsHeadAs subject text.now
-        explanation.new.is_rejected explanation.new.answer explanation.new.quote) }
+    requires { IsBlankHead explanation.old.head }
+    ensures { OnOk result (IsHeadAs subject text.now explanation.new.head) }
 {
     let alloc = explanation.body.alloc;
     match subject {
@@ -216,9 +213,8 @@ pub struct Output {
 
 /// The output for an explanation.
 fn output_in_form(alloc: Global, form: Form, explanation: &Explanation) -> Result<Output>
-    ensures rejected { IfOk result (λ output. output.is_rejected ≡ explanation.now.is_rejected) }
-    ensures head { IfOk result (λ output.
-        HasHead form explanation.now.is_rejected explanation.now.answer explanation.now.quote output.bytes.items) }
+    ensures rejected { IfOk result (λ output. output.is_rejected ≡ explanation.now.head.is_rejected) }
+    ensures head { IfOk result (λ output. HasHead form explanation.now.head output.bytes.items) }
     ensures plain { IfOk result (λ output. All IsPlain output.bytes.items) }
 {
     explanation.body.outcome()?;
@@ -227,7 +223,7 @@ fn output_in_form(alloc: Global, form: Form, explanation: &Explanation) -> Resul
         Form::Json => json_form(alloc, explanation)?,
     };
     Ok(Output {
-        is_rejected: explanation.is_rejected,
+        is_rejected: explanation.head.is_rejected,
         bytes,
     })
 }
