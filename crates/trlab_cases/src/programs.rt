@@ -146,8 +146,8 @@ const AT_MOST: u8 = 1;
 /// The level of a variable that is below another one.
 const BELOW: u8 = 2;
 
-/// Writes a note on a line: the values of the registers, the order of the variables (`<=` or `<`), and `side` if the side
-/// cell is known to be empty.
+/// Writes a note on a line: the values of the registers, the order of the variables (`<=` or `<`), and `side` if the
+/// side cell is known to be empty.
 fn push_note(report: &mut Report, note: &Note) {
     for register in 0..note.regs.len() {
         push_mark(report, variable_name(register), note.regs[register]);

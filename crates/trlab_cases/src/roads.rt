@@ -55,8 +55,8 @@ fn write_road_or_fault(report: &mut Report, road: Result<Road, RoadFault>) -> Ou
     }
 }
 
-/// Writes the number of lanes, the length, the maximum speed and the number of cars of a road, then its cars in standing
-/// order, then its pictures.
+/// Writes the number of lanes, the length, the maximum speed and the number of cars of a road, then its cars in
+/// standing order, then its pictures.
 fn write_road(report: &mut Report, road: &Road) -> Outcome {
     report.push_number("lanes ", road.lanes());
     report.push_number(" length ", road.length());

@@ -24,4 +24,4 @@ output_of (Explain (Number topic number)) text = IsNumberPage topic number
 
 -- the output if help or the version is asked for: any text; it does not count as the rejection of an input
 abbrev pub IsHelp : Outputs
-IsHelp refused text = refused ≡ false
+IsHelp rejected text = rejected ≡ false

@@ -24,8 +24,8 @@ const RUNNERS: u32 = 2;
 /// The number of threads that run each step of a job.
 const WORKERS: u32 = 1;
 
-/// A job's road and random seed: ten stopped cars, evenly spaced on a lane of 100 cells. The cars' random numbers depend
-/// on `number`.
+/// A job's road and random seed: ten stopped cars, evenly spaced on a lane of 100 cells. The cars' random numbers
+/// depend on `number`.
 fn new_seed(alloc: Global, number: u32) -> Option<Seed> {
     let (lanes, length, limit, cars) = (1, 100, 5, 10);
     Some(Seed {

@@ -38,8 +38,8 @@ abbrev pub IsFaultHead : List ℕ → Fault → Head → Type 0
 IsFaultHead text fault head = (head.is_rejected ≡ true) × (head.answer ≡ fault_line fault)
     × (head.quote ≡ quote_line fault.line (line_at fault.line (lines_of text)))
 
--- the head for the text of a job or a sweep, by the result of reading it: for a valid text, the blank head; for
--- an invalid one, the head for its fault
+-- the head for the text of a job or a sweep, by the result of reading it: for a valid text, the blank head;
+-- for an invalid one, the head for its fault
 abbrev pub IsTextHead : {A : Type 0} → List ℕ → Result A Fault → Head → Type 0
 IsTextHead text (Ok x) head = IsBlankHead head
 IsTextHead text (Err fault) head = IsFaultHead text fault head
@@ -50,7 +50,7 @@ accepted_line budget = codes "accepted budget " ++ (decimal budget ++ (10 ∷ []
 
 -- the parts of the head for the program of a check. If the verifier accepts it: not rejected (`false`), with
 -- the line `accepted budget B`, where B is the number of instructions on the program's longest path. If the
--- verifier rejects it: rejected (`true`), with the line `refused at N reason R` of instruction N, and no quote
+-- verifier rejects it: rejected (`true`), with the line `refused at N reason R`, and no quote
 abbrev pub IsVerdict : CheckSaid → Bool → List ℕ → List ℕ → Type 0
 IsVerdict check false answer quote = IsAccepted check.program.kind check.program × ((budget : ℕ)
     × IsLongest check.program.instrs 0 budget × (answer ≡ accepted_line budget))

@@ -17,7 +17,8 @@ HasPlainText (boolean b) = ⊤
 HasPlainText null = ⊤
 HasPlainText bad = ⊤
 
--- the JSON string for a printed line, without the LF that ends it; null if no line is printed (`line` is empty)
+-- the JSON string for a printed line, without the LF that ends it; null if no line is printed (`line` is
+-- empty)
 abbrev pub answer_token : List ℕ → Token
 answer_token line = if length line == 0 then null else string (take (length line - 1) line)
 

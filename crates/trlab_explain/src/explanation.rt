@@ -74,7 +74,8 @@ pub fn text_form(alloc: Global, explanation: &Explanation) -> Result<Page>
 /// The JSON form of an explanation: one object on one line.
 pub fn json_form(alloc: Global, explanation: &Explanation) -> Result<Vec<u8>>
     ensures plain { IfOk result (λ text. All IsPlain text.items) }
-    ensures object { IfOk result (λ text. EndsObject explanation.now.head.is_rejected explanation.now.head.answer text.items) }
+    ensures object { IfOk result (λ text.
+        EndsObject explanation.now.head.is_rejected explanation.now.head.answer text.items) }
 {
     let mut out = Object::new(alloc);
     add_body(&mut out, &explanation.body);

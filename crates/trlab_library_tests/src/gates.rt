@@ -35,8 +35,8 @@ fn go_through<G: Gate + Sync>(
     }
 }
 
-/// A gate that records how often it is passed, and as bits, which segments of `ROAD` are begun in the lane change and in
-/// the motion.
+/// A gate that records how often it is passed, and as bits, which segments of `ROAD` are begun in the lane change and
+/// in the motion.
 #[derive(Drop)]
 struct Notes {
     calls: AtomicU64,

@@ -50,7 +50,8 @@ fn topic_named(name: &[u8]) -> Option<Topic>
     }
 }
 
-/// The request of the two arguments of `explain` and the flag `--json`, or the kind of error if they do not go together.
+/// The request of the two arguments of `explain` and the flag `--json`, or the kind of error if they do not go
+/// together.
 fn explain_request(
     what: Option<&str>,
     number: Option<u32>,
@@ -74,7 +75,7 @@ fn explain_request(
 }
 
 /// The message for arguments of `explain` that do not go together; `what` is the first argument.
-fn refusal_text(alloc: Global, kind: ErrorKind, what: &str) -> Result<String, AllocError> {
+fn error_text(alloc: Global, kind: ErrorKind, what: &str) -> Result<String, AllocError> {
     match kind {
         ErrorKind::UnknownArgument => { format!(in alloc; "`explain {what}` takes no number") }
         ErrorKind::ArgumentConflict => { format!(in alloc; "`explain {what}` takes no --json") }
@@ -91,11 +92,11 @@ fn refusal_text(alloc: Global, kind: ErrorKind, what: &str) -> Result<String, Al
     }
 }
 
-/// An error of this kind, in the form of `clap`'s own errors for `explain`.
-fn refusal(alloc: Global, kind: ErrorKind, what: Option<&str>) -> Result<Error, AllocError>
+/// An error of this kind, in the form of `clap`'s own errors for `explain`; `what` is the first argument.
+fn explain_error(alloc: Global, kind: ErrorKind, what: Option<&str>) -> Result<Error, AllocError>
     ensures { IfOk result (λ error. kind_of error ≡ kind) }
 {
-    let text = refusal_text(alloc, kind, what.unwrap_or(""))?;
+    let text = error_text(alloc, kind, what.unwrap_or(""))?;
     let mut command = explain_command(alloc)?;
     command.error(kind, &text)
 }
@@ -118,6 +119,6 @@ pub fn explain_request_by_matches(
     let number = argument_number(matches, "number");
     match explain_request(what, number, is_flag_given(matches, "json")) {
         Ok(asked) => Ok(asked),
-        Err(kind) => Err(refusal(alloc, kind, what)?),
+        Err(kind) => Err(explain_error(alloc, kind, what)?),
     }
 }

@@ -16,7 +16,10 @@ use trlab_book::{ALL_PARTS, Desk, SharedBook};
 use trlab_sequential_book::Event;
 use trlab_strands::{Blank, Ledger};
 
-/// How often each of four threads replaces the rule of its job and reads the job.
+/// The number of threads that call the book.
+const THREADS: u32 = 4;
+
+/// How often each thread replaces the rule of its job and reads the job.
 const ROUNDS: u32 = 25;
 
 /// The expected read of a job that has done no step.
@@ -93,7 +96,7 @@ fn four_threads<L: Ledger + Send + Sync, R: Threads + Wait + Sync>(
     requires name { name_of blank ≡ L.name }
 {
     let (book, desk) = SharedBook::<L>::start(alloc, blank);
-    let (desk, made) = at_desks(rt, alloc, &book, desk, 4);
+    let (desk, made) = at_desks(rt, alloc, &book, desk, THREADS);
     // Each thread submits its job once, and replaces its rule and reads it `ROUNDS` times.
     events_of(book, desk) == Some(204) && made
 }
@@ -104,8 +107,8 @@ fn four_threads_call_one_book(rt: HostRuntime) {
     assert!(rt; four_threads::<Brand, HostRuntime>(&rt, rt.alloc(), blank));
 }
 
-/// Gathers two desks and closes the book. Returns whether the second desk had one part and the first all others, as after
-/// a split, and the history has both calls.
+/// Gathers two desks and closes the book. Returns whether the second desk had one part and the first all others, as
+/// after a split, and the history has both calls.
 fn is_closed_by_both<L: Ledger>(book: SharedBook<L>, mine: Desk<L>, theirs: Desk<L>) -> bool {
     let parts = mine.parts() == ALL_PARTS - 1 && theirs.parts() == 1;
     let desk = book.gather(mine, theirs);

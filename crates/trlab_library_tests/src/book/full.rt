@@ -60,6 +60,9 @@ fn is_full<L: Ledger, R: Wait>(rt: &R, alloc: Global, table: &mut Table<L>) -> b
     true
 }
 
+/// The number of workers of each runner.
+const WORKERS: u32 = 1;
+
 /// Runs the jobs of a book. Returns whether the runners ended because the history was full.
 fn run<L: Ledger + Send + Sync, R: Threads + Wait + Sync>(
     rt: &R,
@@ -73,7 +76,7 @@ fn run<L: Ledger + Send + Sync, R: Threads + Wait + Sync>(
     if desk.parts() < runners {
         return (desk, false);
     }
-    match run_jobs(rt, alloc, book, desk, runners, 1, &OpenGate) {
+    match run_jobs(rt, alloc, book, desk, runners, WORKERS, &OpenGate) {
         Ok(desk) => (desk, false),
         Err((desk, fault)) => (desk, fault == RunFault::HistoryFull),
     }
@@ -106,8 +109,8 @@ fn has_full_history<L: Ledger + Send + Sync, R: Threads + Wait + Sync>(
     let (desk, ended) = run(rt, alloc, &table.book, desk, 1);
     let (desk, others_ended) = run(rt, alloc, &table.book, desk, 3);
     table.desk = desk;
-    let full = is_full(rt, alloc, &mut table);
-    table.events() == Some(MAX_EVENTS as usize) && filled && ended && others_ended && full
+    let is_full = is_full(rt, alloc, &mut table);
+    table.events() == Some(MAX_EVENTS as usize) && filled && ended && others_ended && is_full
 }
 
 #[test]

@@ -4,7 +4,7 @@ ghost use Rattle.std.specs.Prelude.{◌≡◌, ◌≤◌};
 ghost use Rattle.trlab_book.specs.Desks.{parts_of};
 ghost use Rattle.trlab_strands.specs.Tokens.{name_of};
 
-use crate::book::common::books::{ended, history_of, new_blank, reads, replace, submit};
+use crate::book::common::books::{desk_and_success, history_of, new_blank, reads, replace, submit};
 use crate::book::common::expected::ExpectedRead;
 use crate::book::common::jobs::{ALWAYS, NEVER, two_cars};
 use crate::book::common::meeting::waits_for;
@@ -17,6 +17,12 @@ use trlab_book::{Desk, SharedBook, run_jobs};
 use trlab_segments::Gate;
 use trlab_sequential_book::{BookFault, Call, Event, Reply};
 use trlab_strands::{Blank, Ledger};
+
+/// The number of runners.
+const RUNNERS: u32 = 1;
+
+/// The number of workers of the runner.
+const WORKERS: u32 = 1;
 
 /// A gate that sets `has_come` when a segment comes, and holds the segment until `is_open` is set.
 #[derive(Drop)]
@@ -94,7 +100,7 @@ fn run_held<L: Ledger + Send + Sync, R: Threads + Wait + Sync>(
         || end_held(rt, alloc, book, theirs, &gate, end),
         || -> (Desk<L>, bool)
             requires { 1 ≤ parts_of mine }
-        { ended(run_jobs(rt, alloc, book, mine, 1, 1, &gate)) },
+        { desk_and_success(run_jobs(rt, alloc, book, mine, RUNNERS, WORKERS, &gate)) },
     );
     (book.gather(mine, theirs), answered && ran)
 }
@@ -128,9 +134,9 @@ fn is_refused_once<L: Ledger + Send + Sync, R: Threads + Wait + Sync>(
     let (book, mut desk) = SharedBook::<L>::start(alloc, blank);
     let submitted = submit(rt, alloc, &book, &mut desk, &two_cars(0, 4)) == Ok(0);
     let (mut desk, ended) = run_held(rt, alloc, &book, desk, end);
-    let right = reads(rt, alloc, &book, &mut desk, 0, &expected_read(end));
+    let is_right = reads(rt, alloc, &book, &mut desk, 0, &expected_read(end));
     match history_of(book, desk) {
-        Some(history) => submitted && ended && right && refused_orders(&history, end) == 1,
+        Some(history) => submitted && ended && is_right && refused_orders(&history, end) == 1,
         None => false,
     }
 }

@@ -8,7 +8,7 @@ ghost use Rattle.std.specs.Prelude.{◌≡◌, ◌<◌, ◌≤◌};
 ghost use Rattle.trlab_bounds.specs.declared.runs.TheConstants.{MAX_RUNNERS, MAX_WORKERS};
 ghost use Rattle.trlab_strands.specs.Tokens.{name_of};
 
-use crate::book::common::books::{ended, events_of, new_blank, reads, submit};
+use crate::book::common::books::{desk_and_success, events_of, new_blank, reads, submit};
 use crate::book::common::expected::ExpectedRead;
 use crate::book::common::jobs::{BY_HALF, NEVER, TestJob};
 use crate::book::common::meeting::Meeting;
@@ -123,9 +123,9 @@ fn run<L: Ledger + Send + Sync, R: Threads + Wait + Sync, G: Gate + Sync>(
     }
     match run_jobs(rt, alloc, book, desk, count, workers, gate) {
         Err((desk, RunFault::Memory)) => {
-            ended(run_jobs(rt, alloc, book, desk, count, workers, gate))
+            desk_and_success(run_jobs(rt, alloc, book, desk, count, workers, gate))
         }
-        ran => ended(ran),
+        ran => desk_and_success(ran),
     }
 }
 
@@ -145,9 +145,9 @@ fn are_right<L: Ledger, R: Wait>(
             picture: end,
             rules: rules.as_slice(),
         };
-        let right = reads(rt, alloc, book, desk, job, &wanted)
+        let is_right = reads(rt, alloc, book, desk, job, &wanted)
             || reads(rt, alloc, book, desk, job, &wanted);
-        if !right {
+        if !is_right {
             return false;
         }
     }
@@ -170,8 +170,8 @@ fn passes<L: Ledger + Send + Sync, R: AllocGlobal + Threads + Wait + Sync, G: Ga
     let (book, mut desk) = SharedBook::<L>::start(alloc, blank);
     let filled = fill(rt, alloc, &book, &mut desk, jobs);
     let (mut desk, ran) = run(rt, alloc, &book, desk, runners, gate);
-    let right = are_right(rt, alloc, &book, &mut desk, jobs);
-    events_of(book, desk).is_some() && filled && ran && right
+    let are_right = are_right(rt, alloc, &book, &mut desk, jobs);
+    events_of(book, desk).is_some() && filled && ran && are_right
 }
 
 /// `passes` with a new blank.

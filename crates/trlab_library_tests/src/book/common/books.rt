@@ -17,8 +17,8 @@ pub fn new_blank(alloc: Global) -> Result<Blank<Event>, AllocError> {
     }
 }
 
-/// The desk that runners return, and whether they succeeded.
-pub fn ended<L: Ledger>(ran: Result<Desk<L>, (Desk<L>, RunFault)>) -> (Desk<L>, bool) {
+/// The desk that runners return, and whether they ran all jobs without a fault.
+pub fn desk_and_success<L: Ledger>(ran: Result<Desk<L>, (Desk<L>, RunFault)>) -> (Desk<L>, bool) {
     match ran {
         Ok(desk) => (desk, true),
         Err((desk, _)) => (desk, false),
