@@ -30,10 +30,12 @@ Exit statuses:
 
 File formats: docs/FILES.md. Error numbers: `trlab explain cause K`.";
 
+/// The help texts of a command.
 #[derive(Clone, Copy)]
 pub struct Help {
     /// One line, also shown in the list of commands.
     pub about: &'static str,
+    /// How to call the command, one form per line.
     pub usage: &'static str,
     /// The text below the options: input, output and an example.
     pub after: &'static str,

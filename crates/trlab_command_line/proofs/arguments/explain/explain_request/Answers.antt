@@ -1,5 +1,5 @@
 use Rattle.std.proofs.Common.{rules}
-use Rattle.trlab_command_line.proofs.arguments.explain.explained.Goals as goal
+use Rattle.trlab_command_line.proofs.arguments.explain.explain_request.Goals as goal
 
 pub returns-in_default : goal.returns-in_default
 returns-in_default c = search rules

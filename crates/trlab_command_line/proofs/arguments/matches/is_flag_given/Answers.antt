@@ -2,7 +2,7 @@ use Rattle.std.proofs.Common.{◌∙◌}
 use Rattle.clap.specs.Words.{found_of, rows_of}
 use Rattle.clap.proofs.WalkLemmas.{one_text-rows}
 use Rattle.trlab_command_line.proofs.Matches.{the_flag}
-use Rattle.trlab_command_line.proofs.arguments.matches.flag_of.Goals as goal
+use Rattle.trlab_command_line.proofs.arguments.matches.is_flag_given.Goals as goal
 
 pub returns : goal.returns
 returns c =

@@ -3,7 +3,7 @@ use Rattle.std.specs.Str.Parse.{ParsesUnsigned, ExplainsUnsignedError, HasUnsign
 use Rattle.clap.specs.Words.{found_of, rows_of}
 use Rattle.clap.proofs.WalkLemmas.{one_text-rows}
 use Rattle.trlab_command_line.proofs.Matches.{the_number_in}
-use Rattle.trlab_command_line.proofs.arguments.matches.given_number.Goals as goal
+use Rattle.trlab_command_line.proofs.arguments.matches.argument_number.Goals as goal
 
 pub returns : goal.returns
 returns c =

@@ -3,7 +3,7 @@ use Rattle.std.specs.Str.Parse.{ParsesUnsigned, ExplainsUnsignedError, HasUnsign
 use Rattle.clap.specs.Words.{found_of, rows_of}
 use Rattle.clap.proofs.WalkLemmas.{one_text-rows}
 use Rattle.trlab_command_line.proofs.Matches.{some_number, the_number}
-use Rattle.trlab_command_line.proofs.arguments.matches.number_of.Goals as goal
+use Rattle.trlab_command_line.proofs.arguments.matches.option_number.Goals as goal
 
 pub returns-clause-number : goal.returns-clause-number
 returns-clause-number c =
