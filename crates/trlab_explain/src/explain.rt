@@ -116,7 +116,7 @@ fn explain_accepted(
         &mut explanation.body,
         text,
         code,
-        ProgramVerdict::Accepted(budget),
+        ProgramVerdict::Accepted { budget },
     );
     Ok(())
 }
@@ -141,7 +141,7 @@ fn explain_rejected(
         &mut explanation.body,
         text,
         code,
-        ProgramVerdict::Rejected(at, reason),
+        ProgramVerdict::Rejected { pc: at, reason },
     );
     Ok(())
 }
