@@ -1,4 +1,4 @@
--- Rules of later steps.
+-- The rules of later steps: the lines `at s rule ..` of a job text.
 use Rattle.std.specs.Prelude.{ℕ, zero, suc, ◌+◌, List, [], ◌∷◌}
 use Rattle.trlab_rules.specs.Rules.{Programs}
 use Rattle.trlab_step.specs.Run.{Sheet}
@@ -7,8 +7,9 @@ use Rattle.trlab_texts.specs.Reading.{Reading, say, ◌>>=◌, line, exactly}
 use Rattle.trlab_jobs.specs.RuleLines.{later_line}
 use Rattle.trlab_jobs.specs.RuleParts.{rule_from}
 
--- reads a later rule for a road with `lanes` lanes, and gives it with its step, which is at least `least` and
--- below `steps`; `room` is the number of later rules that may still come, with this one
+-- reads a line `at s rule ..`, and the programs after `rule own`, for a road with `lanes` lanes; gives s, which
+-- is at least `least` and below `steps`, and the rule. `room` is the number of later rules that may still come,
+-- with this one
 abbrev pub later_rule : ℕ → ℕ → ℕ → ℕ → Reading (ℕ × Programs)
 later_rule room lanes steps least rest out =
     (line (exactly (later_line room steps least)) >>= λ stated.
@@ -29,6 +30,7 @@ later_rules_from (suc room) lanes steps least = λ rest out.
     to_the_end rest.left (later_rule (suc room) lanes steps least >>= λ entry.
     later_rules_from room lanes steps (entry.0 + 1) >>= λ later. say (entry ∷ later)) rest out
 
--- reads the later rules of a run of `steps` steps, at most MAX_LATER, for a road with `lanes` lanes
+-- reads the lines `at s rule ..` up to the end of the text, for a road with `lanes` lanes: at most MAX_LATER
+-- rules, with steps s that strictly increase and are below `steps`, the number of steps of the run
 abbrev pub later_rules : ℕ → ℕ → Reading Sheet
 later_rules lanes steps = later_rules_from MAX_LATER lanes steps 0
