@@ -18,7 +18,7 @@ use Rattle.trlab_traffic.proofs.Capacities.{run_keeps_to_capacity}
 use Rattle.trlab_traffic.proofs.EvenFlows.{even_cars_flow_at_capacity}
 use Rattle.trlab_traffic.proofs.Moving.{run_goes_by_moving_cars, run_keeps_below_peak}
 use Rattle.trlab_traffic.proofs.RoomAhead.{taken_or_empty}
-use Rattle.trlab_campaign.specs.Capacity.{DiagramIsTriangle, IsNotAbovePeak, IsOnTriangle, IsUnderTriangle, AsksForTriangle}
+use Rattle.trlab_campaign.specs.Capacity.{DiagramIsTriangle, IsAtMostPeak, IsOnTriangle, IsUnderTriangle, AsksForTriangle}
 use Rattle.trlab_campaign.specs.Capacity.{HasBoundedMovingSpeed, SweepsBoundMovingSpeed, SweepsDoNotExceedPeak, SweepsKeepToCapacity}
 use Rattle.trlab_campaign.specs.SweepOutput.{ArePoints, IsPoint, point_seed, sweep_sheet}
 use Rattle.trlab_campaign.proofs.Points.{some_cells}
@@ -99,7 +99,7 @@ module _ (common : Setup) (counted : 1 ≤ common.span.measure) where
       })
 
   -- and that it is below the peak
-  told_below_peak : (number cars : ℕ) (point : Point) → CanSpreadOn common.shape cars → IsPoint common number cars point → IsNotAbovePeak common.shape.limit point
+  told_below_peak : (number cars : ℕ) (point : Point) → CanSpreadOn common.shape cars → IsPoint common number cars point → IsAtMostPeak common.shape.limit point
   told_below_peak number count point fits is =
       let shape = common.shape in
       let span = common.span in
@@ -110,9 +110,9 @@ module _ (common : Setup) (counted : 1 ≤ common.span.measure) where
       let cells : cells_of_road start ≡ shape.lanes * shape.cells = even_cells shape.lanes shape.cells shape.limit count start is.even in
       let low : (shape.limit + 1) * is.tally.distance ≤ span.measure * (shape.limit * (shape.lanes * shape.cells)) = rw (← steps, ← cells, ← is.even.same_limit) below in
       let some = some_cells shape.lanes shape.cells fits.lanes_fit.some_lane fits.length_fits.some_cell in
-      subst (IsNotAbovePeak shape.limit) (sym is.told) (record {
-        distance = low;
-        flow = flow_below_peak is.tally.distance (shape.lanes * shape.cells) span.measure shape.limit some counted low;
+      subst (IsAtMostPeak shape.limit) (sym is.told) (record {
+        mean_distance_bounded = low;
+        flow_bounded = flow_below_peak is.tally.distance (shape.lanes * shape.cells) span.measure shape.limit some counted low;
       })
 
   -- and how far its moving cars went
@@ -146,7 +146,7 @@ pub sweeps_keep_to_capacity : SweepsKeepToCapacity
 sweeps_keep_to_capacity = each_point IsUnderTriangle told_within
 
 pub sweeps_keep_below_peak : SweepsDoNotExceedPeak
-sweeps_keep_below_peak = each_point IsNotAbovePeak told_below_peak
+sweeps_keep_below_peak = each_point IsAtMostPeak told_below_peak
 
 pub sweeps_go_by_moving_cars : SweepsBoundMovingSpeed
 sweeps_go_by_moving_cars = each_point HasBoundedMovingSpeed told_by_moving_cars

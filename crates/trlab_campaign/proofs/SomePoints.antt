@@ -18,7 +18,7 @@ use Rattle.trlab_jobs.specs.Sweep.{Setup, Sweep}
 use Rattle.trlab_jobs.specs.Stored.{CanSpreadOn, IsStoredSweep}
 use Rattle.trlab_jobs.proofs.OneSweep.{says_stored}
 use Rattle.trlab_campaign.specs.Refusal.{IsOutputForResult, fault_line}
-use Rattle.trlab_campaign.specs.SweepOutput.{IsPoint, ArePoints, SweepOutput, point_of, point_seed, sweep_sheet, IsSweepOutput}
+use Rattle.trlab_campaign.specs.SweepOutput.{IsPoint, ArePoints, IsOutputForSweep, point_of, point_seed, sweep_sheet, IsSweepOutput}
 use Rattle.trlab_campaign.specs.Laws.{HasSomeOutput}
 use Rattle.trlab_campaign.proofs.Points.{suits}
 
@@ -67,7 +67,7 @@ from_start sweep points from = record {
       subst (λ (n : ℕ). IsPoint sweep.setup n (get_or sweep.cars i cars) (get_or points i point)) same (from.each i cars point inside);
 }
 
-output_some : (says : Result Sweep Fault) → IfOk says IsStoredSweep → (refused : Bool) × (out : List ℕ) × IsOutputForResult SweepOutput says refused out
+output_some : (says : Result Sweep Fault) → IfOk says IsStoredSweep → (refused : Bool) × (out : List ℕ) × IsOutputForResult IsOutputForSweep says refused out
 output_some (Ok sweep) stored =
     let points = points_some sweep.setup 0 sweep.cars stored.rule stored.spreads in
     (false, points_text points.0, (refl, (points.0, (from_start sweep points.0 points.1, refl))))

@@ -1,4 +1,4 @@
--- The output for a text that is not refused: one worker drives its roads.
+-- The output for a text that is not rejected: one worker drives its roads.
 use Rattle.std.specs.Prelude.{◌≡◌, ◌+◌, ◌<◌, ℕ, Bool, false, List, Ok, length, slice_index_or}
 use Rattle.trlab_diagram.specs.declared.point.Point.{Point}
 use Rattle.trlab_diagram.specs.Table.{points_text}

@@ -7,13 +7,13 @@ ghost use Rattle.trlab_jobs.specs.Stored.{IsStoredJob};
 ghost use Rattle.trlab_step.specs.Progress.{IsOneStepOn, at_start};
 ghost use Rattle.trlab_step.specs.Run.{IsRoadAt};
 ghost use Rattle.trlab_campaign.specs.Ending.{EngineEnds, LeavesUnflushed, WroteByResult};
-ghost use Rattle.trlab_campaign.specs.Output.{IsOutput, IsShownOutput, JobOutput, every_from, shown_text, step_text};
+ghost use Rattle.trlab_campaign.specs.Output.{IsOutput, IsShownOutput, IsOutputForJob, every_from, shown_text, step_text};
 ghost use Rattle.trlab_campaign.specs.Writers.{AddsByResult, bytes_of};
 
 use crate::device::{Sink, Source, write_text};
 use crate::end::{End, Failure};
 use crate::output::push_step;
-use crate::pooled::{Account, run_of, run_pooled};
+use crate::pooled::{Account, run_of_job, run_pooled};
 use crate::progress::{NoProgress, ProgressObserver};
 use std::alloc::{AllocError, AllocGlobal, Global};
 use std::sync::Wait;
@@ -176,7 +176,7 @@ fn write_run<A: Executor, K: Sink>(
     requires start { run.old.step ≡ 0 }
     ensures wrote { (job : Told) → IsStoredJob job
         → run.old ≡ at_start (seed_of job) (sheet_of job) → steps ≡ job.steps
-        → WroteByResult (JobOutput (every_from shown.now.every shown.now.from) job) result
+        → WroteByResult (IsOutputForJob (every_from shown.now.every shown.now.from) job) result
         (bytes_of K.Sink writer.old) (bytes_of K.Sink writer.new) }
     ensures writer { LeavesUnflushed K.Sink result writer.old writer.new }
 {
@@ -195,7 +195,7 @@ struct StepPictures<'a> {
 }
 
 impl<'a> Account for StepPictures<'a> {
-    ghost outputs = { λ pictures job. JobOutput (every_from pictures.shown.now.every pictures.shown.now.from) job };
+    ghost outputs = { λ pictures job. IsOutputForJob (every_from pictures.shown.now.every pictures.shown.now.from) job };
 
     fn steps(&self, job: &Job) -> u32 {
         self.shown.last(job.steps)
@@ -209,7 +209,7 @@ impl<'a> Account for StepPictures<'a> {
         writer: &mut K,
     ) -> Result<(), Failure> {
         let steps = job.steps;
-        let mut run = run_of(alloc, job);
+        let mut run = run_of_job(alloc, job);
         let written = write_run(executor, alloc, self.shown, &mut run, steps, writer);
         drop(run);
         written

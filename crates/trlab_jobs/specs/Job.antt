@@ -35,8 +35,8 @@ abbrev pub key_of_hex : Result (List ℕ) FromHexError → Result (List ℕ) Cau
 key_of_hex (Ok key) = Ok key
 key_of_hex (Err fault) = Err Key
 
--- the key that a word writes, in 64 hexadecimal digits of either case; otherwise the cause `Key`, or if there
--- is no word, the cause of that
+-- the key that a word writes, in 64 hexadecimal digits of either case; the cause `Key` for any other word, and
+-- the cause that is given instead of a word if there is none
 abbrev pub key_of : Result (List ℕ) Cause → Result (List ℕ) Cause
 key_of (Ok word) = key_of_hex (decode_sized word 32)
 key_of (Err cause) = Err cause

@@ -49,8 +49,8 @@ abbrev pub digits_misplacement : Result (List ℕ) FromHexError → Cause
 digits_misplacement (Ok bytes) = OneLane
 digits_misplacement (Err fault) = Hex
 
--- the cause for the line `code X` of a change program on a road with one lane, from its word X: the cause if
--- the line has no such word, and otherwise that of the hexadecimal digits X
+-- the cause for the line `code X` of a change program on a road with one lane, from its word X: the cause for the
+-- hexadecimal digits X, or the cause that is given instead of a word if there is none
 abbrev pub code_misplacement : Result (List ℕ) Cause → Cause
 code_misplacement (Ok digits) = digits_misplacement (decode_of digits)
 code_misplacement (Err cause) = cause
@@ -61,8 +61,8 @@ abbrev pub block_misplacement : ℕ → List (List ℕ) → Option EndSplit → 
 block_misplacement first left None = record { line = first + 1 + length left; cause = Line }
 block_misplacement first left (Some parts) = record { line = first; cause = OneLane }
 
--- the fault of a change part on a road with one lane, whose first line is `text`, with the number `first`:
--- that of a block if the line is a heading (`true`), and otherwise that of the line `code X`
+-- the fault of a change part on a road with one lane, whose first line is `text`, with the number `first`: the
+-- fault of a block if the line is a heading (`true`), and otherwise the fault of the line `code X`
 abbrev pub part_misplacement : Bool → ℕ → List ℕ → List (List ℕ) → Fault
 part_misplacement true first text left = block_misplacement first left (split_at_end left)
 part_misplacement false first text left =

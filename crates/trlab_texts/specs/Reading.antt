@@ -122,7 +122,7 @@ abbrev pub ReportsCause : Cause → LineFault → Type 0
 ReportsCause cause (Wrong reported) = reported ≡ cause
 ReportsCause cause NoMemory = Unit {0}
 
--- the fault of a text, from that of its line with the number `line`: the cause at this line, or the failed
+-- the fault of a text, from the fault of its line with the number `line`: the cause at this line, or the failed
 -- allocation
 abbrev pub text_fault : ℕ → LineFault → TextFault
 text_fault line (Wrong cause) = At line cause

@@ -47,15 +47,15 @@ pub struct Watched<X> {
 }
 
 impl<X> Watched<X> {
-    ghost use Rattle.trlab_campaign.specs.Watched.{inner_of, has_failed, given_of, accepted_of, flushes_of};
+    ghost use Rattle.trlab_campaign.specs.Watched.{inner_device, has_failed, given_bytes, accepted_bytes, flush_count};
 
     /// Wraps a reader or writer. The wrapper starts without a failure, a flush or transferred bytes.
     pub fn new(inner: X) -> Watched<X>
-        ensures inner { inner_of result ≡ inner }
+        ensures inner { inner_device result ≡ inner }
         ensures fresh { has_failed result ≡ false }
-        ensures none_given { given_of result ≡ [] }
-        ensures none_accepted { accepted_of result ≡ [] }
-        ensures unflushed { flushes_of result ≡ Never }
+        ensures none_given { given_bytes result ≡ [] }
+        ensures none_accepted { accepted_bytes result ≡ [] }
+        ensures unflushed { flush_count result ≡ Never }
     {
         Watched {
             inner,
@@ -69,11 +69,11 @@ impl<X> Watched<X> {
 }
 
 impl<X: Read> Source for Watched<X> {
-    ghost use Rattle.trlab_campaign.specs.Watched.{inner_of, has_failed, given_of};
+    ghost use Rattle.trlab_campaign.specs.Watched.{inner_device, has_failed, given_bytes};
 
-    ghost left = { λ watched. X.remaining (inner_of watched) };
+    ghost left = { λ watched. X.remaining (inner_device watched) };
 
-    ghost given = { given_of };
+    ghost given = { given_bytes };
 
     ghost failed = { has_failed };
 
@@ -92,15 +92,15 @@ impl<X: Read> Source for Watched<X> {
 }
 
 impl<X: Write> Sink for Watched<X> {
-    ghost use Rattle.trlab_campaign.specs.Watched.{inner_of, has_failed, has_handed_on, accepted_of, flushes_of};
+    ghost use Rattle.trlab_campaign.specs.Watched.{inner_device, has_failed, has_handed_on, accepted_bytes, flush_count};
 
-    ghost written = { λ watched. X.contents (inner_of watched) };
+    ghost written = { λ watched. X.contents (inner_device watched) };
 
-    ghost accepted = { accepted_of };
+    ghost accepted = { accepted_bytes };
 
     ghost handed_on = { has_handed_on };
 
-    ghost flushes = { flushes_of };
+    ghost flushes = { flush_count };
 
     ghost failed = { has_failed };
 

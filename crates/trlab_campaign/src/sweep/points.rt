@@ -34,7 +34,7 @@ pub fn even_road(alloc: Global, sweep: &Sweep, cars: u32) -> Result<Road, AllocE
 }
 
 /// The run of point `number`, at its start.
-fn run_of(alloc: Global, sweep: &Sweep, number: u32, road: Road) -> Result<Run, AllocError>
+fn run_of_point(alloc: Global, sweep: &Sweep, number: u32, road: Road) -> Result<Run, AllocError>
     requires { length road.lanes ≡ sweep.now.setup.shape.lanes }
     ensures { IfOk result (λ run.
         run ≡ at_start (point_seed sweep.now.setup number road) (sweep_sheet sweep.now.setup)) }
@@ -61,7 +61,7 @@ fn tally_of(alloc: Global, sweep: &Sweep, number: u32, road: Road) -> Result<Ste
     ensures { IfOk result (λ tally. IsTallyAt (point_seed sweep.now.setup number road)
         (sweep_sheet sweep.now.setup) (all_steps sweep.now.setup.span) tally) }
 {
-    let mut run = run_of(alloc, sweep, number, road)?;
+    let mut run = run_of_point(alloc, sweep, number, road)?;
     let tally = count_run(alloc, &mut run, sweep.warm + sweep.measure);
     drop(run);
     tally
