@@ -20,8 +20,8 @@ abbrev pub accepted_bytes : {X : Type 0} → Watched X → List ℕ
 accepted_bytes watched = watched.accepted.bytes
 
 -- whether everything that was written has been flushed
-abbrev pub has_handed_on : {X : Type 0} → Watched X → Bool
-has_handed_on watched = watched.handed_on
+abbrev pub has_flushed_all : {X : Type 0} → Watched X → Bool
+has_flushed_all watched = watched.is_flushed
 
 -- how often the wrapped writer was flushed: never, once, or twice or more often
 abbrev pub flush_count : {X : Type 0} → Watched X → Flushes

@@ -145,7 +145,7 @@ impl<'a, R: Threads + Wait + Sync, C: Account, O: ProgressObserver> JobEngine<'a
         let pool = Pool::new(self.rt, self.workers, &gate).sparing(job.road.cars(), draws);
         let with_progress = WithProgress::new(&pool, self.progress, self.account.steps(&job));
         let end = write_by_pool(alloc, &pool, self.account, &with_progress, job, writer);
-        with_progress.ended(end);
+        with_progress.report_end(end);
         end
     }
 }

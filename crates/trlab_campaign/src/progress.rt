@@ -59,7 +59,7 @@ fn hundredths(done: u64, whole: u64) -> u32
 
 /// The milestone after `after` of the work's `whole` parts, if its hundredth differs from the hundredth after `before`
 /// parts. `number` is the current step or point, of `count`.
-pub fn newly_reached(
+pub fn milestone_between(
     before: u64,
     after: u64,
     whole: u64,
@@ -119,7 +119,7 @@ impl<'a, A, O: ProgressObserver> WithProgress<'a, A, O> {
             ↔ (hundredths (taken - 1) self.now.steps ≡ hundredths taken self.now.steps) }
     {
         let before = u64::from(taken.saturating_sub(1));
-        newly_reached(
+        milestone_between(
             before,
             u64::from(taken),
             u64::from(self.steps),
@@ -138,7 +138,7 @@ impl<'a, A, O: ProgressObserver> WithProgress<'a, A, O> {
     }
 
     /// Reports all steps, if the run ended with `Done`.
-    pub fn ended(&self, end: End) {
+    pub fn report_end(&self, end: End) {
         if end == End::Done {
             self.report_step(self.steps);
         }

@@ -52,7 +52,7 @@ fn table<R: Threads + Wait + Sync, O: ProgressObserver + Sync>(
         workers,
     };
     let points = runners.points()?;
-    gate.finished();
+    gate.report_end();
     match points_text(alloc, &points) {
         Ok(text) => Ok(text),
         Err(_) => Err(AllocError),

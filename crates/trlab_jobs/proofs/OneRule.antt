@@ -30,7 +30,7 @@ use Rattle.trlab_texts.proofs.OneProgram.{checked_one, part_one}
 use Rattle.trlab_jobs.specs.declared.rule_line.RuleLine.{RuleLine}
 use Rattle.trlab_jobs.specs.declared.rule_line.RuleLine.TheVariants.{Nasch, Vdr, Rickert, Own}
 use Rattle.trlab_jobs.specs.RuleLines.{rule_line, later_line}
-use Rattle.trlab_jobs.specs.RuleParts.{VerifiesAs, IsMotionRule, IsTwoProgramRule, IsTwoLaneRule, digits_misplacement, code_misplacement, block_misplacement, part_misplacement, misplacement, change_by, next_is_change, change_part, own_rule, rule_from, rule}
+use Rattle.trlab_jobs.specs.RuleParts.{VerifiesAs, IsMotionRule, IsTwoProgramRule, IsTwoLaneRule, digits_misplacement, code_misplacement, block_misplacement, part_misplacement, misplacement, change_if_two_lanes, next_is_change, change_part, own_rule, rule_from, rule}
 use Rattle.trlab_jobs.specs.Later.{later_rule, to_the_end, later_rules_from, later_rules}
 use Rattle.trlab_jobs.specs.Stored.{AreLaterRules}
 use Rattle.trlab_jobs.proofs.FineLines.{Chances, rule_line_fine, later_line_fine}
@@ -139,13 +139,13 @@ pub record FewLanes (lanes : ℕ) : Type 0 where
 not_one : (lanes : ℕ) → FewLanes lanes → nat_eq lanes 1 ≡ false → lanes ≡ 2
 not_one lanes few other = let apart : lanes ≢ 1 = eqb-false lanes 1 other in omega arith
 
-change_by_one : (one_lane : Bool) (lanes : ℕ) → (one_lane ≡ false → lanes ≡ 2) → OneReading (Changes lanes) (change_by one_lane)
-change_by_one true lanes two place = record { one = exact (Err (misplacement place.number place.left)) (misplaced place.number place.left) }
-change_by_one false lanes two place = part_with (λ checked is. (is, two refl)) (part_one Change place)
+change_if_two_lanes_one : (one_lane : Bool) (lanes : ℕ) → (one_lane ≡ false → lanes ≡ 2) → OneReading (Changes lanes) (change_if_two_lanes one_lane)
+change_if_two_lanes_one true lanes two place = record { one = exact (Err (misplacement place.number place.left)) (misplaced place.number place.left) }
+change_if_two_lanes_one false lanes two place = part_with (λ checked is. (is, two refl)) (part_one Change place)
 
 change_part_one : (lanes : ℕ) → FewLanes lanes → OneReading (λ (o : Option CheckedProgram). IfSome o (Changes lanes)) (change_part lanes)
 change_part_one lanes few place =
-    perhaps_one (next_is_change place.left) (change_by (nat_eq lanes 1)) (change_by_one (nat_eq lanes 1) lanes (not_one lanes few)) place
+    perhaps_one (next_is_change place.left) (change_if_two_lanes (nat_eq lanes 1)) (change_if_two_lanes_one (nat_eq lanes 1) lanes (not_one lanes few)) place
 
 own_suits : (lanes : ℕ) (motion : CheckedProgram) (change : Option CheckedProgram) → IsChecked Motion motion → IfSome change (Changes lanes)
     → IsRuleFor lanes (record { motion = motion; change = change })

@@ -12,7 +12,7 @@ use Rattle.trlab_jobs.specs.declared.rule_line.RuleLine.{RuleLine}
 use Rattle.trlab_texts.specs.Lines.{Rest}
 use Rattle.trlab_texts.specs.Reading.{Fault, Reading, line, exactly, say, ◌>>=◌, of_line, read_if, text_fault, Reports, ReportsLine}
 use Rattle.trlab_jobs.specs.RuleLines.{later_line, rule_line}
-use Rattle.trlab_jobs.specs.RuleParts.{change_by, next_is_change, change_part, rule, rule_from}
+use Rattle.trlab_jobs.specs.RuleParts.{change_if_two_lanes, next_is_change, change_part, rule, rule_from}
 use Rattle.trlab_jobs.specs.Later.{later_rule}
 use Rattle.trlab_texts.proofs.Readings.{goes_on, stops}
 
@@ -64,7 +64,7 @@ later_says room lanes steps least number place after behind at rule here one two
     (Ok (at, after), (one, (Ok (rule, behind), (rw here at two, refl))))
 
 -- where a change part was read, the road has two lanes
-change_on_two : (one_lane : Bool) (lanes : ℕ) (place after : Rest) (change : CheckedProgram) → (one_lane ≡ false → lanes ≡ 2) → change_by one_lane place (Ok (change, after)) → lanes ≡ 2
+change_on_two : (one_lane : Bool) (lanes : ℕ) (place after : Rest) (change : CheckedProgram) → (one_lane ≡ false → lanes ≡ 2) → change_if_two_lanes one_lane place (Ok (change, after)) → lanes ≡ 2
 change_on_two true lanes place after change two says = absurd cc
 change_on_two false lanes place after change two says = two refl
 
@@ -75,7 +75,7 @@ read_of (Err fault) = None
 
 -- a change part was read, if there is one
 perhaps_on_two : (next one_lane : Bool) (lanes : ℕ) (place after : Rest) (change : Option CheckedProgram) → (one_lane ≡ false → lanes ≡ 2)
-    → read_if next (change_by one_lane) place (Ok (change, after)) → IsSome change → lanes ≡ 2
+    → read_if next (change_if_two_lanes one_lane) place (Ok (change, after)) → IsSome change → lanes ≡ 2
 perhaps_on_two next one_lane lanes place after None two says some = absurd (cc some)
 perhaps_on_two true one_lane lanes place after (Some change) two (Ok (found, behind), (one, is)) some = change_on_two one_lane lanes place behind found two one
 perhaps_on_two true one_lane lanes place after (Some change) two (Err fault, (one, is)) some = absurd (cc is)

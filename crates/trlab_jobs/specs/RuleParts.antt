@@ -75,9 +75,9 @@ misplacement first [] = record { line = first; cause = Line }
 misplacement first (text ∷ left) = part_misplacement (bytes_eq text (heading_line Change)) first text left
 
 -- reads a change part; on a road with one lane (`true`) it is a fault
-abbrev pub change_by : Bool → Reading CheckedProgram
-change_by true rest out = out ≡ Err (misplacement rest.number rest.left)
-change_by false rest out = part Change rest out
+abbrev pub change_if_two_lanes : Bool → Reading CheckedProgram
+change_if_two_lanes true rest out = out ≡ Err (misplacement rest.number rest.left)
+change_if_two_lanes false rest out = part Change rest out
 
 -- whether the next line begins a change part: its first word is `change` or `code`
 abbrev pub next_is_change : List (List ℕ) → Bool
@@ -86,7 +86,7 @@ next_is_change left = next_word_is (codes "change") left || next_word_is (codes 
 -- reads a change part for a road with `lanes` lanes if the next line begins one; otherwise reads no line and
 -- gives none
 abbrev pub change_part : ℕ → Reading (Option CheckedProgram)
-change_part lanes rest out = read_if (next_is_change rest.left) (change_by (nat_eq lanes 1)) rest out
+change_part lanes rest out = read_if (next_is_change rest.left) (change_if_two_lanes (nat_eq lanes 1)) rest out
 
 -- reads the programs of `rule own` for a road with `lanes` lanes: a motion part, and a change part if one
 -- follows

@@ -9,7 +9,7 @@ ghost use Rattle.trlab_verify.specs.CheckedProgram.{IsChecked};
 ghost use Rattle.trlab_texts.specs.Reading.{Reports, ReportsLine, ReportsCause, ReportsFault, line, exactly, text_fault};
 ghost use Rattle.trlab_texts.specs.Words.{word_after};
 ghost use Rattle.trlab_jobs.specs.RuleLines.{rule_line, later_line};
-ghost use Rattle.trlab_jobs.specs.RuleParts.{IsMotionRule, IsTwoLaneRule, code_misplacement, misplacement, next_is_change, change_by, change_part, own_rule, rule_from, rule};
+ghost use Rattle.trlab_jobs.specs.RuleParts.{IsMotionRule, IsTwoLaneRule, code_misplacement, misplacement, next_is_change, change_if_two_lanes, change_part, own_rule, rule_from, rule};
 ghost use Rattle.std.specs.Result.{result_map_both};
 ghost use Rattle.trlab_jobs.specs.Later.{later_rule, later_rules};
 ghost use Rattle.trlab_jobs.specs.Stored.{AreLaterRules};
@@ -19,7 +19,7 @@ use hex::FromHexError;
 use std::alloc::Global;
 use trlab_bounds::runs::MAX_LATER;
 use trlab_code::Kind;
-use trlab_rules::{Rule, nasch, rickert, vdr};
+use trlab_rules::{Rule, StandardFault, nasch, rickert, vdr};
 use trlab_texts::{
     Cause, LineFault, LineName, LineNames, LineRefusal, Objection, Refusal, Rest, TextFault,
     Wanted, program,
@@ -53,7 +53,8 @@ fn nasch_rule<'a>(alloc: Global, brake: Chance) -> Result<Rule, LineRefusal<'a>>
 {
     match nasch(alloc, brake) {
         Ok(rule) => Ok(rule),
-        Err(_) => Err(LineRefusal::memory()),
+        Err(StandardFault::Memory) => Err(LineRefusal::memory()),
+        Err(StandardFault::Refused) => unreachable!(),
     }
 }
 
@@ -64,7 +65,8 @@ fn vdr_rule<'a>(alloc: Global, moving: Chance, stopped: Chance) -> Result<Rule, 
 {
     match vdr(alloc, moving, stopped) {
         Ok(rule) => Ok(rule),
-        Err(_) => Err(LineRefusal::memory()),
+        Err(StandardFault::Memory) => Err(LineRefusal::memory()),
+        Err(StandardFault::Refused) => unreachable!(),
     }
 }
 
@@ -86,7 +88,8 @@ fn rickert_rule<'a>(
     }
     match rickert(alloc, brake, crossing) {
         Ok(rule) => Ok(rule),
-        Err(_) => Err(LineRefusal::memory()),
+        Err(StandardFault::Memory) => Err(LineRefusal::memory()),
+        Err(StandardFault::Refused) => unreachable!(),
     }
 }
 
@@ -125,8 +128,12 @@ fn misplacement(alloc: Global, lanes: Lanes, rest: Rest<'_>) -> Refusal<'_>
 }
 
 /// Reads a change program, which is a fault on a road with one lane.
-fn change_by(alloc: Global, lanes: Lanes, rest: Rest<'_>) -> Result<(Change, Rest<'_>), Refusal<'_>>
-    ensures { Reports (change_by (nat_eq lanes.count 1) rest.entry) result }
+fn change_if_two_lanes(
+    alloc: Global,
+    lanes: Lanes,
+    rest: Rest<'_>,
+) -> Result<(Change, Rest<'_>), Refusal<'_>>
+    ensures { Reports (change_if_two_lanes (nat_eq lanes.count 1) rest.entry) result }
 {
     if lanes.count == 1 {
         Err(misplacement(alloc, lanes, rest))
@@ -151,7 +158,7 @@ fn change_part(
     ensures { Reports (change_part lanes.count rest.entry) result }
 {
     if next_is_change(&rest) {
-        let (change, rest) = change_by(alloc, lanes, rest)?;
+        let (change, rest) = change_if_two_lanes(alloc, lanes, rest)?;
         Ok((Some(change), rest))
     } else if lanes.count == 1 {
         Ok((None, rest))

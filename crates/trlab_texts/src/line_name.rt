@@ -116,10 +116,12 @@ impl LineNames {
         LineNames { present }
     }
 
+    /// Whether the set contains this name.
     pub fn has(self, name: LineName) -> bool {
         self.present[name as usize]
     }
 
+    /// Whether the set contains no name.
     pub fn is_empty(self) -> bool {
         !self.present.contains(&true)
     }

@@ -61,6 +61,7 @@ impl<'a> Rest<'a> {
         self.number.saturating_sub(1)
     }
 
+    /// Whether no line is left.
     pub fn is_end(&self) -> bool
         ensures { IsTrue result ↔ (self.now.left ≡ []) }
     {
@@ -88,7 +89,7 @@ impl<'a> Rest<'a> {
         }
     }
 
-    /// The names that the next line may have, with this one added.
+    /// The names that the next line may have, with this name added.
     pub fn names_with(&self, name: LineName) -> LineNames {
         self.also_wanted.with(name)
     }

@@ -39,10 +39,12 @@ impl Transcript {
 #[derive(Drop)]
 pub struct Watched<X> {
     inner: X,
+    /// Whether a call has failed.
     failed: bool,
     given: Transcript,
     accepted: Transcript,
-    handed_on: bool,
+    /// Whether everything that was written has been flushed.
+    is_flushed: bool,
     flushes: Flushes,
 }
 
@@ -62,7 +64,7 @@ impl<X> Watched<X> {
             failed: false,
             given: Transcript::new(),
             accepted: Transcript::new(),
-            handed_on: false,
+            is_flushed: false,
             flushes: Flushes::Never,
         }
     }
@@ -92,20 +94,20 @@ impl<X: Read> Source for Watched<X> {
 }
 
 impl<X: Write> Sink for Watched<X> {
-    ghost use Rattle.trlab_campaign.specs.Watched.{inner_device, has_failed, has_handed_on, accepted_bytes, flush_count};
+    ghost use Rattle.trlab_campaign.specs.Watched.{inner_device, has_failed, has_flushed_all, accepted_bytes, flush_count};
 
     ghost written = { λ watched. X.contents (inner_device watched) };
 
     ghost accepted = { accepted_bytes };
 
-    ghost handed_on = { has_handed_on };
+    ghost handed_on = { has_flushed_all };
 
     ghost flushes = { flush_count };
 
     ghost failed = { has_failed };
 
     fn put(&mut self, bytes: &[u8]) -> Result<usize, DeviceError> {
-        self.handed_on = false;
+        self.is_flushed = false;
         match self.inner.write(bytes) {
             Ok(count) => {
                 // Without this error, `write_text` would loop forever if the writer takes no bytes.
@@ -127,7 +129,7 @@ impl<X: Write> Sink for Watched<X> {
         self.flushes = self.flushes.once_more();
         match self.inner.flush() {
             Ok(()) => {
-                self.handed_on = true;
+                self.is_flushed = true;
                 Ok(())
             }
             Err(_) => {

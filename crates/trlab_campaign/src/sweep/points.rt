@@ -125,12 +125,12 @@ fn is_sheet_of(sweep: &Sweep, sheet: &BookSheet) -> bool
 
 /// The point `number`, which starts from `road`, from a snapshot of the book; `None` unless the snapshot shows this
 /// point after its last step.
-pub fn point_seen(
+pub fn point_from_snapshot(
     sweep: &Sweep,
     number: u32,
     cars: u32,
     road: &Road,
-    seen: &Snapshot,
+    snapshot: &Snapshot,
 ) -> Option<Point>
     requires spreads { CanSpreadOn sweep.now.setup.shape cars }
     requires even { IsEvenlySpaced sweep.now.setup.shape.lanes
@@ -138,11 +138,11 @@ pub fn point_seen(
     ensures is { IfSome result (λ point. IsPoint sweep.now.setup number cars point) }
     ensures measured { IfSome result IsMeasured }
 {
-    if seen.step() == sweep.warm + sweep.measure
-        && is_sheet_of(sweep, seen.sheet())
-        && is_seed_of(sweep, number, road, seen.seed())
+    if snapshot.step() == sweep.warm + sweep.measure
+        && is_sheet_of(sweep, snapshot.sheet())
+        && is_seed_of(sweep, number, road, snapshot.seed())
     {
-        Some(point_of(sweep, cars, seen.tally()))
+        Some(point_of(sweep, cars, snapshot.tally()))
     } else {
         None
     }

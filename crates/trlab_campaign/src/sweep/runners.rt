@@ -9,7 +9,7 @@ ghost use Rattle.trlab_campaign.specs.SweepOutput.{AreFirstPoints, ArePoints, Is
 ghost use Rattle.trlab_strands.specs.Tokens.{name_of};
 
 use crate::progress::ProgressObserver;
-use crate::sweep::points::{even_road, point_seen, run_point};
+use crate::sweep::points::{even_road, point_from_snapshot, run_point};
 use crate::sweep::work::WorkGate;
 use std::alloc::{AllocError, Global};
 use std::marker::Brand;
@@ -152,7 +152,7 @@ impl<'a, R: Threads + Wait + Sync, O: ProgressObserver + Sync> Runners<'a, R, O>
         let cars = sweep.cars[number as usize];
         let road = even_road(self.alloc, sweep, cars)?;
         if let Ok(seen) = book.read(self.rt, self.alloc, desk, job)
-            && let Some(point) = point_seen(sweep, number, cars, &road, &seen)
+            && let Some(point) = point_from_snapshot(sweep, number, cars, &road, &seen)
         {
             return Ok(point);
         }
@@ -226,7 +226,7 @@ impl<'a, R: Threads + Wait + Sync, O: ProgressObserver + Sync> Runners<'a, R, O>
         while points.len() < sweep.cars.len() {
             let blank = Blank::new(self.alloc)?;
             self.add_batch::<Brand>(blank, &mut points)?;
-            self.gate.collected(points.len());
+            self.gate.count_points(points.len());
         }
         Ok(points)
     }
