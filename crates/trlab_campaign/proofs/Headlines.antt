@@ -47,10 +47,10 @@ job_texts_are_driven shown text out is =
     drives_job shown text out found.0 found.1.0 found.1.1 (subst (λ (parsed_as : Result Job Fault). IsOutputForResult (IsOutputForJob shown) parsed_as false out) same is.1.1)
 
 -- the road on which cars are evenly spread is legal
-even_is_legal : (setup : Setup) (cars : ℕ) (road : Cells) → CanSpreadOn setup.shape cars → IsEvenlySpaced setup.shape.lanes setup.shape.cells setup.shape.limit cars road → IsLegal road
+even_is_legal : (setup : Setup) (cars : ℕ) (road : Cells) → CanSpreadOn setup.shape cars → IsEvenlySpaced setup.shape.lanes setup.shape.length setup.shape.limit cars road → IsLegal road
 even_is_legal setup cars road fits even =
-    let found = even_some setup.shape.lanes setup.shape.cells setup.shape.limit cars fits in
-    subst IsLegal (one_even setup.shape.lanes setup.shape.cells setup.shape.limit cars found.0 road found.1.0 even) found.1.1
+    let found = even_some setup.shape.lanes setup.shape.length setup.shape.limit cars fits in
+    subst IsLegal (one_even setup.shape.lanes setup.shape.length setup.shape.limit cars found.0 road found.1.0 even) found.1.1
 
 drives_point : (setup : Setup) (number cars : ℕ) (point : Point) → IsRuleFor setup.shape.lanes setup.rule → CanSpreadOn setup.shape cars
     → IsPoint setup number cars point → IsDrivenPoint setup number cars point

@@ -19,7 +19,7 @@ use Rattle.trlab_campaign.specs.Laws.{HasAtMostOneOutput}
 -- a sweep has one point with a number and a count of cars
 point_one : (common : Setup) (number cars : ℕ) (point other : Point) → IsPoint common number cars point → IsPoint common number cars other → point ≡ other
 point_one common number cars point other p q =
-    let start = one_even common.shape.lanes common.shape.cells common.shape.limit cars p.start q.start p.even q.even in
+    let start = one_even common.shape.lanes common.shape.length common.shape.limit cars p.start q.start p.even q.even in
     let counted = subst (λ (road : Cells). IsTallyAt (point_seed common number road) (sweep_sheet common) (all_steps common.span) p.tally) start p.counted in
     let same = road_is_one (point_seed common number q.start) (sweep_sheet common) (all_steps common.span) counted.0 q.counted.0 p.tally q.tally counted.1 q.counted.1 in
     p.told ∙ (ap (point_of common cars) same.1 ∙ sym q.told)

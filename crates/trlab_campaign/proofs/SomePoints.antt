@@ -33,7 +33,7 @@ even_some lanes cells limit n fits = let said = something lanes cells limit n in
 -- a point of a sweep for any number and count of cars that fits
 point_some : (common : Setup) (number cars : ℕ) → IsRuleFor common.shape.lanes common.rule → CanSpreadOn common.shape cars → (point : Point) × IsPoint common number cars point
 point_some common number cars rule fits =
-    let start = even_some common.shape.lanes common.shape.cells common.shape.limit cars fits in
+    let start = even_some common.shape.lanes common.shape.length common.shape.limit cars fits in
     let sheet = suits (length start.0.lanes) common (rw start.1.0.same_lanes rule) in
     let run = run_comes_to_road (point_seed common number start.0) (sweep_sheet common) (all_steps common.span) start.1.1 sheet in
     (point_of common cars run.1, record { start = start.0; tally = run.1; even = start.1.0; counted = (run.0, run.2); told = refl })

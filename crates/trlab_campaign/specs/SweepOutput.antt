@@ -39,7 +39,7 @@ point_of setup cars tally = record {
 pub record IsPoint (setup : Setup) (number cars : ℕ) (point : Point) : Type 0 where
   pub start : Cells
   pub tally : StepTally
-  pub even : IsEvenlySpaced setup.shape.lanes setup.shape.cells setup.shape.limit cars start
+  pub even : IsEvenlySpaced setup.shape.lanes setup.shape.length setup.shape.limit cars start
   pub counted : IsTallyAt (point_seed setup number start) (sweep_sheet setup) (all_steps setup.span) tally
   pub told : point ≡ point_of setup cars tally
 

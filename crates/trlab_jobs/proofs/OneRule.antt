@@ -22,7 +22,7 @@ use Rattle.trlab_texts.specs.declared.fault.Cause.{Cause}
 use Rattle.trlab_texts.specs.declared.fault.Cause.TheVariants.{OneLane}
 use Rattle.trlab_texts.specs.Causes.{IsNotStandardRefused}
 use Rattle.trlab_texts.specs.Words.{word_after}
-use Rattle.trlab_texts.specs.Reading.{Reading, line, exactly, say, ◌>>=◌}
+use Rattle.trlab_texts.specs.Reading.{Reading, line, exactly, give, ◌>>=◌}
 use Rattle.trlab_texts.specs.Programs.{EndSplit, part, split_at_end, heading_line}
 use Rattle.trlab_texts.proofs.Fine.{Anything, Fine, IsOtherFault, line_other, one_lane_other, hex_other, word_fine}
 use Rattle.trlab_texts.proofs.OneAnswer.{OneLine, OneReading, exact, exact_line, then_one, said_one, perhaps_one, of_line_one, part_with}
@@ -191,13 +191,13 @@ to_the_end_one (text ∷ left) reading none one = one
 later_from_one : (room lanes steps least : ℕ) → FewLanes lanes → OneReading (AreLaterRules lanes steps least) (later_rules_from room lanes steps least)
 unfolding later_rules_from
 later_from_one zero lanes steps least few place =
-    to_the_end_one place.left (later_rule 0 lanes steps least >>= λ entry. say (entry ∷ [])) tt
-    (then_one (later_rule 0 lanes steps least) (λ entry. say (entry ∷ [])) (later_rule_one 0 lanes steps least few)
+    to_the_end_one place.left (later_rule 0 lanes steps least >>= λ entry. give (entry ∷ [])) tt
+    (then_one (later_rule 0 lanes steps least) (λ entry. give (entry ∷ [])) (later_rule_one 0 lanes steps least few)
     (λ entry is. said_one (entry ∷ []) (is.0, (is.1.0, (is.1.1, tt))))) place
 later_from_one (suc room) lanes steps least few place =
-    to_the_end_one place.left (later_rule (suc room) lanes steps least >>= λ entry. later_rules_from room lanes steps (entry.0 + 1) >>= λ later. say (entry ∷ later)) tt
-    (then_one (later_rule (suc room) lanes steps least) (λ entry. later_rules_from room lanes steps (entry.0 + 1) >>= λ later. say (entry ∷ later)) (later_rule_one (suc room) lanes steps least few) (λ entry is.
-    then_one (later_rules_from room lanes steps (entry.0 + 1)) (λ later. say (entry ∷ later)) (later_from_one room lanes steps (entry.0 + 1) few) (λ later more.
+    to_the_end_one place.left (later_rule (suc room) lanes steps least >>= λ entry. later_rules_from room lanes steps (entry.0 + 1) >>= λ later. give (entry ∷ later)) tt
+    (then_one (later_rule (suc room) lanes steps least) (λ entry. later_rules_from room lanes steps (entry.0 + 1) >>= λ later. give (entry ∷ later)) (later_rule_one (suc room) lanes steps least few) (λ entry is.
+    then_one (later_rules_from room lanes steps (entry.0 + 1)) (λ later. give (entry ∷ later)) (later_from_one room lanes steps (entry.0 + 1) few) (λ later more.
     said_one (entry ∷ later) (is.0, (is.1.0, (is.1.1, more)))))) place
 
 pub later_rules_one : (lanes steps : ℕ) → FewLanes lanes → OneReading (AreLaterRules lanes steps 0) (later_rules lanes steps)

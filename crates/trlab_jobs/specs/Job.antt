@@ -12,7 +12,7 @@ use Rattle.trlab_texts.specs.declared.fault.Cause.TheVariants.{Line, Key}
 use Rattle.trlab_bounds.specs.declared.runs.TheConstants.{MAX_STEPS}
 use Rattle.trlab_texts.specs.Lines.{all_lines, Rest}
 use Rattle.trlab_texts.specs.Words.{word_after, number_within}
-use Rattle.trlab_texts.specs.Reading.{Fault, Reading, say, ◌>>=◌, ◌>>◌, line, exactly, TextParsesTo}
+use Rattle.trlab_texts.specs.Reading.{Fault, Reading, give, ◌>>=◌, ◌>>◌, line, exactly, TextParsesTo}
 use Rattle.trlab_jobs.specs.Lanes.{lanes}
 use Rattle.trlab_jobs.specs.RuleParts.{rule}
 use Rattle.trlab_jobs.specs.Later.{later_rules}
@@ -35,8 +35,8 @@ abbrev pub key_of_hex : Result (List ℕ) FromHexError → Result (List ℕ) Cau
 key_of_hex (Ok key) = Ok key
 key_of_hex (Err fault) = Err Key
 
--- the key that a word writes, in 64 hexadecimal digits of either case; the cause `Key` for any other word, and
--- the cause that is given instead of a word if there is none
+-- the key that a word writes, in 64 hexadecimal digits of either case; the cause `Key` for any other word,
+-- and the cause that is given instead of a word if there is none
 abbrev pub key_of : Result (List ℕ) Cause → Result (List ℕ) Cause
 key_of (Ok word) = key_of_hex (decode_sized word 32)
 key_of (Err cause) = Err cause
@@ -60,7 +60,7 @@ job_after key road = do
   first ← rule (length road.lanes)
   steps ← line (exactly steps_line)
   later ← later_rules (length road.lanes) steps
-  say (record { key = key; road = road; first = first; later = later; steps = steps })
+  give (record { key = key; road = road; first = first; later = later; steps = steps })
 
 -- reads a job, line by line: `road 1`, the key, the limit, the lanes, a rule, the number of steps, and rules
 -- of later steps

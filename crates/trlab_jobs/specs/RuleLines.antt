@@ -60,8 +60,8 @@ rule_with_probabilities Own = Ok Own
 abbrev pub rule_line : List ℕ → Result (RuleLine ℕ) Cause
 rule_line text = ok_or (rule_words text) Line >>= rule_with_probabilities
 
--- the word of a step and the words of a rule, from the two parts of a line after `at `; none if the first part
--- is not one word or the second part does not state a rule
+-- the word of a step and the words of a rule, from the two parts of a line after `at `; none if the first
+-- part is not one word or the second part does not state a rule
 abbrev pub step_and_rule : List ℕ × List ℕ → Option (List ℕ × RuleLine (List ℕ))
 step_and_rule parts =
     if is_word parts.0 then option_map (λ rule. (parts.0, rule)) (rule_words parts.1) else None

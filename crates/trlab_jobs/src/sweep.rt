@@ -76,7 +76,7 @@ impl Model for Sweep {
     ghost view = { λ sweep. record {
       setup = record {
         key = sweep.key.0;
-        shape = record { limit = sweep.limit; cells = sweep.length; lanes = sweep.lanes };
+        shape = record { limit = sweep.limit; length = sweep.length; lanes = sweep.lanes };
         rule = sweep.rule;
         span = record { warm = sweep.warm; measure = sweep.measure };
       };
@@ -86,7 +86,7 @@ impl Model for Sweep {
     ghost invariant = { λ sweep. IsStoredSweep (record {
       setup = record {
         key = sweep.key.0;
-        shape = record { limit = sweep.limit; cells = sweep.length; lanes = sweep.lanes };
+        shape = record { limit = sweep.limit; length = sweep.length; lanes = sweep.lanes };
         rule = sweep.rule;
         span = record { warm = sweep.warm; measure = sweep.measure };
       };
@@ -122,7 +122,7 @@ pub struct Shape {
     /// The maximum speed, 1 to `MAX_LIMIT` cells per step.
     pub limit: u32,
     /// The cells per lane, 1 to `MAX_LENGTH`.
-    pub cells: u32,
+    pub length: u32,
     /// The number of lanes, 1 or 2.
     pub lanes: u32,
 }
@@ -163,17 +163,17 @@ fn number(
 /// Reads the lines `limit n`, `length n` and `lanes n`.
 pub fn read_shape(rest: Rest<'_>) -> Result<(Shape, Rest<'_>), Refusal<'_>>
     ensures told { Reports (shape rest.entry) result }
-    ensures cells { IfOk result (λ found. found.0.cells ≤ MAX_LENGTH) }
+    ensures cells { IfOk result (λ found. found.0.length ≤ MAX_LENGTH) }
     ensures some { IfOk result (λ found. 1 ≤ found.0.lanes) }
     ensures few { IfOk result (λ found. found.0.lanes ≤ MAX_LANES) }
 {
     let (limit, rest) = number(LineName::Limit, 1, MAX_LIMIT, rest)?;
-    let (cells, rest) = number(LineName::Length, 1, MAX_LENGTH, rest)?;
+    let (length, rest) = number(LineName::Length, 1, MAX_LENGTH, rest)?;
     let (lanes, rest) = number(LineName::Lanes, 1, MAX_LANES, rest)?;
     Ok((
         Shape {
             limit,
-            cells,
+            length,
             lanes,
         },
         rest,
@@ -297,7 +297,7 @@ fn heading(rest: Rest<'_>) -> Result<([u8; 32], Rest<'_>), Refusal<'_>>
 /// Reads the lines before the points: `sweep 1`, the key, the shape, the rule and the span.
 fn read_setup(alloc: Global, rest: Rest<'_>) -> Result<(Setup, Rest<'_>), Refusal<'_>>
     ensures told { Reports (setup rest.entry) result }
-    ensures cells { IfOk result (λ found. found.0.shape.cells ≤ MAX_LENGTH) }
+    ensures cells { IfOk result (λ found. found.0.shape.length ≤ MAX_LENGTH) }
     ensures few { IfOk result (λ found. found.0.shape.lanes ≤ MAX_LANES) }
     ensures warm { IfOk result (λ found. found.0.span.warm ≤ MAX_STEPS) }
     ensures measure { IfOk result (λ found. found.0.span.measure ≤ MAX_STEPS) }
@@ -334,12 +334,12 @@ fn read_lines(alloc: Global, text: &[u8]) -> Result<Sweep, Refusal<'_>>
         rule,
         span,
     } = setup;
-    let cells = shape.lanes * shape.cells;
+    let cells = shape.lanes * shape.length;
     let cars = counts(alloc, cells, span.warm + span.measure, rest)?;
     Ok(Sweep {
         key: Key(key),
         limit: shape.limit,
-        length: shape.cells,
+        length: shape.length,
         lanes: shape.lanes,
         rule,
         warm: span.warm,

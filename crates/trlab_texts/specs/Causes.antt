@@ -43,9 +43,9 @@ road_fault_number (SpeedAboveLimit lane place) = 5
 road_fault_number RoadMemory = 6
 road_fault_number TooManyCars = 7
 
--- the printed number of a cause: 1 to 9 for the words, the lines and the size of an input; 10, 20 or 30 plus the
--- fault's number for a program's lines, a program's bytes or a road; 40 for a rejected standard rule, and 40 plus
--- the verifier's reason for any other rejected program. For example, 37 is too many cars
+-- the printed number of a cause: 1 to 9 for the words, the lines and the size of an input; 10, 20 or 30 plus
+-- the fault's number for a program's lines, a program's bytes or a road; 40 for a rejected standard rule, and
+-- 40 plus the verifier's reason for any other rejected program. For example, 37 is too many cars
 abbrev pub cause_number : Cause → ℕ
 cause_number Line = 1
 cause_number Number = 2

@@ -23,7 +23,7 @@ use trlab_step::{Caller, Run, Schedule, StepTally};
 pub fn even_road(alloc: Global, sweep: &Sweep, cars: u32) -> Result<Road, AllocError>
     requires { CanSpreadOn sweep.now.setup.shape cars }
     ensures even { IfOk result (λ road. IsEvenlySpaced sweep.now.setup.shape.lanes
-        sweep.now.setup.shape.cells sweep.now.setup.shape.limit cars road) }
+        sweep.now.setup.shape.length sweep.now.setup.shape.limit cars road) }
     ensures legal { IfOk result IsLegal }
 {
     match Road::even(alloc, sweep.lanes, sweep.length, sweep.limit, cars) {
@@ -93,7 +93,7 @@ pub fn run_point(
 ) -> Result<Point, AllocError>
     requires spreads { CanSpreadOn sweep.now.setup.shape cars }
     requires even { IsEvenlySpaced sweep.now.setup.shape.lanes
-        sweep.now.setup.shape.cells sweep.now.setup.shape.limit cars road }
+        sweep.now.setup.shape.length sweep.now.setup.shape.limit cars road }
     ensures is { IfOk result (λ point. IsPoint sweep.now.setup number cars point) }
     ensures measured { IfOk result IsMeasured }
 {
@@ -134,7 +134,7 @@ pub fn point_from_snapshot(
 ) -> Option<Point>
     requires spreads { CanSpreadOn sweep.now.setup.shape cars }
     requires even { IsEvenlySpaced sweep.now.setup.shape.lanes
-        sweep.now.setup.shape.cells sweep.now.setup.shape.limit cars road.now }
+        sweep.now.setup.shape.length sweep.now.setup.shape.limit cars road.now }
     ensures is { IfSome result (λ point. IsPoint sweep.now.setup number cars point) }
     ensures measured { IfSome result IsMeasured }
 {

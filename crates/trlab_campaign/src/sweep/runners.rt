@@ -18,11 +18,9 @@ use std::thread::Threads;
 use trlab_book::{Desk, SharedBook, run_jobs};
 use trlab_diagram::Point;
 use trlab_jobs::Sweep;
+use trlab_jobs::limits::MAX_CARS_IN_MEMORY;
 use trlab_sequential_book::{Event, Seed};
 use trlab_strands::{Blank, Ledger};
-
-/// The maximum number of cars on the roads of a batch together: as many as on 32 roads of the largest size.
-const MAX_CARS_IN_MEMORY: u32 = 6_400_000;
 
 /// The points from `first` up to, but not including, `end` of a sweep, whose roads are in memory at the same time.
 #[derive(Clone, Copy)]
