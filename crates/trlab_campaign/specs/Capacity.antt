@@ -14,9 +14,9 @@ use Rattle.trlab_campaign.specs.SweepOutput.{ArePoints}
 abbrev pub empty_cells_at : Point → ℕ
 empty_cells_at point = point.cells - point.cars
 
--- the maximum distance, in cells, of all cars of a point together in a step: the limit times the number of cars,
--- or the number of empty cells, whichever is smaller. For example, with the limit 5, it is 50 cells for 10 cars
--- on 100 cells, and 70 for 30 cars
+-- the maximum distance, in cells, of all cars of a point together in a step: the limit times the number of
+-- cars, or the number of empty cells, whichever is smaller. For example, with the limit 5, it is 50 cells for
+-- 10 cars on 100 cells, and 70 for 30 cars
 abbrev pub max_distance_at : ℕ → Point → ℕ
 max_distance_at limit point = min (limit * point.cars) (empty_cells_at point)
 
@@ -80,8 +80,8 @@ abbrev pub stated_rule : List ℕ → Result (RuleLine ℕ) Cause
 stated_rule text = rule_line (slice_index_or (lines_of text) 5 [])
 
 -- a sweep text with this common part asks for the triangle: its sixth line is `rule nasch 0`, the
--- Nagel-Schreckenberg model without randomization; it has one lane; and it counts no step before all cars could
--- reach the limit
+-- Nagel-Schreckenberg model without randomization; it has one lane; and it counts no step before all cars
+-- could reach the limit
 pub record AsksForTriangle (text : List ℕ) (common : Setup) : Type 0 where
   pub rule : stated_rule text ≡ Ok (Nasch 0)
   pub lanes : common.shape.lanes ≡ 1

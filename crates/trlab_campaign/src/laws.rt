@@ -12,9 +12,9 @@ ghost use Rattle.trlab_campaign.specs.SeriesLaws.{LanesOfSeriesAddUp, SeriesHasA
 ghost use Rattle.trlab_campaign.specs.ShownLaws.{EveryNthStepIsShown, EveryStepFromStartIsEach, ShownHasAtMostOneOutput, ShownHasSomeOutput};
 ghost use Rattle.trlab_campaign.specs.SweepOutput.{IsSweepOutput};
 
-/// The output for a job text that is not rejected shows the roads of a driven run, at the steps that are shown, from the
-/// road of the text to the road after the last step. Each step follows the rule in force, its programs end within their
-/// budgets, no car goes onto or through another, and none is lost or made.
+/// The output for a job text that is not rejected shows the roads of a driven run, at the steps that are shown, from
+/// the road of the text to the road after the last step. Each step follows the rule in force, its programs end within
+/// their budgets, no car goes onto or through another, and none is lost or made.
 pub fn job_texts_are_driven()
     ensures { JobTextsAreDriven }
 {}

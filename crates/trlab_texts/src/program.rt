@@ -15,7 +15,7 @@ use crate::refusal::{LineRefusal, Objection, Refusal, Wanted};
 use crate::rest::Rest;
 use hex::FromHexError;
 use std::alloc::Global;
-use trlab_asm::{AsmFault, Why, assemble};
+use trlab_asm::{Why, assemble};
 use trlab_code::{Code, CodeFault, Kind, decode};
 use trlab_verify::{AcceptedProgram, ProgramKind, VerifyFault, verify_as};
 
@@ -117,16 +117,13 @@ pub fn program_after(
 {
     match assemble(alloc, kind, text) {
         Ok(code) => Ok(code),
-        Err(
-            AsmFault {
-                why: Why::Memory,
-                ..
-            },
-        ) => Err(Refusal::memory()),
-        Err(AsmFault { line, why }) => Err(Refusal::bare(TextFault::At {
-            line: first + line as u32,
-            cause: Cause::Program(why),
-        })),
+        Err(fault) => match fault.why {
+            Why::Memory => Err(Refusal::memory()),
+            why => Err(Refusal::bare(TextFault::At {
+                line: first + fault.line as u32,
+                cause: Cause::Program(why),
+            })),
+        },
     }
 }
 

@@ -21,8 +21,8 @@ pub enum Quantity {
     Other,
 }
 
-/// The input that a reader wanted when it rejected a file. Positions are in bytes from the start of the rest of the
-/// line that was read.
+/// The input that a reader wanted when it rejected a file. Positions are in bytes, counted from 0 in the rest of the
+/// line.
 #[derive(Drop)]
 pub enum Wanted {
     /// Nothing to add to the cause.
