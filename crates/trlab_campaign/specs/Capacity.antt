@@ -1,4 +1,4 @@
--- The capacity at the points of a sweep: each point is under a triangle of the fundamental diagram, or on it.
+-- The points of a sweep are under a triangle in the fundamental diagram, or on it.
 use Rattle.std.specs.Prelude.{◌≡◌, ℕ, ◌+◌, ◌-◌, ◌*◌, ◌/◌, ◌≤◌, min, List, [], All, Ok, Result, slice_index_or}
 use Rattle.trlab_diagram.specs.declared.point.Point.{Point}
 use Rattle.trlab_diagram.specs.Flow.{flow_of}
@@ -14,13 +14,13 @@ use Rattle.trlab_campaign.specs.SweepOutput.{ArePoints}
 abbrev pub empty_cells_at : Point → ℕ
 empty_cells_at point = point.cells - point.cars
 
--- the capacity at a point, an upper bound for the distance of all cars in a step: the limit times the number
--- of cars, or the number of empty cells, whichever is smaller. For example, with the limit 5, 10 cars on 100
--- cells have the capacity 50, and 30 cars 70
-abbrev pub capacity_at : ℕ → Point → ℕ
-capacity_at limit point = min (limit * point.cars) (empty_cells_at point)
+-- the maximum distance, in cells, of all cars of a point together in a step: the limit times the number of
+-- cars, or the number of empty cells, whichever is smaller. For example, with the limit 5, it is 50 cells for
+-- 10 cars on 100 cells, and 70 for 30 cars
+abbrev pub max_distance_at : ℕ → Point → ℕ
+max_distance_at limit point = min (limit * point.cars) (empty_cells_at point)
 
--- the flow at a point, in millionths, rounded down, if the distance is this in every step
+-- the flow at a point, in millionths, rounded down, if the cars together go this distance in every step
 abbrev pub steady_flow : Point → ℕ → ℕ
 steady_flow point distance = distance * 1000000 / point.cells
 
@@ -41,18 +41,18 @@ SweepsKeepToCapacity =
     → ParsesAsSweep text (Ok sweep) → ArePoints sweep points
     → All (IsUnderTriangle sweep.setup.shape.limit) points
 
--- a point that is not above the peak of the triangle: its mean distance per cell and step is at most
--- `limit / (limit + 1)`, and so is its flow; for the limit 5, this is 833333 millionths
-pub record IsNotAbovePeak (limit : ℕ) (point : Point) : Type 0 where
-  pub distance : (limit + 1) * point.distance ≤ point.steps * (limit * point.cells)
-  pub flow : flow_of point ≤ limit * 1000000 / (limit + 1)
+-- the flow at this point is at most the peak of the triangle, v / (v + 1) for the limit v, and so is its mean
+-- distance per cell and step; for v = 5, the peak is 833333 millionths
+pub record IsAtMostPeak (limit : ℕ) (point : Point) : Type 0 where
+  pub mean_distance_bounded : (limit + 1) * point.distance ≤ point.steps * (limit * point.cells)
+  pub flow_bounded : flow_of point ≤ limit * 1000000 / (limit + 1)
 
 -- no point of any sweep's table is above the peak of the triangle, under any rule
 abbrev pub SweepsDoNotExceedPeak : Type 0
 SweepsDoNotExceedPeak =
     (text : List ℕ) (sweep : Sweep) (points : List Point)
     → ParsesAsSweep text (Ok sweep) → ArePoints sweep points
-    → All (IsNotAbovePeak sweep.setup.shape.limit) points
+    → All (IsAtMostPeak sweep.setup.shape.limit) points
 
 -- the mean speed of the moving cars at a point is from one cell per step to the limit; a car is counted as
 -- moving or stopped once per step
@@ -68,19 +68,20 @@ SweepsBoundMovingSpeed =
     → ParsesAsSweep text (Ok sweep) → ArePoints sweep points
     → All (HasBoundedMovingSpeed sweep.setup.shape.limit) points
 
--- a point on the triangle: its mean distance per step is the capacity, and its flow is the flow of the
--- capacity
+-- a point on the triangle: its mean distance per step is the maximum distance, and its flow is that of the
+-- maximum distance in every step
 pub record IsOnTriangle (limit : ℕ) (point : Point) : Type 0 where
-  pub distance : point.distance ≡ point.steps * capacity_at limit point
-  pub flow : flow_of point ≡ steady_flow point (capacity_at limit point)
+  pub distance : point.distance ≡ point.steps * max_distance_at limit point
+  pub flow : flow_of point ≡ steady_flow point (max_distance_at limit point)
 
--- the rule that the sixth line of a sweep text states, or its cause; a missing line counts as an empty one,
--- with the cause `Line`
+-- the rule that the sixth line of a sweep text states, or the cause of its fault; a missing line counts as an
+-- empty one, with the cause `Line`
 abbrev pub stated_rule : List ℕ → Result (RuleLine ℕ) Cause
 stated_rule text = rule_line (slice_index_or (lines_of text) 5 [])
 
--- a sweep text with this common part asks for the triangle: its sixth line is `rule nasch 0`, the rule of
--- 1992 without randomization; it has one lane; and it counts no step before all cars could reach the limit
+-- a sweep text with this common part asks for the triangle: its sixth line is `rule nasch 0`, the
+-- Nagel-Schreckenberg model without randomization; it has one lane; and it counts no step before all cars
+-- could reach the limit
 pub record AsksForTriangle (text : List ℕ) (common : Setup) : Type 0 where
   pub rule : stated_rule text ≡ Ok (Nasch 0)
   pub lanes : common.shape.lanes ≡ 1

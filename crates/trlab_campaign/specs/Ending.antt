@@ -64,8 +64,8 @@ pub record LeavesUnflushed {A K : Type 0} (sink : Sink.Ghosts K) (result : Resul
   pub fails : IfErr result (λ fault. (fault ≡ Device) ↔ (sink.failed new ≡ true))
   pub flushed : sink.flushes new ≡ sink.flushes old
 
--- the writer when an engine has ended: `Wrote` holds of the end and the written bytes, the flushes are those
--- of the end, and the end is `DeviceFault` exactly if the writer has failed
+-- the writer when an engine has ended: `Wrote` holds of the end and the written bytes, the writer was flushed
+-- as `FlushedAtEnd` states, and the end is `DeviceFault` exactly if the writer has failed
 pub record LeavesWriter {K : Type 0} (sink : Sink.Ghosts K)
     (Wrote : End → SinkBytes → SinkBytes → Type 0)
     (end : End) (old new : K) : Type 0 where

@@ -1,4 +1,4 @@
-//! Progress: how far a command's work is, and the observers of it. They never change an output.
+//! Reports of progress: the share of a command's work that is done. They never change an output.
 
 ghost use Rattle.std.specs.Prelude.{◌≡◌, ◌↔◌, ◌-◌, ◌<◌, ◌≤◌, None, IfSome};
 ghost use Rattle.trlab_campaign.specs.Hundredths.{hundredths};
@@ -10,16 +10,16 @@ use trlab_road::Road;
 use trlab_step::{Executor, StepObserver};
 use trlab_verify::{Change, Motion};
 
-/// Observes how far a command's work is. No contract depends on an observer.
+/// Receives reports of a command's progress. No contract depends on an observer.
 pub trait ProgressObserver {
-    /// Whether it observes the work. If not, nothing is counted.
+    /// Whether it wants reports. If not, no work is counted.
     fn is_watching(&self) -> bool;
 
-    /// Called when the work has reached another hundredth. Any worker may call it.
+    /// Called each time that another hundredth of the work is done. Any worker may call it.
     fn reached(&self, milestone: Milestone);
 }
 
-/// How far the work is.
+/// A report of progress.
 #[derive(Clone, Copy, Debug, PartialEq, Eq)]
 pub struct Milestone {
     /// The hundredths of the work that are done, 1 to 100.
@@ -59,7 +59,7 @@ fn hundredths(done: u64, whole: u64) -> u32
 
 /// The milestone after `after` of the work's `whole` parts, if its hundredth differs from the hundredth after `before`
 /// parts. `number` is the current step or point, of `count`.
-pub fn newly_reached(
+pub fn milestone_between(
     before: u64,
     after: u64,
     whole: u64,
@@ -119,7 +119,7 @@ impl<'a, A, O: ProgressObserver> WithProgress<'a, A, O> {
             ↔ (hundredths (taken - 1) self.now.steps ≡ hundredths taken self.now.steps) }
     {
         let before = u64::from(taken.saturating_sub(1));
-        newly_reached(
+        milestone_between(
             before,
             u64::from(taken),
             u64::from(self.steps),
@@ -138,7 +138,7 @@ impl<'a, A, O: ProgressObserver> WithProgress<'a, A, O> {
     }
 
     /// Reports all steps, if the run ended with `Done`.
-    pub fn ended(&self, end: End) {
+    pub fn report_end(&self, end: End) {
         if end == End::Done {
             self.report_step(self.steps);
         }

@@ -78,8 +78,6 @@ pub fn write_last<K: Sink>(writer: &mut K, text: &[u8]) -> Result<(), DeviceErro
     ensures fails { K.failed writer.new ≡ (K.failed writer.old || is_err result) }
 {
     write_text(writer, text)?;
-    match writer.flush() {
-        Ok(()) => Ok(()),
-        Err(DeviceError) => Err(DeviceError),
-    }
+    writer.flush()?;
+    Ok(())
 }

@@ -1,7 +1,7 @@
 use Rattle.std.proofs.Common.{◌≡◌, ◌∙◌, ℕ, ◌≤◌, subst, sym}
 use Rattle.trlab_campaign.specs.Hundredths.{hundredths}
 use Rattle.trlab_campaign.proofs.Milestones.{is_reached}
-use Rattle.trlab_campaign.proofs.progress.newly_reached.Goals as goal
+use Rattle.trlab_campaign.proofs.progress.milestone_between.Goals as goal
 
 pub invariant_of-result : goal.invariant_of-result
 invariant_of-result c =

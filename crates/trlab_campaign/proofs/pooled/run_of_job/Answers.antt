@@ -3,7 +3,7 @@ use Rattle.trlab_step.specs.Progress.{at_start}
 use Rattle.trlab_jobs.specs.Job.{Job, seed_of, sheet_of}
 use Rattle.trlab_step.specs.Run.{Sheet}
 use Rattle.trlab_campaign.proofs.Sheets.{later_rise, plain_sheet}
-use Rattle.trlab_campaign.proofs.pooled.run_of.Goals as goal
+use Rattle.trlab_campaign.proofs.pooled.run_of_job.Goals as goal
 
 pub new-requires : goal.new-requires
 new-requires c = later_rise (length c.job.inside.road.lanes) c.job.inside.steps 0 c.job.inside.later.items c.job.invariant.later

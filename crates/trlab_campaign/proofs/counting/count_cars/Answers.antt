@@ -5,7 +5,7 @@ use Rattle.std.proofs.lemmas.List.Sums.{sum_by_more}
 use Rattle.trlab_road.specs.LaneCars.{LaneCar}
 use Rattle.trlab_road.specs.Stored.{no_car}
 use Rattle.trlab_campaign.proofs.LaneCounts.{at_most}
-use Rattle.trlab_campaign.proofs.counting.count_line.Goals as goal
+use Rattle.trlab_campaign.proofs.counting.count_cars.Goals as goal
 
 -- a test as a number
 byte_is : (b : Bool) → bool_byte b ≡ cond b 1 0

@@ -1,7 +1,7 @@
 use Rattle.trlab_lines.specs.Lines.{lines_of}
 use Rattle.trlab_texts.proofs.Cuts.{end_test}
 use Rattle.trlab_jobs.proofs.CodeAlone.{code_is_alone, code_before_others, no_code_alone}
-use Rattle.trlab_jobs.proofs.check.code_alone.Goals as goal
+use Rattle.trlab_jobs.proofs.check.lone_code.Goals as goal
 
 pub returns-then-is_empty : goal.returns-then-is_empty
 returns-then-is_empty c =

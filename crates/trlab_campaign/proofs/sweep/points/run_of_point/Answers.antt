@@ -1,4 +1,4 @@
-use Rattle.trlab_campaign.proofs.sweep.points.run_of.Goals as goal
+use Rattle.trlab_campaign.proofs.sweep.points.run_of_point.Goals as goal
 
 pub returns : goal.returns
 returns c =
