@@ -3,6 +3,7 @@
 use crate::body::{Body, Number};
 use crate::rules::{count_digits, megabytes, push_rules};
 use trlab_jobs::Sweep;
+use trlab_jobs::limits::MAX_CARS_IN_MEMORY;
 
 /// The numbers of cars of the points of a sweep.
 #[derive(Clone, Copy)]
@@ -74,13 +75,13 @@ fn output_bytes(sweep: &Sweep) -> u64 {
     bytes
 }
 
-/// The maximum number of cars of the roads that a sweep keeps at once.
-const MAX_AT_ONCE: u64 = 6_400_000;
-
 /// An estimate of the bytes of memory of a sweep with one runner, fitted to measurements.
 fn memory_bytes(text: &[u8], cars: &CarCounts, steps: u64) -> u64 {
     let most = u64::from(cars.most);
-    let kept_cars = cars.total.min(MAX_AT_ONCE).saturating_add(most);
+    let kept_cars = cars
+        .total
+        .min(u64::from(MAX_CARS_IN_MEMORY))
+        .saturating_add(most);
     (text.len() as u64)
         .saturating_mul(9)
         .saturating_add(kept_cars.saturating_mul(26))
