@@ -12,7 +12,7 @@ ticket_count tickets = tickets.plan.count
 abbrev pub drawers_of : Tickets → ℕ
 drawers_of tickets = tickets.plan.drawers
 
--- the number of passes of a drawer, which are its rights to draw; a drawer with two or more can be split
+-- the number of passes of a drawer (the invariant of `Drawer` keeps it at 1 or more); a pass is a right to draw
 abbrev pub passes_of : Drawer → ℕ
 passes_of drawer = drawer.passes
 
@@ -23,11 +23,11 @@ tickets_of drawer = drawer.seat.me.0.tickets
 
 -- the smallest number that the next ticket of a drawer may have
 abbrev pub least_next_ticket : Drawer → ℕ
-least_next_ticket drawer = drawer.seat.me.0.least
+least_next_ticket drawer = drawer.seat.me.0.least_next
 
 -- has a drawer found that no ticket is left?
 abbrev pub is_ended : Drawer → Bool
-is_ended drawer = drawer.ended
+is_ended drawer = drawer.has_ended
 
 -- the drawer belongs to these tickets: it draws from their counter, and has their plan
 abbrev pub IsDrawerOf : Tickets → Drawer → Type 0
@@ -58,7 +58,7 @@ HasDrawn tickets old ticket new =
 abbrev pub IsSameDrawer : Drawer → Drawer → Type 0
 IsSameDrawer one other =
     (one.seat.table_id ≡ other.seat.table_id) × (one.seat.me ≡ other.seat.me)
-    × (one.passes ≡ other.passes) × (one.ended ≡ other.ended)
+    × (one.passes ≡ other.passes) × (one.has_ended ≡ other.has_ended)
 
 -- the drawer `all` has the drawn tickets of `one`, then those of `other`, and has ended if either of them has
 pub record Joins (t : Tickets) (one other all : Drawer) : Type 0 where
