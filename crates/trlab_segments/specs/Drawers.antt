@@ -12,7 +12,8 @@ ticket_count tickets = tickets.plan.count
 abbrev pub drawers_of : Tickets → ℕ
 drawers_of tickets = tickets.plan.drawers
 
--- the number of passes of a drawer (the invariant of `Drawer` keeps it at 1 or more); a pass is a right to draw
+-- the number of passes of a drawer (the invariant of `Drawer` keeps it at 1 or more); a pass is a right to
+-- draw
 abbrev pub passes_of : Drawer → ℕ
 passes_of drawer = drawer.passes
 

@@ -42,8 +42,8 @@ at_end old = record old { has_ended = true }
 abbrev pub less_a_pass : TicketKnowledge → TicketKnowledge
 less_a_pass old = record old { passes = old.passes - 1 }
 
--- the knowledge of a new drawer that got one pass from the drawer `old`: it has no tickets and may draw any, and
--- it has ended if `old` has
+-- the knowledge of a new drawer that got one pass from the drawer `old`: it has no tickets and may draw any,
+-- and it has ended if `old` has
 abbrev pub one_pass : TicketKnowledge → TicketKnowledge
 one_pass old = record no_knowledge { plan = old.plan; passes = 1; has_ended = old.has_ended }
 

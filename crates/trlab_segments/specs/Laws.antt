@@ -16,11 +16,12 @@ abbrev pub CounterIsBounded : Type 0
 CounterIsBounded = (plan : Plan) (state : State ℕ TicketKnowledge)
     → SatisfiesTicketInvariant plan state → counter_of state ≤ plan.count + MAX_WORKERS
 
--- if the ticket invariant holds, a drawer with all passes has drawn each ticket exactly once if and only if the
--- counter has reached the number of tickets
+-- if the ticket invariant holds, a drawer with all passes has drawn each ticket exactly once if and only if
+-- the counter has reached the number of tickets
 abbrev pub AllPassesHaveAllTickets : Type 0
 AllPassesHaveAllTickets = (plan : Plan) (state : State ℕ TicketKnowledge) (seat : ℕ) (mine : TicketKnowledge)
-    → SatisfiesTicketInvariant plan state → get_elem? state.views seat ≡ some mine → mine.passes ≡ plan.drawers
+    → SatisfiesTicketInvariant plan state → get_elem? state.views seat ≡ some mine
+    → mine.passes ≡ plan.drawers
     → IsPermutation mine.tickets plan.count ↔ (plan.count ≤ counter_of state)
 
 -- the first of `count` segments begins with the first car, and the last one ends with the last car

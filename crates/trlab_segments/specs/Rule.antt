@@ -36,8 +36,8 @@ pub record AreSoundDrawers (plan : Plan) (counter : ℕ) (known : List TicketKno
       → get_elem? known seat ≡ some drawer → IsSoundDrawer plan counter drawer
 
 -- the ticket invariant, before and after each atomic step: there is one shared word, the counter; there are
--- fewer than 2^32 tickets and at most MAX_WORKERS drawers; and the knowledge of all seats is true for the plan
--- and the counter
+-- fewer than 2^32 tickets and at most MAX_WORKERS drawers; and the knowledge of all seats is true for the
+-- plan and the counter
 pub record SatisfiesTicketInvariant (plan : Plan) (state : State ℕ TicketKnowledge) : Type 0 where
   pub one_word : length state.words ≡ 1
   pub count : plan.count < 2 ^ 32
@@ -52,9 +52,9 @@ DrawsTicket step old found new =
     × (found < old.0.plan.count → new.0 ≡ with_ticket old.0 found)
     × (old.0.plan.count ≤ found → new.0 ≡ at_end old.0)
 
--- facts about a drawer that follow from the ticket invariant. It has at most all passes, of which there are at
--- most MAX_WORKERS; if it has all, it has drawn each ticket below the counter exactly once; if it has ended,
--- the counter has reached the number of tickets
+-- facts about a drawer that follow from the ticket invariant. It has at most all passes, of which there are
+-- at most MAX_WORKERS; if it has all, it has drawn each ticket below the counter exactly once; if it has
+-- ended, the counter has reached the number of tickets
 pub record AgreesWithCounter (counter : ℕ) (drawer : TicketKnowledge) : Type 0 where
   pub passes : drawer.passes ≤ drawer.plan.drawers
   pub drawers : drawer.plan.drawers ≤ MAX_WORKERS

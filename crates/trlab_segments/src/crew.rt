@@ -23,8 +23,8 @@ use trlab_step::{Executor, StepFault, StepObserver, StepTally, step_road_by};
 use trlab_verify::{Change, Motion};
 use trlab_words::Key;
 
-/// 1 to `MAX_WORKERS` workers and their gate. The calling thread is worker 0; the others are started for each phase, and
-/// have ended when its answers are returned.
+/// 1 to `MAX_WORKERS` workers and their gate. The calling thread is worker 0; the others are started for each phase,
+/// and have ended when its answers are returned.
 #[derive(Drop)]
 pub struct Crew<'a, R, G> {
     rt: &'a R,

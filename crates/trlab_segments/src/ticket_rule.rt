@@ -11,8 +11,8 @@ pub struct Plan {
     pub drawers: u32,
 }
 
-/// The knowledge of a drawer: the plan, its passes, the tickets that it drew, the smallest ticket that it may draw next,
-/// and whether it has found that none is left. Only contracts use this type.
+/// The knowledge of a drawer: the plan, its passes, the tickets that it drew, the smallest ticket that it may draw
+/// next, and whether it has found that none is left. Only contracts use this type.
 pub struct TicketKnowledge {
     pub plan: Plan,
     pub passes: u32,

@@ -11,8 +11,8 @@ use Rattle.trlab_sequential_book.specs.Machine.{JobState}
 use Rattle.trlab_sequential_book.specs.Jobs.{run_start}
 use Rattle.trlab_sequential_book.specs.Sheets.{RanUnderSheet}
 
--- the summary of a lease in a call: its job, its number, the step of its base, its next step, and `same`,
--- whether it runs the road of its job
+-- the parts of a lease that a call records: its job, its number, the step of its base, its next step, and
+-- `same`, which tells whether it runs the road of its job
 abbrev pub offered : LeaseState → Bool → Offered
 offered lease same = record {
   job = lease.job;

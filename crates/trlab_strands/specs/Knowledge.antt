@@ -61,8 +61,8 @@ list_seat old = record no_knowledge { has_list = old.has_list; list = old.list }
 abbrev pub less_a_part : {E : Type 0} → StrandKnowledge E → StrandKnowledge E
 less_a_part old = record old { parts = old.parts - 1 }
 
--- the knowledge of a new strand that got one part from the strand `old`: it has no events and no list, and the
--- clock of `old`
+-- the knowledge of a new strand that got one part from the strand `old`: it has no events and no list, and
+-- the clock of `old`
 abbrev pub one_part : {E : Type 0} → StrandKnowledge E → StrandKnowledge E
 one_part old = record no_knowledge { parts = 1; clock = old.clock }
 

@@ -23,7 +23,8 @@ pub record AreSoundStrands {E : Type 0} (events : List E) (known : List (StrandK
   pub parts : sum_by (λ strand. strand.parts) known ≡ ALL_PARTS
   pub keepers : sum_by (λ strand. cond strand.has_list 1 0) known ≡ 1
   pub count : sum_by (λ strand. length strand.events) known ≡ length events
-  pub once : (n : ℕ) → sum_by (λ strand. count_with_number n strand.events) known ≡ once_below n (length events)
+  pub once : (n : ℕ)
+      → sum_by (λ strand. count_with_number n strand.events) known ≡ once_below n (length events)
   pub each : (seat : ℕ) (strand : StrandKnowledge E)
       → get_elem? known seat ≡ some strand → IsSoundStrand events strand
 

@@ -82,8 +82,8 @@ impl Rendezvous {
         false
     }
 
-    /// Checks for the next phase, unless the helper is to sleep at once for `naps` more phases. Returns the new value of
-    /// `naps`.
+    /// Checks for the next phase, unless the helper is to sleep at once for `naps` more phases. Returns the new value
+    /// of `naps`.
     fn watch(&self, seen: u64, naps: u32) -> u32 {
         if naps > 0 {
             naps - 1
