@@ -19,7 +19,7 @@ use Rattle.trlab_sequential_book.specs.declared.fault.BookFault.TheVariants.{End
 use Rattle.trlab_sequential_book.specs.Answers.{LeadsAs, RepliesAs, is_event, is_memory}
 use Rattle.trlab_sequential_book.specs.Comparison.{RunsRoadOfItsJob, LeaseCall, OrderCall, offered}
 use Rattle.trlab_sequential_book.specs.Leases.{LeaseState, suits}
-use Rattle.trlab_sequential_book.specs.Machine.{JobState, JobOutcome, JobsOutcome, BookState, after, cancel_outcome, give_back_outcome, is_free, has_full_history, accepts_lease, lease_outcome, new_job, next_after, on_free, on_job, order_outcome, read_outcome, refused, replace_outcome, reply_of, revoke_outcome, outcome_of_call, empty_book, submit_outcome}
+use Rattle.trlab_sequential_book.specs.Machine.{JobState, JobOutcome, JobsOutcome, BookState, after, cancel_outcome, give_back_outcome, is_free, has_full_history, accepts_lease, lease_outcome, new_job, next_after, on_free, on_job, order_outcome, read_outcome, refusal, replace_outcome, reply_of, revoke_outcome, outcome_of_call, empty_book, submit_outcome}
 use Rattle.trlab_sequential_book.specs.Sheets.{begin_in_force, with_rule_from}
 use Rattle.trlab_sequential_book.specs.declared.seed.Seed.{Seed}
 use Rattle.trlab_rules.specs.Rules.{Programs}
@@ -91,22 +91,22 @@ back_is_event s lease free = reply_is_event s (GiveBack lease) free (job_is_even
     taken : (job : JobState) → is_event (give_back_outcome lease job).reply ≡ true
     taken job =
         let done : JobOutcome = record { reply = Done; job = record job { done = lease.step; out = None } } in
-        cond_both (accepts_lease lease job) done (refused StrangerLease job) (λ (o : JobOutcome). is_event o.reply ≡ true) (λ _. refl) (λ _. refl)
+        cond_both (accepts_lease lease job) done (refusal StrangerLease job) (λ (o : JobOutcome). is_event o.reply ≡ true) (λ _. refl) (λ _. refl)
 
 order_is_event : (s : BookState) (lease : Offered) → has_full_history s ≡ false → is_event (reply_of s (OrderCall lease)) ≡ true
 order_is_event s lease free = reply_is_event s (OrderCall lease) free (job_is_event s.jobs lease.job (order_outcome lease) taken)
   where
     taken : (job : JobState) → is_event (order_outcome lease job).reply ≡ true
     taken job =
-        let refusal = refused StrangerLease job in
+        let stranger = refusal StrangerLease job in
         let told : JobOutcome = record {
           reply = Ordered lease.job lease.number lease.step (begin_in_force job.sheet lease.step);
           job = record job { high = max job.high (lease.step + 1) };
         } in
-        let going : JobOutcome = if accepts_lease lease job then told else refusal in
+        let going : JobOutcome = if accepts_lease lease job then told else stranger in
         let P : JobOutcome → Type 0 = λ (o : JobOutcome). is_event o.reply ≡ true in
-        cond_both (job.cancelled || (lease.step == job.steps)) (refused Ended job) going P (λ _. refl)
-        (λ _. cond_both (accepts_lease lease job) told refusal P (λ _. refl) (λ _. refl))
+        cond_both (job.cancelled || (lease.step == job.steps)) (refusal Ended job) going P (λ _. refl)
+        (λ _. cond_both (accepts_lease lease job) told stranger P (λ _. refl) (λ _. refl))
 
 revoke_is_event : (s : BookState) (i : ℕ) → has_full_history s ≡ false → is_event (reply_of s (Revoke i)) ≡ true
 revoke_is_event s i free = reply_is_event s (Revoke i) free (job_is_event s.jobs i revoke_outcome taken)
@@ -114,7 +114,7 @@ revoke_is_event s i free = reply_is_event s (Revoke i) free (job_is_event s.jobs
     taken : (job : JobState) → is_event (revoke_outcome job).reply ≡ true
     taken job =
         let done : JobOutcome = record { reply = Done; job = record job { out = None } } in
-        cond_both (is_some job.out) done (refused StrangerLease job) (λ (o : JobOutcome). is_event o.reply ≡ true) (λ _. refl) (λ _. refl)
+        cond_both (is_some job.out) done (refusal StrangerLease job) (λ (o : JobOutcome). is_event o.reply ≡ true) (λ _. refl) (λ _. refl)
 
 replace_is_event : (s : BookState) (i : ℕ) (rule : Programs) → has_full_history s ≡ false → is_event (reply_of s (Replace i rule)) ≡ true
 replace_is_event s i rule free = reply_is_event s (Replace i rule) free (job_is_event s.jobs i (replace_outcome rule) taken)
@@ -123,12 +123,12 @@ replace_is_event s i rule free = reply_is_event s (Replace i rule) free (job_is_
     taken job =
         let sheet = with_rule_from job.sheet job.high rule in
         let made : JobOutcome = record { reply = Number job.high; job = record job { sheet = sheet } } in
-        let full : JobOutcome = if ltb MAX_ENTRIES (length sheet) then refused SheetFull job else made in
-        let lanes : JobOutcome = if not (suits rule job.seed.road) then refused LanesMismatch job else full in
+        let full : JobOutcome = if ltb MAX_ENTRIES (length sheet) then refusal SheetFull job else made in
+        let lanes : JobOutcome = if not (suits rule job.seed.road) then refusal LanesMismatch job else full in
         let P : JobOutcome → Type 0 = λ (o : JobOutcome). is_event o.reply ≡ true in
-        cond_both (job.cancelled || (job.high == job.steps)) (refused Ended job) lanes P (λ _. refl)
-        (λ _. cond_both (not (suits rule job.seed.road)) (refused LanesMismatch job) full P (λ _. refl)
-        (λ _. cond_both (ltb MAX_ENTRIES (length sheet)) (refused SheetFull job) made P (λ _. refl) (λ _. refl)))
+        cond_both (job.cancelled || (job.high == job.steps)) (refusal Ended job) lanes P (λ _. refl)
+        (λ _. cond_both (not (suits rule job.seed.road)) (refusal LanesMismatch job) full P (λ _. refl)
+        (λ _. cond_both (ltb MAX_ENTRIES (length sheet)) (refusal SheetFull job) made P (λ _. refl) (λ _. refl)))
 
 submit_is_event : (s : BookState) (seed : Seed) (rule : Programs) (steps : ℕ) → has_full_history s ≡ false → is_event (reply_of s (Submit seed rule steps)) ≡ true
 submit_is_event s seed rule steps free = reply_is_event s (Submit seed rule steps) free taken
@@ -159,7 +159,7 @@ cancel_is_event s i free = reply_is_event s (Cancel i) free (job_is_event s.jobs
     taken : (job : JobState) → is_event (cancel_outcome job).reply ≡ true
     taken job =
         let done : JobOutcome = record { reply = Done; job = record job { cancelled = true; out = None } } in
-        cond_both (job.cancelled || (job.done == job.steps)) (refused Ended job) done (λ (o : JobOutcome). is_event o.reply ≡ true) (λ _. refl) (λ _. refl)
+        cond_both (job.cancelled || (job.done == job.steps)) (refusal Ended job) done (λ (o : JobOutcome). is_event o.reply ≡ true) (λ _. refl) (λ _. refl)
 
 call_is_event : (s : BookState) (call : Call) → has_full_history s ≡ false → is_event (reply_of s call) ≡ true
 call_is_event s (Submit seed rule steps) free = submit_is_event s seed rule steps free
@@ -242,12 +242,12 @@ settled {s} {t} {call} {said} {history} {items} p = by p.ran_out p.free p.memory
     judged replies leads true is =
         let made : BookState =
         record { count = s.count + 1; next = next_after s.next (outcome_of_call s call).reply; jobs = (outcome_of_call s call).jobs } in
-        let refusal : said ≡ Refused HistoryFull =
+        let refused_full : said ≡ Refused HistoryFull =
         replies ∙ cond-true (has_full_history s) (Refused HistoryFull) (outcome_of_call s call).reply is in
-        let none : is_event said ≡ false = ap is_event refusal in
+        let none : is_event said ≡ false = ap is_event refused_full in
         inl (record {
           none = none;
-          full = (λ _. is, λ _. refusal);
+          full = (λ _. is, λ _. refused_full);
           state = leads ∙ cond-true (has_full_history s) s made is;
           items_are = MatchBool-at_false _ _ none p.items_are;
         })

@@ -317,7 +317,7 @@ impl<L: Ledger> SharedBook<L> {
         ensures made { (same : Bool)
             × MakesCallOn (IsCorrectVerdict lease same) desk.old
             (GiveBack (offered lease same)) (give_back_reply result) desk.new }
-        ensures err { IfErr result (λ e. e.0 ≡ lease) }
+        ensures returned { IfErr result (λ returned. returned.0 ≡ lease) }
     {
         let mut guard = self.lock.lock(rt);
         let Locked { kept, keeper } = &mut *guard;

@@ -154,7 +154,7 @@ impl Kept {
     pub fn give_back(&mut self, lease: Lease) -> Result<(), (Lease, BookFault)>
         ensures made { (runs_its_road : Bool) → (IsTrue runs_its_road ↔ RunsRoadOfItsJob self.old.book.jobs lease)
             → Records self.old (GiveBack (offered lease runs_its_road)) (give_back_reply result) self.new }
-        ensures err { IfErr result (λ e. e.0 ≡ lease) }
+        ensures returned { IfErr result (λ returned. returned.0 ≡ lease) }
         ensures full { RefusesIfFull self.old (give_back_reply result) }
         ensures noted { (runs_its_road : Bool)
             × OnTrue (is_event (give_back_reply result))

@@ -12,13 +12,12 @@ ticket_count tickets = tickets.plan.count
 abbrev pub drawers_of : Tickets → ℕ
 drawers_of tickets = tickets.plan.drawers
 
--- the number of passes of a drawer (the invariant of `Drawer` keeps it at 1 or more); a pass is a right to
--- draw
+-- the number of passes (rights to draw) of a drawer, which is at least 1 by the invariant of `Drawer`
 abbrev pub passes_of : Drawer → ℕ
 passes_of drawer = drawer.passes
 
--- the tickets that a drawer drew, in order. If it was gathered from two drawers, it has the tickets of both,
--- first those of one and then those of the other
+-- the tickets that a drawer drew, in order; if it was gathered from two drawers, the tickets of the first and
+-- then the tickets of the second
 abbrev pub tickets_of : Drawer → List ℕ
 tickets_of drawer = drawer.seat.me.0.tickets
 

@@ -17,10 +17,9 @@ use Rattle.trlab_sequential_book.specs.declared.event.Reply.TheVariants as reply
 use Rattle.trlab_sequential_book.specs.Leases.{suits}
 use Rattle.trlab_sequential_book.specs.Sheets.{begin_in_force, with_rule_from}
 
--- a job: its seed and its sheet, the number of its steps, the number of steps that were ever ordered
--- (`high`) and that are done, whether it was cancelled, and the number of the lease that is out, if one is.
--- For example, with `high` 5 and `done` 3 the steps 0 to 2 are done, and steps 3 and 4 are ordered but not
--- done
+-- a job: its seed and its sheet, the number of its steps, of steps ever ordered (`high`) and of steps done,
+-- whether it was cancelled, and the number of the lease that is out, if one is. For example, with `high` 5
+-- and `done` 3 the steps 0 to 2 are done, and steps 3 and 4 are ordered but not done
 pub record JobState : Type 0 where
   pub seed : Seed
   pub sheet : Sheet
@@ -76,7 +75,7 @@ replace_outcome rule job =
       job = record job { sheet = with_rule_from job.sheet job.high rule };
     }
 
--- is a lease out, and does it have this number?
+-- is a lease out (`Some`), and does it have this number?
 abbrev pub is_out : ℕ → Option ℕ → Bool
 is_out number None = false
 is_out number (Some out) = out == number
@@ -129,9 +128,8 @@ read_outcome job = record { reply = reply.Seen job.done (length job.sheet); job 
 abbrev pub is_free : JobState → Bool
 is_free job = not (is_some job.out) && (not job.cancelled && ltb job.done job.steps)
 
--- the outcome of `lease` if this job, with the number `job_number`, is leased: lease number `lease_number`
--- is out. The reply has both numbers, the steps done, which is the lease's next step, and the number of all
--- steps
+-- the outcome of `lease` if this job, with number `job_number`, is leased: lease number `lease_number` is
+-- out. The reply has both numbers, the steps done (the lease's next step) and the number of all steps
 abbrev pub lease_outcome : ℕ → ℕ → JobState → JobOutcome
 lease_outcome job_number lease_number job = record {
   reply = reply.Leased job_number lease_number job.done job.steps;
@@ -183,12 +181,11 @@ abbrev pub next_after : ℕ → Reply → ℕ
 next_after next (reply.Leased job number step steps) = next + 1
 next_after next _ = next
 
--- does a book have a full history? It does after MAX_EVENTS events; it then refuses each call as
--- `HistoryFull`
+-- does the book have a full history? It does after MAX_EVENTS events, and refuses each call as `HistoryFull`
 abbrev pub has_full_history : BookState → Bool
 has_full_history book = not (ltb book.count MAX_EVENTS)
 
--- the reply of a book to a call: `HistoryFull` if its history is full
+-- the reply of a book to a call: that of its outcome, but `HistoryFull` if the book's history is full
 abbrev pub reply_of : BookState → Call → Reply
 reply_of book call =
     if has_full_history book then reply.Refused fault.HistoryFull else (outcome_of_call book call).reply

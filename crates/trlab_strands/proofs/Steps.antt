@@ -14,7 +14,7 @@ use Rattle.trlab_strands.proofs.Seats.{total_set, each_set, each_snoc, alone, ti
 use Rattle.trlab_strands.specs.declared.knowledge.Noted.{Noted}
 use Rattle.trlab_strands.specs.declared.knowledge.StrandKnowledge.{StrandKnowledge}
 use Rattle.trlab_strands.specs.Knowledge.{noted, event_number, count_with_number, once_below, IsInList, AreInList, no_knowledge, without_list, list_seat, less_a_part, one_part, both_seats, up_to_date, with_event}
-use Rattle.trlab_strands.specs.Rule.{IsSoundStrand, AreSoundStrands, ObeysStrandRule, NotesEvent, AgreesWithList, AuditsList, SeesWholeList}
+use Rattle.trlab_strands.specs.Rule.{IsSoundStrand, AreSoundStrands, SatisfiesStrandInvariant, NotesEvent, AgreesWithList, AuditsList, SeesWholeList}
 
 -- the knowledge with these fields
 abbrev strand_knowledge : {E : Type 0} → ℕ → List (Noted E) → ℕ → Bool → List E → StrandKnowledge E
@@ -112,7 +112,7 @@ module _ {E : Type 0} where
       }
 
   -- the list leaves a strand
-  pub apart : (id : ℕ) (v : StrandKnowledge E) → Splits ObeysStrandRule id v (without_list v) (list_seat v)
+  pub apart : (id : ℕ) (v : StrandKnowledge E) → Splits SatisfiesStrandInvariant id v (without_list v) (list_seat v)
   apart id v s r at =
       let l = without_list v in
       let o = list_seat v in
@@ -133,7 +133,7 @@ module _ {E : Type 0} where
       )
 
   -- one part goes to a new strand
-  pub splits : (id : ℕ) (v : StrandKnowledge E) → 1 < v.parts → Splits ObeysStrandRule id v (less_a_part v) (one_part v)
+  pub splits : (id : ℕ) (v : StrandKnowledge E) → 1 < v.parts → Splits SatisfiesStrandInvariant id v (less_a_part v) (one_part v)
   splits id v two s r at =
       let l = less_a_part v in
       let o = one_part v in
@@ -154,7 +154,7 @@ module _ {E : Type 0} where
       )
 
   -- a strand without the list takes in the knowledge of another seat
-  pub joins : (id : ℕ) (v : StrandKnowledge E) (other : ℕ) (w : StrandKnowledge E) → 0 < v.parts → v.has_list ≡ false → Joins ObeysStrandRule id v other w (both_seats v w) no_knowledge
+  pub joins : (id : ℕ) (v : StrandKnowledge E) (other : ℕ) (w : StrandKnowledge E) → 0 < v.parts → v.has_list ≡ false → Joins SatisfiesStrandInvariant id v other w (both_seats v w) no_knowledge
   joins id v other w some_part unkept s r at apart_ there =
       let b = both_seats v w in
       let events = r.0 in
@@ -179,7 +179,7 @@ module _ {E : Type 0} where
         },
       )
 
-  learns : (id : ℕ) (v : StrandKnowledge E) (s : State E (StrandKnowledge E)) → ObeysStrandRule s → get_elem? s.views id ≡ some v → AgreesWithList v
+  learns : (id : ℕ) (v : StrandKnowledge E) (s : State E (StrandKnowledge E)) → SatisfiesStrandInvariant s → get_elem? s.views id ≡ some v → AgreesWithList v
   learns id v s r at =
       let events = r.0 in
       let k = r.1 in
@@ -204,15 +204,15 @@ module _ {E : Type 0} where
       }
 
   -- nothing is changed
-  still : (s : State E (StrandKnowledge E)) (id : ℕ) (v : StrandKnowledge E) → get_elem? s.views id ≡ some v → ObeysStrandRule s → (words : List ℕ) → (homes : List (mathlib.Core.Option.Option E))
-      → ObeysStrandRule (record { words = words; homes = homes; views = set s.views id v })
+  still : (s : State E (StrandKnowledge E)) (id : ℕ) (v : StrandKnowledge E) → get_elem? s.views id ≡ some v → SatisfiesStrandInvariant s → (words : List ℕ) → (homes : List (mathlib.Core.Option.Option E))
+      → SatisfiesStrandInvariant (record { words = words; homes = homes; views = set s.views id v })
   still s id v at r words homes = (r.0, subst (AreSoundStrands r.0) (sym (set_again s.views id v at)) r.1)
 
-  pub looks : (slots id : ℕ) (me : Me E (StrandKnowledge E)) → Allows ObeysStrandRule slots id me 0 (λ n. n) (AuditsList (step slots 0 0 0 none) me)
+  pub looks : (slots id : ℕ) (me : Me E (StrandKnowledge E)) → Allows SatisfiesStrandInvariant slots id me 0 (λ n. n) (AuditsList (step slots 0 0 0 none) me)
   looks slots id me s r _ at _ = (me.0, keeps, tt, still s id me.0 at r (set s.words 0 (slice_index s.words 0)) s.homes, (refl, learns id me.0 s r at))
 
   pub writes : (slots id : ℕ) (me : Me E (StrandKnowledge E)) (e : E) → me.0.has_list ≡ true → 0 < me.0.parts
-      → Allows ObeysStrandRule slots id me 0 (λ n. either (eqb n 0) 0 n) (NotesEvent (step slots 0 0 0 (some e)) me)
+      → Allows SatisfiesStrandInvariant slots id me 0 (λ n. either (eqb n 0) 0 n) (NotesEvent (step slots 0 0 0 (some e)) me)
   writes slots id me e keeping some_part s r _ at _ =
       let mine = r.1.each id me.0 at in
       let long : length me.0.list ≡ length r.0 = ap length (mine.list keeping) in
@@ -224,7 +224,7 @@ module _ {E : Type 0} where
         λ f same. (ap (λ (x : E). (with_event me.0 x, me.1)) (some-injective e f same), low),
       )
 
-  pub sees : (slots id : ℕ) (me : Me E (StrandKnowledge E)) → me.0.has_list ≡ true → Allows ObeysStrandRule slots id me 0 (λ n. n) (SeesWholeList (step slots 0 0 0 none) me)
+  pub sees : (slots id : ℕ) (me : Me E (StrandKnowledge E)) → me.0.has_list ≡ true → Allows SatisfiesStrandInvariant slots id me 0 (λ n. n) (SeesWholeList (step slots 0 0 0 none) me)
   sees slots id me keeping s r _ at _ =
       let mine = r.1.each id me.0 at in
       let long : length me.0.list ≡ length r.0 = ap length (mine.list keeping) in

@@ -1,5 +1,5 @@
--- The rule of strands: an invariant of the knowledge of strands and their keeper, before and after each
--- atomic step.
+-- The strand invariant: what holds of the knowledge of strands and their keeper before and after each atomic
+-- step; and the effects of the steps.
 use Rattle.std.specs.Prelude.{◌≡◌, ℕ, ◌≤◌, true, cond, List, [], length, sum_by}
 use mathlib.Core.Option.{some}
 use lib.ListN.{get_elem?}
@@ -28,10 +28,10 @@ pub record AreSoundStrands {E : Type 0} (events : List E) (known : List (StrandK
   pub each : (seat : ℕ) (strand : StrandKnowledge E)
       → get_elem? known seat ≡ some strand → IsSoundStrand events strand
 
--- the rule of strands, which holds before and after each atomic step: there is a list of events for which the
--- strands are sound
-abbrev pub ObeysStrandRule : {E : Type 0} → State E (StrandKnowledge E) → Type 0
-ObeysStrandRule {E} state = (events : List E) × AreSoundStrands events state.views
+-- the strand invariant, before and after each atomic step: there is a list of events for which the strands
+-- are sound
+abbrev pub SatisfiesStrandInvariant : {E : Type 0} → State E (StrandKnowledge E) → Type 0
+SatisfiesStrandInvariant {E} state = (events : List E) × AreSoundStrands events state.views
 
 -- the step that adds the event that it is given (`said`): the event is now the last of the list and the last
 -- of the strand's own, and the strand's clock was at most the list's length. The number `found` in the shared
@@ -42,9 +42,9 @@ NotesEvent {E} step old found new =
     (event : E) → step.said ≡ some event
     → (new ≡ (with_event old.0 event, old.1)) × (old.0.clock ≤ length old.0.list)
 
--- facts about a strand that follow from the rule. It has at most all parts. If it keeps the list, its events
--- are in the list and at most as many; with all parts they are as many; and if they are as many, each event
--- of the list is one of them, once
+-- facts about a strand that follow from the invariant. It has at most all parts. If it keeps the list, its
+-- events are in the list and at most as many; with all parts they are as many; and if they are as many, each
+-- event of the list is one of them, once
 pub record AgreesWithList {E : Type 0} (strand : StrandKnowledge E) : Type 0 where
   pub few : strand.parts ≤ ALL_PARTS
   pub in_list : strand.has_list ≡ true → AreInList strand.list strand.events

@@ -28,9 +28,8 @@ strand_events strand = strand.seat.me.0.events
 abbrev pub strand_clock : {L E : Type 0} {ledger : Ghosts L} → Strand L E ledger → ℕ
 strand_clock strand = strand.seat.me.0.clock
 
--- the strand `old` becomes `new` by adding `event` to the list `before`. The event is now the last of its
--- own; its clock, which was at most the length of `before`, is now this length plus 1; its parts are as
--- before
+-- the strand `old` becomes `new` by adding `event` to the list `before`. The event is now its last one, its
+-- clock, which was at most the length of `before`, is now this length plus 1, and its parts are unchanged
 abbrev pub AddsEvent : {L E : Type 0} {ledger : Ghosts L}
     → Strand L E ledger → List E → E → Strand L E ledger → Type 0
 AddsEvent old before event new =

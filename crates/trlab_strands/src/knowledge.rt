@@ -52,10 +52,10 @@ pub struct OncePerEvent<E> {
 }
 
 impl<E> TableRule<E, StrandKnowledge<E>, ()> for OncePerEvent<E> {
-    ghost use Rattle.trlab_strands.specs.Rule.{ObeysStrandRule};
+    ghost use Rattle.trlab_strands.specs.Rule.{SatisfiesStrandInvariant};
     ghost use Rattle.trlab_strands.specs.Knowledge.{first_seat};
 
-    ghost holds = { λ key. ObeysStrandRule };
+    ghost holds = { λ key. SatisfiesStrandInvariant };
 
     ghost first = { λ key. first_seat };
 }

@@ -24,8 +24,8 @@ returns-clause-noted c =
     let is = subst (λ (b : BookState). IsTrue same ↔ RunsRoadOfItsJob b.jobs c.args.lease) c.make_room.ensures.unchanged.book c.lease_runs_its_road-runs_its_road.ensures in
     (same, OnTrue_from _ _ (λ _. is), returns-clause-made c same is)
 
-pub returns-clause-err : goal.returns-clause-err
-returns-clause-err c = c.give_back_as-answer.ensures.returned
+pub returns-clause-returned : goal.returns-clause-returned
+returns-clause-returned c = c.give_back_as-answer.ensures.returned
 
 pub returns-clause-full : goal.returns-clause-full
 returns-clause-full c = tells_put c.args.self.now c.make_room.new.self (give_back_reply c.give_back_as-answer.result) c.make_room.ensures.unchanged (event c.before)
