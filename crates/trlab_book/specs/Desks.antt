@@ -18,7 +18,7 @@ use Rattle.trlab_sequential_book.specs.Replay.{Replays, event}
 use Rattle.trlab_strands.specs.declared.knowledge.Noted.{Noted}
 use Rattle.trlab_strands.specs.Knowledge.{event_number}
 use Rattle.trlab_strands.specs.declared.knowledge.Ledger.{Ghosts}
-use Rattle.trlab_strands.specs.Tokens.{Adds, CatchesUp, IsSameStrand, strand_clock, strand_events}
+use Rattle.trlab_strands.specs.Tokens.{AddsEvent, CatchesUp, IsSameStrand, strand_clock, strand_events}
 use Rattle.trlab_book.specs.declared.desk.Desk.{Desk}
 use Rattle.trlab_book.specs.declared.desk.SharedBook.{SharedBook}
 use Rattle.trlab_book.specs.declared.running.RunFault.{RunFault}
@@ -28,7 +28,7 @@ use Rattle.trlab_book.specs.declared.running.RunFault.TheVariants as run
 abbrev pub IsSameBook : {L : Type 0} {ledger : Ghosts L} → SharedBook L ledger → SharedBook L ledger → Type 0
 IsSameBook old new = new.strands.table.shared.table_id ≡ old.strands.table.shared.table_id
 
--- the number of parts of a desk, from 1 to 1024; a desk with two or more can be split
+-- the number of parts of a desk (the invariant of `Desk` keeps it from 1 to ALL_PARTS)
 abbrev pub parts_of : {L : Type 0} {ledger : Ghosts L} → Desk L ledger → ℕ
 parts_of desk = desk.parts
 
@@ -67,7 +67,7 @@ pub record MakesEvent {L : Type 0} {ledger : Ghosts L} (old : Desk L ledger) (ca
   pub before : List Event
   pub replays : ∥ Replays before book ∥₁
   pub reply : answer ≡ reply_of book call
-  pub noted : Adds old.strand before (event call answer) new.strand
+  pub noted : AddsEvent old.strand before (event call answer) new.strand
 
 -- the effect of a call on its desk, which keeps its parts. If the reply makes the call an event, the desk
 -- adds this event, and `Holds` is true of the book before the call; otherwise `MakesNoEvent` holds
@@ -79,10 +79,10 @@ MakesCallOn Holds old call reply new =
     ((book : BookState) × MakesEvent old call reply new book × Holds book)
     (MakesNoEvent old reply new)
 
--- the effect of a call on its desk, whatever the book before the call
-abbrev pub Makes : {L : Type 0} {ledger : Ghosts L}
+-- the effect of a call on its desk, with any book before the call
+abbrev pub MakesCall : {L : Type 0} {ledger : Ghosts L}
     → Desk L ledger → Call → Reply → Desk L ledger → Type 0
-Makes old call reply new = MakesCallOn (λ book. Unit {0}) old call reply new
+MakesCall old call reply new = MakesCallOn (λ book. Unit {0}) old call reply new
 
 -- a desk notes a call that was made after the events `before`. If the reply makes the call an event, the desk
 -- adds it. If the reply is that the history is full, the desk has now seen all of `before`. Otherwise the
@@ -92,25 +92,24 @@ abbrev pub NotesCall : {L : Type 0} {ledger : Ghosts L} → Desk L ledger → Li
 NotesCall old before call reply new =
     (parts_of new ≡ parts_of old)
     × MatchBool (is_event reply)
-    (Adds old.strand before (event call reply) new.strand)
+    (AddsEvent old.strand before (event call reply) new.strand)
     (MatchBool (is_history_full reply)
     (CatchesUp old.strand (length before) new.strand)
     (IsSameStrand old.strand new.strand))
 
--- `same` is true if and only if the lease runs the road of its job in the book
-abbrev pub SameIsCorrect : LeaseState → Bool → BookState → Type 0
-SameIsCorrect lease same book = IsTrue same ↔ comparison.RunsRoadOfItsJob book.jobs lease
+-- the verdict `same` on a lease is correct: it is true if and only if the lease runs the road of its job in
+-- the book
+abbrev pub IsCorrectVerdict : LeaseState → Bool → BookState → Type 0
+IsCorrectVerdict lease same book = IsTrue same ↔ comparison.RunsRoadOfItsJob book.jobs lease
 
 -- if the call `lease` succeeded and a lease went out, it is a fresh lease of a job of the book, with the
 -- book's next number
 abbrev pub LeaseIsFresh : Result (Option LeaseState) BookFault → BookState → Type 0
 LeaseIsFresh answer book = IfOk answer (λ lent. IsFreshIfLent book.jobs book.next lent)
 
--- `same` is true if and only if the lease runs the road of its job in the book; and if the call `order`
--- succeeded, the order has the rule that is in force at its step in its job's sheet
-abbrev pub OrderMatchesJob : LeaseState → Bool → Result Order BookFault → BookState → Type 0
-OrderMatchesJob lease same answer book =
-    SameIsCorrect lease same book × IfOk answer (λ order. HasRuleInForce book.jobs order)
+-- if the call `order` succeeded, its rule is the one in force in the job's sheet at the order's step
+abbrev pub OrderHasRuleInForce : Result Order BookFault → BookState → Type 0
+OrderHasRuleInForce answer book = IfOk answer (λ order. HasRuleInForce book.jobs order)
 
 -- if the call `read` succeeded, the snapshot is one of the book's job with this number
 abbrev pub ReadShowsJob : ℕ → Result Progress BookFault → BookState → Type 0
@@ -166,3 +165,9 @@ pub record HasEnded {L : Type 0} {ledger : Ghosts L} (runners : ℕ) (ended : Re
   pub on : AddsRunnerCalls old new
   pub no_job : OnOk ended (no_job_count (subhistory_of old) + runners ≤ no_job_count (subhistory_of new))
   pub full : ended ≡ Err run.HistoryFull → MAX_EVENTS ≤ clock_of new
+
+-- the desk `old` is `new` after a runner's turn with one lease, as if no runner had ended: the turn has added
+-- runner calls, and need not have found that no job is free
+abbrev pub EndsTurn : {L : Type 0} {ledger : Ghosts L}
+    → Result (Unit {0}) RunFault → Desk L ledger → Desk L ledger → Type 0
+EndsTurn result old new = HasEnded 0 result old new

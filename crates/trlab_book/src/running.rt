@@ -5,7 +5,7 @@ ghost use Rattle.std.specs.Thread.{IsSend, IsSync};
 ghost use Rattle.trlab_bounds.specs.declared.runs.TheConstants.{MAX_RUNNERS, MAX_WORKERS};
 ghost use Rattle.trlab_sequential_book.specs.declared.book.TheConstants.{MAX_EVENTS};
 ghost use Rattle.trlab_sequential_book.specs.declared.fault.BookFault.TheVariants.{HistoryFull};
-ghost use Rattle.trlab_book.specs.Desks.{AddsRunnerCalls, HasEnded, clock_of, parts_of};
+ghost use Rattle.trlab_book.specs.Desks.{AddsRunnerCalls, EndsTurn, HasEnded, clock_of, parts_of};
 ghost use Rattle.trlab_book.specs.declared.running.RunFault.TheVariants as run;
 
 use crate::desk::{Desk, SharedBook};
@@ -25,13 +25,14 @@ pub enum RunFault {
     /// An allocation failed.
     #[error("out of memory")]
     Memory,
-    /// The book has had 1,000,000 events.
+    /// The book has had `MAX_EVENTS` events.
     #[error("the book's history is full")]
     HistoryFull,
 }
 
-/// Runs the jobs of a book with 1 to 16 runners, each until it finds no free job. Each runner has 1 to 16 workers, who
-/// pass the gate. Returns the desk; the runners' calls follow its own, one runner after the other.
+/// Runs the jobs of a book with 1 to `MAX_RUNNERS` runners, each until it finds no free job. Each runner has 1 to
+/// `MAX_WORKERS` workers, who pass the gate. Returns the desk; the runners' calls follow its own, one runner after the
+/// other.
 ///
 /// The desk needs a part for each runner. The calling thread is one of the runners. It begins after the others were
 /// started, and does the work of any that cannot be started.
@@ -183,9 +184,9 @@ impl<'a, L: Ledger, R: Threads + Wait + Sync, G: Gate + Sync> Runner<'a, L, R, G
         }
     }
 
-    /// Runs a lease for some steps and gives it back.
+    /// Runs up to `STEPS_PER_TURN` steps of a lease and gives it back.
     fn take_turn(&self, desk: &mut Desk<L>, lease: Lease) -> Result<(), RunFault>
-        ensures { HasEnded 0 result desk.old desk.new }
+        ensures { EndsTurn result desk.old desk.new }
     {
         let mut lease = lease;
         match self.run_steps(desk, &mut lease) {
@@ -224,7 +225,7 @@ impl<'a, L: Ledger, R: Threads + Wait + Sync, G: Gate + Sync> Runner<'a, L, R, G
     /// lease, the runner goes on.
     fn end_lease(&self, desk: &mut Desk<L>, lease: Lease, fault: BookFault) -> Result<(), RunFault>
         requires seen { fault ≡ HistoryFull → MAX_EVENTS ≤ clock_of desk.old }
-        ensures { HasEnded 0 result desk.old desk.new }
+        ensures { EndsTurn result desk.old desk.new }
     {
         let job = lease.job();
         drop(lease);

@@ -1,4 +1,4 @@
-//! Laws of tickets and segments: consequences of the rule of tickets, and that the segments together have each car
+//! Laws of tickets and segments: the consequences of the ticket invariant, and that the segments together have each car
 //! exactly once.
 //!
 //! Each law is the contract of a function with an empty body.

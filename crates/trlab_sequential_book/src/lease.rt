@@ -72,7 +72,7 @@ pub struct Lease {
     /// Not shared until the job takes it over.
     pub(crate) road: Arc<Road, Global>,
     pub(crate) applied: Vec<ExecutedStep>,
-    /// If true, all steps that were run had the same rule.
+    /// If true, all steps that were run had the same rule; if false, they may have had several.
     pub(crate) is_steady: bool,
     /// Memory that is reused by each step.
     pub(crate) room: StepRoom,
@@ -81,18 +81,34 @@ pub struct Lease {
 impl Model for Lease {
     ghost use Rattle.std.specs.Prelude.{IsTrue};
     ghost use Rattle.std.specs.Arc.{arc_value};
-    ghost use Rattle.trlab_sequential_book.specs.Leases.{IsLease, IsSteady, LeaseState, lease_state};
+    ghost use Rattle.trlab_sequential_book.specs.Leases.{IsLease, IsSteady, LeaseState};
 
     ghost Value = { LeaseState };
 
-    ghost view = { λ lease. lease_state lease.job lease.number lease.steps lease.key lease.road_number
-        (record { step = lease.base_step; road = lease.base_road })
-        lease.step (arc_value lease.road) lease.applied.items };
+    ghost view = { λ lease. record {
+      job = lease.job;
+      number = lease.number;
+      steps = lease.steps;
+      key = lease.key;
+      road_number = lease.road_number;
+      base = record { step = lease.base_step; road = lease.base_road };
+      step = lease.step;
+      road = arc_value lease.road;
+      applied = lease.applied.items;
+    } };
 
     ghost invariant = { λ lease. IsLease
-        (lease_state lease.job lease.number lease.steps lease.key lease.road_number
-        (record { step = lease.base_step; road = lease.base_road })
-        lease.step (arc_value lease.road) lease.applied.items)
+        (record {
+          job = lease.job;
+          number = lease.number;
+          steps = lease.steps;
+          key = lease.key;
+          road_number = lease.road_number;
+          base = record { step = lease.base_step; road = lease.base_road };
+          step = lease.step;
+          road = arc_value lease.road;
+          applied = lease.applied.items;
+        })
         × (IsTrue lease.is_steady → IsSteady lease.applied.items) };
 }
 
@@ -111,7 +127,7 @@ impl Lease {
         self.number
     }
 
-    /// How many steps the job has.
+    /// The number of steps of the job.
     pub fn steps(&self) -> u32
         ensures { result ≡ self.now.steps }
     {
@@ -170,7 +186,7 @@ impl Lease {
         &self.applied
     }
 
-    /// If true, all steps that were run had the same rule. False says nothing.
+    /// If true, all steps that were run had the same rule; if false, they may have had several.
     pub(crate) fn is_steady(&self) -> bool
         ensures { IsTrue result → IsSteady self.now.applied }
     {
@@ -198,7 +214,7 @@ impl Lease {
     ) -> Result<(), LeaseFault>
         requires ready { A.is_ready executor.now }
         ensures ok { OnOk result (HasRun self.old order.now self.new) }
-        ensures err { OnErr result (self.new ≡ self.old) }
+        ensures unchanged { OnErr result (self.new ≡ self.old) }
         ensures wrong { (result ≡ Err WrongOrder) ↔ (FitsOrder self.old order.now → ⊥) }
     {
         if !self.fits(order) {
@@ -218,7 +234,7 @@ impl Lease {
             && suits(order.rule.get(), &self.road)
     }
 
-    /// Runs a step under a rule. If an allocation fails, nothing changes.
+    /// Runs the lease's next step under a rule. If an allocation fails, nothing changes.
     fn run<A: Executor>(
         &mut self,
         executor: &A,
@@ -232,7 +248,7 @@ impl Lease {
             × IsNext rule.now (dice_of self.old.key.0 self.old.road_number self.old.step)
             self.old.road self.new.road tally
             × (self.new ≡ with_executed_step self.old rule.now tally self.new.road)) }
-        ensures err { OnErr result (self.new ≡ self.old) }
+        ensures unchanged { OnErr result (self.new ≡ self.old) }
     {
         self.applied.reserve(1)?;
         let dice = Dice::new(&self.key, self.road_number, self.step);
@@ -244,7 +260,7 @@ impl Lease {
             alloc,
             dice: &dice,
         };
-        let tally = step_alone(&asking, &mut self.road, &mut self.room, rule)?;
+        let tally = step_unshared(&asking, &mut self.road, &mut self.room, rule)?;
         self.applied.push_reserved(ExecutedStep {
             rule: shared,
             tally,
@@ -255,9 +271,8 @@ impl Lease {
     }
 }
 
-/// Takes a step of a lease's road, which is not shared; a shared road would be reported as a failed
-/// allocation.
-fn step_alone<A: Executor>(
+/// Runs a step on a lease's road, which no one else shares; a shared road would be reported as a failed allocation.
+fn step_unshared<A: Executor>(
     asking: &Asking<A>,
     road: &mut Arc<Road, Global>,
     room: &mut StepRoom,
@@ -275,7 +290,7 @@ fn step_alone<A: Executor>(
     }
 }
 
-/// Whether all steps are still known to have the same rule after a step under this one.
+/// Whether all steps of a lease are known to have the same rule, once a step with `rule` is added to `applied`.
 fn stays_steady(applied: &[ExecutedStep], is_steady: bool, rule: &BoxedRule) -> bool
     requires { IsTrue is_steady → IsSteady applied.now }
     ensures { IsTrue result → (tally : StepTally)

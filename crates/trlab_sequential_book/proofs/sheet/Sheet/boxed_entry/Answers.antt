@@ -1,7 +1,7 @@
 use Rattle.std.proofs.Common.{◌<◌, ap, length, sym, ◌∙◌}
 use Rattle.std.specs.Prelude.{Some}
 use Rattle.std.proofs.lemmas.Option.{slice_get-get_or}
-use Rattle.trlab_sequential_book.proofs.sheet.Sheet.kept_entry.Goals as goal
+use Rattle.trlab_sequential_book.proofs.sheet.Sheet.boxed_entry.Goals as goal
 
 pub returns : goal.returns
 returns c =

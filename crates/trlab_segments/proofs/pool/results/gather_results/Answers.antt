@@ -1,6 +1,6 @@
 use Rattle.trlab_segments.proofs.Joining.{all_told, joined_from, deposited_from, new_from, with_reserve}
 use Rattle.trlab_segments.specs.Results.{IsPartOfBrief}
-use Rattle.trlab_segments.proofs.pool.results.gathered.Goals as goal
+use Rattle.trlab_segments.proofs.pool.results.gather_results.Goals as goal
 
 pub one_drawer-drawn-requires : goal.one_drawer-drawn-requires
 one_drawer-drawn-requires g c =
@@ -17,5 +17,5 @@ returns g c =
     let fits = IsPartOfBrief g.P.Asked.answers c.args.brief.now in
     let t = c.args.brief.now.tickets in
     with_reserve fits t c.args.results.reserve _ _ _ c.requires.results.reserve
-    (all_told fits t c.args.results.done _ _ c.args.results.parts c.args.parts _ c.requires.results.done c.requires.done c.joined.ensures c.one_drawer-drawn.ensures)
+    (all_told fits t c.args.results.done _ _ c.args.results.parts c.args.parts _ c.requires.results.done c.requires.done c.join_parts.ensures c.one_drawer-drawn.ensures)
     c.one_drawer-drawer.ensures
