@@ -136,7 +136,7 @@ pub enum Instr {
 impl Instr {
     ghost use Rattle.trlab_code.specs.Flow.{destination, falls, target};
 
-    /// The register that the instruction writes, if it writes one.
+    /// The register that the instruction writes; `None` if it writes none.
     pub fn destination(self) -> Option<Register>
         ensures { result ≡ destination self }
     {
@@ -159,7 +159,7 @@ impl Instr {
         }
     }
 
-    /// The target of a jump: the index of an instruction.
+    /// The target of a jump, an index of instructions counted from 0; `None` for other instructions.
     pub fn target(self) -> Option<u32>
         ensures { result ≡ target self }
     {
@@ -173,7 +173,7 @@ impl Instr {
         }
     }
 
-    /// May the instruction after this one be executed next?
+    /// Whether the program may continue with the next instruction; true for conditional jumps.
     pub fn falls(self) -> bool
         ensures { result ≡ falls self }
     {
