@@ -10,9 +10,9 @@ use Rattle.trlab_code.specs.Machine.{variable_number, allows_input}
 use Rattle.trlab_notes.specs.declared.note.AbstractValue.{AbstractValue}
 use Rattle.trlab_notes.specs.declared.note.AbstractValue.TheVariants.{Nothing, Between, Implies}
 
--- an abstract state: the abstract value of each variable, the level of each variable to each, and whether the
--- side cell is known to be empty. The level of x to y is 2 if x is known to be below y, 1 if it is known to
--- be at most y, and 0 otherwise
+-- a note, which is an abstract state: the abstract value of each variable, the level of each variable to each,
+-- and whether the side cell is known to be empty. The level of x to y is 2 if x is known to be below y, 1 if x
+-- is known to be at most y, and otherwise 0
 pub record Note : Type 0 where
   pub said : Variable → AbstractValue
   pub level : Variable → Variable → ℕ
@@ -55,15 +55,15 @@ abbrev pub range_level : ℕ → ℕ → ℕ
 range_level hi lo = if nat_lt hi lo then 2 else (if nat_le hi lo then 1 else 0)
 
 -- the known level of one variable to another, from their abstract values, whether they are the same variable,
--- and their level in a note: 1 if they are the same, otherwise this level or the level of their ranges,
--- whichever is larger; 0 if one of them is not a number
+-- and the level of the first to the second in a note: 1 if they are the same, otherwise the level in the note
+-- or the level of their ranges, whichever is larger; 0 if one of them is not a number
 abbrev pub level_between : AbstractValue → AbstractValue → Bool → ℕ → ℕ
 level_between (Between x_lo x_hi) (Between y_lo y_hi) true level = 1
 level_between (Between x_lo x_hi) (Between y_lo y_hi) false level = max level (range_level x_hi y_lo)
 level_between _ _ same level = 0
 
--- the known level of x to y: 1 if they are the same variable, otherwise their level in the note or the level
--- of their ranges, whichever is larger; 0 if one of them is not a number
+-- the known level of x to y in a note: `level_between` of their abstract values and of their level in the
+-- note. For example, it is 2 if x has the range 0 to 3 and y the range 5 to 9
 unfoldable pub known_level : Note → Variable → Variable → ℕ
 known_level note x y = level_between (note.said x) (note.said y) (same_variable x y) (note.level x y)
 
@@ -77,7 +77,7 @@ abbrev pub maybe_closure : Option Note → Option Note
 maybe_closure None = None
 maybe_closure (Some note) = Some (closure note)
 
--- the range of an input: the smallest and the largest number that it is on any legal road
+-- the range of an input over all legal roads: its minimum and its maximum
 abbrev pub input_range : Input → AbstractValue
 input_range Speed = Between 0 MAX_LIMIT
 input_range Limit = Between 1 MAX_LIMIT

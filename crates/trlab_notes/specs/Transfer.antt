@@ -110,11 +110,11 @@ to_result note (Min d a b) y = min (to_register note y a) (to_register note y b)
 to_result note (Max d a b) y = max (to_register note y a) (to_register note y b)
 to_result note _ y = 0
 
--- the note after register d gets a new value: `said` is its abstract value, `to` has its levels to the other
--- variables, and `from` has their levels to it; all other knowledge stays
+-- the note after register d gets a new value: `value` is its abstract value, `to` has its levels to all
+-- variables, and `from` has the levels of all variables to it; all other knowledge stays
 unfoldable pub assign : Note → Register → AbstractValue → (Variable → ℕ) → (Variable → ℕ) → Note
-assign note d said to from = record {
-  said = update note.said (variable.Register d) said;
+assign note d value to from = record {
+  said = update note.said (variable.Register d) value;
   level = λ x y.
       if same_variable x (variable.Register d) then to y
       else (if same_variable y (variable.Register d) then from x else note.level x y);

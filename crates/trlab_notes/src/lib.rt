@@ -4,7 +4,8 @@
 //!
 //! ```text
 //! let (slow, fast) = (AbstractValue::Between(0, 2), AbstractValue::Between(3, 5));
-//! let level = level_between(slow, fast, false, 0); // 2: the slow value is below the fast one
+//! let (is_same, known_level) = (false, 0);
+//! let level = level_between(slow, fast, is_same, known_level); // 2: the slow value is below the fast one
 //! ```
 #![tactic(auto)]
 
