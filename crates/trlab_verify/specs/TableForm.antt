@@ -23,8 +23,8 @@ mark_value Unset = Nothing
 mark_value (Num lo hi) = Between lo hi
 mark_value (Flag imp) = Implies imp
 
--- the abstract value of a variable in a form: for a register that of its mark, and nothing if it has no mark;
--- for an input its range, if programs of this kind may read it
+-- the abstract value of a variable in a form: for a register, the value that its mark means, and `Nothing` if
+-- it has no mark; for an input, its range, or `Nothing` if programs of this kind may not read it
 abbrev pub form_value : Kind → Form → Variable → AbstractValue
 form_value kind form (variable.Register r) = mark_value (slice_index_or form.regs (register_number r) Unset)
 form_value kind form (variable.Input k) = entry_said kind (variable.Input k)
@@ -37,7 +37,7 @@ meaning kind form = record { said = form_value kind form; level = levels_in form
 abbrev pub table_of : Kind → List Form → List Note
 table_of kind forms = map (meaning kind) forms
 
--- the form in which nothing is known
+-- the form without marks and levels; the note that it means knows only the ranges of the inputs
 abbrev pub empty_form : Form
 empty_form = record { regs = []; levels = []; side = false }
 
@@ -49,7 +49,7 @@ meaning_at kind forms pc = meaning kind (slice_index_or forms pc empty_form)
 abbrev pub HasValidLevels : Note → Type 0
 HasValidLevels note = (x y : Variable) → known_level note x y ≤ 2
 
--- a note gives each input its abstract value at the start of programs of this kind
+-- for every input, the note has its range, or `Nothing` if programs of this kind may not read it
 abbrev pub HasInputRanges : Kind → Note → Type 0
 HasInputRanges kind note = (k : Input) → note.said (variable.Input k) ≡ entry_said kind (variable.Input k)
 

@@ -19,7 +19,7 @@ pub enum Mark {
     /// It holds a number from the first to the second, both included. If the first is above the second, control
     /// never comes here.
     Num(u32, u32),
-    /// It holds a flag. `true`: if the flag is true, the side cell is empty.
+    /// It holds a flag. With `true`, the side cell is empty if the flag is true.
     Flag(bool),
 }
 
@@ -32,12 +32,12 @@ pub struct Note {
     /// and 0 if nothing is known beyond the ranges. The variables are `r0` to `r7`, speed, limit, gap, sidegap,
     /// sideback, lane and headspeed. Entries with x = y, or of a variable that is not a number, are not used.
     pub levels: [[u8; VARIABLES]; VARIABLES],
-    /// Is the side cell known to be empty?
+    /// Whether the side cell is known to be empty.
     pub side: bool,
 }
 
 /// The abstract value of a mark.
-fn said_by(mark: Mark) -> AbstractValue
+fn mark_value(mark: Mark) -> AbstractValue
     ensures { result ≡ mark_value mark }
 {
     match mark {
@@ -48,10 +48,10 @@ fn said_by(mark: Mark) -> AbstractValue
 }
 
 /// The mark of an abstract value.
-fn mark_of(said: AbstractValue) -> Mark
-    ensures { mark_value result ≡ said }
+fn mark_of(value: AbstractValue) -> Mark
+    ensures { mark_value result ≡ value }
 {
-    match said {
+    match value {
         AbstractValue::Nothing => Mark::Unset,
         AbstractValue::Between(low, high) => Mark::Num(low, high),
         AbstractValue::Implies(imp) => Mark::Flag(imp),
@@ -64,7 +64,7 @@ fn variables(kind: Kind, form: &Note) -> [AbstractValue; VARIABLES]
 {
     let mut variables = entry_said(kind);
     for x in 0..8 {
-        variables[x] = said_by(form.regs[x]);
+        variables[x] = mark_value(form.regs[x]);
     }
     variables
 }
@@ -124,7 +124,7 @@ pub fn write(kind: Kind, note: &Stored) -> Note
     }
 }
 
-/// The form of the first instruction's note, with only the levels at the start.
+/// The form of the entry note: its levels are only those at the start of a program, without those of the ranges.
 pub fn first_note(kind: Kind) -> Note
     ensures { meaning kind result ≡ entry kind }
 {
