@@ -353,7 +353,9 @@ pub(crate) fn register_target(text: &[u8]) -> Result<(Register, WrittenTarget<'_
     }
 }
 
-pub(crate) fn two_registers_target(text: &[u8]) -> Result<(Register, (Register, WrittenTarget<'_>)), Why>
+pub(crate) fn two_registers_target(
+    text: &[u8],
+) -> Result<(Register, (Register, WrittenTarget<'_>)), Why>
     ensures { result ≡ two_registers_target text.now }
 {
     match cut(text, b',') {

@@ -47,8 +47,8 @@ impl MotionView {
         ensures some { IfSome result (λ seen. seen ≡ motion_view speed limit gap headspeed) }
         ensures in_range { IfSome result IsViewInRange }
     {
-        let is_own_lane_valid = 1 <= limit && limit <= MAX_LIMIT && speed <= limit && gap <= MAX_GAP;
-        if is_own_lane_valid && headspeed <= limit {
+        let is_ahead_valid = 1 <= limit && limit <= MAX_LIMIT && speed <= limit && gap <= MAX_GAP;
+        if is_ahead_valid && headspeed <= limit {
             Some(MotionView {
                 view: View {
                     speed,
@@ -124,9 +124,9 @@ impl ChangeView {
             lane,
             headspeed,
         };
-        let is_own_lane_valid = 1 <= limit && limit <= MAX_LIMIT && speed <= limit && gap <= MAX_GAP;
-        let is_other_lane_valid = sidegap <= MAX_GAP && sideback <= MAX_GAP && lane <= 1;
-        if is_own_lane_valid && is_other_lane_valid && headspeed <= limit {
+        let is_ahead_valid = 1 <= limit && limit <= MAX_LIMIT && speed <= limit && gap <= MAX_GAP;
+        let is_beside_valid = sidegap <= MAX_GAP && sideback <= MAX_GAP && lane <= 1;
+        if is_ahead_valid && is_beside_valid && headspeed <= limit {
             Some(ChangeView { view })
         } else {
             None
