@@ -45,7 +45,7 @@ abbrev pub with_draft : List LineDraft → ℕ → Option InstrDraft → List Li
 with_draft drafts number None = drafts
 with_draft drafts number (Some draft) = drafts ++ (record { line = number; draft = draft } ∷ [])
 
--- the parts read so far, and those of one more line: a label gets the pc of the instruction on its line, or
+-- the parts read so far and the parts of one more line: a label gets the pc of the instruction on its line, or
 -- of the next instruction if the line has none
 abbrev pub with_line : Parts → ℕ → Line → Parts
 with_line parts number line = record {
@@ -53,8 +53,8 @@ with_line parts number line = record {
   drafts = with_draft parts.drafts number line.draft;
 }
 
--- the first pass: the parts read so far, and those of more lines, which are numbered from `number` on; or the
--- first fault
+-- the first pass: the parts read so far and the parts of more lines, which are numbered from `number` on; or
+-- the first fault
 unfoldable pub first_pass : Parts → ℕ → List (List ℕ) → Result Parts AsmFault
 first_pass parts number [] = Ok parts
 first_pass parts number (line ∷ lines) =
@@ -100,7 +100,7 @@ instrs_of parts =
     if length parts.drafts == 0 then Err (record { line = 0; why = Empty })
     else second_pass parts.labels parts.drafts
 
--- the program of this kind whose text these lines are, or their first fault; lines are numbered from 1
+-- the program of kind `kind` that these lines assemble to, or their first fault; lines are numbered from 1
 abbrev pub code_of : Kind → List (List ℕ) → Result Program AsmFault
 code_of kind lines = do
   parts ← first_pass no_parts 1 lines

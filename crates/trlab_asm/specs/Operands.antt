@@ -63,10 +63,6 @@ is_label text =
     (nat_lt 0 (length text) && nat_le (length text) LONGEST_LABEL)
     && (not (is_ascii_digit (slice_index text 0)) && all_label_bytes text)
 
--- the target with this pc and without a label
-abbrev pub at_pc : ℕ → Result WrittenTarget Why
-at_pc pc = Ok (record { pc = pc; label = None })
-
 -- the target that `@` and the digits of a pc name, for example `@12`; the fault `Operand` for other words,
 -- and `Number` if the pc is above MAX_NUMBER
 abbrev pub pc_named : List ℕ → Result WrittenTarget Why
@@ -74,7 +70,7 @@ pc_named text = do
   digits ← ok_or (without_prefix (codes "@") text) Operand
   digits ← digits_of digits
   pc ← value_within 0 MAX_NUMBER digits
-  at_pc pc
+  Ok (record { pc = pc; label = None })
 
 -- the target that a word names: a label, for example `slow`, or `@` and a pc, for example `@12`
 abbrev pub target_named : List ℕ → Result WrittenTarget Why

@@ -98,6 +98,6 @@ content_of_parts labels pc parts = do
   Ok (record { label = label; draft = draft })
 
 -- the content of a line: its label, if it has one, and its instruction, if it has one, which is then at pc;
--- `labels` are those of earlier lines
+-- `labels` has the labels of earlier lines
 abbrev pub line_content : Labels → ℕ → List ℕ → Result Line Why
 line_content labels pc line = content_of_parts labels pc (label_and_rest (without_comment line))

@@ -57,7 +57,7 @@ number_bytes n = n % 256 ∷ n / 256 % 256 ∷ n / 256 ^ 2 % 256 ∷ n / 256 ^ 3
 abbrev pub row_bytes : InstructionRow → List ℕ
 row_bytes fields = fields.opcode ∷ fields.a ∷ fields.b ∷ fields.c ∷ number_bytes fields.number
 
--- the eight bytes of an instruction: those of its row
+-- the eight bytes of an instruction's row
 abbrev pub instr_bytes : Instr → List ℕ
 instr_bytes instr = row_bytes (row_of instr)
 

@@ -89,11 +89,11 @@ impl Variable {
 pub enum Instr {
     /// A number.
     Num(Register, u32),
-    /// An input: a number that the car sees.
+    /// The value of an input in the car's view.
     Get(Register, Input),
-    /// A flag: is the car's side cell empty?
+    /// A flag: whether the car's side cell is empty.
     Side(Register),
-    /// A flag: does an event happen on random word 0 to 15? The last number is its probability times 2^31.
+    /// A flag: whether an event happens on random word 0 to 15. The last number is its probability times 2^31.
     Draw(Register, u8, u32),
     /// The number or flag in a register.
     Copy(Register, Register),
@@ -109,11 +109,11 @@ pub enum Instr {
     Min(Register, Register, Register),
     /// The larger of two registers.
     Max(Register, Register, Register),
-    /// Is a flag false?
+    /// Whether a flag is false.
     Not(Register, Register),
-    /// Are both flags true?
+    /// Whether both flags are true.
     And(Register, Register, Register),
-    /// Is at least one of two flags true?
+    /// Whether at least one of two flags is true.
     Or(Register, Register, Register),
     /// A jump.
     Jump(u32),

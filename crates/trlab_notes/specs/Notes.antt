@@ -87,8 +87,8 @@ input_range SideBack = Between 0 MAX_GAP
 input_range Lane = Between 0 1
 input_range Headspeed = Between 0 MAX_LIMIT
 
--- the abstract value of a variable at the start of a program of this kind: inputs that the kind may read have
--- their ranges, and nothing is known of registers and other inputs
+-- the abstract value of a variable at the start of a program of kind `kind`: inputs that the program may read
+-- have their ranges, and nothing is known of registers and other inputs
 abbrev pub entry_said : Kind → Variable → AbstractValue
 entry_said kind (variable.Register r) = Nothing
 entry_said kind (variable.Input k) = if allows_input kind k then input_range k else Nothing
@@ -100,6 +100,6 @@ entry_level (variable.Input Speed) (variable.Input Limit) = 1
 entry_level (variable.Input Headspeed) (variable.Input Limit) = 1
 entry_level _ _ = 0
 
--- the entry note: the knowledge at the start of each program of this kind
+-- the entry note: the knowledge at the start of every program of kind `kind`
 unfoldable pub entry : Kind → Note
 entry kind = record { said = entry_said kind; level = entry_level; side = false }

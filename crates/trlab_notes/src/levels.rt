@@ -105,7 +105,7 @@ impl Stored {
         self.rows[variable.number()]
     }
 
-    /// The known levels of all variables to this one.
+    /// The known levels of all variables to this variable.
     pub(crate) fn column(&self, variable: Variable) -> LevelRow
         ensures { (x : AVariable) → level_in result (variable_number x) ≡ known_level (note_of self.now) x variable }
     {

@@ -116,7 +116,7 @@ impl Operands {
     }
 }
 
-/// Whether a program of this kind may read the input.
+/// Whether programs of kind `kind` may read the input.
 fn is_allowed_input(kind: Kind, input: Input) -> bool
     ensures { result ≡ allows_input kind input }
 {
@@ -126,7 +126,7 @@ fn is_allowed_input(kind: Kind, input: Input) -> bool
     }
 }
 
-/// Whether a program of this kind may have the instruction.
+/// Whether programs of kind `kind` may have the instruction.
 fn is_allowed(kind: Kind, instr: Instr) -> bool
     ensures { result ≡ allows kind instr }
 {
@@ -138,7 +138,7 @@ fn is_allowed(kind: Kind, instr: Instr) -> bool
     }
 }
 
-/// Whether the instruction is allowed both in programs of `kind` and in those of `own`.
+/// Whether the instruction is allowed in programs of both kinds, `kind` and `own`.
 fn is_of_kind(kind: Kind, own: Kind, instr: Instr) -> bool
     ensures { result ≡ is_of_kind kind own instr }
 {

@@ -1,4 +1,4 @@
-//! The order of notes and their join, the common knowledge of two notes where two paths meet.
+//! The order of notes and their join, which is the common knowledge of two notes when two paths meet.
 
 ghost use Rattle.std.specs.Prelude.{◌≡◌, ◌↔◌, ℕ, ◌<◌, ◌≤◌, IsTrue, slice_index_or};
 ghost use Rattle.trlab_notes.specs.declared.note.AbstractValue.TheVariants.{Nothing};

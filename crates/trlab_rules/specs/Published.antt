@@ -43,14 +43,14 @@ rickert_crosses c view words =
     && nat_lt view.limit view.sideback
     && happens_at c words 1
 
--- acceleration as worded by Nagel and Schreckenberg (1992): a speed below the limit grows by one if the distance
--- to the next car ahead is above speed + 1; otherwise it is unchanged
+-- acceleration as worded by Nagel and Schreckenberg (1992): a speed below the limit grows by one if the
+-- distance to the next car ahead is above speed + 1; otherwise it is unchanged
 abbrev pub acceleration_1992 : ℕ → ℕ → ℕ → ℕ
 acceleration_1992 speed limit distance =
     if nat_lt speed limit && nat_lt (speed + 1) distance then speed + 1 else speed
 
--- slowing down as worded by Nagel and Schreckenberg (1992): if the distance to the next car ahead is at most the
--- speed, the speed becomes distance - 1; otherwise it is unchanged
+-- slowing down as worded by Nagel and Schreckenberg (1992): if the distance to the next car ahead is at most
+-- the speed, the speed becomes distance - 1; otherwise it is unchanged
 abbrev pub slowing_down_1992 : ℕ → ℕ → ℕ
 slowing_down_1992 speed distance = if nat_le distance speed then distance - 1 else speed
 

@@ -24,16 +24,16 @@ mark_value (Num lo hi) = Between lo hi
 mark_value (Flag imp) = Implies imp
 
 -- the abstract value of a variable in a form: for a register, the value that its mark means, and `Nothing` if
--- it has no mark; for an input, its range, or `Nothing` if programs of this kind may not read it
+-- it has no mark; for an input, its range, or `Nothing` if programs of kind `kind` may not read it
 abbrev pub form_value : Kind → Form → Variable → AbstractValue
 form_value kind form (variable.Register r) = mark_value (slice_index_or form.regs (register_number r) Unset)
 form_value kind form (variable.Input k) = entry_said kind (variable.Input k)
 
--- the note that a form means for programs of this kind
+-- the note that a form means for programs of kind `kind`
 abbrev pub meaning : Kind → Form → Note
 meaning kind form = record { said = form_value kind form; level = levels_in form.levels; side = form.side }
 
--- the table of the notes that these forms mean for programs of this kind
+-- the table of the notes that the forms mean for programs of kind `kind`, in the same order
 abbrev pub table_of : Kind → List Form → List Note
 table_of kind forms = map (meaning kind) forms
 
@@ -49,7 +49,7 @@ meaning_at kind forms pc = meaning kind (slice_index_or forms pc empty_form)
 abbrev pub HasValidLevels : Note → Type 0
 HasValidLevels note = (x y : Variable) → known_level note x y ≤ 2
 
--- for every input, the note has its range, or `Nothing` if programs of this kind may not read it
+-- for every input, the note has its range, or `Nothing` if programs of kind `kind` may not read it
 abbrev pub HasInputRanges : Kind → Note → Type 0
 HasInputRanges kind note = (k : Input) → note.said (variable.Input k) ≡ entry_said kind (variable.Input k)
 

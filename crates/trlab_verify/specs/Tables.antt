@@ -31,7 +31,7 @@ pub record ChecksAt (kind : Kind) (program : Program) (note : ℕ → Note) (pc 
   pub jumps : (t : ℕ) → target i ≡ Some t → t < length program.instrs
       → IsNoStronger (note t) (jump_note (note pc) i)
 
--- a table checks for the program as one of this kind: it has one note per instruction, its first note is no
+-- a table checks for the program as one of kind `kind`: it has one note per instruction, its first note is no
 -- stronger than the entry note, and its notes check at each instruction
 pub record Checks (kind : Kind) (program : Program) (table : List Note) : Type 0 where
   pub one_each : length table ≡ length program.instrs
@@ -39,7 +39,7 @@ pub record Checks (kind : Kind) (program : Program) (table : List Note) : Type 0
   pub each : (pc : ℕ) (i : Instr) → slice_get program.instrs pc ≡ Some i
       → ChecksAt kind program (note_in table) pc i
 
--- some table of notes checks for the program as one of this kind, and so is a certificate that it is safe
+-- some table of notes checks for the program as one of kind `kind`, and so certifies that the program is safe
 abbrev pub HasCertificate : Kind → Program → Type 0
 HasCertificate kind program = (table : List Note) × Checks kind program table
 
@@ -64,7 +64,7 @@ pub record AreFirstNotes (kind : Kind) (program : Program) (count : ℕ) (table 
   pub one_each : length table ≡ count
   pub each : (pc : ℕ) → pc < count → note_at kind program.instrs pc ≡ Some (note_in table pc)
 
--- the verdict rejects the program as one of this kind, and the table has the notes up to the rejected
+-- the verdict rejects the program as one of kind `kind`, and the table has the notes up to the rejected
 -- instruction, which has a note unless it is unreachable
 abbrev pub AreNotesOfRejected : Kind → Program → List Note → Type 0
 AreNotesOfRejected kind program table = (at : ℕ) × (reason : ℕ)

@@ -124,7 +124,7 @@ pub fn write(kind: Kind, note: &Stored) -> Note
     }
 }
 
-/// The form of the entry note: its levels are only those at the start of a program, without those of the ranges.
+/// The form of the entry note. Its levels are those at the start of a program, without the levels of the ranges.
 pub fn first_note(kind: Kind) -> Note
     ensures { meaning kind result ≡ entry kind }
 {

@@ -132,7 +132,7 @@ pub fn judge(
     None
 }
 
-/// The verdict on a program as one of this kind: its rejection, or `None` if it is accepted.
+/// The verdict on a program as one of kind `kind`: its rejection, or `None` if it is accepted.
 pub fn verdict(alloc: Global, kind: Kind, code: &Code) -> Result<Option<Rejection>, AllocError>
     ensures { IfOk result (λ rejection.
         MatchOption rejection (IsAccepted kind code.now)
