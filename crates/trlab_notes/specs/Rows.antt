@@ -4,6 +4,7 @@ use Rattle.std.specs.Int.{bit_at}
 use Rattle.trlab_bounds.specs.declared.programs.TheConstants.{VARIABLES}
 use Rattle.trlab_code.specs.declared.instruction.Variable.{Variable}
 use Rattle.trlab_code.specs.Machine.{variable_number}
+use Rattle.trlab_notes.specs.declared.note.TheConstants.{BELOW}
 use Rattle.trlab_notes.specs.declared.note.AbstractValue.{AbstractValue}
 use Rattle.trlab_notes.specs.declared.note.AbstractValue.TheVariants.{Nothing}
 use Rattle.trlab_notes.specs.declared.rows.LevelRow.{LevelRow}
@@ -40,10 +41,10 @@ abbrev pub known_level_from : List AbstractValue → ℕ → ℕ → ℕ → ℕ
 known_level_from said x y level =
     level_between (slice_index_or said x Nothing) (slice_index_or said y Nothing) (nat_eq x y) level
 
--- with these abstract values and levels each known level is at most 2, the largest level
+-- with these abstract values and levels each known level is at most BELOW, the largest level
 abbrev pub AreValidLevels : List AbstractValue → List (List ℕ) → Type 0
 AreValidLevels said levels = (x y : ℕ) → x < VARIABLES → y < VARIABLES →
-    known_level_from said x y (level_at levels x y) ≤ 2
+    known_level_from said x y (level_at levels x y) ≤ BELOW
 
 -- the levels in the rows are known levels: they include those that follow from the ranges of the abstract
 -- values, and are 0 for a variable that is not a number
