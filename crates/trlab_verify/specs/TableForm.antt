@@ -6,6 +6,7 @@ use Rattle.trlab_code.specs.declared.instruction.Variable.{Variable}
 use Rattle.trlab_code.specs.declared.instruction.Variable.TheVariants as variable
 use Rattle.trlab_code.specs.Machine.{register_number}
 use Rattle.trlab_code.specs.Program.{Program}
+use Rattle.trlab_notes.specs.declared.note.TheConstants.{BELOW}
 use Rattle.trlab_notes.specs.declared.note.AbstractValue.{AbstractValue}
 use Rattle.trlab_notes.specs.declared.note.AbstractValue.TheVariants.{Nothing, Between, Implies}
 use Rattle.trlab_notes.specs.Notes.{Note, known_level, entry_said}
@@ -45,16 +46,16 @@ empty_form = record { regs = []; levels = []; side = false }
 abbrev pub meaning_at : Kind → List Form → ℕ → Note
 meaning_at kind forms pc = meaning kind (slice_index_or forms pc empty_form)
 
--- each known level of a note is at most 2, the largest level
+-- each known level of a note is at most BELOW, the largest level
 abbrev pub HasValidLevels : Note → Type 0
-HasValidLevels note = (x y : Variable) → known_level note x y ≤ 2
+HasValidLevels note = (x y : Variable) → known_level note x y ≤ BELOW
 
 -- for every input, the note has its range, or `Nothing` if programs of kind `kind` may not read it
 abbrev pub HasInputRanges : Kind → Note → Type 0
 HasInputRanges kind note = (k : Input) → note.said (variable.Input k) ≡ entry_said kind (variable.Input k)
 
--- a fault instead of the notes of a program: with `Refused` the verdict rejects the program as one of its own
--- kind; `Memory` is always possible
+-- a possible fault instead of the notes of a program: `Refused` if the verdict rejects the program as one of
+-- its own kind; `Memory` always
 abbrev pub IsNotesFaultOf : Program → NotesFault → Type 0
 IsNotesFaultOf program Refused = (at : ℕ) × (reason : ℕ) × IsRefused program.kind program at reason
 IsNotesFaultOf program Memory = Unit {0}

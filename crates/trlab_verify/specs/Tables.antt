@@ -43,8 +43,8 @@ pub record Checks (kind : Kind) (program : Program) (table : List Note) : Type 0
 abbrev pub HasCertificate : Kind → Program → Type 0
 HasCertificate kind program = (table : List Note) × Checks kind program table
 
--- the table is that of the verdict: it has one note per instruction of the program, the join of the notes that
--- are sent to the instruction
+-- the table has one note per instruction of the program: the verdict's note, which is the join of the notes
+-- that are sent to the instruction
 pub record AreVerdictNotes (kind : Kind) (program : Program) (table : List Note) : Type 0 where
   pub one_each : length table ≡ length program.instrs
   pub each : (pc : ℕ) → pc < length program.instrs → note_at kind program.instrs pc ≡ Some (note_in table pc)

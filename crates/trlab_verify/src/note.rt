@@ -3,13 +3,14 @@
 
 ghost use Rattle.std.specs.Prelude.{◌≡◌, ◌↔◌, ℕ, ◌<◌, ◌≤◌, IfSome, IsTrue, None, slice_index};
 ghost use Rattle.trlab_code.specs.declared.instruction.Variable.{Variable as AVariable};
+ghost use Rattle.trlab_notes.specs.declared.note.TheConstants.{BELOW};
 ghost use Rattle.trlab_notes.specs.Notes.{closure, entry};
 ghost use Rattle.trlab_notes.specs.Rows.{AreValidLevels, known_level_from, value_in};
 ghost use Rattle.trlab_notes.specs.Stored.{note_of};
 ghost use Rattle.trlab_verify.specs.TableForm.{form_value, mark_value, meaning, HasValidLevels, HasInputRanges};
 
 use trlab_code::{Kind, VARIABLES};
-use trlab_notes::{AbstractValue, Stored, entry_levels, entry_said, level_between};
+use trlab_notes::{AbstractValue, BELOW, Stored, entry_levels, entry_said, level_between};
 
 /// The abstract value of a register.
 #[derive(Clone, Copy, PartialEq, Eq)]
@@ -69,21 +70,21 @@ fn variables(kind: Kind, form: &Note) -> [AbstractValue; VARIABLES]
     variables
 }
 
-/// Whether no known level of the variable with the number x is above 2.
+/// Whether no known level of the variable with the number x is above `BELOW`.
 fn has_levels_from(said: &[AbstractValue; VARIABLES], levels: &[u8; VARIABLES], x: usize) -> bool
     requires { x < VARIABLES }
     ensures { IsTrue result ↔ ((y : ℕ) → y < VARIABLES →
-        known_level_from said.now x y (slice_index levels.now y) ≤ 2) }
+        known_level_from said.now x y (slice_index levels.now y) ≤ BELOW) }
 {
     for y in 0..VARIABLES {
-        if level_between(said[x], said[y], x == y, levels[y]) > 2 {
+        if level_between(said[x], said[y], x == y, levels[y]) > BELOW {
             return false;
         }
     }
     true
 }
 
-/// Whether no known level is above 2.
+/// Whether no known level is above `BELOW`, the largest level.
 fn has_levels(said: &[AbstractValue; VARIABLES], levels: &[[u8; VARIABLES]; VARIABLES]) -> bool
     ensures { IsTrue result ↔ AreValidLevels said.now levels.now }
 {
@@ -95,7 +96,7 @@ fn has_levels(said: &[AbstractValue; VARIABLES], levels: &[[u8; VARIABLES]; VARI
     true
 }
 
-/// The note that a form means, as it is stored; `None` if a known level is above 2.
+/// The note that a form means, as it is stored; `None` if a known level is above `BELOW`.
 pub fn read(kind: Kind, form: &Note) -> Option<Stored>
     ensures none { result ≡ None → ¬ (HasValidLevels (meaning kind form.now)) }
     ensures some { IfSome result (λ stored. HasValidLevels (meaning kind form.now)) }
