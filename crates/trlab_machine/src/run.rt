@@ -72,7 +72,7 @@ fn value(registers: &Registers, register: Register) -> u32
     registers[register.number()]
 }
 
-/// Does an event of probability `parts` / 2^31 happen on a random word?
+/// Whether an event of probability `parts` / 2^31 happens on a random word.
 fn happens(word: u32, parts: u32) -> bool
     ensures { result ≡ happens_on parts word }
 {

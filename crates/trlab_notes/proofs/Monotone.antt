@@ -29,17 +29,17 @@ module _ (V : Variable → Type 0) (closed : Closed V) where
       On V (assign m d s to from) (assign n d t to' from')
   unfolding assign update value_with_side known_level
   written_up m n d s t to to' from from' f h below above = record {
-    said = λ x lx. said_at x lx (same_variable x (variable.Register d));
+    said = λ x lx. value_at x lx (same_variable x (variable.Register d));
     order = λ x y lx ly. (level_at x y lx ly (same_variable x (variable.Register d)) (same_variable y (variable.Register d)));
     beside = f.beside;
   }
     where
-      said_at : (x : Variable) → V x → (b : Bool) → IsNoMorePrecise (with_side m.side (cond b s (m.said x))) (with_side n.side (cond b t (n.said x)))
-      said_at x lx true = h
-      said_at x lx false = f.said x lx
+      value_at : (x : Variable) → V x → (b : Bool) → IsNoMorePrecise (with_side m.side (cond b s (m.said x))) (with_side n.side (cond b t (n.said x)))
+      value_at x lx true = h
+      value_at x lx false = f.said x lx
 
       wide : (x : Variable) → V x → (b : Bool) → Wider (cond b s (m.said x)) (cond b t (n.said x))
-      wide x lx b = wider m.side n.side _ _ (said_at x lx b)
+      wide x lx b = wider m.side n.side _ _ (value_at x lx b)
 
       level_at : (x y : Variable) → V x → V y → (b c : Bool) →
           level_between (cond b s (m.said x)) (cond c s (m.said y)) (same_variable x y) (cond b (to y) (cond c (from x) (m.level x y)))

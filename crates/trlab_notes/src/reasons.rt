@@ -96,6 +96,7 @@ pub enum Operands {
 impl Operands {
     ghost use Rattle.trlab_notes.specs.Reasons.{operands_of};
 
+    /// The registers that the instruction reads.
     pub fn of(instr: Instr) -> Operands
         ensures { result ≡ operands_of instr }
     {
@@ -115,7 +116,7 @@ impl Operands {
     }
 }
 
-/// Whether a program of this kind may read the input.
+/// Whether programs of kind `kind` may read the input.
 fn is_allowed_input(kind: Kind, input: Input) -> bool
     ensures { result ≡ allows_input kind input }
 {
@@ -125,7 +126,7 @@ fn is_allowed_input(kind: Kind, input: Input) -> bool
     }
 }
 
-/// Whether a program of this kind may have the instruction.
+/// Whether programs of kind `kind` may have the instruction.
 fn is_allowed(kind: Kind, instr: Instr) -> bool
     ensures { result ≡ allows kind instr }
 {
@@ -137,7 +138,7 @@ fn is_allowed(kind: Kind, instr: Instr) -> bool
     }
 }
 
-/// Whether the instruction is allowed both in programs of `kind` and in those of `own`.
+/// Whether the instruction is allowed in programs of both kinds, `kind` and `own`.
 fn is_of_kind(kind: Kind, own: Kind, instr: Instr) -> bool
     ensures { result ≡ is_of_kind kind own instr }
 {
@@ -177,7 +178,7 @@ fn has_unset(note: &Stored, instr: Instr) -> bool
 }
 
 /// Whether an operand is a flag instead of a number, or a number instead of a flag.
-fn has_other_kind(note: &Stored, instr: Instr) -> bool
+fn has_wrong_type(note: &Stored, instr: Instr) -> bool
     ensures { result ≡ some_of_wrong_type (note_of note.now) instr }
 {
     match Operands::of(instr) {
@@ -205,7 +206,7 @@ fn may_be_too_large(note: &Stored, instr: Instr) -> bool
     }
 }
 
-/// Whether a difference may be below zero.
+/// Whether the result of a subtraction may be below zero.
 fn may_be_below_zero(note: &Stored, instr: Instr) -> bool
     ensures { result ≡ may_be_below_zero (note_of note.now) instr }
 {
@@ -215,7 +216,7 @@ fn may_be_below_zero(note: &Stored, instr: Instr) -> bool
     }
 }
 
-/// Whether a new speed may be above an input.
+/// Whether the speed of `Go` may be above an input, the gap or the limit.
 fn may_be_above(input: Input, note: &Stored, instr: Instr) -> bool
     ensures { result ≡ may_be_above input (note_of note.now) instr }
 {
@@ -225,7 +226,7 @@ fn may_be_above(input: Input, note: &Stored, instr: Instr) -> bool
     }
 }
 
-/// Whether a car may cross to an occupied cell.
+/// Whether the side cell may be occupied at a `Cross`.
 fn may_be_occupied(note: &Stored, instr: Instr) -> bool
     ensures { result ≡ may_be_occupied (note_of note.now) instr }
 {
@@ -296,7 +297,7 @@ pub fn reason_against(
         Some(Reason::WrongProgram)
     } else if has_unset(note, instr) {
         Some(Reason::MaybeUnset)
-    } else if has_other_kind(note, instr) {
+    } else if has_wrong_type(note, instr) {
         Some(Reason::WrongValue)
     } else if jumps_back(pc, instr) {
         Some(Reason::JumpsBack)

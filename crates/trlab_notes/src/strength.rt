@@ -1,4 +1,4 @@
-//! The order of notes and their join, the common knowledge of two notes where two paths meet.
+//! The order of notes and their join, which is the common knowledge of two notes when two paths meet.
 
 ghost use Rattle.std.specs.Prelude.{◌≡◌, ◌↔◌, ℕ, ◌<◌, ◌≤◌, IsTrue, slice_index_or};
 ghost use Rattle.trlab_notes.specs.declared.note.AbstractValue.TheVariants.{Nothing};
@@ -11,8 +11,8 @@ use crate::note::AbstractValue;
 use crate::rows::{Stored, join_rows};
 use trlab_code::VARIABLES;
 
-/// Whether `s` says no more than `t`.
-fn says_no_more(s: AbstractValue, t: AbstractValue) -> bool
+/// Whether the abstract value `s` is no more precise than `t`.
+fn is_no_more_precise(s: AbstractValue, t: AbstractValue) -> bool
     ensures { IsTrue result ↔ IsNoMorePrecise s t }
 {
     match (s, t) {
@@ -24,21 +24,21 @@ fn says_no_more(s: AbstractValue, t: AbstractValue) -> bool
     }
 }
 
-/// Whether `m` says no more than `n` about any variable.
+/// Whether no abstract value of `m` is more precise than in `n`.
 fn has_weaker_variables(m: &Stored, n: &Stored) -> bool
     ensures { IsTrue result ↔ ((x : ℕ) → x < VARIABLES → IsNoMorePrecise
         (with_side m.now.side (slice_index_or m.now.said x Nothing))
         (with_side n.now.side (slice_index_or n.now.said x Nothing))) }
 {
     for x in 0..VARIABLES {
-        if !says_no_more(m.said_at(x), n.said_at(x)) {
+        if !is_no_more_precise(m.value_at(x), n.value_at(x)) {
             return false;
         }
     }
     true
 }
 
-/// Whether `m` says no more than `n` about the order of any two variables.
+/// Whether no level of `m` is above the same level of `n`.
 fn has_smaller_levels(m: &Stored, n: &Stored) -> bool
     ensures { IsTrue result ↔ ((x y : ℕ) → x < VARIABLES → y < VARIABLES →
         level_of m.now.rows x y ≤ level_of n.now.rows x y) }
@@ -51,14 +51,14 @@ fn has_smaller_levels(m: &Stored, n: &Stored) -> bool
     true
 }
 
-/// Whether `m` is no stronger than `n`: it says no more about the variables, their order and the side cell.
+/// Whether `m` is no stronger than `n`: it knows no more of the values, the order and the side cell.
 pub fn is_no_stronger(m: &Stored, n: &Stored) -> bool
     ensures { IsTrue result ↔ IsNoStronger (note_of m.now) (note_of n.now) }
 {
     has_weaker_variables(m, n) && has_smaller_levels(m, n) && (!m.side || n.side)
 }
 
-/// The common knowledge of two abstract values.
+/// The common knowledge of two abstract values: the smallest range around two ranges, for example.
 fn join_values(a: AbstractValue, b: AbstractValue) -> AbstractValue
     ensures { result ≡ join_values a b }
 {
@@ -71,7 +71,7 @@ fn join_values(a: AbstractValue, b: AbstractValue) -> AbstractValue
     }
 }
 
-/// The common knowledge of two notes about each variable.
+/// The common knowledge of two notes about the value of each variable.
 fn join_variables(a: &Stored, b: &Stored) -> [AbstractValue; VARIABLES]
     ensures { (x : ℕ) → x < VARIABLES → slice_index_or result x Nothing ≡ join_values
         (with_side a.now.side (slice_index_or a.now.said x Nothing))
@@ -79,7 +79,7 @@ fn join_variables(a: &Stored, b: &Stored) -> [AbstractValue; VARIABLES]
 {
     let mut said = [AbstractValue::Nothing; VARIABLES];
     for x in 0..VARIABLES {
-        said[x] = join_values(a.said_at(x), b.said_at(x));
+        said[x] = join_values(a.value_at(x), b.value_at(x));
     }
     said
 }

@@ -1,6 +1,7 @@
 //! The notes that an instruction sends: to the next instruction, and to the target of its jump.
 
 ghost use Rattle.std.specs.Prelude.{◌≡◌, ◌≤◌, false};
+ghost use Rattle.trlab_notes.specs.declared.note.TheConstants.{AT_MOST, BELOW};
 ghost use Rattle.trlab_notes.specs.Notes.{closure, maybe_closure};
 ghost use Rattle.trlab_notes.specs.Stored.{note_of, maybe_note};
 ghost use Rattle.trlab_notes.specs.Transfer.{refine_flag, refine_order, next_note, jump_note};
@@ -12,10 +13,10 @@ use crate::rows::{Stored, refine_rows};
 use trlab_code::{Instr, Register, Variable};
 
 impl Stored {
-    /// The note with the knowledge that p has this level to q, `AT_MOST` or `BELOW`.
+    /// The note refined by a comparison: p has this level to q, `AT_MOST` or `BELOW`.
     pub(crate) fn refine_order(&self, p: Variable, q: Variable, level: u8) -> Stored
-        requires level_from { 1 ≤ level }
-        requires level_to { level ≤ 2 }
+        requires level_from { AT_MOST ≤ level }
+        requires level_to { level ≤ BELOW }
         ensures { note_of result ≡ closure (refine_order (note_of self.now) p q level) }
     {
         let (first, last) = (self.columns[p.number()], self.rows[q.number()]);
@@ -27,16 +28,15 @@ impl Stored {
         }
     }
 
-    /// The note with the knowledge that the flag in a register is true.
+    /// The note refined by the knowledge that the flag in a register is true.
     pub(crate) fn refine_flag(&self, register: Register) -> Stored
         ensures { note_of result ≡ closure (refine_flag (note_of self.now) register) }
     {
-        let said = self.said[Variable::Register(register).number()];
         Stored {
             said: self.said,
             rows: self.rows,
             columns: self.columns,
-            side: self.side || said.implies(),
+            side: self.side || self.register_value(register).implies(),
         }
     }
 }
@@ -64,7 +64,7 @@ pub fn next_note(note: &Stored, instr: Instr) -> Option<Stored>
     }
 }
 
-/// The note that is sent to a jump's target.
+/// The note that a jump sends to its target.
 #[tactic(auto, using(crate::proofs::Tables::stored_same))]
 pub fn jump_note(note: &Stored, instr: Instr) -> Stored
     ensures { note_of result ≡ closure (jump_note (note_of note.now) instr) }

@@ -14,7 +14,7 @@ use std::alloc::{AllocError, Global};
 use trlab_code::{Code, Instr, Kind, MAX_INSTRUCTIONS};
 use trlab_notes::{Reason, Stored, join, join_itself, jump_note, next_note, reason_against};
 
-/// Joins a note with those that arrived at `pc` before.
+/// Joins a note with the notes that arrived at `pc` before.
 fn add_incoming(notes: &mut [Option<Stored>], pc: usize, note: Stored)
     requires { pc < length notes.old }
     ensures { (q : ℕ) → stored_note_at notes.new q ≡ (if nat_eq q pc
@@ -70,7 +70,7 @@ pub fn send(notes: &mut [Option<Stored>], pc: usize, note: &Stored, instr: Instr
     send_jump(notes, note, instr);
 }
 
-/// The first rejected instruction, and the first reason there.
+/// The first rejected instruction, counted from 0, and the first reason there.
 #[derive(Clone, Copy)]
 pub struct Rejection {
     pub at: u32,
@@ -106,10 +106,11 @@ pub fn judge(
     requires begins { (q : ℕ) → q < length instrs.now →
         stored_note_at notes.old q ≡ maybe_closure (incoming kind instrs.now 0 q) }
     ensures verdict { let program : Program = record { kind = own; instrs = instrs.now } in
-        MatchOption result (IsAccepted kind program) (λ no. IsRefused kind program no.at (reason_number no.reason)) }
+        MatchOption result (IsAccepted kind program)
+        (λ rejection. IsRefused kind program rejection.at (reason_number rejection.reason)) }
     ensures stored { result ≡ None → (q : ℕ) → q < length instrs.now →
         stored_note_at notes.new q ≡ maybe_closure (note_at kind instrs.now q) }
-    ensures judged { IfSome result (λ no. (q : ℕ) → q ≤ no.at →
+    ensures judged { IfSome result (λ rejection. (q : ℕ) → q ≤ rejection.at →
         stored_note_at notes.new q ≡ maybe_closure (note_at kind instrs.now q)) }
 {
     for pc in 0..instrs.len() {
@@ -131,11 +132,11 @@ pub fn judge(
     None
 }
 
-/// The rejection of a program as one of this kind, or `None` if it is accepted.
+/// The verdict on a program as one of kind `kind`: its rejection, or `None` if it is accepted.
 pub fn verdict(alloc: Global, kind: Kind, code: &Code) -> Result<Option<Rejection>, AllocError>
-    ensures { IfOk result (λ refusal.
-        MatchOption refusal (IsAccepted kind code.now)
-        (λ no. IsRefused kind code.now no.at (reason_number no.reason))) }
+    ensures { IfOk result (λ rejection.
+        MatchOption rejection (IsAccepted kind code.now)
+        (λ found. IsRefused kind code.now found.at (reason_number found.reason))) }
 {
     let instrs = code.instrs();
     let mut notes = start_notes(alloc, kind, instrs)?;

@@ -3,7 +3,7 @@ use Rattle.trlab_notes.specs.declared.note.AbstractValue.TheVariants.{Nothing}
 use Rattle.trlab_notes.specs.Notes.{level_between}
 use Rattle.trlab_notes.specs.Rows.{level_in}
 use Rattle.trlab_notes.proofs.Filling.{more_variables}
-use Rattle.trlab_notes.proofs.result.known_ways.Goals as goal
+use Rattle.trlab_notes.proofs.result.known_row_and_column.Goals as goal
 
 pub loop-x-preserved : goal.loop-x-preserved
 loop-x-preserved c = let said = c.args.said.now in record {

@@ -2,7 +2,7 @@ use Rattle.std.proofs.Common.{◌≡◌, ℕ, ◌<◌, nat_eq, get_or}
 use Rattle.trlab_notes.specs.declared.note.AbstractValue.TheVariants.{Nothing}
 use Rattle.trlab_notes.specs.Notes.{level_between}
 use Rattle.trlab_notes.specs.Rows.{level_in}
-use Rattle.trlab_notes.proofs.result.known_ways.Given as goal
+use Rattle.trlab_notes.proofs.result.known_row_and_column.Given as goal
 
 abbrev pub invariant-loop-x : goal.invariant-loop-x
 invariant-loop-x l = record {

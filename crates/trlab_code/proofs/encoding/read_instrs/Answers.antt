@@ -8,7 +8,7 @@ use Rattle.trlab_code.specs.Program.{IsInRange}
 use Rattle.trlab_code.specs.Encoding.{instr_bytes}
 use Rattle.trlab_code.specs.Faults.{IsValidBefore, stated_count}
 use Rattle.trlab_code.proofs.Rows.{rows_more, good_more}
-use Rattle.trlab_code.proofs.encoding.instrs.Goals as goal
+use Rattle.trlab_code.proofs.encoding.read_instrs.Goals as goal
 
 pub returns-in_err-instr-clause-fault : goal.returns-in_err-instr-clause-fault
 returns-in_err-instr-clause-fault c = let p = err_from_is_err_and c.from_residual-in_err-instr.result c.from_residual-in_err-instr.ensures.1 in rw (p.1, p.2) c.in_err-instr.ensures

@@ -5,7 +5,7 @@ use Rattle.trlab_code.specs.Encoding.{instr_bytes}
 use Rattle.trlab_code.specs.Faults.{IsValidBefore}
 use Rattle.trlab_bounds.specs.declared.programs.TheConstants.{HEADER_BYTES}
 use Rattle.trlab_bounds.specs.declared.programs.TheConstants.{INSTR_BYTES}
-use Rattle.trlab_code.proofs.encoding.instrs.Given as goal
+use Rattle.trlab_code.proofs.encoding.read_instrs.Given as goal
 
 abbrev pub invariant-loop-pc : goal.invariant-loop-pc
 invariant-loop-pc l = record {
