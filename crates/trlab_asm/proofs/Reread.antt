@@ -16,7 +16,7 @@ use Rattle.trlab_lines.specs.Lines.{lines_of}
 use Rattle.trlab_asm.specs.Operands.{WrittenTarget}
 use Rattle.trlab_asm.specs.Reading.{Labels, line_content}
 use Rattle.trlab_asm.specs.Assembly.{LineDraft, with_label, first_pass, with_target, resolve_label, resolve, second_pass, code_of}
-use Rattle.trlab_asm.specs.Canonical.{label_text, instr_line, is_pc, is_jumped_to, text_from, text_of}
+use Rattle.trlab_asm.specs.Canonical.{label_text, instr_line, is_pc, is_jumped_to, text_from, canonical_text}
 use Rattle.trlab_code.specs.Laws.{FitsIn32Bits}
 use Rattle.trlab_asm.specs.Laws.{CanonicalTextGivesProgram, TextDeterminesProgram}
 use Rattle.trlab_lines.proofs.Cuts.{line_and_rest}
@@ -180,7 +180,7 @@ one_program first second stored stored_too kinds texts =
     cc
 
 -- the same where a machine has seen all the words
-pub reread : (program : Program) (instrs : List Instr) (text : List ℕ) (n : ℕ) → instrs ≡ program.instrs → IsValidProgram program → length instrs ≤ n → All FitsIn32Bits (take n instrs) → text ≡ text_of instrs
+pub reread : (program : Program) (instrs : List Instr) (text : List ℕ) (n : ℕ) → instrs ≡ program.instrs → IsValidProgram program → length instrs ≤ n → All FitsIn32Bits (take n instrs) → text ≡ canonical_text instrs
     → code_of program.kind (lines_of text) ≡ Ok program
 reread program instrs text n same stored all words canonical =
     let whole : take n program.instrs ≡ program.instrs = take_all n program.instrs (rw same at all) in

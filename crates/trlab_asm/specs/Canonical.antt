@@ -98,5 +98,5 @@ text_from instrs pc (instr ∷ rest) =
 
 -- the canonical text of a program's instructions, one per line, each with its LF; targets of a jump have
 -- labels. For example, `jump L1` LF `L1: stay` LF for a jump to instruction 1, and `stay` there
-abbrev pub text_of : List Instr → List ℕ
-text_of instrs = text_from instrs 0 instrs
+abbrev pub canonical_text : List Instr → List ℕ
+canonical_text instrs = text_from instrs 0 instrs

@@ -2,7 +2,7 @@
 
 ghost use Rattle.std.specs.Prelude.{◌≡◌, ◌++◌, decimal, OnOk, Ok, IfOk};
 ghost use Rattle.trlab_code.specs.Laws.{FitsIn32Bits};
-ghost use Rattle.trlab_asm.specs.Canonical.{operand_text, target_text, ◌comma◌, with_operands, operation_text, instr_text, instr_line, is_pc, is_jumped_to, text_of};
+ghost use Rattle.trlab_asm.specs.Canonical.{operand_text, target_text, ◌comma◌, with_operands, operation_text, instr_text, instr_line, is_pc, is_jumped_to, canonical_text};
 ghost use Rattle.trlab_code.specs.Flow.{target};
 ghost use Rattle.trlab_lines.specs.Lines.{lines_of};
 ghost use Rattle.trlab_asm.specs.Assembly.{code_of};
@@ -186,7 +186,7 @@ fn is_jumped_to(instrs: &[Instr], pc: u32) -> bool
 ///
 /// If an allocation fails.
 pub fn disassemble(alloc: Global, code: &Code) -> Result<Vec<u8>, AllocError>
-    ensures canonical { IfOk result (λ text. text.items ≡ text_of code.now.instrs) }
+    ensures canonical { IfOk result (λ text. text.items ≡ canonical_text code.now.instrs) }
 
     ensures again { IfOk result (λ text. code_of code.now.kind (lines_of text.items) ≡ Ok code.now) }
 {

@@ -16,7 +16,7 @@ use Rattle.trlab_strands.specs.declared.knowledge.Ledger.{Ghosts}
 use Rattle.trlab_strands.specs.Tokens.{AddsEvent, CatchesUp, IsSameStrand, strand_events}
 use Rattle.trlab_book.specs.declared.desk.Desk.{Desk}
 use Rattle.trlab_book.specs.declared.kept.Kept.{Kept}
-use Rattle.trlab_book.specs.Desks.{MakesNoEvent, MakesEvent, MakesCallOn, NotesCall, clock_of, parts_of}
+use Rattle.trlab_book.specs.Desks.{MakesNoEvent, MakesEvent, MakesCallOn, NotesCall, clock_of, part_count}
 use Rattle.trlab_book.specs.Events.{Appends, WasMadeAfter, IsUnchanged, Records, RefusesIfFull}
 
 appended : (old new : Kept) (call : Call) (told : Reply) (one : Bool) → MatchBool one (Appends old call told new) (IsUnchanged old new)
@@ -58,12 +58,12 @@ full_after old new call told made full none =
 
 module _ {L : Type 0} {ledger : Ghosts L} where
   -- a call that is not an event
-  pub is_none : (old : Kept) (told : Reply) (list : List Event) (from to : Desk L ledger) → parts_of to ≡ parts_of from → old.history.items ≡ list → RefusesIfFull old told
+  pub is_none : (old : Kept) (told : Reply) (list : List Event) (from to : Desk L ledger) → part_count to ≡ part_count from → old.history.items ≡ list → RefusesIfFull old told
       → MatchBool (is_history_full told) (CatchesUp from.strand (length list) to.strand) (IsSameStrand from.strand to.strand) → MakesNoEvent from told to
   is_none old told list from to parts was full down = by_full (is_history_full told) refl down
     where
       by_full : (whole : Bool) → is_history_full told ≡ whole → MatchBool whole (CatchesUp from.strand (length list) to.strand) (IsSameStrand from.strand to.strand)
-          → MatchBool whole ((parts_of to ≡ parts_of from) × (strand_events to.strand ≡ strand_events from.strand) × (clock_of from ≤ clock_of to) × (MAX_EVENTS ≤ clock_of to)) (IsSameStrand from.strand to.strand)
+          → MatchBool whole ((part_count to ≡ part_count from) × (strand_events to.strand ≡ strand_events from.strand) × (clock_of from ≤ clock_of to) × (MAX_EVENTS ≤ clock_of to)) (IsSameStrand from.strand to.strand)
       by_full true is seen =
           let most = history_is_full old (full.0 (full_reply told is)) in
           let long : length old.history.items ≡ length list = ap length was in

@@ -29,8 +29,8 @@ abbrev pub IsSameBook : {L : Type 0} {ledger : Ghosts L} → SharedBook L ledger
 IsSameBook old new = new.strands.table.shared.table_id ≡ old.strands.table.shared.table_id
 
 -- the number of parts of a desk (the invariant of `Desk` keeps it from 1 to ALL_PARTS)
-abbrev pub parts_of : {L : Type 0} {ledger : Ghosts L} → Desk L ledger → ℕ
-parts_of desk = desk.parts
+abbrev pub part_count : {L : Type 0} {ledger : Ghosts L} → Desk L ledger → ℕ
+part_count desk = desk.parts
 
 -- the subhistory of a desk: the events made through it, each with all earlier events of the history. For
 -- example, if the history is [a, b] and a was made through another desk, it is only b after [a]
@@ -46,7 +46,7 @@ clock_of desk = strand_clock desk.strand
 -- unchanged
 abbrev pub HasSeen : {L : Type 0} {ledger : Ghosts L} → Desk L ledger → ℕ → Desk L ledger → Type 0
 HasSeen old count new =
-    (parts_of new ≡ parts_of old) × (subhistory_of new ≡ subhistory_of old)
+    (part_count new ≡ part_count old) × (subhistory_of new ≡ subhistory_of old)
     × (clock_of old ≤ clock_of new) × (count ≤ clock_of new)
 
 -- the desk has now seen more events than are in its subhistory, so at least one was made through another
@@ -74,7 +74,7 @@ pub record MakesEvent {L : Type 0} {ledger : Ghosts L} (old : Desk L ledger) (ca
 abbrev pub MakesCallOn : {L : Type 0} {ledger : Ghosts L} → (BookState → Type 0)
     → Desk L ledger → Call → Reply → Desk L ledger → Type 0
 MakesCallOn Holds old call reply new =
-    (parts_of new ≡ parts_of old)
+    (part_count new ≡ part_count old)
     × MatchBool (is_event reply)
     ((book : BookState) × MakesEvent old call reply new book × Holds book)
     (MakesNoEvent old reply new)
@@ -90,7 +90,7 @@ MakesCall old call reply new = MakesCallOn (λ book. Unit {0}) old call reply ne
 abbrev pub NotesCall : {L : Type 0} {ledger : Ghosts L} → Desk L ledger → List Event → Call → Reply
     → Desk L ledger → Type 0
 NotesCall old before call reply new =
-    (parts_of new ≡ parts_of old)
+    (part_count new ≡ part_count old)
     × MatchBool (is_event reply)
     (AddsEvent old.strand before (event call reply) new.strand)
     (MatchBool (is_history_full reply)
@@ -133,7 +133,7 @@ AreRunnerCalls from to events =
 -- old one, followed by the calls of the runners (`more`). In the history these come after all events that the
 -- desk had seen, and before all that are made through it from now on
 pub record AddsRunnerCalls {L : Type 0} {ledger : Ghosts L} (old new : Desk L ledger) : Type 0 where
-  pub parts : parts_of new ≡ parts_of old
+  pub parts : part_count new ≡ part_count old
   pub least : clock_of old ≤ clock_of new
   pub more : List (Noted Event)
   pub subhistory : subhistory_of new ≡ subhistory_of old ++ more

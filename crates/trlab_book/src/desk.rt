@@ -57,11 +57,11 @@ impl<L: Ledger> Desk<L> {
     ghost use Rattle.trlab_sequential_book.specs.Answers.{is_event, is_history_full};
     ghost use Rattle.trlab_sequential_book.specs.Machine.{has_full_history};
     ghost use Rattle.trlab_book.specs.Events.{WasMadeAfter};
-    ghost use Rattle.trlab_book.specs.Desks.{NotesCall, parts_of};
+    ghost use Rattle.trlab_book.specs.Desks.{NotesCall, part_count};
 
     /// The number of parts, from 1 to `ALL_PARTS`.
     pub fn parts(&self) -> u32
-        ensures { result ≡ parts_of self.now }
+        ensures { result ≡ part_count self.now }
     {
         self.parts
     }
@@ -101,12 +101,12 @@ impl<L: Ledger> SharedBook<L> {
     ghost use Rattle.trlab_sequential_book.specs.declared.event.Call.TheVariants.{Cancel, GiveBack, Read};
     ghost use Rattle.trlab_sequential_book.specs.declared.event.Call.TheVariants.{Replace, Revoke, Submit};
     ghost use Rattle.trlab_book.specs.Desks.{MakesNoEvent, LeaseIsFresh, OrderHasRuleInForce, ReadShowsJob, IsSameBook, LacksEvents};
-    ghost use Rattle.trlab_book.specs.Desks.{MakesCall, MakesCallOn, IsCorrectVerdict, clock_of, parts_of, subhistory_of};
+    ghost use Rattle.trlab_book.specs.Desks.{MakesCall, MakesCallOn, IsCorrectVerdict, clock_of, part_count, subhistory_of};
 
     /// An empty book, and the desk with all parts. Only the blank uses memory.
     pub fn start(alloc: Global, blank: Blank<Event>) -> (SharedBook<L>, Desk<L>)
         requires { name_of blank ≡ L.name }
-        ensures parts { parts_of result.1 ≡ ALL_PARTS }
+        ensures parts { part_count result.1 ≡ ALL_PARTS }
         ensures events { (subhistory_of result.1 ≡ []) × (clock_of result.1 ≡ 0) }
     {
         let (strands, keeper, strand) = blank.open::<L>();
@@ -133,7 +133,7 @@ impl<L: Ledger> SharedBook<L> {
         ensures replays { IfOk result (λ r. ∥ Replays r.1.items r.0 ∥₁) }
         ensures err { IfErr result (λ r. LacksEvents desk r.1) }
         ensures book { IfErr result (λ r. IsSameBook self r.0) }
-        ensures whole { parts_of desk ≡ ALL_PARTS → IsOk result }
+        ensures whole { part_count desk ≡ ALL_PARTS → IsOk result }
     {
         let SharedBook { lock, strands } = self;
         let Locked { kept, mut keeper } = lock.into_inner();
@@ -150,8 +150,8 @@ impl<L: Ledger> SharedBook<L> {
 
     /// Takes one part from a desk with two or more, and returns it as a desk for another thread.
     pub fn split(&self, desk: &mut Desk<L>) -> Desk<L>
-        requires { 1 < parts_of desk.old }
-        ensures parts { (parts_of desk.new + 1 ≡ parts_of desk.old) × (parts_of result ≡ 1) }
+        requires { 1 < part_count desk.old }
+        ensures parts { (part_count desk.new + 1 ≡ part_count desk.old) × (part_count result ≡ 1) }
         ensures events { (subhistory_of desk.new ≡ subhistory_of desk.old) × (subhistory_of result ≡ []) }
         ensures least { (clock_of desk.new ≡ clock_of desk.old) × (clock_of result ≡ clock_of desk.old) }
     {
@@ -166,7 +166,7 @@ impl<L: Ledger> SharedBook<L> {
 
     /// Joins two desks: their parts, and the events of `one` followed by those of `other`.
     pub fn gather(&self, one: Desk<L>, other: Desk<L>) -> Desk<L>
-        ensures parts { parts_of result ≡ parts_of one + parts_of other }
+        ensures parts { part_count result ≡ part_count one + part_count other }
         ensures events { subhistory_of result ≡ subhistory_of one ++ subhistory_of other }
         ensures least { clock_of result ≡ max (clock_of one) (clock_of other) }
     {
@@ -220,7 +220,7 @@ impl<L: Ledger> SharedBook<L> {
     /// Refuses a call that was not made because an allocation failed.
     fn refuse_without_memory<R: Wait>(&self, rt: &R, desk: &mut Desk<L>) -> BookFault
         ensures none { is_event (Refused result) ≡ false }
-        ensures desk { (parts_of desk.new ≡ parts_of desk.old) × MakesNoEvent desk.old (Refused result) desk.new }
+        ensures desk { (part_count desk.new ≡ part_count desk.old) × MakesNoEvent desk.old (Refused result) desk.new }
     {
         let mut guard = self.lock.lock(rt);
         let Locked { kept, keeper } = &mut *guard;

@@ -5,7 +5,7 @@ ghost use Rattle.std.specs.Thread.{IsSend, IsSync};
 ghost use Rattle.trlab_bounds.specs.declared.runs.TheConstants.{MAX_RUNNERS, MAX_WORKERS};
 ghost use Rattle.trlab_sequential_book.specs.declared.book.TheConstants.{MAX_EVENTS};
 ghost use Rattle.trlab_sequential_book.specs.declared.fault.BookFault.TheVariants.{HistoryFull};
-ghost use Rattle.trlab_book.specs.Desks.{AddsRunnerCalls, EndsTurn, HasEnded, clock_of, parts_of};
+ghost use Rattle.trlab_book.specs.Desks.{AddsRunnerCalls, EndsTurn, HasEnded, clock_of, part_count};
 ghost use Rattle.trlab_book.specs.declared.running.RunFault.TheVariants as run;
 
 use crate::desk::{Desk, SharedBook};
@@ -51,7 +51,7 @@ pub fn run_jobs<L: Ledger + Send + Sync, R: Threads + Wait + Sync, G: Gate + Syn
     gate: &G,
 ) -> Result<Desk<L>, (Desk<L>, RunFault)>
     requires workers { (0 < workers) × (workers ≤ MAX_WORKERS) }
-    requires runners { (0 < runners) × (runners ≤ MAX_RUNNERS) × (runners ≤ parts_of desk) }
+    requires runners { (0 < runners) × (runners ≤ MAX_RUNNERS) × (runners ≤ part_count desk) }
     ensures { MatchResult result
         (λ d. HasEnded runners (Ok tt) desk d)
         (λ e. HasEnded runners (Err e.1) desk e.0) }
@@ -75,7 +75,7 @@ fn run_all<L: Ledger + Send + Sync, R: Threads + Wait + Sync, G: Gate + Sync>(
     gate: &G,
 ) -> (Desk<L>, Result<(), RunFault>)
     requires workers { (0 < workers) × (workers ≤ MAX_WORKERS) }
-    requires runners { (0 < runners) × (runners ≤ parts_of desk) }
+    requires runners { (0 < runners) × (runners ≤ part_count desk) }
     ensures { HasEnded runners result.1 desk result.0 }
 {
     let mut desk = desk;
@@ -96,7 +96,7 @@ fn run_all<L: Ledger + Send + Sync, R: Threads + Wait + Sync, G: Gate + Sync>(
         },
         move || -> (Desk<L>, Result<(), RunFault>)
             requires { IsSync R.row × IsSync G.row × IsSend L.row × IsSync L.row
-                × (0 < workers) × (workers ≤ MAX_WORKERS) × (0 < others) × (others ≤ parts_of desk) }
+                × (0 < workers) × (workers ≤ MAX_WORKERS) × (0 < others) × (others ≤ part_count desk) }
             ensures { HasEnded others result.1 desk result.0 }
         { run_all(rt, alloc, book, desk, others, workers, gate) },
     );

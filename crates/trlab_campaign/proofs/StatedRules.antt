@@ -21,7 +21,7 @@ use Rattle.trlab_jobs.specs.Shapes.{cell_count, all_steps, lanes_line, length_li
 use Rattle.trlab_jobs.specs.Sweep.{Setup, Sweep, SweepLinesParseTo, ParsesAsSweep, sweep_heading, setup, sweep_line, with_counts}
 use Rattle.trlab_jobs.proofs.SweepLines.{after_cells, after_key, after_limit, after_rule, after_shape}
 use Rattle.trlab_asm.specs.Results.{map_ok}
-use Rattle.trlab_campaign.specs.Capacity.{stated_rule}
+use Rattle.trlab_campaign.specs.Triangle.{stated_rule}
 
 -- the parts of what is read
 ok_parts : {A B : Type 0} (x y : A) (a b : B) → ◌≡◌ {A = Result (A × B) Fault} (Ok (x, a)) (Ok (y, b)) → (x ≡ y) × (a ≡ b)

@@ -1,7 +1,7 @@
 -- The output for a check text.
 use Rattle.std.specs.Prelude.{◌≡◌, ℕ, true, false, List, [], ◌∷◌, ◌++◌, decimal, codes}
 use Rattle.trlab_code.specs.Program.{Program}
-use Rattle.trlab_asm.specs.Canonical.{text_of}
+use Rattle.trlab_asm.specs.Canonical.{canonical_text}
 use Rattle.trlab_verify.specs.Longest.{IsLongest}
 use Rattle.trlab_verify.specs.Verdict.{IsAccepted, IsRefused}
 use Rattle.trlab_jobs.specs.declared.check.Question.{Question}
@@ -12,7 +12,7 @@ use Rattle.trlab_campaign.specs.Refusal.{Outputs, IsOutputForText}
 
 -- the text for an accepted program: the line `accepted budget B`, and then the program in canonical form
 abbrev pub accepted_text : ℕ → Program → List ℕ
-accepted_text budget program = codes "accepted budget " ++ (decimal budget ++ (10 ∷ text_of program.instrs))
+accepted_text budget program = codes "accepted budget " ++ (decimal budget ++ (10 ∷ canonical_text program.instrs))
 
 -- the text for an accepted program, by the question of the check: its budget and canonical form, and for
 -- notes also the lines of its notes

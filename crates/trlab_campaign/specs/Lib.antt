@@ -10,7 +10,7 @@ pub mod NoteLines
 pub mod CheckOutput
 pub mod SweepOutput
 pub mod SeriesOutput
-pub mod Capacity
+pub mod Triangle
 pub mod Headline
 -- progress
 pub mod Hundredths

@@ -27,7 +27,7 @@ abstract_value_text register (Implies false) = register_entry register (codes "f
 -- the text for a register of a note; if the side cell is known to be empty, every flag is `side`
 abbrev pub register_value_text : Note → Register → List ℕ
 register_value_text note register =
-    abstract_value_text register (with_side note.side (note.said (variable.Register register)))
+    abstract_value_text register (with_side note.side (note.values (variable.Register register)))
 
 -- the text for all registers of a note, in their order
 abbrev pub registers_text : Note → List ℕ

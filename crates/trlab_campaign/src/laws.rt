@@ -3,8 +3,8 @@
 //!
 //! Each law is the contract of a function with an empty body.
 
-ghost use Rattle.trlab_campaign.specs.Capacity.{DiagramIsTriangle, SweepsBoundMovingSpeed, SweepsDoNotExceedPeak};
-ghost use Rattle.trlab_campaign.specs.Capacity.{SweepsKeepToCapacity};
+ghost use Rattle.trlab_campaign.specs.Triangle.{DiagramIsTriangle, SweepsBoundMovingSpeed, SweepsDoNotExceedPeak};
+ghost use Rattle.trlab_campaign.specs.Triangle.{SweepsStayUnderTriangle};
 ghost use Rattle.trlab_campaign.specs.CheckOutput.{IsCheckOutput};
 ghost use Rattle.trlab_campaign.specs.Headline.{JobTextsAreDriven, SweepTextsAreDriven};
 ghost use Rattle.trlab_campaign.specs.Laws.{HasAtMostOneOutput, HasSomeOutput};
@@ -55,8 +55,8 @@ pub fn sweep_has_one_output()
 /// On average, a moving car goes at least one cell per step, and at most v_max. On one lane, in the Nagel-Schreckenberg
 /// model without randomization, the fundamental diagram is the triangle itself, if no step is counted before cars can
 /// reach v_max.
-pub fn sweeps_keep_to_capacity()
-    ensures within { SweepsKeepToCapacity }
+pub fn sweeps_stay_under_triangle()
+    ensures within { SweepsStayUnderTriangle }
     ensures peak { SweepsDoNotExceedPeak }
     ensures moving { SweepsBoundMovingSpeed }
     ensures triangle { DiagramIsTriangle }

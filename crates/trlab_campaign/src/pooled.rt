@@ -142,7 +142,7 @@ impl<'a, R: Threads + Wait + Sync, C: Account, O: ProgressObserver> JobEngine<'a
     {
         let gate = OpenGate;
         let draws = some_rule_draws(&job);
-        let pool = Pool::new(self.rt, self.workers, &gate).sparing(job.road.cars(), draws);
+        let pool = Pool::new(self.rt, self.workers, &gate).with_workers_for(job.road.cars(), draws);
         let with_progress = WithProgress::new(&pool, self.progress, self.account.steps(&job));
         let end = write_by_pool(alloc, &pool, self.account, &with_progress, job, writer);
         with_progress.report_end(end);

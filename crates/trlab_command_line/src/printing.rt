@@ -92,7 +92,7 @@ pub fn print_help_or_error<R: AllocGlobal + Eprint, K: Sink>(
     ensures device { (result ≡ 4) ↔ (K.failed writer.new ≡ true) }
     ensures kept { result ≡ 3 → AddsNone (bytes_of K.Sink writer.old) (bytes_of K.Sink writer.new) }
     ensures handed { asks_for_help (kind_of error.now) ≡ true → result ≡ 0
-        → FlushedOnce (K.handed_on writer.new) (K.flushes writer.old) (K.flushes writer.new) }
+        → FlushedOnce (K.is_flushed writer.new) (K.flushes writer.old) (K.flushes writer.new) }
     ensures silent { asks_for_help (kind_of error.now) ≡ false → writer.new ≡ writer.old }
 {
     match error.kind() {

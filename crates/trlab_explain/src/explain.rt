@@ -249,7 +249,7 @@ pub fn write_explanation<K: Sink>(output: Result<Output>, writer: &mut K) -> End
         (bytes_of K.Sink writer.old) (bytes_of K.Sink writer.new))
         (λ _. (result ≡ Memory) × AddsNone (bytes_of K.Sink writer.old) (bytes_of K.Sink writer.new)) }
     ensures handed { FlushedAtEnd result
-        (K.handed_on writer.new) (K.flushes writer.old) (K.flushes writer.new) }
+        (K.is_flushed writer.new) (K.flushes writer.old) (K.flushes writer.new) }
     ensures device { (result ≡ DeviceFault) ↔ (K.failed writer.new ≡ true) }
 {
     match output {

@@ -134,7 +134,7 @@ pub fn sparing_pool_as_one<G: Gate + Sync>(
     gate: &G,
 ) -> bool {
     let (workers, cells, steps, draws) = (4, 4000, 20, true);
-    let pool = Pool::new(rt, workers, gate).sparing(cars, draws);
+    let pool = Pool::new(rt, workers, gate).with_workers_for(cars, draws);
     runs_as_one(&pool, rt.alloc(), cells, cars, steps)
 }
 

@@ -15,7 +15,7 @@ use Rattle.trlab_notes.specs.declared.note.AbstractValue.TheVariants.{Nothing, B
 -- and whether the side cell is known to be empty. The level of x to y is BELOW = 2 if x is known to be below
 -- y, AT_MOST = 1 if x is known to be at most y, and otherwise 0
 pub record Note : Type 0 where
-  pub said : Variable → AbstractValue
+  pub values : Variable → AbstractValue
   pub level : Variable → Variable → ℕ
   pub side : Bool
 
@@ -32,7 +32,7 @@ with_side side (Implies implied) = Implies (implied || side)
 
 -- the abstract value of variable x in a note, refined by the note's knowledge of the side cell
 unfoldable pub value_with_side : Note → Variable → AbstractValue
-value_with_side note x = with_side note.side (note.said x)
+value_with_side note x = with_side note.side (note.values x)
 
 -- the smallest number of a range; 0 for other abstract values
 abbrev pub low : AbstractValue → ℕ
@@ -66,7 +66,7 @@ level_between _ _ same level = 0
 -- the known level of x to y in a note: `level_between` of their abstract values and of their level in the
 -- note. For example, it is BELOW if x has the range 0 to 3 and y the range 5 to 9
 unfoldable pub known_level : Note → Variable → Variable → ℕ
-known_level note x y = level_between (note.said x) (note.said y) (same_variable x y) (note.level x y)
+known_level note x y = level_between (note.values x) (note.values y) (same_variable x y) (note.level x y)
 
 -- the closure of a note under its ranges: each level is the known level, so that the order of two variables
 -- that follows from their ranges is a level too. Levels are not chained through a third variable
@@ -90,9 +90,9 @@ input_range Headspeed = Between 0 MAX_LIMIT
 
 -- the abstract value of a variable at the start of a program of kind `kind`: inputs that the program may read
 -- have their ranges, and nothing is known of registers and other inputs
-abbrev pub entry_said : Kind → Variable → AbstractValue
-entry_said kind (variable.Register r) = Nothing
-entry_said kind (variable.Input k) = if allows_input kind k then input_range k else Nothing
+abbrev pub entry_values : Kind → Variable → AbstractValue
+entry_values kind (variable.Register r) = Nothing
+entry_values kind (variable.Input k) = if allows_input kind k then input_range k else Nothing
 
 -- the level of one variable to another at the start of a program: speed and headspeed are at most the limit,
 -- and nothing else is known
@@ -103,4 +103,4 @@ entry_level _ _ = 0
 
 -- the entry note: the knowledge at the start of every program of kind `kind`
 unfoldable pub entry : Kind → Note
-entry kind = record { said = entry_said kind; level = entry_level; side = false }
+entry kind = record { values = entry_values kind; level = entry_level; side = false }

@@ -28,7 +28,7 @@ level_at levels x y = slice_index (slice_index_or levels x []) y
 -- the abstract value of variable x in an array of the abstract values of all variables; `Nothing` if the array
 -- has no entry for x
 abbrev pub value_in : List AbstractValue → Variable → AbstractValue
-value_in said x = slice_index_or said (variable_number x) Nothing
+value_in values x = slice_index_or values (variable_number x) Nothing
 
 -- the level of variable x to variable y in an array whose entries list the levels of each variable to all
 -- variables as numbers
@@ -38,19 +38,19 @@ levels_in levels x y = level_at levels (variable_number x) (variable_number y)
 -- the known level of variable x to variable y, by their numbers, from an array of the abstract values of all
 -- variables, and the level of x to y in a note
 abbrev pub known_level_from : List AbstractValue → ℕ → ℕ → ℕ → ℕ
-known_level_from said x y level =
-    level_between (slice_index_or said x Nothing) (slice_index_or said y Nothing) (nat_eq x y) level
+known_level_from values x y level =
+    level_between (slice_index_or values x Nothing) (slice_index_or values y Nothing) (nat_eq x y) level
 
 -- with these abstract values and levels each known level is at most BELOW, the largest level
 abbrev pub AreValidLevels : List AbstractValue → List (List ℕ) → Type 0
-AreValidLevels said levels = (x y : ℕ) → x < VARIABLES → y < VARIABLES →
-    known_level_from said x y (level_at levels x y) ≤ BELOW
+AreValidLevels values levels = (x y : ℕ) → x < VARIABLES → y < VARIABLES →
+    known_level_from values x y (level_at levels x y) ≤ BELOW
 
 -- the levels in the rows are known levels: they include those that follow from the ranges of the abstract
 -- values, and are 0 for a variable that is not a number
 abbrev pub IncludesRanges : List AbstractValue → List LevelRow → Type 0
-IncludesRanges said rows = (x y : ℕ) → x < VARIABLES → y < VARIABLES →
-    known_level_from said x y (level_of rows x y) ≡ level_of rows x y
+IncludesRanges values rows = (x y : ℕ) → x < VARIABLES → y < VARIABLES →
+    known_level_from values x y (level_of rows x y) ≡ level_of rows x y
 
 -- the columns are the transposed rows: the level of y to x in `columns` is the level of x to y in `rows`
 abbrev pub IsTransposed : List LevelRow → List LevelRow → Type 0

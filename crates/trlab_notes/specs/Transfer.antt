@@ -16,7 +16,7 @@ use Rattle.trlab_notes.specs.Notes.{Note, same_variable, value_with_side, low, h
 
 -- the abstract value of register a in a note
 abbrev pub register_value : Note → Register → AbstractValue
-register_value note a = note.said (variable.Register a)
+register_value note a = note.values (variable.Register a)
 
 -- the smallest number that register a may hold, by the note; 0 if it is not known to hold a number
 abbrev pub least : Note → Register → ℕ
@@ -115,7 +115,7 @@ to_result note _ y = 0
 -- variables, and `from` has the levels of all variables to it; all other knowledge stays
 unfoldable pub assign : Note → Register → AbstractValue → (Variable → ℕ) → (Variable → ℕ) → Note
 assign note d value to from = record {
-  said = update note.said (variable.Register d) value;
+  values = update note.values (variable.Register d) value;
   level = λ x y.
       if same_variable x (variable.Register d) then to y
       else (if same_variable y (variable.Register d) then from x else note.level x y);

@@ -9,35 +9,35 @@ ghost use Rattle.trlab_notes.specs.Notes.{closure, entry, known_level, value_wit
 ghost use Rattle.trlab_notes.specs.Rows.{AreValidLevels, known_level_from, level_at, level_in, level_of, levels_in, value_in};
 ghost use Rattle.trlab_notes.specs.Stored.{note_of};
 
-use crate::note::{AbstractValue, entry_levels, entry_said, level_between};
-use crate::rows::{LevelRow, Stored, columns};
+use crate::note::{AbstractValue, entry_levels, entry_values, level_between};
+use crate::rows::{LevelRow, StoredNote, columns};
 use trlab_code::{Kind, VARIABLES, Variable};
 
 /// The known levels of the variable x to all variables, from its own levels and the ranges.
-fn known_row(said: &[AbstractValue; VARIABLES], x: usize, levels: &[u8; VARIABLES]) -> LevelRow
+fn known_row(values: &[AbstractValue; VARIABLES], x: usize, levels: &[u8; VARIABLES]) -> LevelRow
     requires inside { x < VARIABLES }
-    requires small { (y : ℕ) → y < VARIABLES → known_level_from said.now x y (slice_index levels.now y) ≤ BELOW }
-    ensures { (y : ℕ) → y < VARIABLES → level_in result y ≡ known_level_from said.now x y (slice_index levels.now y) }
+    requires small { (y : ℕ) → y < VARIABLES → known_level_from values.now x y (slice_index levels.now y) ≤ BELOW }
+    ensures { (y : ℕ) → y < VARIABLES → level_in result y ≡ known_level_from values.now x y (slice_index levels.now y) }
 {
     let mut row = LevelRow::empty();
     for y in 0..VARIABLES {
-        row = row.with(y, level_between(said[x], said[y], x == y, levels[y]));
+        row = row.with(y, level_between(values[x], values[y], x == y, levels[y]));
     }
     row
 }
 
 /// The known levels of all variables to all variables, from these levels and the ranges.
 fn known_rows(
-    said: &[AbstractValue; VARIABLES],
+    values: &[AbstractValue; VARIABLES],
     levels: &[[u8; VARIABLES]; VARIABLES],
 ) -> [LevelRow; VARIABLES]
-    requires { AreValidLevels said.now levels.now }
+    requires { AreValidLevels values.now levels.now }
     ensures { (x y : ℕ) → x < VARIABLES → y < VARIABLES →
-        level_of result x y ≡ known_level_from said.now x y (level_at levels.now x y) }
+        level_of result x y ≡ known_level_from values.now x y (level_at levels.now x y) }
 {
     let mut rows = [LevelRow::empty(); VARIABLES];
     for x in 0..VARIABLES {
-        rows[x] = known_row(said, x, &levels[x]);
+        rows[x] = known_row(values, x, &levels[x]);
     }
     rows
 }
@@ -52,23 +52,23 @@ fn with_side(side: bool, value: AbstractValue) -> AbstractValue
     }
 }
 
-impl Stored {
+impl StoredNote {
     /// The note with these abstract values and these levels.
     pub fn new(
-        said: [AbstractValue; VARIABLES],
+        values: [AbstractValue; VARIABLES],
         levels: &[[u8; VARIABLES]; VARIABLES],
         side: bool,
-    ) -> Stored
-        requires { AreValidLevels said levels.now }
+    ) -> StoredNote
+        requires { AreValidLevels values levels.now }
         ensures { note_of result ≡ closure (record {
-          said = value_in said;
+          values = value_in values;
           level = levels_in levels.now;
           side = side;
         }) }
     {
-        let rows = known_rows(&said, levels);
-        Stored {
-            said,
+        let rows = known_rows(&values, levels);
+        StoredNote {
+            values,
             rows,
             columns: columns(&rows),
             side,
@@ -76,18 +76,18 @@ impl Stored {
     }
 
     /// The note of a program's first instruction.
-    pub fn entry(kind: Kind) -> Stored
+    pub fn entry(kind: Kind) -> StoredNote
         ensures { note_of result ≡ closure (entry kind) }
     {
-        Stored::new(entry_said(kind), &entry_levels(), false)
+        StoredNote::new(entry_values(kind), &entry_levels(), false)
     }
 
     /// The abstract value of the variable with the number x, refined by the knowledge of the side cell.
     pub(crate) fn value_at(&self, x: usize) -> AbstractValue
         requires { x < VARIABLES }
-        ensures { result ≡ with_side self.now.side (slice_index_or self.now.said x Nothing) }
+        ensures { result ≡ with_side self.now.side (slice_index_or self.now.values x Nothing) }
     {
-        with_side(self.side, self.said[x])
+        with_side(self.side, self.values[x])
     }
 
     /// The abstract value of a variable, refined by the knowledge of the side cell.

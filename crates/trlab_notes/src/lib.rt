@@ -18,8 +18,8 @@ mod rows;
 mod strength;
 mod transfer;
 
-pub use note::{AT_MOST, AbstractValue, BELOW, entry_levels, entry_said, level_between};
+pub use note::{AT_MOST, AbstractValue, BELOW, entry_levels, entry_values, level_between};
 pub use reasons::{Operands, Reason, reason_against};
-pub use rows::Stored;
+pub use rows::StoredNote;
 pub use strength::{is_no_stronger, join, join_itself};
 pub use transfer::{jump_note, next_note};

@@ -2,7 +2,7 @@
 
 ghost use Rattle.std.specs.Prelude.{◌≡◌};
 ghost use Rattle.trlab_code.specs.declared.instruction.Variable.{Variable as AVariable};
-ghost use Rattle.trlab_notes.specs.Notes.{low, high, implies, level_between, range_level, entry_said, entry_level};
+ghost use Rattle.trlab_notes.specs.Notes.{low, high, implies, level_between, range_level, entry_values, entry_level};
 ghost use Rattle.trlab_notes.specs.Rows.{levels_in, value_in};
 
 use trlab_bounds::roads::{MAX_GAP, MAX_LIMIT};
@@ -85,8 +85,8 @@ pub fn level_between(s: AbstractValue, t: AbstractValue, is_same: bool, level: u
 }
 
 /// The abstract values of the variables at the start of a program, in the order of their numbers.
-pub fn entry_said(kind: Kind) -> [AbstractValue; VARIABLES]
-    ensures { (x : AVariable) → value_in result x ≡ entry_said kind x }
+pub fn entry_values(kind: Kind) -> [AbstractValue; VARIABLES]
+    ensures { (x : AVariable) → value_in result x ≡ entry_values kind x }
 {
     let unset = AbstractValue::Nothing;
     let speed = AbstractValue::Between(0, MAX_LIMIT);

@@ -8,7 +8,7 @@ ghost use Rattle.trlab_notes.specs.Stored.{note_of};
 ghost use Rattle.trlab_notes.specs.Transfer.{register_value};
 
 use crate::note::AbstractValue;
-use crate::rows::Stored;
+use crate::rows::StoredNote;
 use trlab_bounds::programs::MAX_NUMBER;
 use trlab_code::{Input, Instr, Kind, Register, Variable};
 
@@ -146,28 +146,28 @@ fn is_of_kind(kind: Kind, own: Kind, instr: Instr) -> bool
 }
 
 /// Whether a register may be unset.
-fn is_unset(note: &Stored, register: Register) -> bool
+fn is_unset(note: &StoredNote, register: Register) -> bool
     ensures { result ≡ is_nothing (register_value (note_of note.now) register) }
 {
     matches!(note.register_value(register), AbstractValue::Nothing)
 }
 
 /// Whether a register holds a number.
-fn has_number(note: &Stored, register: Register) -> bool
+fn has_number(note: &StoredNote, register: Register) -> bool
     ensures { result ≡ is_range (register_value (note_of note.now) register) }
 {
     matches!(note.register_value(register), AbstractValue::Between(..))
 }
 
 /// Whether a register holds a flag.
-fn has_flag(note: &Stored, register: Register) -> bool
+fn has_flag(note: &StoredNote, register: Register) -> bool
     ensures { result ≡ is_flag (register_value (note_of note.now) register) }
 {
     matches!(note.register_value(register), AbstractValue::Implies(_))
 }
 
 /// Whether an operand may be unset.
-fn has_unset(note: &Stored, instr: Instr) -> bool
+fn has_unset(note: &StoredNote, instr: Instr) -> bool
     ensures { result ≡ some_unset (note_of note.now) instr }
 {
     match Operands::of(instr) {
@@ -178,7 +178,7 @@ fn has_unset(note: &Stored, instr: Instr) -> bool
 }
 
 /// Whether an operand is a flag instead of a number, or a number instead of a flag.
-fn has_wrong_type(note: &Stored, instr: Instr) -> bool
+fn has_wrong_type(note: &StoredNote, instr: Instr) -> bool
     ensures { result ≡ some_of_wrong_type (note_of note.now) instr }
 {
     match Operands::of(instr) {
@@ -191,7 +191,7 @@ fn has_wrong_type(note: &Stored, instr: Instr) -> bool
 }
 
 /// Whether the result may be too large for a register.
-fn may_be_too_large(note: &Stored, instr: Instr) -> bool
+fn may_be_too_large(note: &StoredNote, instr: Instr) -> bool
     ensures { result ≡ may_be_too_large (note_of note.now) instr }
 {
     match instr {
@@ -207,7 +207,7 @@ fn may_be_too_large(note: &Stored, instr: Instr) -> bool
 }
 
 /// Whether the result of a subtraction may be below zero.
-fn may_be_below_zero(note: &Stored, instr: Instr) -> bool
+fn may_be_below_zero(note: &StoredNote, instr: Instr) -> bool
     ensures { result ≡ may_be_below_zero (note_of note.now) instr }
 {
     match instr {
@@ -217,7 +217,7 @@ fn may_be_below_zero(note: &Stored, instr: Instr) -> bool
 }
 
 /// Whether the speed of `Go` may be above an input, the gap or the limit.
-fn may_be_above(input: Input, note: &Stored, instr: Instr) -> bool
+fn may_be_above(input: Input, note: &StoredNote, instr: Instr) -> bool
     ensures { result ≡ may_be_above input (note_of note.now) instr }
 {
     match instr {
@@ -227,7 +227,7 @@ fn may_be_above(input: Input, note: &Stored, instr: Instr) -> bool
 }
 
 /// Whether the side cell may be occupied at a `Cross`.
-fn may_be_occupied(note: &Stored, instr: Instr) -> bool
+fn may_be_occupied(note: &StoredNote, instr: Instr) -> bool
     ensures { result ≡ may_be_occupied (note_of note.now) instr }
 {
     matches!(instr, Instr::Cross) && !note.side
@@ -262,7 +262,7 @@ fn falls_out(len: usize, pc: usize, instr: Instr) -> bool
 }
 
 /// The first of the reasons 8 to 12 that holds. They are about the instruction's result or answer.
-fn range_reason(note: &Stored, instr: Instr) -> Option<Reason>
+fn range_reason(note: &StoredNote, instr: Instr) -> Option<Reason>
     ensures { result ≡ first_reason (range_checks (note_of note.now) instr) }
 {
     if may_be_too_large(note, instr) {
@@ -287,7 +287,7 @@ pub fn reason_against(
     own: Kind,
     len: usize,
     pc: usize,
-    note: &Stored,
+    note: &StoredNote,
     instr: Instr,
 ) -> Option<Reason>
     requires { pc < len }

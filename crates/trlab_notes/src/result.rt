@@ -13,7 +13,7 @@ ghost use Rattle.trlab_notes.specs.Stored.{note_of};
 ghost use Rattle.trlab_notes.specs.Transfer.{assign_result, flag_implies, least_difference, register_level, register_value, result_value, result_to, to_result};
 
 use crate::note::{AbstractValue, BELOW, level_between};
-use crate::rows::{LevelRow, Stored, with_variable};
+use crate::rows::{LevelRow, StoredNote, with_variable};
 use trlab_code::{Instr, Register, VARIABLES, Variable};
 
 /// The range of the sum of two numbers.
@@ -74,36 +74,36 @@ fn least_difference(level: u8) -> u32
 /// The known levels of a variable to all variables and of all variables to it, from its levels `to` and `from` and the
 /// ranges.
 fn known_row_and_column(
-    said: &[AbstractValue; VARIABLES],
+    values: &[AbstractValue; VARIABLES],
     variable: usize,
     to: LevelRow,
     from: LevelRow,
 ) -> (LevelRow, LevelRow)
     requires { variable < VARIABLES }
-    ensures to { (y : ℕ) → y < VARIABLES → level_in result.0 y ≡ known_level_from said.now variable y (level_in to y) }
+    ensures to { (y : ℕ) → y < VARIABLES → level_in result.0 y ≡ known_level_from values.now variable y (level_in to y) }
     ensures from { (x : ℕ) → x < VARIABLES
-        → level_in result.1 x ≡ known_level_from said.now x variable (level_in from x) }
+        → level_in result.1 x ≡ known_level_from values.now x variable (level_in from x) }
 {
     let (mut row, mut column) = (to, from);
     for x in 0..VARIABLES {
         row = row.with(
             x,
-            level_between(said[variable], said[x], variable == x, to.level(x)),
+            level_between(values[variable], values[x], variable == x, to.level(x)),
         );
         column = column.with(
             x,
-            level_between(said[x], said[variable], x == variable, from.level(x)),
+            level_between(values[x], values[variable], x == variable, from.level(x)),
         );
     }
     (row, column)
 }
 
-impl Stored {
+impl StoredNote {
     /// The abstract value of a register.
     pub(crate) fn register_value(&self, register: Register) -> AbstractValue
         ensures { result ≡ register_value (note_of self.now) register }
     {
-        self.said[Variable::Register(register).number()]
+        self.values[Variable::Register(register).number()]
     }
 
     /// Whether the flag in a register implies that the side cell is empty.
@@ -210,22 +210,22 @@ impl Stored {
     }
 
     /// The note after an instruction has written its result to `dest`.
-    pub(crate) fn assign_result(&self, dest: Register, instr: Instr) -> Stored
+    pub(crate) fn assign_result(&self, dest: Register, instr: Instr) -> StoredNote
         requires in_range { IsInRange instr }
         requires fits { may_be_too_large (note_of self.now) instr ≡ false }
         ensures { note_of result ≡ closure (assign_result (note_of self.now) dest instr) }
     {
         let variable = Variable::Register(dest).number();
-        let mut said = self.said;
-        said[variable] = self.result_value(instr);
+        let mut values = self.values;
+        values[variable] = self.result_value(instr);
         let (row, column) = known_row_and_column(
-            &said,
+            &values,
             variable,
             self.result_to(instr),
             self.to_result(instr),
         );
-        Stored {
-            said,
+        StoredNote {
+            values,
             rows: with_variable(&self.rows, variable, row, column),
             columns: with_variable(&self.columns, variable, column, row),
             side: self.side,

@@ -245,15 +245,15 @@ pub fn columns(rows: &[LevelRow; VARIABLES]) -> [LevelRow; VARIABLES]
 
 /// A note as it is stored: the abstract value of each variable, and the known levels of all variables to all.
 #[derive(Clone, Copy)]
-pub struct Stored {
+pub struct StoredNote {
     /// The abstract values, in the order of the variables' numbers.
-    pub said: [AbstractValue; VARIABLES],
+    pub values: [AbstractValue; VARIABLES],
     /// The row of x has the levels of x to each variable.
     pub rows: [LevelRow; VARIABLES],
     /// The column of y has the levels of each variable to y.
     pub columns: [LevelRow; VARIABLES],
     /// Whether the side cell is known to be empty.
     pub side: bool,
-    pub ghost ranges: { IncludesRanges said rows },
+    pub ghost ranges: { IncludesRanges values rows },
     pub ghost transposed: { IsTransposed rows columns },
 }

@@ -102,7 +102,7 @@ crosses_at road answers l x = slice_index_or answers (rank road l x) false
 
 -- `answers` lists, for each car of a road with two lanes in standing order, whether the car crosses; this is
 -- true only for cars whose side cell is empty
-pub record MayCross (road : Cells) (answers : List Bool) : Type 0 where
+pub record AreSafeCrossings (road : Cells) (answers : List Bool) : Type 0 where
   pub two_lanes : length road.lanes ≡ 2
   pub one_each : length answers ≡ cars road
   pub side_empty : (k : ℕ) → k < cars road

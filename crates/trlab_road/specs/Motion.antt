@@ -84,7 +84,7 @@ abbrev pub gaps : Cells → List ℕ
 gaps road = in_order (λ l x. gap (lane_of road l) x) road
 
 -- `answers` lists a number of cells for each car in standing order, at most the car's gap and the limit
-pub record MayMove (road : Cells) (answers : List ℕ) : Type 0 where
+pub record AreSafeSpeeds (road : Cells) (answers : List ℕ) : Type 0 where
   pub one_each : length answers ≡ cars road
   pub within_gaps : (k : ℕ) → k < cars road → slice_index answers k ≤ slice_index (gaps road) k
   pub within_limit : (k : ℕ) → k < cars road → slice_index answers k ≤ road.limit

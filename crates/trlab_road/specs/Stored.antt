@@ -6,7 +6,7 @@ use Rattle.trlab_road.specs.declared.car.Car.{Car}
 use Rattle.trlab_road.specs.declared.gaps.SideGaps.{SideGaps}
 use Rattle.trlab_road.specs.LaneCars.{LaneCar}
 use Rattle.trlab_road.specs.Cells.{Cell, Lane, Cells, at, lane_car_count}
-use Rattle.trlab_road.specs.Gaps.{greatest, side, sideback, sidegap}
+use Rattle.trlab_road.specs.Gaps.{largest, side, sideback, sidegap}
 use Rattle.trlab_road.specs.Legal.{IsLegal}
 use Rattle.trlab_road.specs.Motion.{LaneFits, LaneMoves}
 use Rattle.trlab_road.specs.Pictures.{dot, speed_character}
@@ -127,7 +127,7 @@ pub record ListsMove (n : ℕ) (lists next : List (Vec LaneCar Global)) (answers
 -- the speed that a character shows, for example 7 for `7` and 12 for `c`; 0 if it shows no speed
 abbrev pub speed_of_character : ℕ → ℕ
 speed_of_character character =
-    greatest (λ speed. nat_eq (speed_character speed) character) character
+    largest (λ speed. nat_eq (speed_character speed) character) character
 
 -- the lane that a picture shows, with its cars numbered from n on; for example, `2.0` with n = 5 shows car 5
 -- of speed 2, an empty cell, and car 6 of speed 0

@@ -13,7 +13,7 @@ use crate::car::{LaneCar, place_at, speed_at};
 
 /// The leader of a car, which is the next car ahead on its own lane: the gap up to it, and its speed.
 #[derive(Clone, Copy)]
-pub struct Ahead {
+pub struct Leader {
     /// The number of empty cells ahead of the car.
     pub gap: u32,
     /// The speed of the next car in cells per step; the car's own speed if there is no other.
@@ -21,7 +21,7 @@ pub struct Ahead {
 }
 
 /// The gap and the leader of the car at an index of a lane's list. The leader of the last car is the first.
-pub fn look_ahead(cars: &[LaneCar], cells: usize, index: usize) -> Ahead
+pub fn look_ahead(cars: &[LaneCar], cells: usize, index: usize) -> Leader
     requires small { cells ≤ MAX_LENGTH }
     requires sorted { IsSortedFrom 0 cells cars.now }
     requires here { index < length cars.now }
@@ -32,12 +32,12 @@ pub fn look_ahead(cars: &[LaneCar], cells: usize, index: usize) -> Ahead
     let place = place_at(cars, index);
     let next = index + 1;
     if next < cars.len() {
-        Ahead {
+        Leader {
             gap: place_at(cars, next) - place - 1,
             headspeed: speed_at(cars, next),
         }
     } else {
-        Ahead {
+        Leader {
             gap: cells as u32 - 1 - place + place_at(cars, 0),
             headspeed: speed_at(cars, 0),
         }

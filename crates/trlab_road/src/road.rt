@@ -12,12 +12,12 @@ ghost use Rattle.trlab_road.specs.Gaps.{gap, headspeed, side, sideback, sidegap}
 ghost use Rattle.trlab_road.specs.InLine.{IsFollowed, IsLineFrom, IsLineOf};
 ghost use Rattle.trlab_road.specs.Standing.{IsNthCar};
 ghost use Rattle.trlab_road.specs.Stored.{no_car};
-ghost use Rattle.trlab_road.specs.LaneChange.{IsValueOnOtherLane, IsGapOnOtherLane, sides, IsCleanLaneChange, ChangesLanes, MayCross};
-ghost use Rattle.trlab_road.specs.Motion.{IsValueOnOwnLane, gaps, MayMove, IsCleanMotion, Moves, in_order};
+ghost use Rattle.trlab_road.specs.LaneChange.{IsValueOnOtherLane, IsGapOnOtherLane, sides, IsCleanLaneChange, ChangesLanes, AreSafeCrossings};
+ghost use Rattle.trlab_road.specs.Motion.{IsValueOnOwnLane, gaps, AreSafeSpeeds, IsCleanMotion, Moves, in_order};
 
 use crate::car::{Car, LaneCar, place_at};
 use crate::fault::RoadFault;
-use crate::gaps::{Ahead, SideGaps, look_ahead, look_beside};
+use crate::gaps::{Leader, SideGaps, look_ahead, look_beside};
 use crate::lane_change::{Room, change_lanes};
 use crate::lanes::{are_same_lanes, car_of, copy_lanes, count_cars, find, list_of};
 use crate::motion::move_lanes;
@@ -275,7 +275,7 @@ impl Road {
     }
 
     /// The `gap` and the `headspeed` of the k-th car in standing order.
-    pub fn ahead(&self, k: u32) -> Ahead
+    pub fn ahead(&self, k: u32) -> Leader
         requires { k < cars self.now }
         ensures value { result.gap ≡ slice_index (gaps self.now) k }
         ensures gap { IsValueOnOwnLane gap self.now k result.gap }
@@ -370,7 +370,7 @@ impl Road {
 impl Road {
     /// Moves all cars at once by their new speeds, which are listed in standing order. It allocates nothing.
     pub fn move_cars(&mut self, speeds: &[u8])
-        requires { MayMove self.old speeds.now }
+        requires { AreSafeSpeeds self.old speeds.now }
         ensures moves { (answer : ℕ → ℕ → ℕ)
             → speeds.now ≡ in_order answer self.old → Moves answer self.old self.new }
         ensures clean { IsCleanMotion self.old self.new }
@@ -392,7 +392,7 @@ impl Road {
         room: &mut Room,
         crosses: &[bool],
     ) -> Result<Road, AllocError>
-        requires { MayCross self.now crosses.now }
+        requires { AreSafeCrossings self.now crosses.now }
         ensures crosses { IfOk result (λ next. (answer : ℕ → ℕ → Bool)
             → crosses.now ≡ in_order answer self.now → ChangesLanes answer self.now next) }
         ensures clean { IfOk result (λ next. IsCleanLaneChange self.now next) }

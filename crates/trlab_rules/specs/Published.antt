@@ -27,13 +27,13 @@ nasch_speed p view words = brake (happens_at p words 0) (safe_speed view.speed v
 
 -- the braking probability in the VDR model, times 2 ^ 31: p0 for a car whose speed before the step is 0, and p
 -- for a moving car
-abbrev pub vdr_chance : ℕ → ℕ → ℕ → ℕ
-vdr_chance p p0 speed = if nat_eq speed 0 then p0 else p
+abbrev pub vdr_braking_chance : ℕ → ℕ → ℕ → ℕ
+vdr_braking_chance p p0 speed = if nat_eq speed 0 then p0 else p
 
 -- the speed in the VDR model (Barlovic et al. 1998), which adds slow starts to the Nagel-Schreckenberg model: a
 -- stopped car brakes with probability p0 / 2 ^ 31, a moving car with p / 2 ^ 31
 abbrev pub vdr_speed : ℕ → ℕ → View → List ℕ → ℕ
-vdr_speed p p0 view words = nasch_speed (vdr_chance p p0 view.speed) view words
+vdr_speed p p0 view words = nasch_speed (vdr_braking_chance p p0 view.speed) view words
 
 -- does a car change lanes, as in Rickert et al. (1996)? It does if its side cell is empty, gap < speed + 1,
 -- speed + 1 < sidegap, limit < sideback, and an event of probability c / 2 ^ 31 happens on random word 1

@@ -55,7 +55,7 @@ impl<'a, R: Threads + Wait + Sync, G: Gate + Sync> Pool<'a, R, G> {
     /// Keeps only as many workers as save time on a road with `cars` cars: at least one, but at most one per processor
     /// and one per `CARS_PER_WORKER` cars (`DRAWING_CARS_PER_WORKER` if a program `draws` random numbers). The helpers
     /// stay awake for a while between two phases.
-    pub fn sparing(self, cars: u32, draws: bool) -> Pool<'a, R, G>
+    pub fn with_workers_for(self, cars: u32, draws: bool) -> Pool<'a, R, G>
         ensures some { 0 < pool_workers result }
         ensures few { pool_workers result ≤ pool_workers self.entry }
         ensures used { let share = if draws then DRAWING_CARS_PER_WORKER else CARS_PER_WORKER in

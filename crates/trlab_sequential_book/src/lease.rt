@@ -19,7 +19,7 @@ use thiserror::Error;
 use trlab_machine::Dice;
 use trlab_road::Road;
 use trlab_rules::Rule;
-use trlab_step::{Asking, Executor, NoObserver, StepRoom, StepTally, take_step};
+use trlab_step::{Executor, NoObserver, StepContext, StepRoom, StepTally, take_step};
 use trlab_words::Key;
 
 /// Why a lease ran no step.
@@ -255,12 +255,12 @@ impl Lease {
         let shared = rule.share()?;
         let is_steady = stays_steady(&self.applied, self.is_steady, rule);
         let rule = rule.get();
-        let asking = Asking {
+        let context = StepContext {
             executor,
             alloc,
             dice: &dice,
         };
-        let tally = step_unshared(&asking, &mut self.road, &mut self.room, rule)?;
+        let tally = step_unshared(&context, &mut self.road, &mut self.room, rule)?;
         self.applied.push_reserved(ExecutedStep {
             rule: shared,
             tally,
@@ -273,19 +273,19 @@ impl Lease {
 
 /// Runs a step on a lease's road, which no one else shares; a shared road would be reported as a failed allocation.
 fn step_unshared<A: Executor>(
-    asking: &Asking<A>,
+    context: &StepContext<A>,
     road: &mut Arc<Road, Global>,
     room: &mut StepRoom,
     rule: &Rule,
 ) -> Result<StepTally, AllocError>
-    requires ready { A.is_ready asking.now.executor.now }
+    requires ready { A.is_ready context.now.executor.now }
     requires rule { IsRuleFor (length (arc_value road.old).lanes) rule.now }
     ensures next { IfOk result (λ tally.
-        IsNext rule.now asking.now.dice.now (arc_value road.old) (arc_value road.new) tally) }
+        IsNext rule.now context.now.dice.now (arc_value road.old) (arc_value road.new) tally) }
     ensures unchanged { OnErr result (arc_value road.new ≡ arc_value road.old) }
 {
     match Arc::get_mut(road) {
-        Some(road) => take_step(asking, road, room, rule, &mut NoObserver),
+        Some(road) => take_step(context, road, room, rule, &mut NoObserver),
         None => Err(AllocError),
     }
 }

@@ -10,7 +10,7 @@ use Rattle.trlab_road.specs.LaneChange.{car_after_crossing, other_lane}
 use Rattle.trlab_road.specs.Gaps.{ahead, gap, side, sidegap, sideback}
 use Rattle.trlab_road.specs.Legal.{IsLegal}
 use Rattle.trlab_rules.specs.StandardRules.{IsNasch, IsVdr, IsRickert}
-use Rattle.trlab_rules.specs.Published.{brake, safe_speed, vdr_chance}
+use Rattle.trlab_rules.specs.Published.{brake, safe_speed, vdr_braking_chance}
 use Rattle.trlab_rules.specs.Rules.{Programs}
 use Rattle.trlab_step.specs.declared.tally.StepTally.{StepTally}
 use Rattle.trlab_machine.specs.declared.dice.Dice.{Dice}
@@ -30,7 +30,7 @@ nasch_car_speed p dice road car =
 -- the new speed of a car in the VDR model of Barlovic et al. (1998), which adds slow starts to the
 -- Nagel-Schreckenberg model: a stopped car brakes with probability p0 / 2 ^ 31, a moving car with p / 2 ^ 31
 abbrev pub vdr_car_speed : ℕ → ℕ → Dice → Cells → Car → ℕ
-vdr_car_speed p p0 dice road car = nasch_car_speed (vdr_chance p p0 car.speed) dice road car
+vdr_car_speed p p0 dice road car = nasch_car_speed (vdr_braking_chance p p0 car.speed) dice road car
 
 -- does a car change lanes as in Rickert et al. (1996)? It does if its side cell is empty, gap < speed + 1,
 -- speed + 1 < sidegap, limit < sideback, and an event of probability c / 2 ^ 31 happens on its random word 1

@@ -4,13 +4,13 @@ ghost use Rattle.std.specs.Prelude.{length, ◌≡◌, ◌<◌, ◌≤◌, ◌+�
 ghost use Rattle.trlab_bounds.specs.declared.roads.TheConstants.{MAX_LIMIT};
 ghost use Rattle.trlab_road.specs.Cells.{cars};
 ghost use Rattle.trlab_road.specs.Legal.{IsLegal};
-ghost use Rattle.trlab_road.specs.Motion.{IsCleanMotion, MayMove, Moves, in_order};
+ghost use Rattle.trlab_road.specs.Motion.{IsCleanMotion, AreSafeSpeeds, Moves, in_order};
 ghost use Rattle.trlab_step.specs.Answers.{IsSpeedsPart, dice_of};
 
 use crate::block::{BLOCK, fill_motion_views};
 use std::alloc::{AllocError, Global};
 use trlab_machine::{
-    BLOCK_CARS, Column, Dice, REGISTERS, SMALL_BLOCK_CARS, Views, run_few_motions, run_motions,
+    BLOCK_CARS, Column, Dice, REGISTER_COUNT, SMALL_BLOCK_CARS, Views, run_few_motions, run_motions,
 };
 use trlab_road::Road;
 use trlab_verify::Motion;
@@ -98,7 +98,7 @@ pub fn compute_speeds(
     speeds.clear();
     speeds.reserve((to - from) as usize)?;
     let mut views = Views::<BLOCK_CARS>::new();
-    let mut registers = [[0; BLOCK_CARS]; REGISTERS];
+    let mut registers = [[0; BLOCK_CARS]; REGISTER_COUNT];
     for block in 0..(to - from).div_ceil(BLOCK) {
         let begin = from + BLOCK * block;
         let end = begin + BLOCK.min(to - begin);
@@ -125,7 +125,7 @@ fn compute_few_speeds(
 {
     speeds.clear();
     let mut views = Views::<SMALL_BLOCK_CARS>::new();
-    let mut registers = [[0; SMALL_BLOCK_CARS]; REGISTERS];
+    let mut registers = [[0; SMALL_BLOCK_CARS]; REGISTER_COUNT];
     fill_motion_views(&mut views, road, from, to);
     let answers = low_bytes(&run_few_motions(motion, &views, dice, &mut registers));
     speeds.extend_from_slice(&answers[..(to - from) as usize])?;
@@ -141,7 +141,7 @@ fn compute_few_speeds(
 ///
 /// If an allocation fails.
 pub fn commit_motion(alloc: Global, road: &Road, speeds: &[u32]) -> Result<Road, AllocError>
-    requires { MayMove road.now speeds.now }
+    requires { AreSafeSpeeds road.now speeds.now }
     ensures moves { IfOk result (λ next. (answer : ℕ → ℕ → ℕ)
         → speeds.now ≡ in_order answer road.now → Moves answer road.now next) }
     ensures clean { IfOk result (λ next. IsCleanMotion road.now next) }

@@ -12,7 +12,7 @@ use Rattle.trlab_step.specs.declared.tally.StepTally.{StepTally}
 use Rattle.trlab_step.specs.Next.{IsNext}
 use Rattle.trlab_step.specs.Run.{ComesTo, Seed, Sheet, dice_at, IsRoadAt}
 use Rattle.trlab_step.proofs.RunLaws.{force_all, road_at_is_one}
-use Rattle.trlab_traffic.specs.Capacity.{lane_empty_cells}
+use Rattle.trlab_traffic.specs.Triangle.{lane_empty_cells}
 use Rattle.trlab_traffic.specs.Detector.{all_passages, cars_ahead_of, passages, cells_ahead_to}
 use Rattle.trlab_traffic.specs.DetectorRuns.{DifferByAtMost, DetectorCountExists, DetectorHasCounted, DetectorMeasuresFlow, DetectorsAgree, DetectorsAgreeByCars, DetectorsCountRun, RunSatisfiesContinuity, min_of_cars_and_empty_cells}
 use Rattle.trlab_traffic.specs.Rule184.{is_taken}

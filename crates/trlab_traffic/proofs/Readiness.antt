@@ -17,7 +17,7 @@ use Rattle.trlab_rules.specs.Rules.{Programs}
 use Rattle.trlab_rules.specs.StandardRules.{IsNasch}
 use Rattle.trlab_step.specs.declared.tally.StepTally.{StepTally}
 use Rattle.trlab_step.specs.Run.{ComesTo, Seed}
-use Rattle.trlab_traffic.specs.Capacity.{capacity, lane_max_distance, lane_cells, lane_empty_cells}
+use Rattle.trlab_traffic.specs.Triangle.{max_distance, lane_max_distance, lane_cells, lane_empty_cells}
 use Rattle.trlab_traffic.specs.Diagram.{NaschReachesTriangle, NaschReachesTriangleByLane, Rule184ReachesTriangle}
 use Rattle.trlab_traffic.specs.Rule184.{digit, is_taken}
 use Rattle.trlab_traffic.proofs.Freely.{sum_by-same}
@@ -274,16 +274,16 @@ capacities road legal =
     ∙ sym (by_lane (lane_max_distance road.limit) road.lanes)
 
 -- that of the lane is that of the road where it has one
-one_capacity : (road : Cells) → length road.lanes ≡ 1 → sum_by (lane_max_distance road.limit) road.lanes ≡ capacity road
+one_capacity : (road : Cells) → length road.lanes ≡ 1 → sum_by (lane_max_distance road.limit) road.lanes ≡ max_distance road
 one_capacity road one =
     let lane = lane_of road 0 in
     one_sum (lane_max_distance road.limit) road.lanes one
     ∙ ap (λ k. min (road.limit * k) (lane_empty_cells lane)) (sym (one_sum lane_car_count road.lanes one))
     ∙ ap (min (road.limit * cars road)) (sym (one_sum lane_empty_cells road.lanes one))
 
-pub nasch_comes_to_capacity_by_lane : NaschReachesTriangleByLane
+pub nasch_reaches_triangle_by_lane : NaschReachesTriangleByLane
 unfolding to_capacity
-nasch_comes_to_capacity_by_lane rule seed step road sum is legal late comes =
+nasch_reaches_triangle_by_lane rule seed step road sum is legal late comes =
     let limit = seed.road.limit in
     let cells = length (lane_of seed.road 0) in
     let count : ℕ → ℕ = λ l. lane_car_count (lane_of seed.road l) in
@@ -299,10 +299,10 @@ nasch_comes_to_capacity_by_lane rule seed step road sum is legal late comes =
     (λ l. to_capacity limit (count l) cells some_limit some_cell) start step road sum comes in
     way.gone late ∙ ap (λ k. (step - seed.warm) * k) (capacities seed.road legal)
 
-pub nasch_comes_to_capacity : NaschReachesTriangle
-nasch_comes_to_capacity rule seed step road sum is legal one late comes =
+pub nasch_reaches_triangle : NaschReachesTriangle
+nasch_reaches_triangle rule seed step road sum is legal one late comes =
     let size = one_sum lane_cells seed.road.lanes one in
-    nasch_comes_to_capacity_by_lane rule seed step road sum is legal (omega (arith, late, size)) comes
+    nasch_reaches_triangle_by_lane rule seed step road sum is legal (omega (arith, late, size)) comes
     ∙ ap (λ k. (step - seed.warm) * k) (one_capacity seed.road one)
 
 -- with the limit 1 acceleration holds no car back, and so a lane leaps from the start
@@ -338,8 +338,8 @@ rule_184_by_lane rule seed step road sum is legal slow late comes =
     let same = ap (λ v. total (λ l. min (v * count l) (cells - count l)) (length seed.road.lanes)) (sym slow) in
     way.gone late ∙ ap (λ k. (step - seed.warm) * k) (same ∙ capacities seed.road legal)
 
-pub rule_184_comes_to_capacity : Rule184ReachesTriangle
-rule_184_comes_to_capacity rule seed step road sum is legal one slow late comes =
+pub rule_184_reaches_triangle : Rule184ReachesTriangle
+rule_184_reaches_triangle rule seed step road sum is legal one slow late comes =
     let size = one_sum lane_cells seed.road.lanes one in
     rule_184_by_lane rule seed step road sum is legal slow (omega (arith, late, size)) comes
     ∙ ap (λ k. (step - seed.warm) * k) (one_capacity seed.road one)

@@ -26,7 +26,7 @@ use Rattle.trlab_traffic.proofs.Places.{ahead_below}
 use Rattle.trlab_traffic.proofs.RoomAhead.{taken_or_empty}
 use Rattle.trlab_traffic.proofs.RunLanes.{run_lanes, middle_lanes}
 use Rattle.trlab_traffic.proofs.Sums.{by_lane, sum_range, total, total_add, total_none, total_same, total_swap}
-use Rattle.trlab_traffic.specs.Capacity.{empty_cells, lane_empty_cells}
+use Rattle.trlab_traffic.specs.Triangle.{empty_cells, lane_empty_cells}
 use Rattle.trlab_traffic.specs.Detector.{cars_ahead_of, passages, all_passages, cells_ahead_to}
 use Rattle.trlab_traffic.specs.DetectorRuns.{DifferByAtMost, DetectorHasCounted}
 use Rattle.trlab_traffic.specs.Rows.{RowMeasuresFlow, RowsAgree, RunSatisfiesContinuityByRows, StepIsContinuousByRows, cars_ahead_of_row, row_passages}

@@ -18,7 +18,7 @@ use Rattle.trlab_road.proofs.EvenRoads.{even_count, even_legal, no_fault}
 use Rattle.trlab_road.proofs.MotionLaws.{on_lane}
 use Rattle.trlab_road.proofs.Ring.{car_in, clear_within_gap}
 use Rattle.trlab_road.proofs.StandingOrder.{lane_car_count-some}
-use Rattle.trlab_traffic.specs.Capacity.{lane_cells}
+use Rattle.trlab_traffic.specs.Triangle.{lane_cells}
 use Rattle.trlab_traffic.specs.FreeFlow.{IsInFreeFlow}
 use Rattle.trlab_traffic.specs.Metastable.{IsRing, IsStopped, TwoFlowsAtOneDensity}
 use Rattle.trlab_traffic.proofs.EvenGaps.{gap_low, who}

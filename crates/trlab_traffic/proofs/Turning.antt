@@ -4,18 +4,18 @@ use Rattle.std.specs.Prelude.{is_none}
 use Rattle.std.proofs.lemmas.List.{ext_get_or, length-map}
 use Rattle.std.proofs.lemmas.List.FromFn.{get_or-map-range_with_len, length-map-range_with_len}
 use Rattle.trlab_road.specs.Cells.{Cell, Cells, Lane, at, lane_of}
-use Rattle.trlab_road.specs.Gaps.{ahead, behind, clear_cells, gap, greatest, headspeed, is_clear, side, sideback, sidegap, speed_in}
+use Rattle.trlab_road.specs.Gaps.{ahead, behind, clear_cells, gap, largest, headspeed, is_clear, side, sideback, sidegap, speed_in}
 use Rattle.trlab_road.specs.LaneChange.{LaneCrosses, cell_after_change}
 use Rattle.trlab_road.specs.Motion.{ComesFrom, LaneMoves}
 use Rattle.trlab_road.proofs.Ring.{inside}
 use Rattle.trlab_traffic.specs.Homogeneity.{rotate_road, rotate_lane}
 use Rattle.trlab_traffic.proofs.Places.{ahead_below, ahead_more, ahead_none, ahead_once, ahead_swap, back_ahead}
 
--- tests that agree have one greatest number
-greatest_same : (test other : ℕ → Bool) (n : ℕ) → ((k : ℕ) → test k ≡ other k) → greatest test n ≡ greatest other n
+-- tests that agree have one largest number
+greatest_same : (test other : ℕ → Bool) (n : ℕ) → ((k : ℕ) → test k ≡ other k) → largest test n ≡ largest other n
 greatest_same test other zero same = refl
 greatest_same test other (suc n) same =
-    ap (λ (b : Bool). cond b (suc n) (greatest test n)) (same (suc n)) ∙ ap (λ k. cond (other (suc n)) (suc n) k) (greatest_same test other n same)
+    ap (λ (b : Bool). cond b (suc n) (largest test n)) (same (suc n)) ∙ ap (λ k. cond (other (suc n)) (suc n) k) (greatest_same test other n same)
 
 -- ways over the same cells are as clear
 clear_same : (lane other : Lane) (way there : ℕ → ℕ) (g : ℕ) → ((j : ℕ) → at lane (way j) ≡ at other (there j)) → is_clear lane way g ≡ is_clear other there g
@@ -27,7 +27,7 @@ clear_same lane other way there (suc g) same =
 cells_same : (lane other : Lane) (way there : ℕ → ℕ) → length lane ≡ length other → ((j : ℕ) → at lane (way j) ≡ at other (there j)) → clear_cells lane way ≡ clear_cells other there
 cells_same lane other way there size same =
     greatest_same (is_clear lane way) (is_clear other there) (length lane - 1) (λ g. clear_same lane other way there g same)
-    ∙ ap (λ n. greatest (is_clear other there) (n - 1)) size
+    ∙ ap (λ n. largest (is_clear other there) (n - 1)) size
 
 -- the lane of a road that is rotated
 pub lanes_turned : (r : ℕ) (lanes : List Lane) (l : ℕ) → get_or (map (rotate_lane r) lanes) l [] ≡ rotate_lane r (get_or lanes l [])

@@ -7,7 +7,7 @@ use Rattle.trlab_machine.specs.declared.dice.Dice.{Dice}
 use Rattle.trlab_step.specs.declared.tally.StepTally.{StepTally}
 use Rattle.trlab_step.specs.Next.{IsNext}
 use Rattle.trlab_step.specs.Run.{Seed, Sheet, ComesTo}
-use Rattle.trlab_traffic.specs.Capacity.{empty_cells}
+use Rattle.trlab_traffic.specs.Triangle.{empty_cells}
 use Rattle.trlab_traffic.specs.Runs.{counted_steps}
 
 -- `changes`, the number of lane changes in `steps` steps of a road, is bounded: per step it is at most the

@@ -6,7 +6,7 @@ use Rattle.trlab_road.specs.Gaps.{ahead}
 use Rattle.trlab_road.specs.Legal.{IsLegal}
 use Rattle.trlab_step.specs.declared.tally.StepTally.{StepTally}
 use Rattle.trlab_step.specs.Run.{Seed, Sheet, ComesTo, IsRoadAt}
-use Rattle.trlab_traffic.specs.Capacity.{lane_empty_cells}
+use Rattle.trlab_traffic.specs.Triangle.{lane_empty_cells}
 use Rattle.trlab_traffic.specs.Detector.{ContinuityHolds, passages}
 use Rattle.trlab_traffic.specs.Runs.{EachRule, StaysInLane}
 

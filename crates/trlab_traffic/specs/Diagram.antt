@@ -8,13 +8,13 @@ use Rattle.trlab_rules.specs.Rules.{Programs}
 use Rattle.trlab_rules.specs.StandardRules.{IsNasch}
 use Rattle.trlab_step.specs.declared.tally.StepTally.{StepTally}
 use Rattle.trlab_step.specs.Run.{Seed, ComesTo}
-use Rattle.trlab_traffic.specs.Capacity.{all_cells, capacity, lane_max_distance}
+use Rattle.trlab_traffic.specs.Triangle.{all_cells, max_distance, lane_max_distance}
 use Rattle.trlab_traffic.specs.Runs.{always, counted_steps}
 
 -- the flow of a run is that of the triangle, min(v_max * density, 1 - density): per counted step its distance
 -- is v_max times the number of cars, or the number of empty cells, whichever is smaller
 abbrev pub FlowsOnTriangle : Seed → ℕ → StepTally → Type 0
-FlowsOnTriangle seed step sum = sum.distance ≡ counted_steps seed step * capacity seed.road
+FlowsOnTriangle seed step sum = sum.distance ≡ counted_steps seed step * max_distance seed.road
 
 -- in the Nagel-Schreckenberg model without randomization the flow of a run from any legal road of one lane
 -- with L cells is min(v_max * density, 1 - density) if `warm` is at least v_max + L - 1: time to reach v_max,

@@ -11,7 +11,7 @@ use Rattle.trlab_step.specs.declared.tally.StepTally.{StepTally}
 use Rattle.trlab_step.specs.Next.{IsNext}
 use Rattle.trlab_step.specs.Published.{AllMoveAhead}
 use Rattle.trlab_step.specs.Run.{Seed, ComesTo}
-use Rattle.trlab_traffic.specs.Capacity.{distance_at_limit}
+use Rattle.trlab_traffic.specs.Triangle.{distance_at_limit}
 use Rattle.trlab_traffic.specs.Homogeneity.{rotate_road}
 use Rattle.trlab_traffic.specs.Runs.{always, counted_steps}
 

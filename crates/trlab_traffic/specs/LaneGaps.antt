@@ -7,7 +7,7 @@ use Rattle.trlab_road.specs.Gaps.{gap}
 use Rattle.trlab_road.specs.Standing.{standing_from}
 use Rattle.trlab_step.specs.declared.tally.StepTally.{StepTally}
 use Rattle.trlab_step.specs.Run.{Seed, Sheet, ComesTo}
-use Rattle.trlab_traffic.specs.Capacity.{lane_empty_cells}
+use Rattle.trlab_traffic.specs.Triangle.{lane_empty_cells}
 use Rattle.trlab_traffic.specs.Runs.{EachRule, StaysInLane}
 
 -- the gaps of the cars of a lane, in order of place; for example, 1 and 3 on a ring of 6 cells with cars in

@@ -1,7 +1,7 @@
 -- definitions for rules and runs
 pub mod Runs
 -- how far cars go
-pub mod Capacity
+pub mod Triangle
 pub mod Moving
 pub mod Changing
 pub mod FreeFlow

@@ -11,7 +11,7 @@ use Rattle.trlab_rules.specs.Rules.{Programs}
 use Rattle.trlab_rules.specs.StandardRules.{IsVdr}
 use Rattle.trlab_step.specs.declared.tally.StepTally.{StepTally}
 use Rattle.trlab_step.specs.Run.{Seed, ComesTo}
-use Rattle.trlab_traffic.specs.Capacity.{all_cells}
+use Rattle.trlab_traffic.specs.Triangle.{all_cells}
 use Rattle.trlab_traffic.specs.FreeFlow.{FlowsFreely, IsInFreeFlow, MovesAsOne}
 use Rattle.trlab_traffic.specs.Runs.{always, counted_steps}
 

@@ -7,7 +7,7 @@ use Rattle.trlab_machine.specs.declared.dice.Dice.{Dice}
 use Rattle.trlab_step.specs.declared.tally.StepTally.{StepTally}
 use Rattle.trlab_step.specs.Next.{IsNext}
 use Rattle.trlab_step.specs.Run.{Seed, Sheet, ComesTo}
-use Rattle.trlab_traffic.specs.Capacity.{distance_at_limit}
+use Rattle.trlab_traffic.specs.Triangle.{distance_at_limit}
 use Rattle.trlab_traffic.specs.Runs.{counted_steps}
 
 -- the mean speed of moving cars in `steps` steps of a road, with the tally `sum`, is from 1 to the limit: if

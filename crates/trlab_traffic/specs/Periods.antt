@@ -5,7 +5,7 @@ use Rattle.trlab_road.specs.Legal.{IsLegal}
 use Rattle.trlab_rules.specs.Rules.{Programs}
 use Rattle.trlab_step.specs.Laws.{IsRuleFor}
 use Rattle.trlab_step.specs.Run.{Seed, Sheet, IsRoadAt}
-use Rattle.trlab_traffic.specs.Capacity.{all_cells}
+use Rattle.trlab_traffic.specs.Triangle.{all_cells}
 use Rattle.trlab_traffic.specs.Certainty.{IsDeterministic}
 use Rattle.trlab_traffic.specs.Runs.{always}
 

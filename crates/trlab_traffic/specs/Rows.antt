@@ -10,7 +10,7 @@ use Rattle.trlab_machine.specs.declared.dice.Dice.{Dice}
 use Rattle.trlab_step.specs.declared.tally.StepTally.{StepTally}
 use Rattle.trlab_step.specs.Next.{IsNext}
 use Rattle.trlab_step.specs.Run.{Seed, Sheet, ComesTo, IsRoadAt}
-use Rattle.trlab_traffic.specs.Capacity.{empty_cells}
+use Rattle.trlab_traffic.specs.Triangle.{empty_cells}
 use Rattle.trlab_traffic.specs.Detector.{cars_ahead_of, passages}
 use Rattle.trlab_traffic.specs.DetectorRuns.{DifferByAtMost, DetectorHasCounted}
 

@@ -3,8 +3,8 @@
 //! Each law is the contract of a function with an empty body.
 
 ghost use Rattle.trlab_traffic.specs.Apart.{RunKeepsLanesApart, StepKeepsLanesApart};
-ghost use Rattle.trlab_traffic.specs.Capacity.{CellsAreTakenOrEmpty, RunStaysUnderTriangle, StepStaysUnderTriangle};
-ghost use Rattle.trlab_traffic.specs.Capacity.{RunKeepsBelowPeak};
+ghost use Rattle.trlab_traffic.specs.Triangle.{CellsAreTakenOrEmpty, RunStaysUnderTriangle, StepStaysUnderTriangle};
+ghost use Rattle.trlab_traffic.specs.Triangle.{RunKeepsBelowPeak};
 ghost use Rattle.trlab_traffic.specs.Certainty.{NaschWithoutRandomizationIsDeterministic, RunIsDeterministic, StepIsDeterministic};
 ghost use Rattle.trlab_traffic.specs.Changing.{RunBoundsLaneChanges, StepBoundsLaneChanges};
 ghost use Rattle.trlab_traffic.specs.Detector.{DetectorCountsAtMostOne, DetectorsCountDistance, StepSatisfiesContinuity};
@@ -38,13 +38,13 @@ ghost use Rattle.trlab_traffic.specs.Symmetry.{RickertIgnoresLane, RunIsSymmetri
 /// The distance of a step is at most the number of empty cells, and at most v_max times the number of cars, under every
 /// rule and on every legal road. So flow against density is always under the triangle min(v_max * density, 1 -
 /// density).
-pub fn step_keeps_to_capacity()
+pub fn step_stays_under_triangle()
     ensures { StepStaysUnderTriangle }
 {}
 
 /// The mean distance of the counted steps of a run is at most the number of empty cells, and at most v_max times the
 /// number of cars, under any schedule of rules. Cars and empty cells together are all cells of a road.
-pub fn run_keeps_to_capacity()
+pub fn run_stays_under_triangle()
     ensures cells { CellsAreTakenOrEmpty }
     ensures run { RunStaysUnderTriangle }
 {}
@@ -189,7 +189,7 @@ pub fn lanes_are_apart()
 
 /// If programs are deterministic, the key does not matter: a road has one next road for all dice, and a run is
 /// the same for all keys. The Nagel-Schreckenberg model without randomization is deterministic.
-pub fn certain_rules_are_deterministic()
+pub fn deterministic_rules_ignore_key()
     ensures nasch { NaschWithoutRandomizationIsDeterministic }
     ensures step { StepIsDeterministic }
     ensures run { RunIsDeterministic }
@@ -197,7 +197,7 @@ pub fn certain_rules_are_deterministic()
 
 /// A run under a deterministic rule becomes periodic: from some step on its roads repeat for ever. The number of this
 /// step plus the period is at most (cells * (v_max + 1)) ^ cars, an upper bound on the number of roads.
-pub fn certain_rules_become_periodic()
+pub fn deterministic_runs_become_periodic()
     ensures { DeterministicRunsBecomePeriodic }
 {}
 
@@ -221,19 +221,19 @@ pub fn nasch_is_rule_184()
 /// initial state and for every v_max the flow reaches min(v_max * density, 1 - density). On several lanes each lane
 /// reaches its own triangle. (For cars that reach their speed at once: Fukui and Ishibashi 1996, J. Phys. Soc. Japan
 /// 65, 1868.)
-pub fn nasch_comes_to_capacity()
+pub fn nasch_reaches_triangle()
     ensures one_lane { NaschReachesTriangle }
     ensures by_lane { NaschReachesTriangleByLane }
 {}
 
 /// With v_max = 1 a run on one lane reaches the triangle one step sooner: rule 184 relaxes within one lap of the ring
 /// (Krug and Spohn 1988, Phys. Rev. A 38, 4271).
-pub fn rule_184_comes_to_capacity()
+pub fn rule_184_reaches_triangle()
     ensures { Rule184ReachesTriangle }
 {}
 
 /// Evenly spaced, stopped cars reach the triangle within v_max - 1 steps, the time to reach v_max.
-pub fn even_cars_flow_at_capacity()
+pub fn even_cars_flow_on_triangle()
     ensures { EvenCarsFlowOnTriangle }
 {}
 

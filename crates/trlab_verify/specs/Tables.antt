@@ -15,7 +15,7 @@ use Rattle.trlab_verify.specs.Verdict.{IsRefused}
 
 -- the empty note, in which nothing is known
 abbrev pub empty_note : Note
-empty_note = record { said = λ x. Nothing; level = λ x y. 0; side = false }
+empty_note = record { values = λ x. Nothing; level = λ x y. 0; side = false }
 
 -- the note of the instruction at pc in a table; the empty note if the table has none
 abbrev pub note_in : List Note → ℕ → Note

@@ -16,7 +16,7 @@ ghost use Rattle.trlab_verify.specs.Tables.{Checks, ChecksAt};
 
 use crate::note::{Note, read};
 use trlab_code::{Code, Instr, Kind, MAX_INSTRUCTIONS};
-use trlab_notes::{Stored, is_no_stronger, jump_note, next_note, reason_against};
+use trlab_notes::{StoredNote, is_no_stronger, jump_note, next_note, reason_against};
 
 /// Whether an instruction jumps to q.
 fn jumps_to(instr: Instr, q: usize) -> bool
@@ -50,7 +50,7 @@ fn is_reached(instrs: &[Instr], q: usize) -> bool
 }
 
 /// Whether the note that a form means is no stronger than another.
-fn is_within(kind: Kind, form: &Note, note: &Stored) -> bool
+fn is_within(kind: Kind, form: &Note, note: &StoredNote) -> bool
     ensures { IsTrue result ↔ IsNoStronger (meaning kind form.now) (note_of note.now) }
 {
     match read(kind, form) {
@@ -60,7 +60,7 @@ fn is_within(kind: Kind, form: &Note, note: &Stored) -> bool
 }
 
 /// Whether the next instruction's note in the table is no stronger than the note that `pc` sends there.
-fn checks_next(kind: Kind, table: &[Note], pc: usize, note: &Stored, instr: Instr) -> bool
+fn checks_next(kind: Kind, table: &[Note], pc: usize, note: &StoredNote, instr: Instr) -> bool
     requires inside { pc < length table.now }
     requires in_range { IsInRange instr }
     requires fits { may_be_too_large (note_of note.now) instr ≡ false }
@@ -78,7 +78,7 @@ fn checks_next(kind: Kind, table: &[Note], pc: usize, note: &Stored, instr: Inst
 }
 
 /// Whether the note of a jump's target in the table is no stronger than the note that the jump sends there.
-fn checks_target(kind: Kind, table: &[Note], note: &Stored, instr: Instr) -> bool
+fn checks_target(kind: Kind, table: &[Note], note: &StoredNote, instr: Instr) -> bool
     ensures { IsTrue result ↔ ((t : ℕ) → target instr ≡ Some t → t < length table.now →
         IsNoStronger (meaning_at kind table.now t) (jump_note (note_of note.now) instr)) }
 {
@@ -130,7 +130,7 @@ pub fn check_notes(code: &Code, table: &[Note]) -> bool
     if table.len() != instrs.len() {
         return false;
     }
-    if !is_within(kind, &table[0], &Stored::entry(kind)) {
+    if !is_within(kind, &table[0], &StoredNote::entry(kind)) {
         return false;
     }
     for pc in 0..instrs.len() {

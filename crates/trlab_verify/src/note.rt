@@ -10,7 +10,7 @@ ghost use Rattle.trlab_notes.specs.Stored.{note_of};
 ghost use Rattle.trlab_verify.specs.TableForm.{form_value, mark_value, meaning, HasValidLevels, HasInputRanges};
 
 use trlab_code::{Kind, VARIABLES};
-use trlab_notes::{AbstractValue, BELOW, Stored, entry_levels, entry_said, level_between};
+use trlab_notes::{AbstractValue, BELOW, StoredNote, entry_levels, entry_values, level_between};
 
 /// The abstract value of a register.
 #[derive(Clone, Copy, PartialEq, Eq)]
@@ -63,7 +63,7 @@ fn mark_of(value: AbstractValue) -> Mark
 fn variables(kind: Kind, form: &Note) -> [AbstractValue; VARIABLES]
     ensures { (x : AVariable) → value_in result x ≡ form_value kind form.now x }
 {
-    let mut variables = entry_said(kind);
+    let mut variables = entry_values(kind);
     for x in 0..8 {
         variables[x] = mark_value(form.regs[x]);
     }
@@ -71,13 +71,13 @@ fn variables(kind: Kind, form: &Note) -> [AbstractValue; VARIABLES]
 }
 
 /// Whether no known level of the variable with the number x is above `BELOW`.
-fn has_levels_from(said: &[AbstractValue; VARIABLES], levels: &[u8; VARIABLES], x: usize) -> bool
+fn has_levels_from(values: &[AbstractValue; VARIABLES], levels: &[u8; VARIABLES], x: usize) -> bool
     requires { x < VARIABLES }
     ensures { IsTrue result ↔ ((y : ℕ) → y < VARIABLES →
-        known_level_from said.now x y (slice_index levels.now y) ≤ BELOW) }
+        known_level_from values.now x y (slice_index levels.now y) ≤ BELOW) }
 {
     for y in 0..VARIABLES {
-        if level_between(said[x], said[y], x == y, levels[y]) > BELOW {
+        if level_between(values[x], values[y], x == y, levels[y]) > BELOW {
             return false;
         }
     }
@@ -85,11 +85,11 @@ fn has_levels_from(said: &[AbstractValue; VARIABLES], levels: &[u8; VARIABLES], 
 }
 
 /// Whether no known level is above `BELOW`, the largest level.
-fn has_levels(said: &[AbstractValue; VARIABLES], levels: &[[u8; VARIABLES]; VARIABLES]) -> bool
-    ensures { IsTrue result ↔ AreValidLevels said.now levels.now }
+fn has_levels(values: &[AbstractValue; VARIABLES], levels: &[[u8; VARIABLES]; VARIABLES]) -> bool
+    ensures { IsTrue result ↔ AreValidLevels values.now levels.now }
 {
     for x in 0..VARIABLES {
-        if !has_levels_from(said, &levels[x], x) {
+        if !has_levels_from(values, &levels[x], x) {
             return false;
         }
     }
@@ -97,26 +97,26 @@ fn has_levels(said: &[AbstractValue; VARIABLES], levels: &[[u8; VARIABLES]; VARI
 }
 
 /// The note that a form means, as it is stored; `None` if a known level is above `BELOW`.
-pub fn read(kind: Kind, form: &Note) -> Option<Stored>
+pub fn read(kind: Kind, form: &Note) -> Option<StoredNote>
     ensures none { result ≡ None → ¬ (HasValidLevels (meaning kind form.now)) }
     ensures some { IfSome result (λ stored. HasValidLevels (meaning kind form.now)) }
     ensures stored { IfSome result (λ stored. note_of stored ≡ closure (meaning kind form.now)) }
 {
-    let said = variables(kind, form);
-    if !has_levels(&said, &form.levels) {
+    let values = variables(kind, form);
+    if !has_levels(&values, &form.levels) {
         return None;
     }
-    Some(Stored::new(said, &form.levels, form.side))
+    Some(StoredNote::new(values, &form.levels, form.side))
 }
 
 /// The form of a note. The note must have the ranges of the inputs, because a form does not list them.
-pub fn write(kind: Kind, note: &Stored) -> Note
+pub fn write(kind: Kind, note: &StoredNote) -> Note
     requires { HasInputRanges kind (note_of note.now) }
     ensures { meaning kind result ≡ note_of note.now }
 {
     let mut regs = [Mark::Unset; 8];
     for x in 0..8 {
-        regs[x] = mark_of(note.said[x]);
+        regs[x] = mark_of(note.values[x]);
     }
     Note {
         regs,
@@ -129,7 +129,7 @@ pub fn write(kind: Kind, note: &Stored) -> Note
 pub fn first_note(kind: Kind) -> Note
     ensures { meaning kind result ≡ entry kind }
 {
-    let mut note = write(kind, &Stored::entry(kind));
+    let mut note = write(kind, &StoredNote::entry(kind));
     let levels = entry_levels();
     note.levels = levels;
     note

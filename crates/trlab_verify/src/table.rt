@@ -16,7 +16,7 @@ use crate::verdict::{Rejection, judge, start_notes};
 use std::alloc::{AllocError, Global};
 use thiserror::Error;
 use trlab_code::{Code, Instr, Kind, MAX_INSTRUCTIONS};
-use trlab_notes::{Reason, Stored};
+use trlab_notes::{Reason, StoredNote};
 
 /// Why a program has no notes.
 #[derive(Debug, Drop, Error)]
@@ -38,7 +38,7 @@ impl From<AllocError> for NotesFault {
 }
 
 /// The form of the stored note of the instruction at `pc`. The first form has only the levels at the start.
-fn write_at(kind: Kind, pc: usize, stored: &Stored) -> Note
+fn write_at(kind: Kind, pc: usize, stored: &StoredNote) -> Note
     requires { HasInputRanges kind (note_of stored.now) }
     ensures first { pc ≡ 0 → meaning kind result ≡ entry kind }
     ensures later { 0 < pc → meaning kind result ≡ note_of stored.now }
@@ -54,7 +54,7 @@ fn write_at(kind: Kind, pc: usize, stored: &Stored) -> Note
 pub fn write_all(
     alloc: Global,
     kind: Kind,
-    stored: &[Option<Stored>],
+    stored: &[Option<StoredNote>],
 ) -> Result<Vec<Note>, AllocError>
     requires { (pc : ℕ) → pc < length stored.now →
         (note : ANote) × (stored_note_at stored.now pc ≡ Some note) × HasInputRanges kind note }
@@ -78,7 +78,7 @@ fn judge_notes(
     alloc: Global,
     kind: Kind,
     instrs: &[Instr],
-    stored: &mut [Option<Stored>],
+    stored: &mut [Option<StoredNote>],
 ) -> Result<Vec<Note>, NotesFault>
     requires few { length instrs.now ≤ MAX_INSTRUCTIONS }
     requires in_range { All IsInRange instrs.now }
@@ -133,7 +133,7 @@ fn judge_rejected(
     alloc: Global,
     kind: Kind,
     instrs: &[Instr],
-    stored: &mut [Option<Stored>],
+    stored: &mut [Option<StoredNote>],
 ) -> Result<Option<Vec<Note>>, AllocError>
     requires few { length instrs.now ≤ MAX_INSTRUCTIONS }
     requires in_range { All IsInRange instrs.now }
@@ -159,7 +159,7 @@ fn judge_rejected(
 /// # Errors
 ///
 /// If an allocation fails.
-pub fn notes_of_refused(alloc: Global, code: &Code) -> Result<Option<Vec<Note>>, AllocError>
+pub fn notes_of_rejected(alloc: Global, code: &Code) -> Result<Option<Vec<Note>>, AllocError>
     ensures { IfOk result (λ notes. MatchOption notes (IsAccepted code.now.kind code.now)
         (λ notes. AreNotesOfRejected code.now.kind code.now (table_of code.now.kind notes.items))) }
 {

@@ -35,12 +35,12 @@ pub fn words(key: &Key, road: u32, car: u32, step: u32) -> [u32; 16]
 /// A key prepared for many calls: its eight words of 32 bits, and the start of one step's blocks, which makes the
 /// random words of this step faster to compute, but does not change them.
 #[derive(Drop)]
-pub struct KeyWords {
+pub struct PreparedKey {
     key_words: [u32; 8],
     start: StepStart,
 }
 
-impl Model for KeyWords {
+impl Model for PreparedKey {
     ghost Value = { List ℕ };
 
     ghost view = { λ key. seed_of key.key_words };
@@ -49,12 +49,12 @@ impl Model for KeyWords {
         × StartsStep key.key_words key.start.road key.start.step key.start.initial key.start.columns };
 }
 
-impl KeyWords {
+impl PreparedKey {
     /// A copy of the key. It allocates nothing.
-    pub fn copy(&self) -> KeyWords
+    pub fn copy(&self) -> PreparedKey
         ensures { result ≡ self.now }
     {
-        KeyWords {
+        PreparedKey {
             key_words: self.key_words,
             start: self.start,
         }
@@ -63,11 +63,11 @@ impl KeyWords {
 
 impl Key {
     /// The key, prepared for the random words of one step of a road.
-    pub fn words_for_step(&self, road: u32, step: u32) -> KeyWords
+    pub fn prepare(&self, road: u32, step: u32) -> PreparedKey
         ensures { result ≡ self.now.0 }
     {
         let key_words = read_key_words(&self.0);
-        KeyWords {
+        PreparedKey {
             key_words,
             start: StepStart::new(&key_words, road, step),
         }
@@ -94,7 +94,7 @@ fn read_key_words(bytes: &[u8]) -> [u32; 8]
 
 /// Random word `k`, 0 to 15, of each of eight cars in a step of a road: entry `k` of the car's `words`. This is faster
 /// for the road and the step for which the key was prepared.
-pub fn word_of_cars(key: &KeyWords, road: u32, cars: [u32; 8], step: u32, k: usize) -> [u32; 8]
+pub fn word_of_cars(key: &PreparedKey, road: u32, cars: [u32; 8], step: u32, k: usize) -> [u32; 8]
     requires { k < 16 }
     ensures { (j : ℕ) → j < 8 → slice_index result j ≡ random_word key.now road (slice_index cars j) step k }
 {

@@ -100,7 +100,7 @@ impl<X: Write> Sink for Watched<X> {
 
     ghost accepted = { accepted_bytes };
 
-    ghost handed_on = { has_flushed_all };
+    ghost is_flushed = { has_flushed_all };
 
     ghost flushes = { flush_count };
 

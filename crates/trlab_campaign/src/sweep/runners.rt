@@ -4,7 +4,7 @@
 ghost use Rattle.std.specs.Prelude.{◌≡◌, ◌<◌, ◌≤◌, ◌-◌, All, IfOk, OnOk, get_or, length};
 ghost use Rattle.trlab_bounds.specs.declared.runs.TheConstants.{MAX_RUNNERS, MAX_WORKERS};
 ghost use Rattle.trlab_diagram.specs.Flow.{IsMeasured};
-ghost use Rattle.trlab_book.specs.Desks.{parts_of};
+ghost use Rattle.trlab_book.specs.Desks.{part_count};
 ghost use Rattle.trlab_campaign.specs.SweepOutput.{AreFirstPoints, ArePoints, IsPoint};
 ghost use Rattle.trlab_strands.specs.Tokens.{name_of};
 
@@ -112,7 +112,7 @@ impl<'a, R: Threads + Wait + Sync, O: ProgressObserver + Sync> Runners<'a, R, O>
     ) -> Result<(), AllocError>
         requires some { batch.first ≤ batch.end }
         requires inside { batch.end ≤ length self.now.sweep.now.cars }
-        ensures { parts_of desk.new ≡ parts_of desk.old }
+        ensures { part_count desk.new ≡ part_count desk.old }
     {
         let sweep = self.sweep;
         for job in 0..batch.len() {

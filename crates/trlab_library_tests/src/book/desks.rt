@@ -2,7 +2,7 @@
 
 ghost use Rattle.std.specs.Prelude.{◌≡◌, ◌<◌, ◌≤◌};
 ghost use Rattle.std.specs.Thread.{IsSend, IsSync};
-ghost use Rattle.trlab_book.specs.Desks.{parts_of};
+ghost use Rattle.trlab_book.specs.Desks.{part_count};
 ghost use Rattle.trlab_strands.specs.Tokens.{name_of};
 
 use crate::book::common::books::{events_of, new_blank, reads, replace, submit};
@@ -69,7 +69,7 @@ fn at_desks<L: Ledger + Send + Sync, R: Threads + Wait + Sync>(
     mut desk: Desk<L>,
     threads: u32,
 ) -> (Desk<L>, bool)
-    requires threads { (0 < threads) × (threads ≤ parts_of desk) }
+    requires threads { (0 < threads) × (threads ≤ part_count desk) }
 {
     let others = threads - 1;
     if others == 0 {
@@ -81,7 +81,7 @@ fn at_desks<L: Ledger + Send + Sync, R: Threads + Wait + Sync>(
         move || at_desk(rt, alloc, book, theirs),
         move || -> (Desk<L>, bool)
             requires { IsSync R.row × IsSend L.row × IsSync L.row
-                × (0 < others) × (others ≤ parts_of desk) }
+                × (0 < others) × (others ≤ part_count desk) }
         { at_desks(rt, alloc, book, desk, others) },
     );
     (book.gather(theirs, mine), one && other)

@@ -1,7 +1,7 @@
 //! The example of the guide to the book: two runners, and a rule that is replaced while they run.
 
 ghost use Rattle.std.specs.Prelude.{◌≡◌, ◌≤◌};
-ghost use Rattle.trlab_book.specs.Desks.{parts_of};
+ghost use Rattle.trlab_book.specs.Desks.{part_count};
 ghost use Rattle.trlab_strands.specs.Tokens.{name_of};
 
 use crate::book::common::books::{desk_and_success, events_of, new_blank, replace, submit};
@@ -49,7 +49,7 @@ fn run_and_replace<L: Ledger + Send + Sync, R: Threads + Wait + Sync>(
         rt,
         || replace_late(rt, alloc, book, theirs),
         || -> (Desk<L>, bool)
-            requires { 2 ≤ parts_of mine }
+            requires { 2 ≤ part_count mine }
         { desk_and_success(run_jobs(rt, alloc, book, mine, RUNNERS, WORKERS, &OpenGate)) },
     );
     (book.gather(mine, theirs), ran, entered)

@@ -1,7 +1,7 @@
 //! A book can be called while a gate holds its runner.
 
 ghost use Rattle.std.specs.Prelude.{◌≡◌, ◌≤◌};
-ghost use Rattle.trlab_book.specs.Desks.{parts_of};
+ghost use Rattle.trlab_book.specs.Desks.{part_count};
 ghost use Rattle.trlab_strands.specs.Tokens.{name_of};
 
 use crate::book::common::books::{desk_and_success, history_of, new_blank, reads, replace, submit};
@@ -99,7 +99,7 @@ fn run_held<L: Ledger + Send + Sync, R: Threads + Wait + Sync>(
         rt,
         || end_held(rt, alloc, book, theirs, &gate, end),
         || -> (Desk<L>, bool)
-            requires { 1 ≤ parts_of mine }
+            requires { 1 ≤ part_count mine }
         { desk_and_success(run_jobs(rt, alloc, book, mine, RUNNERS, WORKERS, &gate)) },
     );
     (book.gather(mine, theirs), answered && ran)

@@ -3,7 +3,7 @@
 use crate::sentence::{Draft, Shown};
 use trlab_asm::{INPUTS, REGISTERS, input_text, register_text};
 use trlab_code::{Kind, Register, VARIABLES};
-use trlab_notes::{AbstractValue, entry_said, level_between};
+use trlab_notes::{AbstractValue, entry_values, level_between};
 use trlab_verify::{Mark, Note};
 
 /// The name of a variable: a register or an input.
@@ -33,7 +33,7 @@ fn level_of_ranges(note: &Note, inputs: &[AbstractValue], variable: usize, high:
 /// Adds the variables that bound a register from above, unless the bound follows from the ranges.
 fn push_orders(fact: &mut Draft, note: &Note, register: Register, high: u32) {
     let own = register.number();
-    let inputs = entry_said(Kind::Change);
+    let inputs = entry_values(Kind::Change);
     for variable in 0..VARIABLES {
         let level = note.levels[own][variable];
         if variable == own || level <= level_of_ranges(note, &inputs, variable, high) {

@@ -9,7 +9,7 @@ use std::alloc::Global;
 use trlab_asm::register_text;
 use trlab_code::{Instr, Register};
 use trlab_notes::{Operands, Reason};
-use trlab_verify::{Mark, Note, notes_of_refused};
+use trlab_verify::{Mark, Note, notes_of_rejected};
 
 /// Adds the facts about the registers that an instruction reads.
 fn push_operands(known: &mut Draft, note: &Note, instr: Instr) {
@@ -131,7 +131,7 @@ fn add_reason(body: &mut Body, program: Listing<'_>, notes: &[Note], pc: u32, re
 
 /// Adds why a program is rejected at an instruction.
 pub fn add_rejection(body: &mut Body, program: Listing<'_>, pc: u32, reason: Reason) {
-    let notes = notes_of_refused(body.alloc, program.code);
+    let notes = notes_of_rejected(body.alloc, program.code);
     if let Some(Some(notes)) = body.ok_or_fail(notes) {
         add_reason(body, program, &notes, pc, reason);
     }

@@ -63,7 +63,7 @@ returns-in_err-lanes-clause-back c = let p = err_from_is_err_and c.from_residual
 pub returns-in_err-lanes-clause-told : goal.returns-in_err-lanes-clause-told
 returns-in_err-lanes-clause-told c = let p = err_from_is_err_and c.from_residual-in_err-lanes.result c.from_residual-in_err-lanes.ensures.1 in λ fault f other. inr (p.1 ∙ ap Err p.2)
 
--- good pictures are good under the greatest limit too
+-- good pictures are good under the largest limit too
 shows_more : (limit character : ℕ) → limit ≤ MAX_LIMIT → ShowsCell limit character → ShowsCell MAX_LIMIT character
 shows_more limit character low (inl empty) = inl empty
 shows_more limit character low (inr shown) = inr (record { speed = shown.speed; within = (let within = shown.within in omega (arith, low, within)); shown = shown.shown })
