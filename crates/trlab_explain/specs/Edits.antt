@@ -14,19 +14,19 @@ abbrev pub edited : ℕ → ℕ → List ℕ → List ℕ → List ℕ
 edited at removed inserted text = take at text ++ (inserted ++ drop (at + removed) text)
 
 -- the line of the first fault, by the result of reading a text; none if the text is valid
-abbrev pub line_of_fault : {A : Type 0} → Result A Fault → Option ℕ
-line_of_fault (Ok x) = None
-line_of_fault (Err fault) = Some fault.line
+abbrev pub first_fault_line : {A : Type 0} → Result A Fault → Option ℕ
+first_fault_line (Ok x) = None
+first_fault_line (Err fault) = Some fault.line
 
 -- `line` is the line of the first fault of a text that is read as a job, a sweep or a check; none if the text
 -- is valid
 abbrev pub HasFirstFault : Subject → List ℕ → Option ℕ → Type 0
 HasFirstFault Job text line =
-    (result : Result JobSaid Fault) × ParsesAsJob text result × (line ≡ line_of_fault result)
+    (result : Result JobSaid Fault) × ParsesAsJob text result × (line ≡ first_fault_line result)
 HasFirstFault Sweep text line =
-    (result : Result SweepSaid Fault) × ParsesAsSweep text result × (line ≡ line_of_fault result)
+    (result : Result SweepSaid Fault) × ParsesAsSweep text result × (line ≡ first_fault_line result)
 HasFirstFault Check text line =
-    (result : Result CheckSaid Fault) × ParsesAsCheck text result × (line ≡ line_of_fault result)
+    (result : Result CheckSaid Fault) × ParsesAsCheck text result × (line ≡ first_fault_line result)
 
 -- a text with the lines `changed` has no fault; or its first fault is after the line `number`, and fewer
 -- lines come after it than after the line `number` in a text with the lines `lines`. For example, line 4 of

@@ -51,16 +51,16 @@ accepted_line budget = codes "accepted budget " ++ (decimal budget ++ (10 ∷ []
 -- the parts of the head for the program of a check. If the verifier accepts it: not rejected (`false`), with
 -- the line `accepted budget B`, where B is the number of instructions on the program's longest path. If the
 -- verifier rejects it: rejected (`true`), with the line `refused at N reason R`, and no quote
-abbrev pub IsVerdict : CheckSaid → Bool → List ℕ → List ℕ → Type 0
-IsVerdict check false answer quote = IsAccepted check.program.kind check.program × ((budget : ℕ)
+abbrev pub IsProgramAnswer : CheckSaid → Bool → List ℕ → List ℕ → Type 0
+IsProgramAnswer check false answer quote = IsAccepted check.program.kind check.program × ((budget : ℕ)
     × IsLongest check.program.instrs 0 budget × (answer ≡ accepted_line budget))
-IsVerdict check true answer quote =
+IsProgramAnswer check true answer quote =
     (at reason : ℕ) × IsRefused check.program.kind check.program at reason
     × (answer ≡ refused_line at reason) × (quote ≡ [])
 
 -- the head for the program of a check, by the verdict of the verifier
 abbrev pub IsProgramHead : CheckSaid → Head → Type 0
-IsProgramHead check head = IsVerdict check head.is_rejected head.answer head.quote
+IsProgramHead check head = IsProgramAnswer check head.is_rejected head.answer head.quote
 
 -- the head for the text of a check, by the result of reading it: for a valid text, the head for its program;
 -- for an invalid one, the head for its fault

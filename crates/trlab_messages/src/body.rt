@@ -2,9 +2,9 @@
 
 use crate::Result;
 use crate::amount::Amount;
+use crate::byte_span::ByteSpan;
 use crate::repairs::RepairInWords;
 use crate::sentence::Draft;
-use crate::span::Span;
 use std::alloc::{AllocError, Global};
 use trlab_jobs::Subject;
 use trlab_texts::Cause;
@@ -44,7 +44,7 @@ pub struct Problem {
     /// The line, as the text form quotes it; `None` at the end of the input.
     pub text: Option<Draft>,
     /// The bytes at fault in the line. `None` means the whole line.
-    pub span: Option<Span>,
+    pub span: Option<ByteSpan>,
     /// The forms that would be valid, one per line.
     pub expected: Draft,
     /// The problem in words; empty if the meaning of the cause is enough.

@@ -1,6 +1,7 @@
 //! The first error of an input: the expected forms, the problem, and a repair.
 
 use crate::body::{Body, Problem};
+use crate::byte_span::ByteSpan;
 use crate::causes::cause_hint;
 use crate::forms::{EXPECTED_OF_CHECK, INSTRUCTIONS, form_of_instruction, form_of_line};
 use crate::names::line_named;
@@ -8,7 +9,6 @@ use crate::problem::{describe_problem, span_of};
 use crate::program::add_rejected_part;
 use crate::repairs::{Repair, RepairInWords};
 use crate::sentence::{Draft, Quoted};
-use crate::span::Span;
 use trlab_asm::{Why, mnemonic_named};
 use trlab_jobs::Subject;
 use trlab_lines::{Place, name_and_operands};
@@ -38,14 +38,14 @@ impl<'a> Fault<'a> {
     }
 
     /// The word at fault, if its reader names one.
-    pub fn word(&self) -> Option<Span> {
+    pub fn word(&self) -> Option<ByteSpan> {
         let (at, length) = match self.wanted {
             Wanted::Number { at, length, .. } => (*at, *length),
             Wanted::Digits { at } => (*at, self.within.len().saturating_sub(*at)),
             _ => return None,
         };
         let before = self.line.len().saturating_sub(self.within.len());
-        Some(Span {
+        Some(ByteSpan {
             start: before.saturating_add(at),
             length,
         })

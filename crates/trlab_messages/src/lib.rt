@@ -11,6 +11,7 @@
 mod alike;
 mod amount;
 mod body;
+mod byte_span;
 mod candidates;
 mod causes;
 mod fault;
@@ -26,7 +27,6 @@ mod reasons;
 mod repairs;
 mod rules;
 mod sentence;
-mod span;
 mod sweep;
 mod text;
 mod topics;

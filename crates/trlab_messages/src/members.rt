@@ -1,13 +1,13 @@
 //! The JSON form of explanations: the members that describe the input, its error and its work.
 
 use crate::body::{Body, Known, Number, Problem, Rejection};
+use crate::byte_span::ByteSpan;
 use crate::causes::cause_meaning;
 use crate::object_writer::{
     ObjectWriter, add_amount, add_count, add_lines, add_string, add_words, begin_member,
 };
 use crate::repairs::{Change, RepairInWords, command_of};
 use crate::sentence::{Draft, Shown};
-use crate::span::Span;
 use json::Token;
 use trlab_code::CodeFault;
 use trlab_texts::Cause;
@@ -16,9 +16,9 @@ use trlab_texts::Cause;
 const FORMAT: u64 = 1;
 
 /// Adds the first and the last byte of a span, counted from 1.
-fn add_span<W: ObjectWriter>(out: &mut W, span: Option<Span>) {
+fn add_span<W: ObjectWriter>(out: &mut W, span: Option<ByteSpan>) {
     match span {
-        Some(Span { start, length }) => {
+        Some(ByteSpan { start, length }) => {
             add_count(out, "first", (start as u64).saturating_add(1));
             add_count(out, "last", start.saturating_add(length) as u64);
         }
@@ -108,7 +108,7 @@ fn add_repair<W: ObjectWriter>(out: &mut W, found: &RepairInWords) {
             begin_member(out, "edits", Token::BeginArray);
             out.token(Ok(Token::BeginObject));
             add_count(out, "line", u64::from(found.line_number));
-            let removed = Span {
+            let removed = ByteSpan {
                 start: found.before,
                 length: edit.removed,
             };

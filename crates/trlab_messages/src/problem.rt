@@ -3,12 +3,12 @@
 mod line;
 mod program;
 
+use crate::byte_span::ByteSpan;
 use crate::fault::Fault;
 use crate::instruction::operand_at_fault;
 use crate::problem::line::push_line_problem;
 use crate::problem::program::{push_program_problem, word_span};
 use crate::sentence::{Draft, Quoted};
-use crate::span::Span;
 use trlab_asm::Why;
 use trlab_lines::bytes_at;
 use trlab_road::RoadFault;
@@ -87,19 +87,19 @@ fn push_speed_problem(found: &mut Draft, fault: &Fault<'_>, limit: u32) {
 }
 
 /// The bytes at fault in their line. `None` means the whole line.
-pub fn span_of(fault: &Fault<'_>) -> Option<Span> {
+pub fn span_of(fault: &Fault<'_>) -> Option<ByteSpan> {
     let line = fault.line;
     match fault.cause {
         Cause::Road(
             RoadFault::Character { place, .. } | RoadFault::SpeedAboveLimit { place, .. },
-        ) => Some(Span {
+        ) => Some(ByteSpan {
             start: BEFORE_CELLS.saturating_add(place as usize),
             length: 1,
         }),
         Cause::Program(Why::Word) => word_span(line),
         Cause::Program(why) => {
             let found = operand_at_fault(line, why)?;
-            Some(Span {
+            Some(ByteSpan {
                 start: found.at,
                 length: found.word.len(),
             })

@@ -13,7 +13,7 @@ use Rattle.trlab_strands.proofs.Seats.{total_set, each_set, each_snoc, alone, ti
 use Rattle.trlab_segments.specs.declared.ticket_rule.Plan.{Plan}
 use Rattle.trlab_segments.specs.declared.ticket_rule.TicketKnowledge.{TicketKnowledge}
 use Rattle.trlab_strands.specs.Knowledge.{once_below}
-use Rattle.trlab_segments.specs.Knowledge.{occurrences, IsPermutation, no_knowledge, with_ticket, at_end, less_a_pass, one_pass, both_drawers, passes_at_end}
+use Rattle.trlab_segments.specs.Knowledge.{occurrences, IsPermutation, idle_knowledge, with_ticket, at_end, less_a_pass, one_pass, both_drawers, passes_at_end}
 use Rattle.trlab_segments.specs.Rule.{IsSoundDrawer, AreSoundDrawers, SatisfiesTicketInvariant, DrawsTicket, ReadsCounter, AgreesWithCounter}
 
 total_le : (f g : TicketKnowledge → ℕ) → ((v : TicketKnowledge) → f v ≤ g v) → (views : List TicketKnowledge) → sum_by f views ≤ sum_by g views
@@ -131,7 +131,7 @@ ended_both true false m n = omega arith
 ended_both false true m n = omega arith
 ended_both false false m n = omega arith
 
-pub joins : (plan : Plan) (id : ℕ) (v : TicketKnowledge) (other : ℕ) (w : TicketKnowledge) → 0 < v.passes → 0 < w.passes → Joins (SatisfiesTicketInvariant plan) id v other w (both_drawers v w) no_knowledge
+pub joins : (plan : Plan) (id : ℕ) (v : TicketKnowledge) (other : ℕ) (w : TicketKnowledge) → 0 < v.passes → 0 < w.passes → Joins (SatisfiesTicketInvariant plan) id v other w (both_drawers v w) idle_knowledge
 joins plan id v other w some_v some_w s r at apart there =
     let b = both_drawers v w in
     let views = set s.views id b in
@@ -148,21 +148,21 @@ joins plan id v other w some_v some_w s r at apart there =
       count = r.count;
       drawers = r.drawers;
       known = record {
-        passes = let t = total_set (λ u. u.passes) s.views id v b at in let e = total_set (λ u. u.passes) views other w no_knowledge there in let p = k.passes in omega arith;
-        once = λ x. let t = total_set (λ u. occurrences x u.tickets) s.views id v b at in let e = total_set (λ u. occurrences x u.tickets) views other w no_knowledge there in let p = k.once x in let q = times_append (λ n. n) x v.tickets w.tickets in omega arith;
-        counter_is = let t = total_set passes_at_end s.views id v b at in let e = total_set passes_at_end views other w no_knowledge there in let p = k.counter_is in let q = ended_both v.has_ended w.has_ended v.passes w.passes in omega arith;
-        each = each_later plan counter counter views other no_knowledge (omega arith) (record { idle = λ _. refl; same_plan = λ z. absurd (omega arith); late = λ e. absurd (true≢false (sym e)); least_next_within = zero-le })
+        passes = let t = total_set (λ u. u.passes) s.views id v b at in let e = total_set (λ u. u.passes) views other w idle_knowledge there in let p = k.passes in omega arith;
+        once = λ x. let t = total_set (λ u. occurrences x u.tickets) s.views id v b at in let e = total_set (λ u. occurrences x u.tickets) views other w idle_knowledge there in let p = k.once x in let q = times_append (λ n. n) x v.tickets w.tickets in omega arith;
+        counter_is = let t = total_set passes_at_end s.views id v b at in let e = total_set passes_at_end views other w idle_knowledge there in let p = k.counter_is in let q = ended_both v.has_ended w.has_ended v.passes w.passes in omega arith;
+        each = each_later plan counter counter views other idle_knowledge (omega arith) (record { idle = λ _. refl; same_plan = λ z. absurd (omega arith); late = λ e. absurd (true≢false (sym e)); least_next_within = zero-le })
             (each_later plan counter counter s.views id b (omega arith) (record { idle = λ z. absurd (omega arith); same_plan = λ _. mine.same_plan some_v; late = late; least_next_within = zero-le }) k.each);
       };
     }
 
 -- the view with every pass has the whole sum
-every_pass : (f : TicketKnowledge → ℕ) → f no_knowledge ≡ 0 → (plan : Plan) (counter : ℕ) (views : List TicketKnowledge) (id : ℕ) (v : TicketKnowledge) → get_elem? views id ≡ some v → v.passes ≡ plan.drawers → AreSoundDrawers plan counter views → sum_by f views ≡ f v
+every_pass : (f : TicketKnowledge → ℕ) → f idle_knowledge ≡ 0 → (plan : Plan) (counter : ℕ) (views : List TicketKnowledge) (id : ℕ) (v : TicketKnowledge) → get_elem? views id ≡ some v → v.passes ≡ plan.drawers → AreSoundDrawers plan counter views → sum_by f views ≡ f v
 every_pass f zero_f plan counter views id v at every k =
-    alone (λ u. u.passes) f no_knowledge refl zero_f views id v at (λ j u e z. ap f ((k.each j u e).idle z) ∙ zero_f) (k.passes ∙ sym every)
+    alone (λ u. u.passes) f idle_knowledge refl zero_f views id v at (λ j u e z. ap f ((k.each j u e).idle z) ∙ zero_f) (k.passes ∙ sym every)
 
 passes_le : (plan : Plan) (counter : ℕ) (views : List TicketKnowledge) (id : ℕ) (v : TicketKnowledge) → get_elem? views id ≡ some v → AreSoundDrawers plan counter views → v.passes ≤ plan.drawers
-passes_le plan counter views id v at k = let t = total_set (λ u. u.passes) views id v no_knowledge at in let p = k.passes in omega arith
+passes_le plan counter views id v at k = let t = total_set (λ u. u.passes) views id v idle_knowledge at in let p = k.passes in omega arith
 
 learns : (plan : Plan) (id : ℕ) (mine : TicketKnowledge) → mine.plan ≡ plan → 0 < mine.passes → (s : State ℕ TicketKnowledge) → SatisfiesTicketInvariant plan s → get_elem? s.views id ≡ some mine → AgreesWithCounter (slice_index s.words 0) mine
 learns plan id mine same some_pass s r at =

@@ -17,8 +17,8 @@ IsPermutation tickets count = (x : ℕ) → occurrences x tickets ≡ once_below
 
 -- the knowledge of a seat whose drawer has been joined to another: no passes, no tickets, and the plan of no
 -- tickets and no drawers
-abbrev pub no_knowledge : TicketKnowledge
-no_knowledge = record {
+abbrev pub idle_knowledge : TicketKnowledge
+idle_knowledge = record {
   plan = record { count = 0; drawers = 0 };
   passes = 0;
   tickets = [];
@@ -28,7 +28,7 @@ no_knowledge = record {
 
 -- the knowledge of the first drawer of this plan: it has all passes and no tickets, and may draw any ticket
 abbrev pub first_drawer : Plan → TicketKnowledge
-first_drawer plan = record no_knowledge { plan = plan; passes = plan.drawers }
+first_drawer plan = record idle_knowledge { plan = plan; passes = plan.drawers }
 
 -- the knowledge of the drawer `old` after it has drawn this ticket; its next one is above it
 abbrev pub with_ticket : TicketKnowledge → ℕ → TicketKnowledge
@@ -45,7 +45,7 @@ less_a_pass old = record old { passes = old.passes - 1 }
 -- the knowledge of a new drawer that got one pass from the drawer `old`: it has no tickets and may draw any,
 -- and it has ended if `old` has
 abbrev pub one_pass : TicketKnowledge → TicketKnowledge
-one_pass old = record no_knowledge { plan = old.plan; passes = 1; has_ended = old.has_ended }
+one_pass old = record idle_knowledge { plan = old.plan; passes = 1; has_ended = old.has_ended }
 
 -- the knowledge of two drawers of the same plan that were joined: the passes and the tickets of both. The
 -- drawer may draw any ticket next, and has ended if one of them has

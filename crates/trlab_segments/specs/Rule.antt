@@ -8,7 +8,7 @@ use Rattle.trlab_bounds.specs.declared.runs.TheConstants.{MAX_WORKERS}
 use Rattle.trlab_segments.specs.declared.ticket_rule.Plan.{Plan}
 use Rattle.trlab_segments.specs.declared.ticket_rule.TicketKnowledge.{TicketKnowledge}
 use Rattle.trlab_strands.specs.Knowledge.{once_below}
-use Rattle.trlab_segments.specs.Knowledge.{occurrences, IsPermutation, no_knowledge, with_ticket, at_end}
+use Rattle.trlab_segments.specs.Knowledge.{occurrences, IsPermutation, idle_knowledge, with_ticket, at_end}
 use Rattle.trlab_segments.specs.Knowledge.{passes_at_end}
 
 -- the counter, the word that drawers share: it is the next ticket, and all tickets below it were drawn
@@ -19,7 +19,7 @@ counter_of state = slice_index state.words 0
 -- knows the plan, has ended only if the counter has reached the number of tickets, and may draw the ticket of
 -- the counter
 pub record IsSoundDrawer (plan : Plan) (counter : ℕ) (drawer : TicketKnowledge) : Type 0 where
-  pub idle : drawer.passes ≡ 0 → drawer ≡ no_knowledge
+  pub idle : drawer.passes ≡ 0 → drawer ≡ idle_knowledge
   pub same_plan : 0 < drawer.passes → drawer.plan ≡ plan
   pub late : drawer.has_ended ≡ true → plan.count ≤ counter
   pub least_next_within : drawer.least_next ≤ counter

@@ -66,9 +66,9 @@ impl Split<TicketKnowledge> for OnePass {
 pub struct JoinDrawers;
 
 impl Join<TicketKnowledge> for JoinDrawers {
-    ghost use Rattle.trlab_segments.specs.Knowledge.{both_drawers, no_knowledge};
+    ghost use Rattle.trlab_segments.specs.Knowledge.{both_drawers, idle_knowledge};
 
     ghost both = { both_drawers };
 
-    ghost spent = { no_knowledge };
+    ghost spent = { idle_knowledge };
 }

@@ -1,10 +1,10 @@
 //! Candidates for keys, programs in bytes and lanes.
 
 use crate::Result;
+use crate::byte_span::ByteSpan;
 use crate::candidates::{Candidates, DIGITS};
 use crate::fault::Fault;
 use crate::problem::{BEFORE_CELLS, KEY_DIGITS, first_non_digit};
-use crate::span::Span;
 use std::alloc::Global;
 use trlab_lines::{Place, bytes_at};
 use trlab_texts::word::without_prefix;
@@ -19,7 +19,7 @@ fn long_key(alloc: Global, word: &[u8]) -> Result<Vec<u8>> {
 
 /// Adds candidates that delete `0x`, replace a letter by the digit that was meant, or put zeros before a short key.
 pub fn hex_candidates(list: &mut Candidates, fault: &Fault<'_>) {
-    let Some(Span { start: at, length }) = fault.word() else {
+    let Some(ByteSpan { start: at, length }) = fault.word() else {
         return;
     };
     let word = bytes_at(fault.line, at, length);

@@ -11,13 +11,13 @@ use trlab_texts::{Quantity, Wanted};
 
 /// A quantity that may be written as a fraction from 0 to 1 of a whole, by mistake.
 #[derive(Clone, Copy)]
-pub struct Part {
+pub struct Fraction {
     pub mistake: &'static str,
     pub whole: u32,
 }
 
 /// A probability, which is written as a part of 2^31.
-pub const PROBABILITY: Part = Part {
+pub const PROBABILITY: Fraction = Fraction {
     mistake: "a probability p is written as p x 2147483648.",
     whole: CERTAIN,
 };
@@ -41,7 +41,7 @@ fn number_above(fault: &Fault<'_>, name: &[u8], most: u32) -> u32 {
 }
 
 /// Adds the number that the word after `at` bytes of the line may mean: that part of the whole, or the number itself.
-pub fn value_candidates(list: &mut Candidates, at: usize, word: &[u8], part: Option<Part>) {
+pub fn value_candidates(list: &mut Candidates, at: usize, word: &[u8], part: Option<Fraction>) {
     let Some(value) = value_of(word) else {
         return;
     };
@@ -76,7 +76,7 @@ pub fn number_candidates(list: &mut Candidates, fault: &Fault<'_>) {
     };
     let part = match quantity {
         Quantity::Probability => Some(PROBABILITY),
-        Quantity::Cars { cells } => Some(Part {
+        Quantity::Cars { cells } => Some(Fraction {
             mistake: DENSITY,
             whole: *cells,
         }),

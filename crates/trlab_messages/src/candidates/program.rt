@@ -2,12 +2,12 @@
 
 use crate::Result;
 use crate::alike::{NearestName, edits_within, nearest_name};
+use crate::byte_span::ByteSpan;
 use crate::candidates::line::joined;
 use crate::candidates::number::{PROBABILITY, value_candidates};
 use crate::candidates::{Candidates, END, ENDLESS, OTHER_COMMENT};
 use crate::fault::Fault;
 use crate::instruction::{OperandWord, operand_at_fault, start_of_name};
-use crate::span::Span;
 use std::alloc::Global;
 use trlab_asm::{INPUTS, MNEMONICS, OperandKind, REGISTERS, Why, is_label, mnemonic_named};
 use trlab_jobs::Subject;
@@ -40,7 +40,7 @@ fn is_like_end(alloc: Global, line: &[u8]) -> Result<bool> {
 #[derive(Clone, Copy)]
 struct EndPlaces {
     /// A line that may be `end`, misspelled or with something after it.
-    like_end: Option<Span>,
+    like_end: Option<ByteSpan>,
     /// The number of bytes before the first other line that may follow a program.
     next: Option<usize>,
 }
@@ -62,7 +62,7 @@ fn end_places(alloc: Global, text: &[u8]) -> Result<EndPlaces> {
             places = NOWHERE;
         } else if places.like_end.is_none() && is_like_end(alloc, line)? {
             let length = line.len();
-            places.like_end = Some(Span { start, length });
+            places.like_end = Some(ByteSpan { start, length });
         } else if places.next.is_none() && FOLLOWING.contains(&head_word(line)) {
             places.next = Some(start);
         }

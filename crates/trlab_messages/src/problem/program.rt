@@ -1,9 +1,9 @@
 //! The problem with a line of a program.
 
+use crate::byte_span::ByteSpan;
 use crate::instruction::{operand_at_fault, start_of_name};
 use crate::problem::push_number_problem;
 use crate::sentence::{Draft, Quoted};
-use crate::span::Span;
 use trlab_asm::{OperandKind, Why, is_label, mnemonic_named, operand_kinds};
 use trlab_lines::{label_and_rest, name_and_operands, without_comment};
 
@@ -79,7 +79,7 @@ pub fn push_program_problem(problem: &mut Draft, line: &[u8], why: Why) {
 }
 
 /// An invalid label, or else the name of the instruction.
-pub fn word_span(line: &[u8]) -> Option<Span> {
+pub fn word_span(line: &[u8]) -> Option<ByteSpan> {
     let (start, length) = match label_and_rest(without_comment(line)) {
         (Some(label), _) if !is_label(label) => (0, label.len()),
         _ => (start_of_name(line), name_and_operands(line).0.len()),
@@ -87,5 +87,5 @@ pub fn word_span(line: &[u8]) -> Option<Span> {
     if length == 0 {
         return None;
     }
-    Some(Span { start, length })
+    Some(ByteSpan { start, length })
 }

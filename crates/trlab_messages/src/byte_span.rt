@@ -2,7 +2,7 @@
 
 /// Some bytes of a line.
 #[derive(Clone, Copy)]
-pub struct Span {
+pub struct ByteSpan {
     /// The number of bytes before them.
     pub start: usize,
     pub length: usize,
