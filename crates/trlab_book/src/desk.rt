@@ -359,7 +359,7 @@ impl<L: Ledger> SharedBook<L> {
         answer
     }
 
-    /// The state of a job at its steps done. A cancelled job can be read as well.
+    /// The state of a job after the steps that it has done. A cancelled job can be read as well.
     ///
     /// # Errors
     ///

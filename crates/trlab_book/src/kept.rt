@@ -204,7 +204,7 @@ impl Kept {
         answer
     }
 
-    /// The state of a job at its steps done.
+    /// The state of a job after the steps that it has done.
     ///
     /// # Errors
     ///

@@ -13,7 +13,7 @@ pub mod SeriesOutput
 pub mod Triangle
 pub mod Headline
 -- progress
-pub mod Hundredths
+pub mod Percent
 -- how engines end, and laws
 pub mod Ending
 pub mod Counting

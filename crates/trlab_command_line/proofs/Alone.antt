@@ -10,7 +10,7 @@ use Rattle.clap.specs.Simple.{subcommand_of}
 use Rattle.clap.specs.declared.error.kind.ErrorKind.{ErrorKind}
 use Rattle.clap.proofs.OnLiterals.{clap_on_literals}
 use Rattle.trlab_command_line.specs.CommandLine.{command_line}
-use Rattle.trlab_command_line.specs.Explains.{request_by_matches}
+use Rattle.trlab_command_line.specs.Explains.{request_from_matches}
 use Rattle.trlab_command_line.specs.Numbers.{GivesFlag, GivesNumber}
 use Rattle.trlab_command_line.specs.Requests.{IsRequestOf, command_name}
 use Rattle.trlab_command_line.specs.declared.arguments.explain.ExplainRequest.{ExplainRequest}
@@ -126,7 +126,7 @@ series_alone request a = go request a (ap (λ t. t.0) (some_same _ _ (sym series
 -- ---- `explain`
 
 abbrev of_explain : Text × List Row → Text × Result ExplainRequest ErrorKind
-of_explain p = (p.0, request_by_matches p.1)
+of_explain p = (p.0, request_from_matches p.1)
 
 explain_has : option_map of_explain (subcommand_of command_line (codes "explain" ∷ [])) ≡ Some (codes "explain", Ok (OfText None Lines))
 unfolding clap_on_literals

@@ -21,7 +21,7 @@ use Rattle.clap.specs.declared.parser.matches.SubCommand.{SubCommand}
 use Rattle.clap.proofs.CallerReads.{signed_reads}
 use Rattle.trlab_command_line.specs.Numbers.{GivesFlag, GivesNumber, HasFlagValue, HasValueFrom, MayHaveNumber, flag_text, argument_number, numeral_value, is_true_value}
 use Rattle.trlab_command_line.specs.CommandLine.{command_line}
-use Rattle.trlab_command_line.specs.Explains.{explain_request, request_by_matches}
+use Rattle.trlab_command_line.specs.Explains.{explain_request, request_from_matches}
 use Rattle.trlab_command_line.specs.declared.arguments.explain.ExplainRequest.{ExplainRequest}
 use Rattle.trlab_command_line.specs.Requests.{IsEntered}
 use Rattle.trlab_command_line.proofs.CommandLine.{taken}
@@ -153,7 +153,7 @@ flag_says false = refl
 -- what they ask for, by what was found of each
 pub explained_same : (rows : List Row) (asked : Result ExplainRequest ErrorKind) (what : Option Text) (number : Option ℕ) (json : Bool)
     → asked ≡ explain_request what number json → what ≡ first_of (codes "what") rows → number ≡ argument_number (codes "number") rows → GivesFlag (codes "json") rows json
-    → asked ≡ request_by_matches rows
+    → asked ≡ request_from_matches rows
 explained_same rows asked what number json is first second flag =
     is ∙ ap₂ (λ w n. explain_request w n json) first second
     ∙ ap (explain_request (first_of (codes "what") rows) (argument_number (codes "number") rows)) (sym (ap is_true_value flag ∙ flag_says json))

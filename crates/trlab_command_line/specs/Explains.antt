@@ -48,9 +48,9 @@ abbrev pub explain_request : Option Word → Option ℕ → Bool → Result Expl
 explain_request None number json = Ok (Text None (form_by json))
 explain_request (Some name) number json = request_by_name (subject_of_command name) (topic_named name) number json
 
--- the request of `explain`, or its kind of error, by the matches of its arguments
-abbrev pub request_by_matches : List Row → Result ExplainRequest ErrorKind
-request_by_matches matches =
+-- the request of `explain`, or its kind of error, from the matches of its arguments
+abbrev pub request_from_matches : List Row → Result ExplainRequest ErrorKind
+request_from_matches matches =
     explain_request (first_of (codes "what") matches) (argument_number (codes "number") matches)
     (is_flag_given (codes "json") matches)
 
@@ -64,4 +64,4 @@ error_kinds (Err kind) = kind ∷ []
 abbrev pub explain_arguments_fault : Option (Word × List Row) → Kinds
 explain_arguments_fault None = []
 explain_arguments_fault (Some (name, matches)) =
-    if bytes_eq name (codes "explain") then error_kinds (request_by_matches matches) else []
+    if bytes_eq name (codes "explain") then error_kinds (request_from_matches matches) else []

@@ -7,7 +7,7 @@ use Rattle.clap.specs.Simple.{label_of}
 use Rattle.clap.specs.Faults.{level_fault}
 use Rattle.trlab_command_line.specs.CommandLine.{command_line}
 use Rattle.trlab_command_line.specs.Numbers.{GivesFlag, GivesNumber}
-use Rattle.trlab_command_line.specs.Explains.{request_by_matches, explain_arguments_fault}
+use Rattle.trlab_command_line.specs.Explains.{request_from_matches, explain_arguments_fault}
 use Rattle.trlab_command_line.specs.declared.arguments.Request.{Request}
 use Rattle.trlab_command_line.specs.declared.arguments.Request.TheVariants.{Check, Explain, Run, Series, Sweep}
 use Rattle.trlab_bounds.specs.declared.runs.TheConstants.{MAX_RUNNERS, MAX_STEPS, MAX_WORKERS}
@@ -33,7 +33,7 @@ MatchesGive matches (Sweep runners workers progress) =
 MatchesGive matches (Series workers every from progress) =
     GivesNumber (codes "workers") matches workers × GivesNumber (codes "every") matches every
     × GivesNumber (codes "from") matches from × GivesFlag (codes "progress") matches progress
-MatchesGive matches (Explain request) = request_by_matches matches ≡ Ok request
+MatchesGive matches (Explain request) = request_from_matches matches ≡ Ok request
 
 -- `request` is the request of the command that was entered: it has the name of this command and the values of
 -- its matches

@@ -15,7 +15,7 @@ ghost use Rattle.trlab_explain.specs.declared.explain.Form.TheVariants.{Text as 
 
 use crate::arguments::commands::command_line;
 pub use crate::arguments::explain::ExplainRequest;
-use crate::arguments::explain::explain_request_by_matches;
+use crate::arguments::explain::explain_request_from_matches;
 use crate::arguments::matches::{is_flag_given, option_number, thread_count_of};
 use clap::{ArgMatches, Error};
 use std::alloc::Global;
@@ -86,7 +86,7 @@ fn request_of(alloc: Global, name: &str, matches: &ArgMatches) -> Result<Request
             from: option_number(matches, "from"),
             has_progress: is_flag_given(matches, "progress"),
         }),
-        "explain" => Ok(Request::Explain(explain_request_by_matches(alloc, matches)?)),
+        "explain" => Ok(Request::Explain(explain_request_from_matches(alloc, matches)?)),
         _ => unreachable!(),
     }
 }

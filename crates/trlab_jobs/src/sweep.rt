@@ -104,9 +104,9 @@ struct Setup {
 }
 
 impl Model for Setup {
-    ghost use Rattle.trlab_jobs.specs.Sweep.{Setup as Common};
+    ghost use Rattle.trlab_jobs.specs.Sweep.{Setup as AbstractSetup};
 
-    ghost Value = { Common };
+    ghost Value = { AbstractSetup };
 
     ghost view = { λ setup. record {
       key = setup.key;

@@ -38,7 +38,7 @@ fn push_number_problem(found: &mut Draft, word: &[u8], least: u64, most: u64) {
 }
 
 /// The position of the first character that is not a hexadecimal digit.
-pub fn first_non_digit(word: &[u8]) -> Option<usize> {
+pub fn first_non_hex_digit(word: &[u8]) -> Option<usize> {
     word.iter().position(|byte| !byte.is_ascii_hexdigit())
 }
 
@@ -48,7 +48,7 @@ fn push_digits_problem(found: &mut Draft, word: &[u8], is_key: bool) {
     if is_key && count != KEY_DIGITS {
         return write!(found, "the length of the key is {count}, not 64.");
     }
-    match first_non_digit(word) {
+    match first_non_hex_digit(word) {
         Some(before) => {
             let place = before.saturating_add(1);
             write!(

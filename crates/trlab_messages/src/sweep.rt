@@ -52,7 +52,7 @@ fn add_start(body: &mut Body, key: &'static str, cells: u64, cars: u32) {
     ]);
 }
 
-/// The bytes of the heading of a table.
+/// An upper bound on the bytes of the heading of a table, which are 47.
 const HEADING_BYTES: u64 = 49;
 
 /// The bytes of a row besides its whole numbers: the commas, the end and the longest flow.

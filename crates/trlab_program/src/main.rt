@@ -80,12 +80,12 @@ impl<R: Eprint> ProgressObserver for ProgressPrinter<'_, R> {
 
     fn reached(&self, milestone: Milestone) {
         let Milestone {
-            hundredths,
+            percent,
             number,
             count,
         } = milestone;
         if let Some(unit) = self.unit {
-            let _ = eprintln!(self.rt; "trlab: {hundredths} % ({unit} {number} of {count})");
+            let _ = eprintln!(self.rt; "trlab: {percent} % ({unit} {number} of {count})");
         }
     }
 }

@@ -61,8 +61,8 @@ PicturesMeanTheRoad = (road : Cells) (meaning : Result Cells RoadFault)
 
 -- if the g cells ahead of place x are empty and the cell after them holds a car, the headspeed at x is the
 -- speed of this car, which is the car at x itself if g is the lane length minus 1
-abbrev pub HeadspeedIsOfNextCar : Type 0
-HeadspeedIsOfNextCar = (lane : Lane) (x g number speed : ℕ) → g < length lane → IsClearAhead lane x g
+abbrev pub HeadspeedIsSpeedOfNextCar : Type 0
+HeadspeedIsSpeedOfNextCar = (lane : Lane) (x g number speed : ℕ) → g < length lane → IsClearAhead lane x g
     → at lane (ahead (length lane) x (g + 1)) ≡ Some (number, speed) → headspeed lane x ≡ speed
 
 -- if the car at place x is the only car of its lane, the headspeed at x is its own speed

@@ -5,7 +5,7 @@
 
 ghost use Rattle.trlab_road.specs.Laws.{ValidPicturesShowLegalRoads, ValidPicturesHaveNoFault, OneFirstFault, PicturesShowOneRoad};
 ghost use Rattle.trlab_road.specs.Laws.{PicturesOfLegalRoads, PicturesHaveOneMeaning, PicturesHaveMeaning, PicturesMeanTheRoad};
-ghost use Rattle.trlab_road.specs.Laws.{HeadspeedIsOfNextCar, HeadspeedOfLoneCar};
+ghost use Rattle.trlab_road.specs.Laws.{HeadspeedIsSpeedOfNextCar, HeadspeedOfLoneCar};
 ghost use Rattle.trlab_road.specs.Laws.{LegalRoadHasAllNumbers, MotionDependsOnlyOnCars, MotionIsClean, MotionKeepsCars};
 ghost use Rattle.trlab_road.specs.Laws.{MotionKeepsRoadLegal, OneRoadAfterMotion, SomeRoadAfterMotion};
 ghost use Rattle.trlab_road.specs.Laws.{LaneChangeDependsOnlyOnCars, LaneChangeIsClean, LaneChangeKeepsRoadLegal};
@@ -36,8 +36,8 @@ pub fn pictures_mean_the_road()
 {}
 
 /// The headspeed is the speed of the next car ahead on the ring, and the car's own speed if it is the only car.
-pub fn headspeed_is_of_the_next_car()
-    ensures next { HeadspeedIsOfNextCar }
+pub fn headspeed_is_speed_of_next_car()
+    ensures next { HeadspeedIsSpeedOfNextCar }
     ensures lone { HeadspeedOfLoneCar }
 {}
 

@@ -311,7 +311,7 @@ impl Book {
         cancel_in(&mut self.jobs, job)
     }
 
-    /// The state of a job at its steps done. A cancelled job can be read as well.
+    /// The state of a job after the steps that it has done. A cancelled job can be read as well.
     ///
     /// # Errors
     ///

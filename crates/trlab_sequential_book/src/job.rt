@@ -301,7 +301,7 @@ impl JobRecord {
         Ok(())
     }
 
-    /// The state of the job at its steps done.
+    /// The state of the job after the steps that it has done.
     pub fn read(&self, alloc: Global) -> Result<Snapshot, AllocError>
         ensures { IfOk result (λ seen. IsSnapshotOf self.now seen) }
     {

@@ -8,7 +8,7 @@ ghost use Rattle.trlab_step.specs.Next.{IsCleanNext, IsCountedMotion, IsLaneChan
 ghost use Rattle.trlab_step.specs.declared.step.StepFault.TheVariants.{Memory};
 
 use crate::executor::{Caller, Executor, NoObserver, StepObserver};
-use crate::tally::{StepTally, count_crossing, tally_of};
+use crate::tally::{StepTally, count_lane_changes, tally_of};
 use std::alloc::{AllocError, Global};
 use std::mem;
 use thiserror::Error;
@@ -220,7 +220,7 @@ fn change_lanes<A: Executor, O: StepObserver>(
         observer,
     )?;
     let middle = road.after_lane_change(alloc, &mut room.lanes, &room.crosses)?;
-    Ok((middle, count_crossing(&room.crosses)))
+    Ok((middle, count_lane_changes(&room.crosses)))
 }
 
 /// Moves all cars of the road, and returns the tally of the motion.

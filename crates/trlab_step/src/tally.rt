@@ -19,7 +19,7 @@ pub struct StepTally {
 }
 
 /// The number of cars that cross.
-pub fn count_crossing(crosses: &[bool]) -> u64
+pub fn count_lane_changes(crosses: &[bool]) -> u64
     requires few { length crosses.now ≤ MAX_LANES * MAX_LENGTH }
     ensures { result ≡ count_by (λ crosses. crosses) crosses.now }
 {

@@ -13,7 +13,7 @@ use Rattle.atomic_table.proofs.Lists.{at_set, set_again, set_else}
 use Rattle.trlab_strands.proofs.Seats.{total_set, each_set, each_snoc, alone, times_push, times_append}
 use Rattle.trlab_strands.specs.declared.knowledge.Noted.{Noted}
 use Rattle.trlab_strands.specs.declared.knowledge.StrandKnowledge.{StrandKnowledge}
-use Rattle.trlab_strands.specs.Knowledge.{noted, event_number, count_with_number, once_below, IsInList, AreInList, no_knowledge, without_list, list_seat, less_a_part, one_part, both_seats, up_to_date, with_event}
+use Rattle.trlab_strands.specs.Knowledge.{noted, event_number, count_with_number, once_below, IsInList, AreInList, no_knowledge, without_list, list_seat, without_one_part, one_part, both_seats, up_to_date, with_event}
 use Rattle.trlab_strands.specs.Rule.{IsSoundStrand, AreSoundStrands, SatisfiesStrandInvariant, NotesEvent, AgreesWithList, AuditsList, SeesWholeList}
 
 -- the knowledge with these fields
@@ -133,9 +133,9 @@ module _ {E : Type 0} where
       )
 
   -- one part goes to a new strand
-  pub splits : (id : ℕ) (v : StrandKnowledge E) → 1 < v.parts → Splits SatisfiesStrandInvariant id v (less_a_part v) (one_part v)
+  pub splits : (id : ℕ) (v : StrandKnowledge E) → 1 < v.parts → Splits SatisfiesStrandInvariant id v (without_one_part v) (one_part v)
   splits id v two s r at =
-      let l = less_a_part v in
+      let l = without_one_part v in
       let o = one_part v in
       let events = r.0 in
       let k = r.1 in

@@ -58,8 +58,8 @@ abbrev pub list_seat : {E : Type 0} → StrandKnowledge E → StrandKnowledge E
 list_seat old = record no_knowledge { has_list = old.has_list; list = old.list }
 
 -- the knowledge of the strand `old` after it has given one part away
-abbrev pub less_a_part : {E : Type 0} → StrandKnowledge E → StrandKnowledge E
-less_a_part old = record old { parts = old.parts - 1 }
+abbrev pub without_one_part : {E : Type 0} → StrandKnowledge E → StrandKnowledge E
+without_one_part old = record old { parts = old.parts - 1 }
 
 -- the knowledge of a new strand that got one part from the strand `old`: it has no events and no list, and
 -- the clock of `old`

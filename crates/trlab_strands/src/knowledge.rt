@@ -102,9 +102,9 @@ impl<E> Split<StrandKnowledge<E>> for Apart {
 pub struct OnePart;
 
 impl<E> Split<StrandKnowledge<E>> for OnePart {
-    ghost use Rattle.trlab_strands.specs.Knowledge.{less_a_part, one_part};
+    ghost use Rattle.trlab_strands.specs.Knowledge.{without_one_part, one_part};
 
-    ghost left = { less_a_part };
+    ghost left = { without_one_part };
 
     ghost right = { one_part };
 }

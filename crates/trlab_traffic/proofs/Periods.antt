@@ -17,7 +17,7 @@ use Rattle.trlab_step.specs.Run.{IsRoadAt, Seed, dice_at}
 use Rattle.trlab_step.proofs.NextLaws.{next_road_is_one}
 use Rattle.trlab_step.proofs.RunLaws.{road_at_is_one, run_comes_to_road}
 use Rattle.trlab_traffic.specs.Triangle.{all_cells, lane_cells}
-use Rattle.trlab_traffic.specs.Certainty.{IsDeterministic}
+use Rattle.trlab_traffic.specs.Determinism.{IsDeterministic}
 use Rattle.trlab_traffic.specs.Periods.{DeterministicRunsBecomePeriodic}
 use Rattle.trlab_traffic.specs.Runs.{always}
 use Rattle.trlab_traffic.proofs.Certainties.{step_is_deterministic}

@@ -5,11 +5,11 @@ use Rattle.trlab_road.specs.Cells.{Cell, Cells, Lane, at, cell, lane_of}
 use Rattle.trlab_road.specs.Gaps.{ahead, behind, gap}
 use Rattle.trlab_road.specs.Motion.{LaneMoves}
 use Rattle.trlab_road.proofs.Ring.{car_in, clear_within_gap, inside}
-use Rattle.trlab_traffic.specs.Rule184.{EmptyCellsGoBack, IsElementaryStep, NaschIsRule184, elementary_rule}
+use Rattle.trlab_traffic.specs.Rule184.{Rule184HasParticleHoleSymmetry, IsElementaryStep, NaschIsRule184, elementary_rule}
 use Rattle.trlab_traffic.proofs.NaschMoves.{SafeMotion, safe_motion}
 use Rattle.trlab_traffic.proofs.Places.{ahead_behind, ahead_none, behind_ahead, clear_is_gap}
 
-pub empty_cells_go_back : EmptyCellsGoBack
+pub empty_cells_go_back : Rule184HasParticleHoleSymmetry
 empty_cells_go_back true true true = refl
 empty_cells_go_back true true false = refl
 empty_cells_go_back true false true = refl

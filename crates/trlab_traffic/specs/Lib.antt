@@ -20,7 +20,7 @@ pub mod Fastest
 pub mod Homogeneity
 pub mod Symmetry
 pub mod Apart
-pub mod Certainty
+pub mod Determinism
 pub mod Periods
 -- rules that have the same steps as others
 pub mod Reduction

@@ -6,7 +6,7 @@ use Rattle.trlab_rules.specs.Rules.{Programs}
 use Rattle.trlab_step.specs.Laws.{IsRuleFor}
 use Rattle.trlab_step.specs.Run.{Seed, Sheet, IsRoadAt}
 use Rattle.trlab_traffic.specs.Triangle.{all_cells}
-use Rattle.trlab_traffic.specs.Certainty.{IsDeterministic}
+use Rattle.trlab_traffic.specs.Determinism.{IsDeterministic}
 use Rattle.trlab_traffic.specs.Runs.{always}
 
 -- a run is periodic: from step `first` on the road of each step comes again `period` steps later, and

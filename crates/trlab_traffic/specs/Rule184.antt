@@ -42,8 +42,8 @@ NaschIsRule184 =
     → IsNasch 0 rule → IsLegal old → old.limit ≡ 1 → IsNext rule dice old new tally
     → l < length old.lanes → IsElementaryStep 184 (lane_of old l) (lane_of new l)
 
--- exchanging taken with empty, and behind with ahead, leaves rule 184 as it is: empty cells move as cars do,
--- in the other direction round the ring
-abbrev pub EmptyCellsGoBack : Type 0
-EmptyCellsGoBack = (behind own ahead : Bool)
+-- particle-hole symmetry: exchanging taken with empty, and behind with ahead, leaves rule 184 as it is, so
+-- empty cells move as cars do, in the other direction round the ring
+abbrev pub Rule184HasParticleHoleSymmetry : Type 0
+Rule184HasParticleHoleSymmetry = (behind own ahead : Bool)
     → not (elementary_rule 184 behind own ahead) ≡ elementary_rule 184 (not ahead) (not own) (not behind)

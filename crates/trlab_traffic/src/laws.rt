@@ -5,7 +5,7 @@
 ghost use Rattle.trlab_traffic.specs.Apart.{RunKeepsLanesApart, StepKeepsLanesApart};
 ghost use Rattle.trlab_traffic.specs.Triangle.{CellsAreTakenOrEmpty, RunStaysUnderTriangle, StepStaysUnderTriangle};
 ghost use Rattle.trlab_traffic.specs.Triangle.{RunKeepsBelowPeak};
-ghost use Rattle.trlab_traffic.specs.Certainty.{NaschWithoutRandomizationIsDeterministic, RunIsDeterministic, StepIsDeterministic};
+ghost use Rattle.trlab_traffic.specs.Determinism.{NaschWithoutRandomizationIsDeterministic, RunIsDeterministic, StepIsDeterministic};
 ghost use Rattle.trlab_traffic.specs.Changing.{RunBoundsLaneChanges, StepBoundsLaneChanges};
 ghost use Rattle.trlab_traffic.specs.Detector.{DetectorCountsAtMostOne, DetectorsCountDistance, StepSatisfiesContinuity};
 ghost use Rattle.trlab_traffic.specs.DetectorRuns.{DetectorCountExists, DetectorMeasuresFlow, DetectorsAgree};
@@ -32,7 +32,7 @@ ghost use Rattle.trlab_traffic.specs.Randomization.{RandomizationSlowsSteps, Slo
 ghost use Rattle.trlab_traffic.specs.Reduction.{RickertReducesToNasch, SameStepsGiveSameRuns, VdrReducesToNasch};
 ghost use Rattle.trlab_traffic.specs.Rows.{RowMeasuresFlow, RowsAgree};
 ghost use Rattle.trlab_traffic.specs.Rows.{RunSatisfiesContinuityByRows, StepIsContinuousByRows};
-ghost use Rattle.trlab_traffic.specs.Rule184.{EmptyCellsGoBack, NaschIsRule184};
+ghost use Rattle.trlab_traffic.specs.Rule184.{Rule184HasParticleHoleSymmetry, NaschIsRule184};
 ghost use Rattle.trlab_traffic.specs.Symmetry.{RickertIgnoresLane, RunIsSymmetric, StepIsSymmetric};
 
 /// The distance of a step is at most the number of empty cells, and at most v_max times the number of cars, under every
@@ -214,7 +214,7 @@ pub fn rules_reduce_to_nasch()
 /// (Wolfram 1983, Rev. Mod. Phys. 55, 601). Backwards round the ring, empty cells follow rule 184 too.
 pub fn nasch_is_rule_184()
     ensures rule { NaschIsRule184 }
-    ensures holes { EmptyCellsGoBack }
+    ensures holes { Rule184HasParticleHoleSymmetry }
 {}
 
 /// In the Nagel-Schreckenberg model without randomization the fundamental diagram of one lane is a triangle: from any

@@ -2,7 +2,7 @@
 
 ghost use Rattle.std.specs.Prelude.{◌≡◌, IfOk, Ok, codes, option_map};
 ghost use Rattle.clap.specs.Words.{FailsBy, found_of, kind_of, rows_of};
-ghost use Rattle.trlab_command_line.specs.Explains.{error_kinds, explain_request, request_by_matches, subject_of_command, topic_named};
+ghost use Rattle.trlab_command_line.specs.Explains.{error_kinds, explain_request, request_from_matches, subject_of_command, topic_named};
 ghost use Rattle.trlab_command_line.specs.Numbers.{HasFlagValue, MayHaveNumber};
 
 use crate::arguments::commands::explain_command;
@@ -106,14 +106,14 @@ fn explain_error(alloc: Global, kind: ErrorKind, what: Option<&str>) -> Result<E
 /// # Errors
 ///
 /// If its arguments do not go together, or an allocation fails.
-pub fn explain_request_by_matches(
+pub fn explain_request_from_matches(
     alloc: Global,
     matches: &ArgMatches,
 ) -> Result<ExplainRequest, Error>
     requires number { MayHaveNumber (codes "number") (rows_of (found_of matches.now)) }
     requires json { HasFlagValue (codes "json") (rows_of (found_of matches.now)) }
-    ensures answer { IfOk result (λ asked. request_by_matches (rows_of (found_of matches.now)) ≡ Ok asked) }
-    ensures fault { FailsBy (error_kinds (request_by_matches (rows_of (found_of matches.now)))) result }
+    ensures answer { IfOk result (λ asked. request_from_matches (rows_of (found_of matches.now)) ≡ Ok asked) }
+    ensures fault { FailsBy (error_kinds (request_from_matches (rows_of (found_of matches.now)))) result }
 {
     let what = matches.get_str("what");
     let number = argument_number(matches, "number");

@@ -95,14 +95,14 @@ fn run_held<L: Ledger + Send + Sync, R: Threads + Wait + Sync>(
         is_open: AtomicBool::new(false),
     };
     let theirs = book.split(&mut mine);
-    let ((theirs, answered), (mine, ran)) = join(
+    let ((theirs, ended), (mine, ran)) = join(
         rt,
         || end_held(rt, alloc, book, theirs, &gate, end),
         || -> (Desk<L>, bool)
             requires { 1 ≤ part_count mine }
         { desk_and_success(run_jobs(rt, alloc, book, mine, RUNNERS, WORKERS, &gate)) },
     );
-    (book.gather(mine, theirs), answered && ran)
+    (book.gather(mine, theirs), ended && ran)
 }
 
 /// The expected read of the job: its four steps are done under two rules, or none because it was cancelled.

@@ -4,7 +4,7 @@ use crate::Result;
 use crate::byte_span::ByteSpan;
 use crate::candidates::{Candidates, DIGITS};
 use crate::fault::Fault;
-use crate::problem::{BEFORE_CELLS, KEY_DIGITS, first_non_digit};
+use crate::problem::{BEFORE_CELLS, KEY_DIGITS, first_non_hex_digit};
 use std::alloc::Global;
 use trlab_lines::{Place, bytes_at};
 use trlab_texts::word::without_prefix;
@@ -24,13 +24,13 @@ pub fn hex_candidates(list: &mut Candidates, fault: &Fault<'_>) {
     };
     let word = bytes_at(fault.line, at, length);
     if word.starts_with(b"0x") {
-        list.in_line(DIGITS, at, 2, b"");
+        list.edit_in_line(DIGITS, at, 2, b"");
     }
-    if let Some(place) = first_non_digit(word) {
+    if let Some(place) = first_non_hex_digit(word) {
         let digit_at = at.saturating_add(place);
         match word.get(place) {
-            Some(b'o' | b'O') => list.in_line(DIGITS, digit_at, 1, b"0"),
-            Some(b'l' | b'I') => list.in_line(DIGITS, digit_at, 1, b"1"),
+            Some(b'o' | b'O') => list.edit_in_line(DIGITS, digit_at, 1, b"0"),
+            Some(b'l' | b'I') => list.edit_in_line(DIGITS, digit_at, 1, b"1"),
             _ => {}
         }
     } else if fault.cause == Cause::Key && length < KEY_DIGITS {
@@ -43,7 +43,7 @@ pub fn hex_candidates(list: &mut Candidates, fault: &Fault<'_>) {
 pub fn version_candidate(list: &mut Candidates, fault: &Fault<'_>) {
     if let Some(space) = fault.line.iter().rposition(|byte| *byte == b' ') {
         let mistake = "the version is 1 if no instruction reads `headspeed`.";
-        list.in_line(mistake, space.saturating_add(9), 2, b"01");
+        list.edit_in_line(mistake, space.saturating_add(9), 2, b"01");
     }
 }
 
@@ -56,7 +56,7 @@ pub fn cell_candidate(list: &mut Candidates, fault: &Fault<'_>, cell: u32) {
     let mistake = "a car is a digit or a lower-case letter.";
     match fault.line.get(at) {
         Some(letter) if letter.is_ascii_uppercase() => {
-            list.in_line(mistake, at, 1, &[letter.to_ascii_lowercase()])
+            list.edit_in_line(mistake, at, 1, &[letter.to_ascii_lowercase()])
         }
         _ => {}
     }

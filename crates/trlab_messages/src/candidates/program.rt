@@ -39,7 +39,7 @@ fn is_like_end(alloc: Global, line: &[u8]) -> Result<bool> {
 /// Places for a missing line `end` in the last program of a text.
 #[derive(Clone, Copy)]
 struct EndPlaces {
-    /// A line that may be `end`, misspelled or with something after it.
+    /// A line that may be `end`, fix_spelling or with something after it.
     like_end: Option<ByteSpan>,
     /// The number of bytes before the first other line that may follow a program.
     next: Option<usize>,
@@ -81,17 +81,17 @@ pub fn end_candidates(list: &mut Candidates, fault: &Fault<'_>) {
     if let Some(at) = next {
         list.edit(ENDLESS, at, 0, b"end\n".to_vec(list.alloc));
     }
-    list.above(fault, ENDLESS, LineName::End);
+    list.insert_above(fault, ENDLESS, LineName::End);
 }
 
 /// Adds candidates that write `;` instead of the comment mark of other languages.
 fn other_comment_candidates(list: &mut Candidates, fault: &Fault<'_>) {
     let line = without_comment(fault.line);
     if let Some((front, _)) = cut(line, b'#') {
-        list.in_line(OTHER_COMMENT, front.len(), 1, b";");
+        list.edit_in_line(OTHER_COMMENT, front.len(), 1, b";");
     }
     match cut(line, b'/') {
-        Some((front, [b'/', ..])) => list.in_line(OTHER_COMMENT, front.len(), 2, b";"),
+        Some((front, [b'/', ..])) => list.edit_in_line(OTHER_COMMENT, front.len(), 2, b";"),
         _ => {}
     }
 }
@@ -100,9 +100,9 @@ fn other_comment_candidates(list: &mut Candidates, fault: &Fault<'_>) {
 fn like_end_candidate(list: &mut Candidates, fault: &Fault<'_>) {
     if fault.subject == Subject::Check {
         let mistake = "`trlab check` takes no line `end`: the program ends where the input ends.";
-        list.without_line(fault, mistake);
+        list.delete_line(fault, mistake);
     } else {
-        list.in_line(END, 0, fault.line.len(), b"end");
+        list.edit_in_line(END, 0, fault.line.len(), b"end");
     }
 }
 
@@ -112,14 +112,14 @@ pub fn unknown_word_candidates(list: &mut Candidates, fault: &Fault<'_>) {
     let (label, _) = label_and_rest(without_comment(fault.line));
     let (name, _) = name_and_operands(fault.line);
     if fault.subject != Subject::Check && FOLLOWING.contains(&name) {
-        list.above(fault, ENDLESS, LineName::End);
+        list.insert_above(fault, ENDLESS, LineName::End);
     }
     if let Some(true) = list.ok_or_fail(is_like_end(list.alloc, fault.line)) {
         like_end_candidate(list, fault);
     }
     if !matches!(label, Some(label) if !is_label(label)) {
         let meant = nearest_name(list.alloc, name, &MNEMONICS);
-        list.misspelled(start_of_name(fault.line), name, meant);
+        list.fix_spelling(start_of_name(fault.line), name, meant);
     }
 }
 
@@ -152,26 +152,26 @@ pub fn label_candidate(list: &mut Candidates, fault: &Fault<'_>) {
     if let Some(OperandWord { at, word, .. }) = operand_at_fault(fault.line, Why::NoLabel) {
         let meant = nearest_label(list.alloc, &fault.place, word);
         if let Some(Some(label)) = list.ok_or_fail(meant) {
-            list.in_line("probably a misspelled label.", at, word.len(), label);
+            list.edit_in_line("probably a fix_spelling label.", at, word.len(), label);
         }
     }
 }
 
-/// Adds the operand that a word may mean. A number, also after `r`, is not a misspelled name.
+/// Adds the operand that a word may mean. A number, also after `r`, is not a fix_spelling name.
 fn word_candidate(list: &mut Candidates, found: OperandWord<'_>) {
     let OperandWord { operand, at, word } = found;
     let is_number = is_numeral(without_prefix(b"r", word).unwrap_or(word));
     match operand {
         OperandKind::Register | OperandKind::Result if !is_number => {
             let meant = nearest_name(list.alloc, word, &REGISTERS);
-            list.misspelled(at, word, meant);
+            list.fix_spelling(at, word, meant);
         }
         OperandKind::Input if !is_number => {
             let meant = nearest_name(list.alloc, word, &INPUTS);
-            list.misspelled(at, word, meant);
+            list.fix_spelling(at, word, meant);
         }
         OperandKind::Target if is_numeral(word) => {
-            list.in_line("put `@` before the number of an instruction.", at, 0, b"@");
+            list.edit_in_line("put `@` before the number of an instruction.", at, 0, b"@");
         }
         OperandKind::Chance => value_candidates(list, at, word, Some(PROBABILITY)),
         OperandKind::Number | OperandKind::Divisor | OperandKind::Word => {

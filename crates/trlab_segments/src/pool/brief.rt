@@ -19,7 +19,8 @@ use trlab_road::Road;
 /// The number of segments per worker if each has enough cars.
 const SEGMENTS_PER_WORKER: u32 = 16;
 
-/// The minimum number of cars per segment: drawing a segment then costs little compared with asking its cars.
+/// The minimum number of cars per segment on a road that is cut into more segments than in a single step: drawing a
+/// segment then costs little compared with asking its cars.
 const CARS_PER_SEGMENT: u32 = 256;
 
 /// A program to run for all cars of a road, with these dice, and the tickets of the segments into which the cars are

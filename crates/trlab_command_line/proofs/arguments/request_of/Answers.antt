@@ -76,14 +76,14 @@ is_flag_given-requires-in-series c =
     let entered : IsEntered (codes "series") rows = subst (λ n. IsEntered n rows) c.in-series.is c.requires in
     flag_has series (codes "progress") refl rows entered
 
-pub explain_request_by_matches-requires-clause-number : goal.explain_request_by_matches-requires-clause-number
-explain_request_by_matches-requires-clause-number c =
+pub explain_request_from_matches-requires-clause-number : goal.explain_request_from_matches-requires-clause-number
+explain_request_from_matches-requires-clause-number c =
     let rows = rows_of (found_of c.args.matches.now) in
     let entered : IsEntered (codes "explain") rows = subst (λ n. IsEntered n rows) c.in-explain.is c.requires in
     number_has explain refl rows entered
 
-pub explain_request_by_matches-requires-clause-json : goal.explain_request_by_matches-requires-clause-json
-explain_request_by_matches-requires-clause-json c =
+pub explain_request_from_matches-requires-clause-json : goal.explain_request_from_matches-requires-clause-json
+explain_request_from_matches-requires-clause-json c =
     let rows = rows_of (found_of c.args.matches.now) in
     let entered : IsEntered (codes "explain") rows = subst (λ n. IsEntered n rows) c.in-explain.is c.requires in
     flag_has explain (codes "json") refl rows entered

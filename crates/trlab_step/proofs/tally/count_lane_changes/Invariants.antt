@@ -1,6 +1,6 @@
 use Rattle.std.proofs.Common.{◌≡◌, ◌≤◌, take}
 use Rattle.std.specs.Prelude.{count_by}
-use Rattle.trlab_step.proofs.tally.count_crossing.Given as goal
+use Rattle.trlab_step.proofs.tally.count_lane_changes.Given as goal
 
 abbrev pub invariant-loop-is_crossing : goal.invariant-loop-is_crossing
 invariant-loop-is_crossing l = record {
