@@ -1,5 +1,5 @@
 -- Canonical texts: the one text that is printed for a program.
-use Rattle.std.specs.Prelude.{ℕ, ◌+◌, Bool, false, List, [], ◌∷◌, ◌++◌, length, decimal, nat_lt, nat_eq, Option, None, Some, if◌then◌else◌}
+use Rattle.std.specs.Prelude.{ℕ, ◌+◌, Bool, false, List, [], ◌∷◌, ◌++◌, length, codes, decimal, nat_lt, nat_eq, Option, None, Some, if◌then◌else◌}
 use Rattle.std.specs.List.{list_any}
 use Rattle.trlab_code.specs.Flow.{target}
 use Rattle.trlab_code.specs.declared.instruction.Instr.{Instr}
@@ -14,12 +14,12 @@ use Rattle.trlab_asm.specs.declared.printing.Operation.TheVariants.{Bare, One, T
 
 -- the label that is printed for the instruction at pc: `L` and the digits of pc, for example `L12`
 abbrev pub label_text : ℕ → List ℕ
-label_text pc = 76 ∷ decimal pc
+label_text pc = codes "L" ++ decimal pc
 
 -- the target of a jump as it is printed in a program of `count` instructions: a label, for example `L12`, or
 -- `@` and the pc, for example `@12`, if it is past the end of the program
 abbrev pub target_text : ℕ → ℕ → List ℕ
-target_text count pc = if nat_lt pc count then label_text pc else 64 ∷ decimal pc
+target_text count pc = if nat_lt pc count then label_text pc else codes "@" ++ decimal pc
 
 -- an operand as it is printed: a name, a number, a label, or `@` and a pc
 abbrev pub operand_text : Operand → List ℕ
@@ -27,16 +27,16 @@ operand_text (Register register) = register_text register
 operand_text (Input input) = input_text input
 operand_text (Number n) = decimal n
 operand_text (Label pc) = label_text pc
-operand_text (Beyond pc) = 64 ∷ decimal pc
+operand_text (Beyond pc) = codes "@" ++ decimal pc
 
 infixr 20 ◌comma◌
 -- an operand, a comma and a space, and the operands after it: `r0, r1`
 abbrev pub ◌comma◌ : List ℕ → List ℕ → List ℕ
-operand comma others = operand ++ (44 ∷ 32 ∷ others)
+operand comma others = operand ++ (codes ", " ++ others)
 
 -- the name of an instruction, a space, and its operands: `not r0, r1`
 abbrev pub with_operands : Mnemonic → List ℕ → List ℕ
-with_operands name operands = mnemonic_text name ++ (32 ∷ operands)
+with_operands name operands = mnemonic_text name ++ (codes " " ++ operands)
 
 -- the text of an instruction whose operands are ready to print: its name, a space and the operands separated
 -- by `, `, for example `add r0, r1, r2`; without operands only its name
@@ -87,7 +87,7 @@ is_jumped_to instrs pc = list_any (λ instr. is_pc pc (target instr)) instrs
 -- true, it begins with a label, as in `L12: go r0`
 abbrev pub instr_line : ℕ → Bool → ℕ → Instr → List ℕ
 instr_line count is_marked pc instr =
-    if is_marked then label_text pc ++ (58 ∷ 32 ∷ instr_text count instr) else instr_text count instr
+    if is_marked then label_text pc ++ (codes ": " ++ instr_text count instr) else instr_text count instr
 
 -- the lines of `rest`, the instructions of the program `instrs` from pc on, each with its LF; targets of the
 -- program's jumps have labels
