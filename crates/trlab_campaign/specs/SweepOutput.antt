@@ -63,8 +63,8 @@ abbrev pub IsOutputForSweep : Sweep → Outputs
 IsOutputForSweep sweep refused out =
     (refused ≡ false) × ((points : List Point) × (ArePoints sweep points × (out ≡ points_text points)))
 
--- a complete output of `sweep` for a text, marked as a refusal or not: the table of the sweep's points, or as
--- a refusal the line of the text's first fault
+-- a complete output of `sweep` for a text, marked as a refusal or not: the table of the sweep's points, or,
+-- as a refusal, the line of the text's first fault
 abbrev pub IsSweepOutput : List ℕ → Outputs
 IsSweepOutput text refused out = IsOutputForText ParsesAsSweep IsOutputForSweep text refused out
 

@@ -14,7 +14,7 @@ use Rattle.trlab_command_line.specs.Numbers.{is_flag_given, argument_number}
 use Rattle.trlab_command_line.specs.declared.arguments.explain.ExplainRequest.{ExplainRequest}
 use Rattle.trlab_command_line.specs.declared.arguments.explain.ExplainRequest.TheVariants.{Text, Number}
 
--- the kind of input that the command with the name `name` reads; none if it is not `run`, `sweep` or `check`
+-- the kind of input that the command `name` reads; none if `name` is not `run`, `sweep` or `check`
 abbrev pub subject_of_command : List ℕ → Option Subject
 subject_of_command name =
     if bytes_eq name (codes "run") then Some Job
@@ -48,7 +48,7 @@ abbrev pub explain_request : Option Word → Option ℕ → Bool → Result Expl
 explain_request None number json = Ok (Text None (form_by json))
 explain_request (Some name) number json = request_by_name (subject_of_command name) (topic_named name) number json
 
--- the request of `explain`, or its kind of error, by the matches of its arguments
+-- the request of `explain`, or its kind of error, from the matches of its arguments
 abbrev pub request_by_matches : List Row → Result ExplainRequest ErrorKind
 request_by_matches matches =
     explain_request (first_of (codes "what") matches) (argument_number (codes "number") matches)

@@ -33,7 +33,7 @@ pub fn flow(point: &Point) -> u128
     u128::from(point.distance) * 1_000_000 / (u128::from(point.cells) * u128::from(point.steps))
 }
 
-/// The counts of a lane, summed over some steps; in each step, the road after it is counted.
+/// The counts of a lane, summed over the roads after each of some steps.
 #[derive(Clone, Copy, Debug, PartialEq, Eq)]
 pub struct LaneCount {
     /// The number of cars on the lane.

@@ -9,14 +9,14 @@ ghost use Rattle.trlab_step.specs.Laws.{CrossingsComeWithinBudget, RunsCallSafel
 ghost use Rattle.trlab_step.specs.Laws.{StepsCallSafely, ViewsAreInRange};
 ghost use Rattle.trlab_step.specs.Driven.{RunsAreDriven};
 
-/// For each part of the standing order a motion program answers at most one list of speeds, and the lists of adjacent
+/// For each part of the standing order a motion program gives at most one list of speeds, and the lists of adjacent
 /// parts join to the list of both. So it does not matter which thread computes a part, or in which order.
 pub fn parts_make_the_whole()
     ensures one { SpeedsAreUnique }
     ensures join { SpeedsJoin }
 {}
 
-/// For each part of the standing order a change program answers at most one list of lane changes, and the lists of
+/// For each part of the standing order a change program gives at most one list of lane changes, and the lists of
 /// adjacent parts join to the list of both.
 pub fn crossings_make_the_whole()
     ensures one { CrossingsAreUnique }

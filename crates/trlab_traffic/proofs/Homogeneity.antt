@@ -1,4 +1,4 @@
--- The ring is homogeneous: a road that is rotated goes on as it did.
+-- The ring is homogeneous: a rotated road goes on as the road itself does.
 use Rattle.std.proofs.Common.{◌≡◌, ℕ, zero, suc, ◌+◌, ◌<◌, Bool, cond, Option, Some, None, List, length, map, refl, sym, ◌∙◌, ap, subst, arith}
 use Rattle.std.specs.Prelude.{nat_eq}
 use Rattle.std.proofs.lemmas.List.{length-map}
@@ -163,7 +163,7 @@ change_turned r (Some change) dice road middle changes legal phase =
       phase.4 ∙ sym (crossing_cars_turned r change dice road legal two crosses),
     )
 
--- what is counted of a road is counted of the rotated one
+-- a road and the rotated road have the same counts
 total_speed_turned : (r : ℕ) (road : Cells) → total_speed (rotate_road r road) ≡ total_speed road
 total_speed_turned r road = sum_turned (λ (car : Car). car.speed) (λ (car : Car). car.speed) 0 r road.lanes (λ l x number speed on. refl)
 

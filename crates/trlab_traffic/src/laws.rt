@@ -36,8 +36,8 @@ ghost use Rattle.trlab_traffic.specs.Rule184.{EmptyCellsGoBack, NaschIsRule184};
 ghost use Rattle.trlab_traffic.specs.Symmetry.{RickertIgnoresLane, RunIsSymmetric, StepIsSymmetric};
 
 /// The distance of a step is at most the number of empty cells, and at most v_max times the number of cars, under every
-/// rule and on every legal road. So flow against density is always under the triangle min(v_max * density, 1 -
-/// density).
+/// rule and on every legal road. So flow against density is always on or under the triangle min(v_max * density,
+/// 1 - density).
 pub fn step_stays_under_triangle()
     ensures { StepStaysUnderTriangle }
 {}
@@ -99,7 +99,7 @@ pub fn randomization_slows()
     ensures vdr { SlowStartsSlowSteps }
 {}
 
-/// In a step without lane changes the gap of a car changes by the speed of the next car ahead minus its own speed.
+/// In a step without lane changes a car's gap changes by the new speed of the next car ahead minus its own new speed.
 pub fn gaps_follow()
     ensures { GapChangesBySpeedDifference }
 {}
