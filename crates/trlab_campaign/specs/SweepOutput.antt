@@ -34,7 +34,7 @@ point_of setup cars tally = record {
   changes = tally.changes;
 }
 
--- a point of a sweep with this common part: road `number` has its `cars` cars evenly spread at the start, and
+-- a point of a sweep with this common part: road `number` has its `cars` cars evenly spaced at the start, and
 -- the point has the counts after all steps of the run
 pub record IsPoint (setup : Setup) (number cars : ℕ) (point : Point) : Type 0 where
   pub start : Cells

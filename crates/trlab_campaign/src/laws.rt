@@ -20,7 +20,7 @@ pub fn job_texts_are_driven()
 {}
 
 /// The table for a sweep text that is not rejected has a point for each number of cars, in the order of the text. Each
-/// point counts a driven run, whose cars are evenly spread at the start.
+/// point counts a driven run, whose cars are evenly spaced at the start.
 pub fn sweep_texts_are_driven()
     ensures { SweepTextsAreDriven }
 {}

@@ -15,14 +15,14 @@ pub trait ProgressObserver {
     /// Whether the observer wants reports. If not, no work is counted.
     fn is_watching(&self) -> bool;
 
-    /// Called each time another hundredth of the work is done. Any worker may call it.
+    /// Called each time another percent of the work is done. Any worker may call it.
     fn reached(&self, milestone: Milestone);
 }
 
 /// A report of progress.
 #[derive(Clone, Copy, Debug, PartialEq, Eq)]
 pub struct Milestone {
-    /// The hundredths of the work that are done, 1 to 100.
+    /// The percentage of the work that is done, 1 to 100.
     pub hundredths: u32,
     /// The current step (of a run or a series) or point (of a sweep), from 1 on.
     pub number: u32,
@@ -57,7 +57,7 @@ fn hundredths(done: u64, whole: u64) -> u32
     }
 }
 
-/// The milestone after `after` of the work's `whole` parts, if its hundredth differs from the hundredth after `before`
+/// The milestone after `after` of the work's `whole` parts, if its percentage differs from the one after `before`
 /// parts. `number` is the current step or point, of `count`.
 pub fn milestone_between(
     before: u64,
@@ -110,7 +110,7 @@ impl<'a, A, O: ProgressObserver> WithProgress<'a, A, O> {
         }
     }
 
-    /// The milestone after `taken` steps, if its hundredth differs from the hundredth one step earlier.
+    /// The milestone after `taken` steps, if its percentage differs from the one a step earlier.
     fn milestone(&self, taken: u32) -> Option<Milestone>
         ensures hundredths { IfSome result (λ milestone. milestone.hundredths ≡ hundredths taken self.now.steps) }
         ensures number { IfSome result (λ milestone. milestone.number ≡ taken) }

@@ -70,7 +70,7 @@ unfoldable pub encoding : Program → List ℕ
 encoding program =
     header (version_of program) program.kind (length program.instrs) ++ flat_map instr_bytes program.instrs
 
--- the bytes are those of the instruction, its fields are in range, and this version allows it
+-- the bytes encode the instruction, its fields are in range, and this version allows it
 abbrev pub EncodesInstr : ℕ → Instr → List ℕ → Type 0
 EncodesInstr version instr bytes =
     (bytes ≡ instr_bytes instr) × IsInRange instr × VersionAllows version instr

@@ -18,7 +18,7 @@ pub struct Point {
     pub distance: u64,
     /// How many times a car had speed 0, over all these steps.
     pub stopped: u64,
-    /// How many times a car changed lanes, over all these steps.
+    /// The number of lane changes in all these steps.
     pub changes: u64,
 }
 

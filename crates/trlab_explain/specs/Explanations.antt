@@ -109,7 +109,7 @@ HasHead Text head out = BeginsWith (text_front head) out
 HasHead Json head out = EndsObject head.is_rejected head.answer out
 
 -- `out` is an explanation of the text, and `rejected` is true exactly if the text or its program is rejected;
--- all bytes of `out` are printable ASCII or LF, even if those of the text are not
+-- all bytes of `out` are printable ASCII or LF, even if the text has other bytes
 abbrev pub Explains : Form → Option Subject → List ℕ → Outputs
 Explains form wanted text rejected out = (head : Head) × (rejected ≡ head.is_rejected)
     × IsHead wanted text head × HasHead form head out × All IsPlain out

@@ -1,5 +1,5 @@
 -- The knowledge of drawers: their passes, and which tickets they drew. Tickets are the numbers below a count,
--- and each is drawn by one drawer.
+-- and each is drawn by at most one drawer.
 use Rattle.std.specs.Prelude.{◌≡◌, ℕ, ◌+◌, ◌-◌, true, false, cond, ◌||◌, eqb}
 use Rattle.std.specs.Prelude.{List, [], ◌∷◌, ◌++◌, count_by}
 use Rattle.trlab_strands.specs.Knowledge.{once_below}

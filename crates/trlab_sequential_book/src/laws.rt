@@ -1,4 +1,4 @@
-//! The limits of the book as numbers, and which call each of its jobs comes from.
+//! The limits of the book as numbers, and the call of `submit` from which each of its jobs comes.
 //!
 //! Each law is the contract of a function with an empty body.
 

@@ -78,8 +78,8 @@ pub fn run_goes_on()
 {}
 
 /// In every run from a legal road, under a schedule for its number of lanes, the road at each step is legal, with the
-/// limit and the numbers of lanes and cars of the start. No car moves onto or through another, and all programs end
-/// within their budgets.
+/// limit and the numbers of lanes and cars of the initial road. No car moves onto or through another, and all programs
+/// end within their budgets.
 pub fn runs_are_driven()
     ensures { RunsAreDriven }
 {}

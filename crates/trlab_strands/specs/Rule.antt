@@ -1,4 +1,4 @@
--- The strand invariant: what holds of the knowledge of strands and their keeper before and after each atomic
+-- The strand invariant: facts about the knowledge of strands and their keeper before and after each atomic
 -- step; and the effects of the steps.
 use Rattle.std.specs.Prelude.{◌≡◌, ℕ, ◌≤◌, true, cond, List, [], length, sum_by}
 use mathlib.Core.Option.{some}

@@ -34,7 +34,7 @@ use Rattle.trlab_traffic.proofs.TurnedSums.{sum_turned}
 abbrev place_before : ℕ → Cells → ℕ → ℕ → ℕ
 place_before r road l x = ahead (length (lane_of road l)) x r
 
--- a car of the rotated road, where it stands on the road
+-- a car of the rotated road, at its place on the road itself
 abbrev car_before : ℕ → Cells → Car → Car
 car_before r road car = car_in car.lane (place_before r road car.lane car.place) car.number car.speed
 
@@ -85,7 +85,7 @@ module _ (r : ℕ) (road : Cells) (car : Car) (here : IsAt (rotate_road r road) 
       (ap (λ (lane : Lane). sideback lane x) turn_other ∙ sideback_turned r other x some_other low ∙ ap (sideback other) same)
       (ap (λ (lane : Lane). headspeed lane x) turn ∙ headspeed_turned r own x some)
 
--- the speeds that are answered on the rotated road
+-- the answers of the motion program on the rotated road
 speeds_turned : (r : ℕ) (motion : CheckedProgram) (dice : Dice) (road : Cells) (speeds : ℕ → ℕ → ℕ) → AnswersSpeeds motion dice road speeds
     → AnswersSpeeds motion dice (rotate_road r road) (λ l x. speeds l (place_before r road l x))
 speeds_turned r motion dice road speeds answers = record {
@@ -182,7 +182,7 @@ step_is_homogeneous rule dice road next tally r legal is =
       },
     )
 
--- a run from a road that is rotated
+-- the seed of a run from the rotated road
 abbrev seed_turned : ℕ → Seed → Seed
 seed_turned r seed = record seed { road = rotate_road r seed.road }
 

@@ -1,4 +1,4 @@
--- What is seen on a lane that is rotated.
+-- Rotated lanes: their gaps, their motion and their lane change.
 use Rattle.std.proofs.Common.{◌≡◌, ℕ, zero, suc, ◌+◌, ◌-◌, ◌%◌, ◌<◌, ◌&&◌, Bool, cond, Some, None, List, [], ◌∷◌, length, get_or, map, refl, sym, ◌∙◌, ap, subst, arith}
 use Rattle.std.specs.Prelude.{is_none}
 use Rattle.std.proofs.lemmas.List.{ext_get_or, length-map}

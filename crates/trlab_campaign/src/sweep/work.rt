@@ -10,9 +10,9 @@ use trlab_segments::{Asked, Gate};
 use trlab_verify::Motion;
 
 /// A gate that counts the work of a sweep and reports progress. A step counts when its motion begins, and each
-/// hundredth is reported by the worker whose step reaches it.
+/// percent is reported by the worker whose step reaches it.
 ///
-/// Steps of a revoked lease are run again and count again. So the gate itself does not report the last hundredth:
+/// Steps of a revoked lease are run again and count again. So the gate itself does not report the last percent:
 /// `report_end` does, when all points are complete.
 #[derive(Drop)]
 pub struct WorkGate<'a, O> {
@@ -81,7 +81,7 @@ impl<'a, O: ProgressObserver> WorkGate<'a, O> {
         }
     }
 
-    /// Reports the hundredth that the work has reached, unless it is the last one or was reached before.
+    /// Reports the percentage that the work has reached, unless it is 100 or was reached before.
     /// `number` is the current point.
     fn report(&self, before: u64, after: u64, number: u32)
         requires rises { before ≤ after }
@@ -95,7 +95,7 @@ impl<'a, O: ProgressObserver> WorkGate<'a, O> {
         }
     }
 
-    /// Reports the last hundredth, when all points are complete.
+    /// Reports 100 percent, when all points are complete.
     pub fn report_end(&self) {
         if self.is_watching && self.count > 0 {
             self.progress.reached(Milestone {
