@@ -146,7 +146,7 @@ fn explain_rejected(
     Ok(())
 }
 
-/// Explains the program of a check: the verifier's verdict on it.
+/// Explains the verifier's verdict on the program of a check.
 fn explain_program(explanation: &mut Explanation, text: &[u8], check: Check) -> Result<()>
     requires { IsBlankHead explanation.old.head }
     ensures { OnOk result (IsProgramHead check explanation.new.head) }

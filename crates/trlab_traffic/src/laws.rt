@@ -43,7 +43,7 @@ pub fn step_stays_under_triangle()
 {}
 
 /// The mean distance of the counted steps of a run is at most the number of empty cells, and at most v_max times the
-/// number of cars, under any schedule of rules. Cars and empty cells together are all cells of a road.
+/// number of cars, under any schedule of rules. The cars and the empty cells of a road add up to all its cells.
 pub fn run_stays_under_triangle()
     ensures cells { CellsAreTakenOrEmpty }
     ensures run { RunStaysUnderTriangle }

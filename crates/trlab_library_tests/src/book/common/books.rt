@@ -51,7 +51,7 @@ pub fn submit<L: Ledger, R: Wait>(
     }
 }
 
-/// Replaces the rule of a job with the Nagel-Schreckenberg rule of braking probability `chance` / 2^31. Returns
+/// Replaces the rule of a job by the Nagel-Schreckenberg rule with braking probability `chance` / 2^31. Returns
 /// `Memory` if the rule cannot be made.
 pub fn replace<L: Ledger, R: Wait>(
     rt: &R,

@@ -28,7 +28,7 @@ pub fn has_picture(alloc: Global, road: &Road, picture: &[u8]) -> bool {
     }
 }
 
-/// Whether a rule is the Nagel-Schreckenberg rule of braking probability `chance` / 2^31; false if an allocation
+/// Whether a rule is the Nagel-Schreckenberg rule with braking probability `chance` / 2^31; false if an allocation
 /// fails.
 fn is_rule(alloc: Global, rule: &Rule, chance: u32) -> bool {
     match nasch_rule(alloc, chance) {
