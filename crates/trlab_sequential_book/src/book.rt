@@ -386,7 +386,7 @@ fn make_room(jobs: &mut Vec<JobRecord>, seed: &Seed, rule: &Rule) -> Result<(), 
     Ok(jobs.reserve(1)?)
 }
 
-/// Whether this is the maximum number of jobs.
+/// Whether a book with this number of jobs is full.
 fn has_all_jobs(jobs: usize) -> bool
     ensures { result ≡ not (ltb jobs MAX_JOBS) }
 {
