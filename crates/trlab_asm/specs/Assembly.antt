@@ -45,7 +45,7 @@ abbrev pub with_draft : List LineDraft → ℕ → Option InstrDraft → List Li
 with_draft drafts number None = drafts
 with_draft drafts number (Some draft) = drafts ++ (record { line = number; draft = draft } ∷ [])
 
--- the parts read so far and the parts of one more line: a label gets the pc of the instruction on its line, or
+-- the parts read so far, with one more line added: a label gets the pc of the instruction on its line, or
 -- of the next instruction if the line has none
 abbrev pub with_line : Parts → ℕ → Line → Parts
 with_line parts number line = record {
@@ -53,7 +53,7 @@ with_line parts number line = record {
   drafts = with_draft parts.drafts number line.draft;
 }
 
--- the first pass: the parts read so far and the parts of more lines, which are numbered from `number` on; or
+-- the first pass: the parts read so far, with the given lines added, which are numbered from `number` on; or
 -- the first fault
 unfoldable pub first_pass : Parts → ℕ → List (List ℕ) → Result Parts AsmFault
 first_pass parts number [] = Ok parts

@@ -89,14 +89,14 @@ abbrev pub instr_line : ℕ → Bool → ℕ → Instr → List ℕ
 instr_line count is_marked pc instr =
     if is_marked then label_text pc ++ (codes ": " ++ instr_text count instr) else instr_text count instr
 
--- the lines of `rest`, the instructions of the program `instrs` from pc on, each with its LF; targets of the
--- program's jumps have labels
+-- the lines of `rest`, the instructions of the program `instrs` from pc on, each with its LF; the lines
+-- of targets of the program's jumps have labels
 unfoldable pub text_from : List Instr → ℕ → List Instr → List ℕ
 text_from instrs pc [] = []
 text_from instrs pc (instr ∷ rest) =
     instr_line (length instrs) (is_jumped_to instrs pc) pc instr ++ (10 ∷ text_from instrs (pc + 1) rest)
 
--- the canonical text of a program's instructions, one per line, each with its LF; targets of a jump have
--- labels. For example, `jump L1` LF `L1: stay` LF for a jump to instruction 1, and `stay` there
+-- the canonical text of a program's instructions, one per line, each with its LF; the line of
+-- a jump's target has a label. For example, a jump to instruction 1, a `stay`, is `jump L1` LF `L1: stay` LF
 abbrev pub canonical_text : List Instr → List ℕ
 canonical_text instrs = text_from instrs 0 instrs

@@ -35,7 +35,7 @@ kinds_of name.Go = Register ∷ []
 kinds_of name.Cross = []
 kinds_of name.Stay = []
 
--- the smallest and the largest number that an operand of a kind may be; `None` if it is not a number
+-- the smallest and the largest number that an operand of a kind may be; `None` for kinds that are not numbers
 abbrev pub range_of : OperandKind → Option (ℕ × ℕ)
 range_of Number = Some (0, MAX_NUMBER)
 range_of Divisor = Some (1, MAX_NUMBER)

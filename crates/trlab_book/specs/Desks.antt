@@ -107,7 +107,7 @@ IsCorrectVerdict lease same book = IsTrue same ↔ comparison.RunsRoadOfItsJob b
 abbrev pub LeaseIsFresh : Result (Option LeaseState) BookFault → BookState → Type 0
 LeaseIsFresh answer book = IfOk answer (λ lent. IsFreshIfLent book.jobs book.next lent)
 
--- if the call `order` succeeded, its rule is the one in force in the job's sheet at the order's step
+-- if the call `order` succeeded, the order's rule is in force in the job's sheet at the order's step
 abbrev pub OrderHasRuleInForce : Result Order BookFault → BookState → Type 0
 OrderHasRuleInForce answer book = IfOk answer (λ order. HasRuleInForce book.jobs order)
 
@@ -166,8 +166,8 @@ pub record HasEnded {L : Type 0} {ledger : Ghosts L} (runners : ℕ) (ended : Re
   pub no_job : OnOk ended (no_job_count (subhistory_of old) + runners ≤ no_job_count (subhistory_of new))
   pub full : ended ≡ Err run.HistoryFull → MAX_EVENTS ≤ clock_of new
 
--- the desk `old` is `new` after a runner's turn with one lease, as if no runner had ended: the turn has added
--- runner calls, and need not have found that no job is free
+-- the desk `old` is `new` after a runner's turn with one lease: the turn has added runner calls, and if it
+-- ended because the history was full, the desk has seen all of it
 abbrev pub EndsTurn : {L : Type 0} {ledger : Ghosts L}
     → Result (Unit {0}) RunFault → Desk L ledger → Desk L ledger → Type 0
 EndsTurn result old new = HasEnded 0 result old new

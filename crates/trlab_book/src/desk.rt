@@ -103,7 +103,7 @@ impl<L: Ledger> SharedBook<L> {
     ghost use Rattle.trlab_book.specs.Desks.{MakesNoEvent, LeaseIsFresh, OrderHasRuleInForce, ReadShowsJob, IsSameBook, LacksEvents};
     ghost use Rattle.trlab_book.specs.Desks.{MakesCall, MakesCallOn, IsCorrectVerdict, clock_of, part_count, subhistory_of};
 
-    /// An empty book, and the desk with all parts. Only the blank uses memory.
+    /// An empty book, and the desk with all parts. This allocates nothing; it uses the memory of the blank.
     pub fn start(alloc: Global, blank: Blank<Event>) -> (SharedBook<L>, Desk<L>)
         requires { name_of blank ≡ L.name }
         ensures parts { part_count result.1 ≡ ALL_PARTS }

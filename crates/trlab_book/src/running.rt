@@ -31,8 +31,8 @@ pub enum RunFault {
 }
 
 /// Runs the jobs of a book with 1 to `MAX_RUNNERS` runners, each until it finds no free job. Each runner has 1 to
-/// `MAX_WORKERS` workers, who pass the gate. Returns the desk; the runners' calls follow its own, one runner after the
-/// other.
+/// `MAX_WORKERS` workers, which pass the gate. Returns the desk; the runners' calls follow its own, one runner after
+/// the other.
 ///
 /// The desk needs a part for each runner. The calling thread is one of the runners. It begins after the others were
 /// started, and does the work of any that cannot be started.

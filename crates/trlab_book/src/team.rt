@@ -16,7 +16,7 @@ use trlab_sequential_book::{Lease, LeaseFault, Order};
 use trlab_step::{Caller, Executor, StepObserver};
 use trlab_verify::{Change, Motion};
 
-/// Runs the ordered step of a lease with 1 to `MAX_WORKERS` workers, who pass the gate. It needs no book and holds no
+/// Runs the ordered step of a lease with 1 to `MAX_WORKERS` workers, which pass the gate. It needs no book and holds no
 /// lock.
 ///
 /// # Errors
@@ -99,7 +99,7 @@ impl<'a, G: Gate> Executor for OneWorker<'a, G> {
     }
 }
 
-/// The 1 to `MAX_WORKERS` workers of one runner, who take the steps of its leases together, and their gate.
+/// The 1 to `MAX_WORKERS` workers of one runner, which take the steps of its leases together, and their gate.
 #[derive(Drop)]
 pub struct Team<'a, R, G> {
     gate: &'a G,

@@ -34,7 +34,7 @@ IsOutputForCheck check false out = IsAccepted check.program.kind check.program �
 IsOutputForCheck check true out = (at reason : ℕ)
     × (IsRefused check.program.kind check.program at reason × (out ≡ refused_line at reason))
 
--- a complete output of `check` for a text, marked as a refusal or not: the output for its check, or as a
--- refusal the line of the text's first fault
+-- a complete output of `check` for a text, marked as a refusal or not: the output for its check, or, as
+-- a refusal, the line of the text's first fault
 abbrev pub IsCheckOutput : List ℕ → Outputs
 IsCheckOutput text refused out = IsOutputForText ParsesAsCheck IsOutputForCheck text refused out

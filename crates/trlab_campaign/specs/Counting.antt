@@ -11,7 +11,7 @@ pub record IsLaterBy (count : ℕ) (old new : Progress) : Type 0 where
   pub same_sheet : new.sheet ≡ old.sheet
   pub later : new.step ≡ old.step + count
 
--- upper bounds on the counts of a lane, summed over the roads after `steps` steps: per road at most
+-- upper bounds on the counts of a lane, summed over `steps` steps: per step at most
 -- MAX_LENGTH cars and MAX_LENGTH stopped cars, and per car at most the distance MAX_LIMIT
 pub record IsBoundedCount (steps : ℕ) (count : LaneCount) : Type 0 where
   pub cars : count.cars ≤ MAX_LENGTH * steps

@@ -31,7 +31,7 @@ JobTextsAreDriven =
     → IsShownOutput shown text false out → IsDrivenJob shown text out
 
 -- a point of a sweep with this common part: one worker drives road `number`, whose `cars` cars are evenly
--- spread at the start, and the point has the counts of this run
+-- spaced at the start, and the point has the counts of this run
 pub record IsDrivenPoint (setup : Setup) (number cars : ℕ) (point : Point) : Type 0 where
   pub start : Cells
   pub tally : StepTally

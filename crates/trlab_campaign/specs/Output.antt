@@ -47,16 +47,16 @@ IsOutputForJob shown job refused out =
     (refused ≡ false) × ((roads : ℕ → Cells) × IsRunText job shown roads out)
 
 -- a complete output for a job text, marked as a refusal or not: an output that `Output` allows for its job,
--- or as a refusal the line of its first fault
+-- or, as a refusal, the line of its first fault
 abbrev pub IsOutputForJobText : (Job → Outputs) → List ℕ → Outputs
 IsOutputForJobText Output text refused out = IsOutputForText ParsesAsJob Output text refused out
 
 -- a complete output of `run` for a job text, marked as a refusal or not: the pictures at the steps that are
--- shown, or as a refusal the line of the text's first fault
+-- shown, or, as a refusal, the line of the text's first fault
 abbrev pub IsShownOutput : (ℕ → Bool) → List ℕ → Outputs
 IsShownOutput shown text refused out = IsOutputForJobText (IsOutputForJob shown) text refused out
 
--- a complete output of `run` for a job text, marked as a refusal or not: the pictures at all steps, or as a
--- refusal the line of the text's first fault
+-- a complete output of `run` for a job text, marked as a refusal or not: the pictures at all steps, or, as a
+-- refusal, the line of the text's first fault
 abbrev pub IsOutput : List ℕ → Outputs
 IsOutput text refused out = IsShownOutput each_step text refused out

@@ -17,7 +17,7 @@ use Rattle.trlab_jobs.specs.Job.{Job, seed_of, sheet_of}
 use Rattle.trlab_campaign.specs.Output.{IsOutputForJobText}
 use Rattle.trlab_campaign.specs.Refusal.{Outputs}
 
--- step `step` of a run, by the rule in force, takes the road `before` to the road `after` and has this tally
+-- step `step` of a run, under the rule in force, takes the road `before` to `after` and has this tally
 pub record IsStepAt (seed : Seed) (sheet : Sheet) (step : ℕ) (before after : Cells)
     (tally : StepTally) : Type 0 where
   pub rule : Programs
@@ -123,6 +123,6 @@ IsSeriesOutputForJob every from job refused out =
     × ((windows : List Window) × (IsSeries job every from windows × (out ≡ series_text windows)))
 
 -- a complete output of `series` for a job text, marked as a refusal or not: the table of the job's windows of
--- `every` steps from the step `from` on, or as a refusal the line of the text's first fault
+-- `every` steps from the step `from` on, or, as a refusal, the line of the text's first fault
 abbrev pub IsSeriesOutput : ℕ → ℕ → List ℕ → Outputs
 IsSeriesOutput every from text refused out = IsOutputForJobText (IsSeriesOutputForJob every from) text refused out

@@ -34,7 +34,7 @@ point_of setup cars tally = record {
   changes = tally.changes;
 }
 
--- a point of a sweep with this common part: road `number` has its `cars` cars evenly spread at the start, and
+-- a point of a sweep with this common part: road `number` has its `cars` cars evenly spaced at the start, and
 -- the point has the counts after all steps of the run
 pub record IsPoint (setup : Setup) (number cars : ℕ) (point : Point) : Type 0 where
   pub start : Cells
@@ -63,8 +63,8 @@ abbrev pub IsOutputForSweep : Sweep → Outputs
 IsOutputForSweep sweep refused out =
     (refused ≡ false) × ((points : List Point) × (ArePoints sweep points × (out ≡ points_text points)))
 
--- a complete output of `sweep` for a text, marked as a refusal or not: the table of the sweep's points, or as
--- a refusal the line of the text's first fault
+-- a complete output of `sweep` for a text, marked as a refusal or not: the table of the sweep's points, or,
+-- as a refusal, the line of the text's first fault
 abbrev pub IsSweepOutput : List ℕ → Outputs
 IsSweepOutput text refused out = IsOutputForText ParsesAsSweep IsOutputForSweep text refused out
 

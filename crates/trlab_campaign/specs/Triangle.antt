@@ -68,8 +68,8 @@ SweepsBoundMovingSpeed =
     → ParsesAsSweep text (Ok sweep) → ArePoints sweep points
     → All (HasBoundedMovingSpeed sweep.setup.shape.limit) points
 
--- a point on the triangle: its mean distance per step is the maximum distance, and its flow is that of the
--- maximum distance in every step
+-- a point on the triangle: its mean distance per step is the maximum distance, and its flow is the
+-- `steady_flow` of the maximum distance
 pub record IsOnTriangle (limit : ℕ) (point : Point) : Type 0 where
   pub distance : point.distance ≡ point.steps * max_distance_at limit point
   pub flow : flow_of point ≡ steady_flow point (max_distance_at limit point)

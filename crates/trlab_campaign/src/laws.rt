@@ -14,13 +14,13 @@ ghost use Rattle.trlab_campaign.specs.SweepOutput.{IsSweepOutput};
 
 /// The output for a job text that is not rejected shows the roads of a driven run, at the steps that are shown, from
 /// the road of the text to the road after the last step. Each step follows the rule in force, its programs end within
-/// their budgets, no car goes onto or through another, and none is lost or made.
+/// their budgets, no car goes onto or through another, and none is lost or added.
 pub fn job_texts_are_driven()
     ensures { JobTextsAreDriven }
 {}
 
 /// The table for a sweep text that is not rejected has a point for each number of cars, in the order of the text. Each
-/// point counts a driven run, whose cars are evenly spread at the start.
+/// point counts a driven run, whose cars are evenly spaced at the start.
 pub fn sweep_texts_are_driven()
     ensures { SweepTextsAreDriven }
 {}

@@ -12,10 +12,10 @@ use trlab_verify::{Change, Motion};
 
 /// Receives reports of a command's progress. No contract depends on an observer.
 pub trait ProgressObserver {
-    /// Whether it wants reports. If not, no work is counted.
+    /// Whether the observer wants reports. If not, no work is counted.
     fn is_watching(&self) -> bool;
 
-    /// Called each time that another percent of the work is done. Any worker may call it.
+    /// Called each time another percent of the work is done. Any worker may call it.
     fn reached(&self, milestone: Milestone);
 }
 

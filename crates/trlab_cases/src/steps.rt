@@ -89,7 +89,7 @@ fn push_road(report: &mut Report, road: &Road) {
     report.push_str("\n");
 }
 
-/// Takes the first step again with `step_road`, and writes its tally, or that it leads to another road than `wanted`.
+/// Takes the first step again with `step_road`, and writes its tally, or that the next road is not `wanted`.
 fn write_tally(report: &mut Report, job: &Job, wanted: &Road) -> Outcome {
     let (number, step) = (0, 0);
     match step_road(report.alloc, &job.road, &job.first, &job.key, number, step) {

@@ -20,7 +20,7 @@ abbrev pub row : ℕ → ℕ → ℕ → ℕ → ℕ → InstructionRow
 row opcode a b c number = record { opcode = opcode; a = a; b = b; c = c; number = number }
 
 -- the row of each instruction, with 0 for the fields that it does not have; a register or an input is encoded
--- as its number, and the last field has the chance of a draw and the target of a jump
+-- as its number, and the last field has a constant, the chance of a draw or the target of a jump
 abbrev pub row_of : Instr → InstructionRow
 row_of (Num d n) = row 0x01 (register_number d) 0 0 n
 row_of (Get d k) = row 0x02 (register_number d) (input_number k) 0 0
@@ -70,7 +70,7 @@ unfoldable pub encoding : Program → List ℕ
 encoding program =
     header (version_of program) program.kind (length program.instrs) ++ flat_map instr_bytes program.instrs
 
--- the bytes are those of the instruction, its fields are in range, and this version allows it
+-- the bytes encode the instruction, its fields are in range, and this version allows it
 abbrev pub EncodesInstr : ℕ → Instr → List ℕ → Type 0
 EncodesInstr version instr bytes =
     (bytes ≡ instr_bytes instr) × IsInRange instr × VersionAllows version instr

@@ -106,7 +106,7 @@ pub fn encode(alloc: Global, code: &Code) -> Result<Vec<u8>, AllocError>
     Ok(bytes)
 }
 
-/// Reads the instruction at `pc` from bytes of this version, of which all before it are valid.
+/// Reads the instruction at `pc` from bytes of this version; all bytes before it are valid.
 fn instr_at(bytes: &[u8], version: u8, pc: u32) -> Result<Instr, CodeFault>
     requires version { version ≡ stated_version bytes.now }
     requires inside { pc < stated_count bytes.now }

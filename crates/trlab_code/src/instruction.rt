@@ -93,7 +93,8 @@ pub enum Instr {
     Get(Register, Input),
     /// A flag: whether the car's side cell is empty.
     Side(Register),
-    /// A flag: whether an event happens on random word 0 to 15. The last number is its probability times 2^31.
+    /// A flag: whether an event happens on the random word of this index, 0 to 15. The last number is the event's
+    /// probability times 2^31.
     Draw(Register, u8, u32),
     /// The number or flag in a register.
     Copy(Register, Register),
@@ -159,7 +160,7 @@ impl Instr {
         }
     }
 
-    /// The target of a jump, an index of instructions counted from 0; `None` for other instructions.
+    /// The target of a jump: the index of an instruction, counted from 0; `None` for other instructions.
     pub fn target(self) -> Option<u32>
         ensures { result ≡ target self }
     {

@@ -55,7 +55,7 @@ what_argument = new_rule (codes "what")
 abbrev pub number_argument : Rule
 number_argument = record (new_rule (codes "number")) { parser = Some (Signed (pos 0) (pos 4294967295)) }
 
--- a command by its name, with `arguments` (options, flags and others) added in order
+-- the command `name`, with `arguments` (options, flags and others) added in order
 abbrev pub command : Text → List Rule → App
 command name arguments = fold with_rule (new_app name) arguments
 

@@ -14,7 +14,7 @@ use Rattle.trlab_command_line.specs.Numbers.{is_flag_given, argument_number}
 use Rattle.trlab_command_line.specs.declared.arguments.explain.ExplainRequest.{ExplainRequest}
 use Rattle.trlab_command_line.specs.declared.arguments.explain.ExplainRequest.TheVariants.{Text, Number}
 
--- the kind of input that the command with the name `name` reads; none if it is not `run`, `sweep` or `check`
+-- the kind of input that the command `name` reads; none if `name` is not `run`, `sweep` or `check`
 abbrev pub subject_of_command : List ℕ → Option Subject
 subject_of_command name =
     if bytes_eq name (codes "run") then Some Job

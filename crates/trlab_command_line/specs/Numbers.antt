@@ -46,8 +46,7 @@ is_true_value (Some text) = bytes_eq text (bool_text true)
 abbrev pub is_flag_given : Text → List Row → Bool
 is_flag_given flag matches = is_true_value (one_of flag matches)
 
--- among the matches of a command, `flag` has the value of a flag that is given if `given` is true, and of one
--- that is not given if it is false
+-- among the matches of a command, the value of `flag` is the text `true` if `given` is true, else `false`
 abbrev pub GivesFlag : Text → List Row → Bool → Type 0
 GivesFlag flag matches given = one_of flag matches ≡ flag_text given
 

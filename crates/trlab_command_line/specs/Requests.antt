@@ -59,8 +59,8 @@ FitsEngines (Explain request) = ⊤
 abbrev pub IsNamedFirst : List Text → Request → Type 0
 IsNamedFirst arguments request = (rest : List Text) × (arguments ≡ command_name request ∷ rest)
 
--- the kinds of error of the arguments: those of `clap`, or if it has none, that the arguments of `explain` do
--- not go together; empty if the arguments are accepted
+-- the kinds of error of the arguments: the errors of `clap`, or if it finds none, the error that arguments of
+-- `explain` do not go together; empty if the arguments are accepted
 abbrev pub arguments_fault : List Text → Kinds
 arguments_fault arguments =
     or_else (fault_of command_line arguments) (explain_arguments_fault (subcommand_of command_line arguments))

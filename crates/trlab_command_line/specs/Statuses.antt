@@ -5,8 +5,8 @@ use Rattle.clap.specs.declared.error.kind.ErrorKind.TheVariants.{DisplayHelp, Di
 use Rattle.trlab_campaign.specs.declared.end.End.{End}
 use Rattle.trlab_campaign.specs.declared.end.End.TheVariants.{Done, Refused, Memory, DeviceFault}
 
--- the exit status by how a command ended: 0 if the output of a valid input is complete, 1 if the output for a
--- rejected one is, 3 if an allocation failed, and 4 if reading or writing failed
+-- the exit status of a command, from its end: 0 if the output for a valid input is complete, 1 if the output
+-- for a rejected input is complete, 3 if an allocation failed, and 4 if reading or writing failed
 abbrev pub status_of_end : End → ℕ
 status_of_end Done = 0
 status_of_end Refused = 1

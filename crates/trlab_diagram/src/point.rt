@@ -18,7 +18,7 @@ pub struct Point {
     pub distance: u64,
     /// How many times a car had speed 0, over all these steps.
     pub stopped: u64,
-    /// How many times a car changed lanes, over all these steps.
+    /// The number of lane changes in all these steps.
     pub changes: u64,
 }
 
@@ -33,7 +33,7 @@ pub fn flow(point: &Point) -> u128
     u128::from(point.distance) * 1_000_000 / (u128::from(point.cells) * u128::from(point.steps))
 }
 
-/// The counts of a lane, summed over some steps; in each step, the road after it is counted.
+/// The counts of a lane, summed over the roads after each of some steps.
 #[derive(Clone, Copy, Debug, PartialEq, Eq)]
 pub struct LaneCount {
     /// The number of cars on the lane.

@@ -53,7 +53,7 @@ too_big = record { line = 0; cause = TooBig }
 abbrev too_big_line : List ℕ
 too_big_line = fault_line too_big
 
--- the head for a text that is too long, as whatever it is read, and no other
+-- the only head for a text that is too long, whatever it is read as
 abbrev IsBigHead : Head → Type 0
 IsBigHead head = (head.is_rejected ≡ true) × (head.answer ≡ too_big_line) × (head.quote ≡ [])
 

@@ -13,7 +13,7 @@ use Rattle.trlab_jobs.specs.declared.subject.Subject.TheVariants.{Job, Sweep, Ch
 abbrev pub edited : ℕ → ℕ → List ℕ → List ℕ → List ℕ
 edited at removed inserted text = take at text ++ (inserted ++ drop (at + removed) text)
 
--- the line of the first fault, by the result of reading a text; none if the text is valid
+-- the line of the first fault, from the result of reading a text; none if the text is valid
 abbrev pub first_fault_line : {A : Type 0} → Result A Fault → Option ℕ
 first_fault_line (Ok x) = None
 first_fault_line (Err fault) = Some fault.line

@@ -38,8 +38,8 @@ abbrev pub IsFaultHead : List ℕ → Fault → Head → Type 0
 IsFaultHead text fault head = (head.is_rejected ≡ true) × (head.answer ≡ fault_line fault)
     × (head.quote ≡ quote_line fault.line (line_at fault.line (lines_of text)))
 
--- the head for the text of a job or a sweep, by the result of reading it: for a valid text, the blank head;
--- for an invalid one, the head for its fault
+-- the head for the text of a job or a sweep, given the result of reading it: for a valid text, the blank
+-- head; for an invalid text, the head for its fault
 abbrev pub IsTextHead : {A : Type 0} → List ℕ → Result A Fault → Head → Type 0
 IsTextHead text (Ok x) head = IsBlankHead head
 IsTextHead text (Err fault) head = IsFaultHead text fault head
@@ -58,12 +58,12 @@ IsProgramAnswer check true answer quote =
     (at reason : ℕ) × IsRefused check.program.kind check.program at reason
     × (answer ≡ refused_line at reason) × (quote ≡ [])
 
--- the head for the program of a check, by the verdict of the verifier
+-- the head for the program of a check, given the verdict of the verifier
 abbrev pub IsProgramHead : CheckSaid → Head → Type 0
 IsProgramHead check head = IsProgramAnswer check head.is_rejected head.answer head.quote
 
--- the head for the text of a check, by the result of reading it: for a valid text, the head for its program;
--- for an invalid one, the head for its fault
+-- the head for the text of a check, given the result of reading it: for a valid text, the head for its
+-- program; for an invalid text, the head for its fault
 abbrev pub IsCheckHead : List ℕ → Result CheckSaid Fault → Head → Type 0
 IsCheckHead text (Ok check) head = IsProgramHead check head
 IsCheckHead text (Err fault) head = IsFaultHead text fault head
@@ -80,8 +80,8 @@ IsHeadAs Check text head =
     (result : Result CheckSaid Fault) × ParsesAsCheck text result
     × IsCheckHead text result head
 
--- a text that is read as a job, a sweep or a check is rejected with `fault`: its first fault, or that an
--- allocation failed
+-- a text that is read as a job, a sweep or a check is rejected with `fault`: its first fault, or a
+-- failed allocation
 abbrev pub IsRejectedWith : Subject → List ℕ → TextFault → Type 0
 IsRejectedWith Job text fault = Reports (ParsesAsJob text) (Err fault)
 IsRejectedWith Sweep text fault = Reports (ParsesAsSweep text) (Err fault)
@@ -109,7 +109,7 @@ HasHead Text head out = BeginsWith (text_front head) out
 HasHead Json head out = EndsObject head.is_rejected head.answer out
 
 -- `out` is an explanation of the text, and `rejected` is true exactly if the text or its program is rejected;
--- all bytes of `out` are printable ASCII or LF, even if those of the text are not
+-- all bytes of `out` are printable ASCII or LF, even if the text has other bytes
 abbrev pub Explains : Form → Option Subject → List ℕ → Outputs
 Explains form wanted text rejected out = (head : Head) × (rejected ≡ head.is_rejected)
     × IsHead wanted text head × HasHead form head out × All IsPlain out

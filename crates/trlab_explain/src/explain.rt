@@ -78,7 +78,7 @@ fn explain_fault(
     Ok(())
 }
 
-/// Explains an input that its reader rejects. Fails if the refusal is that an allocation failed.
+/// Explains an input that its reader rejects. Fails if its fault is a failed allocation.
 #[tactic(auto, using(crate::proofs::Refusals::refusal_has_head))]
 fn explain_refusal(
     explanation: &mut Explanation,
@@ -121,7 +121,7 @@ fn explain_accepted(
     Ok(())
 }
 
-/// Explains a program that the verifier rejects. Fails if `fault` is that an allocation failed.
+/// Explains a program that the verifier rejects. Fails if `fault` is a failed allocation.
 fn explain_rejected(
     explanation: &mut Explanation,
     text: &[u8],
@@ -146,7 +146,7 @@ fn explain_rejected(
     Ok(())
 }
 
-/// Explains the program of a check, by the verdict of the verifier.
+/// Explains the verifier's verdict on the program of a check.
 fn explain_program(explanation: &mut Explanation, text: &[u8], check: Check) -> Result<()>
     requires { IsBlankHead explanation.old.head }
     ensures { OnOk result (IsProgramHead check explanation.new.head) }

@@ -15,7 +15,7 @@ use trlab_texts::Cause;
 /// The difference between the number of a reason's cause and the number of the reason.
 const REASON_OFFSET: u32 = 40;
 
-/// The causes, except those of the verifier's reasons. No input has the last one. A cause with a position is listed
+/// The causes, except those of the verifier's reasons. No input has the last cause. A cause with a position is listed
 /// with position 0.
 const CAUSES: [Cause; 30] = [
     Cause::Line,

@@ -22,7 +22,7 @@ pub enum Topic {
     Reason,
 }
 
-/// Adds the meaning of a number, or that it is unknown. Returns whether it is unknown.
+/// Adds the meaning of a number, or a line that says that it is unknown. Returns whether it is unknown.
 fn push_number(text: &mut Draft, topic: Topic, number: u32) -> bool
     ensures { result ≡ not (is_known topic number) }
 {

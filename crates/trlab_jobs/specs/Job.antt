@@ -35,7 +35,7 @@ abbrev pub key_of_hex : Result (List ℕ) FromHexError → Result (List ℕ) Cau
 key_of_hex (Ok key) = Ok key
 key_of_hex (Err fault) = Err Key
 
--- the key that a word writes, in 64 hexadecimal digits of either case; the cause `Key` for any other word,
+-- the key that a word spells in 64 hexadecimal digits of either case; the cause `Key` for any other word,
 -- and the cause that is given instead of a word if there is none
 abbrev pub key_of : Result (List ℕ) Cause → Result (List ℕ) Cause
 key_of (Ok word) = key_of_hex (decode_sized word 32)

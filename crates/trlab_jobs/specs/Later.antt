@@ -9,7 +9,7 @@ use Rattle.trlab_jobs.specs.RuleParts.{rule_from}
 
 -- reads a line `at s rule ..`, and the programs after `rule own`, for a road with `lanes` lanes; gives s,
 -- which is at least `least` and below `steps`, and the rule. `room` is the number of later rules that may
--- still come, with this one
+-- still come, including this one
 abbrev pub later_rule : ℕ → ℕ → ℕ → ℕ → Reading (ℕ × Programs)
 later_rule room lanes steps least rest out =
     (line (exactly (later_line room steps least)) >>= λ stated.

@@ -41,7 +41,7 @@ rule_words text =
     (vdr_words (without_prefix (codes "rule vdr ") text)
     (rickert_words (without_prefix (codes "rule rickert ") text) (own_words text)))
 
--- the probability, times 2^31, that a word writes: a number from 0 to CERTAIN, or else the cause `Number`
+-- the probability, times 2^31, that a word states: a number from 0 to CERTAIN, or else the cause `Number`
 abbrev pub probability_of : List ℕ → Result ℕ Cause
 probability_of word = within 0 CERTAIN (number_of word)
 

@@ -46,7 +46,7 @@ setup = do
   give (record { key = key; shape = roads; rule = rule; span = steps })
 
 -- the result for a sweep, from the result for its common part: a fault stays, and otherwise the lines that
--- are left have the number of cars of each point, or the first fault
+-- are left give the number of cars of each point, or the first fault
 abbrev pub with_counts : Result (Setup × Rest) Fault → Result Sweep Fault
 with_counts (Err fault) = Err fault
 with_counts (Ok found) =

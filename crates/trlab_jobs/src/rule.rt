@@ -232,8 +232,8 @@ pub fn rule(alloc: Global, lanes: Lanes, rest: Rest<'_>) -> Result<(Rule, Rest<'
     rule_from(alloc, lanes, number, line, rest)
 }
 
-/// Reads the next line, `at s rule ..`. `room` is the number of later rules that may still come, with this one; the
-/// step must be at least `least` and below `steps`.
+/// Reads the next line, `at s rule ..`. `room` is the number of later rules that may still come, including this one;
+/// the step must be at least `least` and below `steps`.
 fn read_later_line(
     room: u32,
     steps: u32,

@@ -35,7 +35,7 @@ fn go_through<G: Gate + Sync>(
     }
 }
 
-/// A gate that records how often it is passed, and as bits, which segments of `ROAD` are begun in the lane change and
+/// A gate that records how often it is passed and, as bits, which segments of `ROAD` are begun in the lane change and
 /// in the motion.
 #[derive(Drop)]
 struct Notes {
@@ -54,7 +54,7 @@ impl Notes {
         }
     }
 
-    /// Whether the gate was passed `calls` times, and the segments of the bits `begun` were begun in each phase.
+    /// Whether the gate was passed `calls` times, and the segments of the set bits of `begun` were begun in each phase.
     fn has(&self, calls: u64, begun: u64) -> bool {
         self.calls.load(Ordering::SeqCst) == calls
             && self.crossed.load(Ordering::SeqCst) == begun
@@ -77,7 +77,8 @@ impl Gate for Notes {
     }
 }
 
-/// Whether 16 workers pass the gate `calls` times in a step, and begin the segments of the bits `begun` in each phase.
+/// Whether 16 workers pass the gate `calls` times in a step, and begin the segments of the set bits of `begun` in each
+/// phase.
 fn crew_begins(
     rt: &(impl AllocGlobal + Threads + Sync),
     cars: u32,
@@ -96,7 +97,7 @@ fn sixteen_workers_begin_each_segment_once(rt: HostRuntime) {
 }
 
 /// Whether a pool of `others` + 1 workers passes the gate `calls` times in three steps with 60 cars, and begins the
-/// segments of the bits `begun` in each phase.
+/// segments of the set bits of `begun` in each phase.
 fn pool_begins(
     rt: &(impl AllocGlobal + Threads + Wait + Sync),
     others: u32,
@@ -109,7 +110,7 @@ fn pool_begins(
     pool_as_one(rt, others, &notes, 3) && notes.has(calls, begun)
 }
 
-/// Whether a sparing pool does not pass the gate if it has too few cars for a second worker.
+/// Whether a pool with workers for 60 cars, too few for a second worker, never passes the gate.
 fn spares_workers(rt: &(impl AllocGlobal + Threads + Wait + Sync)) -> bool {
     let notes = Notes::new();
     sparing_pool_as_one(rt, 60, &notes) && notes.has(0, 0)

@@ -6,8 +6,8 @@ use trlab_rules::{Rule, nasch, rickert, vdr};
 use trlab_step::{StepFault, StepTally};
 use trlab_words::{CERTAIN, Chance};
 
-/// The rule of the Nagel-Schreckenberg model with the probability `p` / 2^31 to brake; `None` if `p` is above 2^31 or
-/// an allocation fails.
+/// The rule of the Nagel-Schreckenberg model with braking probability `p` / 2^31; `None` if `p` is above 2^31 or an
+/// allocation fails.
 pub fn nasch_rule(alloc: Global, p: u32) -> Option<Rule> {
     nasch(alloc, Chance::new(p)?).ok()
 }

@@ -184,7 +184,7 @@ impl Page {
         self.put(page.text())
     }
 
-    /// The bytes of the page, of which each is printable ASCII or an LF.
+    /// The bytes of the page, each of which is printable ASCII or an LF.
     pub fn text(&self) -> &[u8]
         ensures value { result.now ≡ self.now }
         ensures plain { All IsPlain result.now }

@@ -66,7 +66,7 @@ impl<'a> Place<'a> {
         above
     }
 
-    /// The lines below this place: all lines of the text at its start, and none at its end.
+    /// The lines below this place: all lines if it is the start of the text, and none if it is the end.
     pub fn below(&self) -> &'a [u8] {
         let end = match self.line {
             Some(line) => self.start.saturating_add(line.len()).saturating_add(1),

@@ -37,7 +37,7 @@ impl<'a> Fault<'a> {
         matches!(self.wanted, Wanted::Lines(names) if names.has(name))
     }
 
-    /// The word at fault, if its reader names one.
+    /// The word at fault, if the reader names one.
     pub fn word(&self) -> Option<ByteSpan> {
         let (at, length) = match self.wanted {
             Wanted::Number { at, length, .. } => (*at, *length),

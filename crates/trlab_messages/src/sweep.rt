@@ -75,7 +75,7 @@ fn output_bytes(sweep: &Sweep) -> u64 {
     bytes
 }
 
-/// An estimate of the bytes of memory of a sweep with one runner, fitted to measurements.
+/// An estimate of the memory, in bytes, that a sweep with one runner uses, fitted to measurements.
 fn memory_bytes(text: &[u8], cars: &CarCounts, steps: u64) -> u64 {
     let most = u64::from(cars.most);
     let kept_cars = cars

@@ -56,7 +56,7 @@ abbrev pub range_level : ℕ → ℕ → ℕ
 range_level hi lo = if nat_lt hi lo then BELOW else (if nat_le hi lo then AT_MOST else 0)
 
 -- the known level of one variable to another, from their abstract values, whether they are the same variable,
--- and the level of the first to the second in a note: AT_MOST if they are the same, otherwise the level there
+-- and the level of the first to the second in a note: AT_MOST if they are the same, otherwise this level
 -- or the level of their ranges, whichever is larger; 0 if one of them is not a number
 abbrev pub level_between : AbstractValue → AbstractValue → Bool → ℕ → ℕ
 level_between (Between x_lo x_hi) (Between y_lo y_hi) true level = AT_MOST

@@ -43,15 +43,15 @@ register_to note a y = known_level note (variable.Register a) y
 abbrev pub to_register : Note → Variable → Register → ℕ
 to_register note y a = known_level note y (variable.Register a)
 
--- the level k of x to y as the level of x to y + z, or of x - z to y, for z of at least lo: at least BELOW if k
--- and lo are above 0, otherwise k. For example, if x is at most y, it is below y + 3
+-- the level of x to y + z, or of x - z to y, that follows from the level k of x to y, if z is at least lo: at
+-- least BELOW if k and lo are above 0, otherwise k. For example, if x is at most y, it is below y + 3
 abbrev pub sharpen : ℕ → ℕ → ℕ
 sharpen zero lo = 0
 sharpen (suc k) zero = suc k
 sharpen (suc k) (suc lo) = max (suc k) BELOW
 
--- the level k of x to y as the level of x + z to y, for z of at most hi: AT_MOST if k is at least BELOW and hi
--- at most 1, otherwise 0. For example, if x is below y, x + 1 is at most y
+-- the level of x + z to y that follows from the level k of x to y, if z is at most hi: AT_MOST if k is at
+-- least BELOW and hi at most 1, otherwise 0. For example, if x is below y, x + 1 is at most y
 abbrev pub slacken : ℕ → ℕ → ℕ
 slacken k hi = if nat_le BELOW k && nat_le hi 1 then AT_MOST else 0
 

@@ -1,4 +1,4 @@
-//! The values and the levels of variables in stored notes, and how a note is first stored.
+//! The values and the levels of variables in stored notes, and the first storing of a note.
 
 ghost use Rattle.std.specs.Prelude.{◌≡◌, ℕ, ◌<◌, ◌≤◌, slice_index, slice_index_or};
 ghost use Rattle.trlab_code.specs.declared.instruction.Variable.{Variable as AVariable};

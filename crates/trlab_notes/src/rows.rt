@@ -185,8 +185,8 @@ pub fn with_variable(
     changed
 }
 
-/// The rows if p is known to have this level to q: `first` has the levels of all variables to p, and `last` the levels
-/// of q to all variables.
+/// The rows refined by a known level of p to q: `first` has the levels of all variables to p, and `last` the levels of
+/// q to all variables.
 pub fn refine_rows(
     rows: &[LevelRow; VARIABLES],
     first: LevelRow,

@@ -38,7 +38,7 @@ fn has_weaker_variables(m: &StoredNote, n: &StoredNote) -> bool
     true
 }
 
-/// Whether no level of `m` is above the same level of `n`.
+/// Whether no level of `m` is above the corresponding level of `n`.
 fn has_smaller_levels(m: &StoredNote, n: &StoredNote) -> bool
     ensures { IsTrue result ↔ ((x y : ℕ) → x < VARIABLES → y < VARIABLES →
         level_of m.now.rows x y ≤ level_of n.now.rows x y) }
@@ -58,7 +58,7 @@ pub fn is_no_stronger(m: &StoredNote, n: &StoredNote) -> bool
     has_weaker_variables(m, n) && has_smaller_levels(m, n) && (!m.side || n.side)
 }
 
-/// The common knowledge of two abstract values: the smallest range around two ranges, for example.
+/// The common knowledge of two abstract values: for example, the smallest range that contains two ranges.
 fn join_values(a: AbstractValue, b: AbstractValue) -> AbstractValue
     ensures { result ≡ join_values a b }
 {

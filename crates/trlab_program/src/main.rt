@@ -65,7 +65,7 @@ fn buffered<W: Write + IsTerminal + Drop>(
     BufWriter::with_capacity(alloc, capacity, out)
 }
 
-/// Reports the progress of a command on standard error, by its unit, step or point; without a unit, nothing is
+/// Reports the progress of a command on standard error, in its unit, step or point; without a unit, nothing is
 /// reported. A line that cannot be written is ignored.
 #[derive(Drop)]
 struct ProgressPrinter<'a, R> {
@@ -107,7 +107,7 @@ fn reads_input(request: Request) -> bool {
 }
 
 /// Executes the request of the arguments, or prints help or the error of `clap`. Returns the exit status. If the
-/// request reads input that `is_typed`, a line on standard error first explains how to end it.
+/// request reads input and it `is_typed`, a line on standard error first explains how to end the input.
 fn act<R: AllocGlobal + Threads + Wait + Sync + Eprint, S: Source, K: Sink>(
     rt: &R,
     arguments: &[String],

@@ -122,7 +122,7 @@ apart_within_gaps answer lane within = record {
       ];
 }
 
--- what passes, where nothing greater does, is the largest
+-- a number that passes is the largest if no greater one passes
 pub greatest_is : (test : ℕ → Bool) (n g : ℕ) → g ≤ n → test g ≡ true
     → ((m : ℕ) → g < m → m ≤ n → test m ≡ false) → largest test n ≡ g
 greatest_is test zero g low passes fails = let e : zero ≡ g = omega arith in e

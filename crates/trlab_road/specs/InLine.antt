@@ -22,8 +22,8 @@ pub record IsLineFrom (road : Cells) (k : ℕ) (line : List LaneCar) : Type 0 wh
   pub whole : k + length line ≡ sum_by lane_car_count (take (lane + 1) road.lanes)
 
 -- `car` is the k-th car in standing order, and `next` has the place and the speed of its next car ahead, at a
--- later place of the lane: the cells between `car` and `next` are the gap of `car`, and the speed of `next`
--- is its headspeed
+-- later place of the lane: the number of cells between `car` and `next` is the gap of `car`, and the speed of
+-- `next` is the headspeed of `car`
 pub record IsFollowed (road : Cells) (k : ℕ) (car next : LaneCar) : Type 0 where
   pub lane : ℕ
   pub standing : IsNthCar road k (car_on lane car)

@@ -1,6 +1,6 @@
 -- The lane change, the first phase of a step on two lanes (Rickert, Nagel, Schreckenberg and Latour 1996):
--- all cars that change lanes do so at once. Which cars change lanes is given by a function of a lane and a
--- place, `crosses`, or by a list of answers in standing order.
+-- all cars that change lanes do so at once. A function of a lane and a place, `crosses`, or a
+-- list of answers in standing order states whether each car changes lanes.
 use Rattle.std.specs.Prelude.{◌≡◌, ℕ, ◌-◌, ◌<◌, Bool, true, false, cond, Some, None, List, length, map, slice_index_or}
 use Rattle.std.specs.List.{range_with_len}
 use Rattle.std.specs.Option.{option_or}

@@ -1,6 +1,5 @@
--- The motion, the second phase of a step (Nagel and Schreckenberg 1992): all cars move at once. How many
--- cells each car moves is given by a function of a lane and a place, `answer`, or by a list in standing
--- order.
+-- The motion, the second phase of a step (Nagel and Schreckenberg 1992): all cars move at once. A function
+-- of a lane and a place, `answer`, or a list in standing order gives the number of cells that each car moves.
 use Rattle.std.specs.Prelude.{◌≡◌, ℕ, ◌<◌, ◌≤◌, Some, None, List, length, map, slice_index}
 use Rattle.trlab_road.specs.declared.car.Car.{Car}
 use Rattle.trlab_road.specs.Cells.{Lane, Cells, IsAt, at, lane_of, cars, lane_car_count}

@@ -92,7 +92,7 @@ pub record IsFirstBadCharacter (limit : ℕ) (pictures : List (List ℕ)) (l x :
   pub earlier_places : (y : ℕ) → y < x → ShowsCell limit (character_at pictures l y)
 
 -- the limit is 1 to MAX_LIMIT, there are 1 to MAX_LANES pictures of the same length, 1 to MAX_LENGTH cells,
--- and the first character that shows no cell is that of lane l at place x
+-- and the first character that shows no cell is in lane l at place x
 abbrev pub IsFaultAt : ℕ → List (List ℕ) → ℕ → ℕ → Type 0
 IsFaultAt limit pictures l x = HaveValidShape limit pictures × IsFirstBadCharacter limit pictures l x
 

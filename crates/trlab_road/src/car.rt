@@ -7,7 +7,7 @@ ghost use Rattle.trlab_road.specs.Stored.{no_car, place_of};
 use std::marker::Model;
 
 /// A car: its number, which it keeps; its lane, 0 or 1; its place, which is the number of its cell along the lane,
-/// counted from 0; and its speed, which is the number of cells that it moved in the last step.
+/// counted from 0; and its speed in cells per step, which after a step is the number of cells that it moved.
 #[derive(Clone, Copy, Debug, PartialEq, Eq)]
 pub struct Car {
     pub number: u32,

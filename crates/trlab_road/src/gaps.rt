@@ -148,7 +148,7 @@ fn first_near(cars: &[LaneCar], place: u32, near: usize) -> usize
 }
 
 /// The index of the first car from a place on, if the car before index `near` is before the place and the first car is
-/// among the five from `near` on. At the end of the list the result may be `None` even so.
+/// among the five from `near` on. Near the end of the list the result may be `None` even so.
 #[inline(always)]
 fn first_of_five(cars: &[LaneCar], place: u32, near: usize) -> Option<usize>
     requires sorted { IsRising cars.now }
@@ -223,8 +223,8 @@ fn look_anywhere(cars: &[LaneCar], cells: usize, place: u32, next: usize) -> Sid
     }
 }
 
-/// The surroundings of a place. The index `near` affects only the running time: if it is near the place, usually only
-/// five cars are checked.
+/// The surroundings of a place. The index `near` affects only the running time: if the car at this index is near the
+/// place, usually only five cars are checked.
 #[inline(always)]
 pub fn look_beside(cars: &[LaneCar], cells: usize, place: u32, near: usize) -> SideGaps
     requires small { cells ≤ MAX_LENGTH }

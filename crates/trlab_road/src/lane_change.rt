@@ -55,7 +55,7 @@ fn leaving_cars(
     Ok(())
 }
 
-/// The index after a sequence of cars that stay and are before the place `due`. The car at index `begin` is such a car.
+/// The index after a sequence of cars that stay and are before the place `due`; the first has the index `begin`.
 fn run_end(lane: AnsweredLane, crosses: &[bool], begin: usize, due: u32) -> usize
     requires each { lane.from + length lane.cars.now ≤ length crosses.now }
     requires begin { begin < length lane.cars.now }

@@ -1,4 +1,4 @@
-//! Laws of pictures, of the next car ahead, of the two phases of a step and of evenly spread cars, for every road,
+//! Laws of pictures, of the next car ahead, of the two phases of a step and of evenly spaced cars, for every road,
 //! independent of the code that moves the cars.
 //!
 //! Each law is the contract of a function with an empty body.

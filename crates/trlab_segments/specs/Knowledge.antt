@@ -1,5 +1,5 @@
 -- The knowledge of drawers: their passes, and which tickets they drew. Tickets are the numbers below a count,
--- and each is drawn by one drawer.
+-- and each is drawn by at most one drawer.
 use Rattle.std.specs.Prelude.{◌≡◌, ℕ, ◌+◌, ◌-◌, true, false, cond, ◌||◌, eqb}
 use Rattle.std.specs.Prelude.{List, [], ◌∷◌, ◌++◌, count_by}
 use Rattle.trlab_strands.specs.Knowledge.{once_below}
@@ -30,7 +30,7 @@ idle_knowledge = record {
 abbrev pub first_drawer : Plan → TicketKnowledge
 first_drawer plan = record idle_knowledge { plan = plan; passes = plan.drawers }
 
--- the knowledge of the drawer `old` after it has drawn this ticket; its next one is above it
+-- the knowledge of the drawer `old` after it has drawn this ticket; its next ticket will be larger
 abbrev pub with_ticket : TicketKnowledge → ℕ → TicketKnowledge
 with_ticket old ticket = record old { tickets = old.tickets ++ ticket ∷ []; least_next = ticket + 1 }
 
@@ -48,7 +48,7 @@ abbrev pub one_pass : TicketKnowledge → TicketKnowledge
 one_pass old = record idle_knowledge { plan = old.plan; passes = 1; has_ended = old.has_ended }
 
 -- the knowledge of two drawers of the same plan that were joined: the passes and the tickets of both. The
--- drawer may draw any ticket next, and has ended if one of them has
+-- joined drawer may draw any ticket next, and has ended if one of the two has
 abbrev pub both_drawers : TicketKnowledge → TicketKnowledge → TicketKnowledge
 both_drawers one other = record {
   plan = one.plan;

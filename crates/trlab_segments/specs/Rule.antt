@@ -1,4 +1,4 @@
--- The ticket invariant: what holds of the drawers' shared counter, which is the next ticket, and of their
+-- The ticket invariant: facts about the drawers' shared counter, which is the next ticket, and about their
 -- knowledge, before and after each atomic step; and the effects of the steps.
 use Rattle.std.specs.Prelude.{◌≡◌, ℕ, ◌+◌, ◌<◌, ◌≤◌, ◌^◌, min, true, List, length, slice_index, sum_by}
 use mathlib.Core.Option.{some}

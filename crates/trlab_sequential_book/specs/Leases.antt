@@ -22,8 +22,8 @@ pub record Base : Type 0 where
   pub step : ℕ
   pub road : Cells
 
--- a lease: the number of its job, its own number, the number of steps of the job, the key and the number of
--- the road, which determine its random numbers, its base, its next step, the road before this step, and the
+-- a lease: the number of its job; its own number; the number of steps of the job; the key and the number of
+-- the road, which determine its random numbers; its base; its next step; the road before this step; and the
 -- steps that it has run since its base
 pub record LeaseState : Type 0 where
   pub job : ℕ

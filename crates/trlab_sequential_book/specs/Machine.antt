@@ -185,7 +185,7 @@ next_after next _ = next
 abbrev pub has_full_history : BookState → Bool
 has_full_history book = not (ltb book.count MAX_EVENTS)
 
--- the reply of a book to a call: that of its outcome, but `HistoryFull` if the book's history is full
+-- the reply of a book to a call: `HistoryFull` if the book's history is full, otherwise the outcome's reply
 abbrev pub reply_of : BookState → Call → Reply
 reply_of book call =
     if has_full_history book then reply.Refused fault.HistoryFull else (outcome_of_call book call).reply

@@ -26,7 +26,7 @@ use trlab_rules::Rule;
 /// The maximum number of jobs of a book.
 pub const MAX_JOBS: usize = 256;
 
-/// The maximum number of events of a book, which then refuses each call.
+/// The maximum number of events of a book. After this number of events, a book refuses each call.
 pub const MAX_EVENTS: u32 = 1000000;
 
 /// A book of up to `MAX_JOBS` jobs, which are numbered from 0 and never removed.
@@ -386,7 +386,7 @@ fn make_room(jobs: &mut Vec<JobRecord>, seed: &Seed, rule: &Rule) -> Result<(), 
     Ok(jobs.reserve(1)?)
 }
 
-/// Whether this is the maximum number of jobs.
+/// Whether a book with this number of jobs is full.
 fn has_all_jobs(jobs: usize) -> bool
     ensures { result ≡ not (ltb jobs MAX_JOBS) }
 {

@@ -219,7 +219,7 @@ impl JobRecord {
             .are_in_force(lease.base_step(), lease.applied(), lease.is_steady())
     }
 
-    /// Whether a lease is the one that is out and may be ordered or given back. It must run the job's road
+    /// Whether a lease is out for this job, and may be ordered or given back. It must run the job's road
     /// (`runs_its_road`), from the steps done, and at most up to the last ordered step.
     fn accepts_lease(&self, lease: &Lease, runs_its_road: bool) -> bool
         ensures { result ≡ accepts_lease (offered lease.now runs_its_road) self.now }

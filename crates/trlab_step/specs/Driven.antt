@@ -18,8 +18,8 @@ pub record IsDrivenStep (seed : Seed) (sheet : Sheet) (step : ℕ) (road next : 
   pub suits : IsRuleFor (length road.lanes) rule
   pub clean : IsCleanNext rule (dice_at seed step) road next tally
 
--- a run is driven for `steps` steps: `roads 0` is the road of the start, each step is driven, and each road
--- up to `roads steps` is legal, with the limit and the numbers of lanes and cars of the start
+-- a run is driven for `steps` steps: `roads 0` is the initial road, each step is driven, and each road
+-- up to `roads steps` is legal, with the limit and the numbers of lanes and cars of `roads 0`
 pub record IsDriven (seed : Seed) (sheet : Sheet) (steps : ℕ) (roads : ℕ → Cells) : Type 0 where
   pub start : roads 0 ≡ seed.road
   pub legal : (step : ℕ) → step ≤ steps → IsLegalLike seed.road (roads step)

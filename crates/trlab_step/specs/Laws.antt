@@ -152,7 +152,7 @@ NextRoadIsUnique =
     → (next ≡ other) × (tally ≡ other_tally)
 
 -- a run from a legal road, with rules for its number of lanes, has after any number of steps a road and a sum
--- of tallies; the road is legal, with the limit and the numbers of lanes and cars of the start
+-- of tallies; the road is legal, with the limit and the numbers of lanes and cars of the initial road
 abbrev pub RoadExists : Type 0
 RoadExists =
     (seed : Seed) (sheet : Sheet) (step : ℕ) → IsLegal seed.road → IsSheetFor (length seed.road.lanes) sheet

@@ -28,7 +28,7 @@ abbrev pub crossing_cars : (ℕ → ℕ → Bool) → Cells → ℕ
 crossing_cars crosses road = count_by (λ (car : Car). crosses car.lane car.place) (standing road)
 
 -- the lane change from `road` to `middle`, in which `changes` cars cross. With a change program, the road has
--- two lanes, and the cars cross for which the program answers so. Without one (`None`), no car crosses
+-- two lanes, and a car crosses exactly if the program answers true. Without one (`None`), no car crosses
 abbrev pub IsLaneChangePhase : Option CheckedProgram → Dice → Cells → Cells → ℕ → Type 0
 IsLaneChangePhase None dice road middle changes = (middle ≡ road) × (changes ≡ 0)
 IsLaneChangePhase (Some change) dice road middle changes =

@@ -15,7 +15,7 @@ pub record Progress : Type 0 where
   pub road : Cells
   pub sum : StepTally
 
--- a run at step 0: it has the road of the start, and no tally has been counted
+-- a run at step 0: it has the initial road, and no tally has been counted
 abbrev pub at_start : Seed → Sheet → Progress
 at_start seed sheet = record { seed = seed; sheet = sheet; step = 0; road = seed.road; sum = no_tally }
 

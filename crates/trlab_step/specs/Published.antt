@@ -1,6 +1,6 @@
 -- The published models on the cells of a road: the place of each car after a step. trlab_rules defines the
--- same speeds and lane changes (`nasch_speed`, `vdr_speed`, `rickert_crosses`), but as functions of what a
--- program reads, a view and a list of random words; these are functions of a road and a car.
+-- same speeds and lane changes (`nasch_speed`, `vdr_speed`, `rickert_crosses`) as functions of a program's
+-- input, a view and a list of random words; the definitions here are functions of a road and a car.
 use Rattle.std.specs.Prelude.{ℕ, ◌+◌, ◌&&◌, Bool, length, nat_lt, if◌then◌else◌}
 use Rattle.trlab_words.specs.Words.{random_word}
 use Rattle.trlab_words.specs.Chances.{happens_on}

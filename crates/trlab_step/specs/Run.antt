@@ -68,7 +68,7 @@ pub record IsRunStep (seed : Seed) (sheet : Sheet) (step : ℕ) (before after : 
   pub counted : sum ≡ (if nat_le seed.warm step then tally_sum sum_before tally else sum_before)
 
 -- after `step` steps of a run its road is `road`, and `sum` is the sum of the tallies of its steps from
--- `warm` on; after 0 steps these are the road of the start and `no_tally`
+-- `warm` on; after 0 steps these are the initial road and `no_tally`
 abbrev pub ComesTo : Seed → Sheet → ℕ → Cells → StepTally → Type 0
 ComesTo seed sheet zero road sum = IsSheet sheet × (road ≡ seed.road) × (sum ≡ no_tally)
 ComesTo seed sheet (suc step) road sum =

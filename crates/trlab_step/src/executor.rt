@@ -15,7 +15,7 @@ use trlab_verify::{Change, Motion};
 /// Sees the road of a step before its cars cross and move. It runs on the calling thread while other threads compute
 /// the answers, so writing a row costs less time.
 pub trait StepObserver {
-    // The relation of the observer before it sees a road, the road, and the observer after it.
+    // The relation of the observer before it sees a road, the road, and the observer after it has seen the road.
     ghost observes: { Self → Cells → Self → Type 0 };
 
     /// Looks at a road.

@@ -9,14 +9,14 @@ ghost use Rattle.trlab_step.specs.Laws.{CrossingsComeWithinBudget, RunsCallSafel
 ghost use Rattle.trlab_step.specs.Laws.{StepsCallSafely, ViewsAreInRange};
 ghost use Rattle.trlab_step.specs.Driven.{RunsAreDriven};
 
-/// For each part of the standing order a motion program answers at most one list of speeds, and the lists of adjacent
+/// For each part of the standing order a motion program gives at most one list of speeds, and the lists of adjacent
 /// parts join to the list of both. So it does not matter which thread computes a part, or in which order.
 pub fn parts_make_the_whole()
     ensures one { SpeedsAreUnique }
     ensures join { SpeedsJoin }
 {}
 
-/// For each part of the standing order a change program answers at most one list of lane changes, and the lists of
+/// For each part of the standing order a change program gives at most one list of lane changes, and the lists of
 /// adjacent parts join to the list of both.
 pub fn crossings_make_the_whole()
     ensures one { CrossingsAreUnique }
@@ -78,8 +78,8 @@ pub fn run_goes_on()
 {}
 
 /// In every run from a legal road, under a schedule for its number of lanes, the road at each step is legal, with the
-/// limit and the numbers of lanes and cars of the start. No car moves onto or through another, and all programs end
-/// within their budgets.
+/// limit and the numbers of lanes and cars of the initial road. No car moves onto or through another, and all programs
+/// end within their budgets.
 pub fn runs_are_driven()
     ensures { RunsAreDriven }
 {}

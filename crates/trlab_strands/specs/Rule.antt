@@ -1,4 +1,4 @@
--- The strand invariant: what holds of the knowledge of strands and their keeper before and after each atomic
+-- The strand invariant: facts about the knowledge of strands and their keeper before and after each atomic
 -- step; and the effects of the steps.
 use Rattle.std.specs.Prelude.{◌≡◌, ℕ, ◌≤◌, true, cond, List, [], length, sum_by}
 use mathlib.Core.Option.{some}
@@ -42,9 +42,9 @@ NotesEvent {E} step old found new =
     (event : E) → step.said ≡ some event
     → (new ≡ (with_event old.0 event, old.1)) × (old.0.clock ≤ length old.0.list)
 
--- facts about a strand that follow from the invariant. It has at most all parts. If it keeps the list, its
--- events are in the list and at most as many; with all parts they are as many; and if they are as many, each
--- event of the list is one of them, once
+-- facts about a strand that follow from the invariant. It has at most ALL_PARTS parts. If it keeps the
+-- list, its events are in the list, and at most as many as the list has; with all parts, exactly as many; and
+-- if they are as many, each event of the list is one of them, once
 pub record AgreesWithList {E : Type 0} (strand : StrandKnowledge E) : Type 0 where
   pub few : strand.parts ≤ ALL_PARTS
   pub in_list : strand.has_list ≡ true → AreInList strand.list strand.events

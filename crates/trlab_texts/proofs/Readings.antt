@@ -52,7 +52,7 @@ pub stops : {A B : Type 0} (first : Reading A) (next : A → Reading B) (place :
 stops first next place (At number cause) says = (Err (record { line = number; cause = cause }), (says, refl))
 stops first next place Memory says = tt
 
--- a fault that is handed on as it is
+-- a fault that is passed on unchanged
 pub handed_on : {T E : Type 0} (r : Result T E) (fault : E) → IsErr r → IsErrAnd r (λ f. f ≡ fault) → r ≡ Err fault
 handed_on (Ok x) fault is q = absurd q
 handed_on (Err f) fault is q = ap (λ e. Err e) q

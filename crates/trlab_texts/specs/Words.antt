@@ -36,7 +36,7 @@ abbrev pub within : ℕ → ℕ → Option ℕ → Result ℕ Cause
 within low high None = Err Number
 within low high (Some n) = if nat_le low n && nat_le n high then Ok n else Err Number
 
--- the number from `low` to `high` that a word writes; the cause `Number` for any other word, and the cause
+-- the number from `low` to `high` that a word states; the cause `Number` for any other word, and the cause
 -- that is given instead of a word if there is none
 abbrev pub number_within : ℕ → ℕ → Result (List ℕ) Cause → Result ℕ Cause
 number_within low high (Err cause) = Err cause

@@ -82,7 +82,7 @@ impl<'a> Excerpt<'a> {
         word.number(low, high, quantity)
     }
 
-    /// Its bytes, without the rest of the line.
+    /// The bytes of the excerpt, without the rest of the line.
     pub fn bytes(&self) -> &'a [u8]
         ensures { result.now ≡ self.now }
     {
@@ -119,7 +119,7 @@ impl<'a> Excerpt<'a> {
         Some((before, after))
     }
 
-    /// Whether it is one word: not empty, and without spaces.
+    /// Whether the excerpt is one word: not empty, and without spaces.
     pub fn is_word(&self) -> bool
         ensures { result ≡ is_word self.now }
     {

@@ -133,7 +133,7 @@ fn road_fault_number(fault: RoadFault) -> u64
 /// Why a line was rejected.
 #[derive(Clone, Copy, Debug, PartialEq, Eq, Error)]
 pub enum LineFault {
-    /// The line is not valid, for this cause.
+    /// The line is invalid, for this cause.
     #[error("{0}")]
     Wrong(Cause),
     /// An allocation failed.

@@ -185,7 +185,7 @@ impl<'a> LineRefusal<'a> {
         }
     }
 
-    /// The cause, or that an allocation failed.
+    /// The cause, or a failed allocation.
     pub fn fault(&self) -> LineFault
         ensures { result ≡ self.now }
     {
@@ -286,7 +286,7 @@ impl<'a> Refusal<'a> {
         Refusal::new(fault, b"", Wanted::Lines(names))
     }
 
-    /// The first fault of the text, or that an allocation failed.
+    /// The first fault of the text, or a failed allocation.
     pub fn fault(&self) -> TextFault
         ensures { result ≡ self.now }
     {

@@ -1,4 +1,4 @@
--- The ring is homogeneous: a road that is rotated goes on as it did.
+-- The ring is homogeneous: a rotated road goes on as the road itself does.
 use Rattle.std.proofs.Common.{◌≡◌, ℕ, zero, suc, ◌+◌, ◌<◌, Bool, cond, Option, Some, None, List, length, map, refl, sym, ◌∙◌, ap, subst, arith}
 use Rattle.std.specs.Prelude.{nat_eq}
 use Rattle.std.proofs.lemmas.List.{length-map}
@@ -34,7 +34,7 @@ use Rattle.trlab_traffic.proofs.TurnedSums.{sum_turned}
 abbrev place_before : ℕ → Cells → ℕ → ℕ → ℕ
 place_before r road l x = ahead (length (lane_of road l)) x r
 
--- a car of the rotated road, where it stands on the road
+-- a car of the rotated road, at its place on the road itself
 abbrev car_before : ℕ → Cells → Car → Car
 car_before r road car = car_in car.lane (place_before r road car.lane car.place) car.number car.speed
 
@@ -85,7 +85,7 @@ module _ (r : ℕ) (road : Cells) (car : Car) (here : IsAt (rotate_road r road) 
       (ap (λ (lane : Lane). sideback lane x) turn_other ∙ sideback_turned r other x some_other low ∙ ap (sideback other) same)
       (ap (λ (lane : Lane). headspeed lane x) turn ∙ headspeed_turned r own x some)
 
--- the speeds that are answered on the rotated road
+-- the answers of the motion program on the rotated road
 speeds_turned : (r : ℕ) (motion : CheckedProgram) (dice : Dice) (road : Cells) (speeds : ℕ → ℕ → ℕ) → AnswersSpeeds motion dice road speeds
     → AnswersSpeeds motion dice (rotate_road r road) (λ l x. speeds l (place_before r road l x))
 speeds_turned r motion dice road speeds answers = record {
@@ -163,7 +163,7 @@ change_turned r (Some change) dice road middle changes legal phase =
       phase.4 ∙ sym (crossing_cars_turned r change dice road legal two crosses),
     )
 
--- what is counted of a road is counted of the rotated one
+-- a road and the rotated road have the same counts
 total_speed_turned : (r : ℕ) (road : Cells) → total_speed (rotate_road r road) ≡ total_speed road
 total_speed_turned r road = sum_turned (λ (car : Car). car.speed) (λ (car : Car). car.speed) 0 r road.lanes (λ l x number speed on. refl)
 
@@ -182,7 +182,7 @@ step_is_homogeneous rule dice road next tally r legal is =
       },
     )
 
--- a run from a road that is rotated
+-- the seed of a run from the rotated road
 abbrev seed_turned : ℕ → Seed → Seed
 seed_turned r seed = record seed { road = rotate_road r seed.road }
 

@@ -48,7 +48,7 @@ behind_ahead n x low =
 pub ahead_behind : (n x : ℕ) → x < n → behind n (ahead n x 1) 1 ≡ x
 ahead_behind n x low = ahead_swap n x 1 (n - 1) ∙ behind_ahead n x low
 
--- what passes is no more than the largest
+-- a number that passes is at most the largest that does
 at_least : (test : ℕ → Bool) (n g : ℕ) → g ≤ n → test g ≡ true → g ≤ largest test n
 at_least test zero g low passes = low
 at_least test (suc n) g low passes =

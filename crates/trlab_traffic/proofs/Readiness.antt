@@ -1,5 +1,5 @@
--- Without randomization cars are held back by acceleration in the first steps alone; from then on each moves at the
--- limit or its gap, whichever is less, and the lane reaches its triangle.
+-- Without randomization acceleration holds cars back only in the first steps; from then on each moves by the
+-- limit or its gap, whichever is smaller, and the lane reaches its triangle.
 use Rattle.std.proofs.Common.{◌≡◌, ℕ, zero, suc, ◌+◌, ◌-◌, ◌*◌, ◌%◌, ◌<◌, ◌≤◌, ◌⊎◌, min, is_some, Some, [], ◌∷◌, length, refl, sym, ◌∙◌, ap, subst, inl, inr, arith, mod-eq_of_lt, mul_comm, suc-mul}
 use Rattle.std.specs.Prelude.{sum_by}
 use Rattle.std.proofs.lemmas.Bool.{cases_lt}

@@ -1,4 +1,4 @@
--- What is seen on a lane that is rotated.
+-- Rotated lanes: their gaps, their motion and their lane change.
 use Rattle.std.proofs.Common.{◌≡◌, ℕ, zero, suc, ◌+◌, ◌-◌, ◌%◌, ◌<◌, ◌&&◌, Bool, cond, Some, None, List, [], ◌∷◌, length, get_or, map, refl, sym, ◌∙◌, ap, subst, arith}
 use Rattle.std.specs.Prelude.{is_none}
 use Rattle.std.proofs.lemmas.List.{ext_get_or, length-map}
@@ -11,7 +11,7 @@ use Rattle.trlab_road.proofs.Ring.{inside}
 use Rattle.trlab_traffic.specs.Homogeneity.{rotate_road, rotate_lane}
 use Rattle.trlab_traffic.proofs.Places.{ahead_below, ahead_more, ahead_none, ahead_once, ahead_swap, back_ahead}
 
--- tests that agree have one largest number
+-- tests that agree have the same largest number
 greatest_same : (test other : ℕ → Bool) (n : ℕ) → ((k : ℕ) → test k ≡ other k) → largest test n ≡ largest other n
 greatest_same test other zero same = refl
 greatest_same test other (suc n) same =

@@ -1,4 +1,4 @@
--- Independent lanes: if nobody changes lanes, the other lane has no influence.
+-- Independent lanes: if no car changes lanes, the other lane has no influence.
 use Rattle.std.specs.Prelude.{◌≡◌, ℕ}
 use Rattle.trlab_road.specs.Cells.{Cells, lane_of}
 use Rattle.trlab_rules.specs.Rules.{Programs}

@@ -11,7 +11,7 @@ use Rattle.trlab_step.specs.Run.{Seed, ComesTo}
 use Rattle.trlab_traffic.specs.Triangle.{all_cells, max_distance, lane_max_distance}
 use Rattle.trlab_traffic.specs.Runs.{always, counted_steps}
 
--- the flow of a run is that of the triangle, min(v_max * density, 1 - density): per counted step its distance
+-- the flow of a run is on the triangle, min(v_max * density, 1 - density): per counted step its distance
 -- is v_max times the number of cars, or the number of empty cells, whichever is smaller
 abbrev pub FlowsOnTriangle : Seed → ℕ → StepTally → Type 0
 FlowsOnTriangle seed step sum = sum.distance ≡ counted_steps seed step * max_distance seed.road

@@ -39,8 +39,8 @@ AcceleratesByAtMostOne rule =
 abbrev pub NaschAcceleratesByAtMostOne : Type 0
 NaschAcceleratesByAtMostOne = (p : ℕ) (rule : Programs) → IsNasch p rule → AcceleratesByAtMostOne rule
 
--- the VDR model of Barlovic et al. (1998) accelerates by at most one, for all braking probabilities, p / 2 ^
--- 31 of moving cars and p0 / 2 ^ 31 of stopped cars
+-- the VDR model of Barlovic et al. (1998) accelerates by at most one, for all braking probabilities
+-- p / 2 ^ 31 of moving cars and p0 / 2 ^ 31 of stopped cars
 abbrev pub VdrAcceleratesByAtMostOne : Type 0
 VdrAcceleratesByAtMostOne = (p p0 : ℕ) (rule : Programs) → IsVdr p p0 rule → AcceleratesByAtMostOne rule
 

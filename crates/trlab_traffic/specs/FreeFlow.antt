@@ -29,7 +29,7 @@ FreeFlowGoesOn =
     → AllMoveAhead (λ car. old.limit) old new × IsInFreeFlow new
 
 -- a run flows freely: its road after `step` steps is in free flow, and the distance of its counted steps is
--- that of all cars driving at v_max, the limit; so the flow is v_max times the density
+-- the distance if all cars drive at v_max, the limit; so the flow is v_max times the density
 abbrev pub FlowsFreely : Seed → ℕ → Cells → StepTally → Type 0
 FlowsFreely seed step road sum =
     IsInFreeFlow road × (sum.distance ≡ counted_steps seed step * distance_at_limit seed.road)
@@ -43,7 +43,7 @@ FreeFlowStaysFree =
     → FlowsFreely seed step road sum
 
 -- all cars of a run have moved as one: after `step` steps they are limit * `step` cells ahead of their places
--- at the start, so rotating the road by this number of cells gives the road of the start
+-- at the start, so rotating the road by this number of cells gives the initial road
 abbrev pub MovesAsOne : Seed → ℕ → Cells → Type 0
 MovesAsOne seed step road = rotate_road (seed.road.limit * step) road ≡ seed.road
 

@@ -27,7 +27,7 @@ StepIsHomogeneous =
     → IsLegal road → IsNext rule dice road next tally
     → IsNext rule dice (rotate_road r road) (rotate_road r next) tally
 
--- under any sheet of rules, rotating the legal road of the start by r cells rotates the road at each step by
+-- under any sheet of rules, rotating the legal initial road by r cells rotates the road at each step by
 -- r cells, and the sums of tallies stay the same
 abbrev pub RunIsHomogeneous : Type 0
 RunIsHomogeneous =

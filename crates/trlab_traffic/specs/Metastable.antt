@@ -1,6 +1,6 @@
 -- Slow starts make free flow metastable (the VDR model of Barlovic et al. 1998). If moving cars never brake
--- at random, free flow lasts for ever. If stopped cars always brake, a road of stopped cars never moves,
--- however few they are. So at one density there are two flows, and the initial state decides which.
+-- at random, free flow lasts for ever. If stopped cars always brake and all cars are stopped, no car ever
+-- moves, however few there are. So at one density there are two flows, and the initial state decides which.
 use Rattle.std.specs.Prelude.{◌≡◌, ℕ, ◌+◌, ◌*◌, ◌≤◌, length}
 use Rattle.trlab_bounds.specs.declared.programs.TheConstants.{CERTAIN}
 use Rattle.trlab_road.specs.declared.car.Car.{Car}

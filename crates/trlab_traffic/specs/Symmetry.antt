@@ -40,8 +40,8 @@ StepIsSymmetric =
     → IgnoresLane rule → length road.lanes ≡ 2 → IsNext rule dice road next tally
     → IsNext rule dice (exchange_lanes road) (exchange_lanes next) tally
 
--- under a sheet of rules that do not read the car's lane, exchanging the lanes of the start exchanges the
--- lanes of the road at each step, and the sums of tallies stay the same
+-- under a sheet of rules that do not read the car's lane, exchanging the lanes of the initial road exchanges
+-- the lanes of the road at each step, and the sums of tallies stay the same
 abbrev pub RunIsSymmetric : Type 0
 RunIsSymmetric =
     (seed : Seed) (sheet : Sheet) (step : ℕ) (road : Cells) (sum : StepTally)

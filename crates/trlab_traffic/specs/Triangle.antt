@@ -1,6 +1,6 @@
 -- A bound on the distance of all cars of a road in one step, under any rule. Cars pass only over empty cells,
--- no two over the same, and none is faster than v_max, the limit. So flow against density is always under the
--- triangle min(v_max * density, 1 - density).
+-- no two over the same, and none is faster than v_max, the limit. So flow against density is always on or
+-- under the triangle min(v_max * density, 1 - density).
 use Rattle.std.specs.Prelude.{◌≡◌, ℕ, ◌+◌, ◌*◌, ◌≤◌, count_by, is_none, length, min, sum_by}
 use Rattle.trlab_road.specs.Cells.{Cells, Lane, cars, lane_car_count}
 use Rattle.trlab_road.specs.Legal.{IsLegal}

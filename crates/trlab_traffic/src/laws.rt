@@ -36,14 +36,14 @@ ghost use Rattle.trlab_traffic.specs.Rule184.{Rule184HasParticleHoleSymmetry, Na
 ghost use Rattle.trlab_traffic.specs.Symmetry.{RickertIgnoresLane, RunIsSymmetric, StepIsSymmetric};
 
 /// The distance of a step is at most the number of empty cells, and at most v_max times the number of cars, under every
-/// rule and on every legal road. So flow against density is always under the triangle min(v_max * density, 1 -
-/// density).
+/// rule and on every legal road. So flow against density is always on or under the triangle min(v_max * density,
+/// 1 - density).
 pub fn step_stays_under_triangle()
     ensures { StepStaysUnderTriangle }
 {}
 
 /// The mean distance of the counted steps of a run is at most the number of empty cells, and at most v_max times the
-/// number of cars, under any schedule of rules. Cars and empty cells together are all cells of a road.
+/// number of cars, under any schedule of rules. The cars and the empty cells of a road add up to all its cells.
 pub fn run_stays_under_triangle()
     ensures cells { CellsAreTakenOrEmpty }
     ensures run { RunStaysUnderTriangle }
@@ -99,7 +99,7 @@ pub fn randomization_slows()
     ensures vdr { SlowStartsSlowSteps }
 {}
 
-/// In a step without lane changes the gap of a car changes by the speed of the next car ahead minus its own speed.
+/// In a step without lane changes a car's gap changes by the new speed of the next car ahead minus its own new speed.
 pub fn gaps_follow()
     ensures { GapChangesBySpeedDifference }
 {}
@@ -173,7 +173,7 @@ pub fn ring_is_homogeneous()
 {}
 
 /// Both lanes are alike under rules whose programs do not read the lane, such as the lane-change rules of Rickert et
-/// al. (1996): if the lanes of a road are exchanged, those of its next road are exchanged too, with the same tally. The
+/// al. (1996): if the lanes of a road are exchanged, the lanes of its next road are too, with the same tally. The
 /// same holds for runs.
 pub fn lanes_are_symmetric()
     ensures rickert { RickertIgnoresLane }
@@ -238,7 +238,7 @@ pub fn even_cars_flow_on_triangle()
 {}
 
 /// Detectors measure the flow: all detectors of a road together count the distance of a step, under any rule, and
-/// each counts at most one car. Between two detectors of a lane no car is lost or created if nobody changes
+/// each counts at most one car. Between two detectors of a lane no car is lost or created if no car changes
 /// lanes: the continuity equation (Lighthill and Whitham 1955, Proc. R. Soc. London A 229, 317).
 pub fn detectors_count_flow()
     ensures distance { DetectorsCountDistance }
@@ -246,7 +246,7 @@ pub fn detectors_count_flow()
     ensures step { StepSatisfiesContinuity }
 {}
 
-/// If nobody changes lanes, continuity also holds for the counted steps of a run. The counts of two detectors then
+/// If no car changes lanes, continuity also holds for the counted steps of a run. The counts of two detectors then
 /// differ by at most the number of cells between them, and within one lap by at most the number of cars and the number
 /// of empty cells of the lane. On one lane all detectors together count the distance, and each one measures the flow.
 pub fn detectors_count_runs()
@@ -258,7 +258,7 @@ pub fn detectors_count_runs()
     ensures flow { DetectorMeasuresFlow }
 {}
 
-/// In v_max + 1 consecutive steps a detector counts at most v_max cars if nobody changes lanes.
+/// In v_max + 1 consecutive steps a detector counts at most v_max cars if no car changes lanes.
 pub fn detector_counts_below_peak()
     ensures { DetectorCountsBelowPeak }
 {}

@@ -10,7 +10,7 @@ use Rattle.trlab_verify.specs.Longest.{IsLongest}
 use Rattle.trlab_verify.specs.Tables.{HasCertificate}
 use Rattle.trlab_verify.specs.Verdict.{IsAccepted}
 
--- the accepted program of a code: it is the code, it is safe within its budget, the length of its longest path,
+-- the accepted program of a code: it is the code, safe within its budget (the length of its longest path),
 -- and it has a certificate
 pub record IsAcceptedAs (kind : Kind) (code : Program) (program : CheckedProgram) : Type 0 where
   pub same : program.program ≡ code

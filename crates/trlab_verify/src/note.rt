@@ -125,7 +125,7 @@ pub fn write(kind: Kind, note: &StoredNote) -> Note
     }
 }
 
-/// The form of the entry note. Its levels are those at the start of a program, without the levels of the ranges.
+/// The form of the entry note. Its levels are the levels at the start of a program, except those that ranges imply.
 pub fn first_note(kind: Kind) -> Note
     ensures { meaning kind result ≡ entry kind }
 {

@@ -10,9 +10,9 @@ use trlab_segments::{Asked, Gate};
 use trlab_verify::Motion;
 
 /// A gate that counts the work of a sweep and reports progress. A step counts when its motion begins, and each
-/// percentage is reported by the worker whose step reaches it.
+/// percent is reported by the worker whose step reaches it.
 ///
-/// Steps of a revoked lease are run again and count again. So the gate itself does not report 100 percent:
+/// Steps of a revoked lease are run again and count again. So the gate itself does not report the last percent:
 /// `report_end` does, when all points are complete.
 #[derive(Drop)]
 pub struct WorkGate<'a, O> {

@@ -54,7 +54,7 @@ const REPLACED: [(TestCall, Reply); 11] = [
     (TestCall::Read(0, b".0..1....."), seen!(step: 2, entries: 2)),
 ];
 
-/// After a job is cancelled, its lease is rejected, and the job is not leased again.
+/// After a job is cancelled, its lease is refused, and the job is not leased again.
 const CANCELLED: [(TestCall, Reply); 8] = [
     (TestCall::Submit(4), Reply::Number(0)),
     (TestCall::Lease, leased!(number: 0, step: 0)),
@@ -66,7 +66,7 @@ const CANCELLED: [(TestCall, Reply); 8] = [
     (TestCall::Read(0, TWO_CARS), seen!(step: 0, entries: 1)),
 ];
 
-/// A step that is run under a revoked lease and again under a new one counts once. The revoked lease is rejected.
+/// A step that is run under a revoked lease and again under a new one counts once. The revoked lease is refused.
 const TAKEN_TWICE: [(TestCall, Reply); 10] = [
     (TestCall::Submit(4), Reply::Number(0)),
     (TestCall::Lease, leased!(number: 0, step: 0)),

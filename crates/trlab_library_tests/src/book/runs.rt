@@ -29,7 +29,7 @@ const STEPS: u32 = 40;
 struct JobKind {
     /// The picture at the start.
     start: &'static [u8],
-    /// The probability to brake, times 2^31.
+    /// The braking probability times 2^31.
     chance: u32,
     /// The picture after the last step, as one worker computes it.
     end: &'static [u8],

@@ -9,14 +9,14 @@ use trlab_lines::{bytes_at, cut, next_line};
 use trlab_texts::word::number_after;
 use trlab_texts::{Quantity, Wanted};
 
-/// A quantity that may be written as a fraction from 0 to 1 of a whole, by mistake.
+/// A quantity that may by mistake be written as a fraction, from 0 to 1, of a whole.
 #[derive(Clone, Copy)]
 pub struct Fraction {
     pub mistake: &'static str,
     pub whole: u32,
 }
 
-/// A probability, which is written as a part of 2^31.
+/// A probability p, which is written as p x 2^31.
 pub const PROBABILITY: Fraction = Fraction {
     mistake: "a probability p is written as p x 2147483648.",
     whole: CERTAIN,
@@ -40,7 +40,8 @@ fn number_above(fault: &Fault<'_>, name: &[u8], most: u32) -> u32 {
     0
 }
 
-/// Adds the number that the word after `at` bytes of the line may mean: that part of the whole, or the number itself.
+/// Adds the number that the word after `at` bytes of the line may mean: this fraction of the whole, or the
+/// number itself.
 pub fn value_candidates(list: &mut Candidates, at: usize, word: &[u8], part: Option<Fraction>) {
     let Some(value) = value_of(word) else {
         return;

@@ -62,7 +62,7 @@ impl<K, T: Keyed<K> + Drop> KeyedLock<T, K> {
     ///
     /// # Errors
     ///
-    /// If an allocation fails; the value is dropped.
+    /// If an allocation fails; then the value is dropped.
     pub fn new(alloc: Global, value: T, key: &K) -> Result<KeyedLock<T, K>, AllocError>
         requires { T.fits key.now value }
         ensures { IfOk result (λ lock. lock.table.shared.key ≡ key.now) }

@@ -15,7 +15,7 @@ use trlab_verify::{Change, Motion};
 /// calling thread's own work between two phases on a road of about 10,000 cars.
 pub const SPINS_BEFORE_SLEEP: u32 = 30000;
 
-/// The number of phases before which a helper sleeps at once, after it has checked for a phase without success.
+/// After a helper has checked for a phase without success, the number of phases for which it sleeps without a check.
 const NAPS: u32 = 32;
 
 /// The open phase, at most one at a time, and a number that grows with each phase.
@@ -114,8 +114,8 @@ impl Rendezvous {
     }
 }
 
-/// Runs `helpers` helpers of a rendezvous, each in its own thread, until it is closed. Each starts the next one, unless
-/// the run has ended by then.
+/// Runs `helpers` helpers of a rendezvous, each in its own thread, until the rendezvous is closed. Each helper starts
+/// the next one, unless the run has ended by then.
 pub fn help_all<R: Threads + Wait + Sync, G: Gate + Sync>(
     rt: &R,
     alloc: Global,

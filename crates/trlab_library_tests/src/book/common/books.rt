@@ -36,8 +36,8 @@ pub fn events_of<L: Ledger>(book: SharedBook<L>, desk: Desk<L>) -> Option<usize>
     Some(history_of(book, desk)?.len())
 }
 
-/// Submits a job under the Nagel-Schreckenberg model with the job's probability to brake. Returns `Memory` if its road
-/// or rule cannot be made.
+/// Submits a job in the Nagel-Schreckenberg model with the job's braking probability. Returns `Memory` if its road or
+/// rule cannot be made.
 pub fn submit<L: Ledger, R: Wait>(
     rt: &R,
     alloc: Global,
@@ -51,7 +51,7 @@ pub fn submit<L: Ledger, R: Wait>(
     }
 }
 
-/// Replaces the rule of a job by the Nagel-Schreckenberg rule with the probability `chance` / 2^31 to brake. Returns
+/// Replaces the rule of a job by the Nagel-Schreckenberg rule with braking probability `chance` / 2^31. Returns
 /// `Memory` if the rule cannot be made.
 pub fn replace<L: Ledger, R: Wait>(
     rt: &R,

@@ -13,7 +13,7 @@ pub struct ExpectedRead<'a> {
     pub steps: u32,
     /// The picture of the only lane.
     pub picture: &'a [u8],
-    /// For each rule its first step and its probability to brake, times 2^31.
+    /// The first step of each rule, and its braking probability times 2^31.
     pub rules: &'a [(u32, u32)],
 }
 
@@ -28,7 +28,7 @@ pub fn has_picture(alloc: Global, road: &Road, picture: &[u8]) -> bool {
     }
 }
 
-/// Whether a rule is the Nagel-Schreckenberg rule with the probability `chance` / 2^31 to brake; false if an allocation
+/// Whether a rule is the Nagel-Schreckenberg rule with braking probability `chance` / 2^31; false if an allocation
 /// fails.
 fn is_rule(alloc: Global, rule: &Rule, chance: u32) -> bool {
     match nasch_rule(alloc, chance) {
@@ -37,8 +37,8 @@ fn is_rule(alloc: Global, rule: &Rule, chance: u32) -> bool {
     }
 }
 
-/// Whether a sheet has these rules, each with its first step and its probability to brake, times 2^31, in order; false
-/// if an allocation fails.
+/// Whether a sheet has these rules in order, each with its first step and its braking probability times 2^31; false if
+/// an allocation fails.
 fn has_rules(alloc: Global, sheet: &Sheet, wanted: &[(u32, u32)]) -> bool {
     if sheet.len() != wanted.len() {
         return false;

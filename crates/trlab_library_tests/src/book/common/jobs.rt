@@ -17,13 +17,13 @@ pub const BY_HALF: u32 = CERTAIN / 2;
 /// Each car brakes in each step.
 pub const ALWAYS: u32 = CERTAIN;
 
-/// A job on a road of one lane with this picture, under the Nagel-Schreckenberg model. Its key is zero.
+/// A job on a road of one lane with this picture, in the Nagel-Schreckenberg model. Its key is zero.
 #[derive(Clone, Copy)]
 pub struct TestJob {
     pub picture: &'static [u8],
     /// The number of its road, on which its random numbers depend.
     pub number: u32,
-    /// The probability to brake, times 2^31.
+    /// The braking probability times 2^31.
     pub chance: u32,
     pub steps: u32,
 }

@@ -58,7 +58,7 @@ fn run_ordered(alloc: Global, lease: &mut Lease, order: &Order) -> Option<Reply>
     }
 }
 
-/// The reply to `read`, if the road has this picture. They are compared twice if an allocation fails.
+/// The reply to `read`, if the road has this picture. The comparison is repeated if an allocation fails.
 fn reply_if_shown(alloc: Global, seen: &Snapshot, picture: &[u8]) -> Option<Reply> {
     let shown = has_picture(alloc, seen.road(), picture)
         || has_picture(alloc, seen.road(), picture);
@@ -167,7 +167,7 @@ impl<L: Ledger> Table<L> {
         }
     }
 
-    /// Makes calls in order, until one does not have its expected reply. Returns whether all have it.
+    /// Makes calls in order until a reply is not as expected. Returns whether all replies are as expected.
     pub fn answers_all<R: Wait>(
         &mut self,
         rt: &R,
