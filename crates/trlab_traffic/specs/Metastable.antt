@@ -67,7 +67,7 @@ pub record HasTwoFlows (cells limit n : ℕ) (rule : Programs) : Type 0 where
 
 -- the VDR model of Barlovic et al. (1998), if moving cars brake with probability 0 and stopped cars with 1,
 -- has two flows on rings at each density that leaves room to drive at the limit: n cars need n * (limit + 1)
--- cells
+-- cells. Without cars (n = 0) both flows are 0
 abbrev pub TwoFlowsAtOneDensity : Type 0
 TwoFlowsAtOneDensity =
     (cells limit n : ℕ) (rule : Programs)
