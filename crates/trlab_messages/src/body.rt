@@ -2,7 +2,7 @@
 
 use crate::Result;
 use crate::amount::Amount;
-use crate::byte_span::ByteSpan;
+use crate::fault::ByteSpan;
 use crate::repairs::RepairInWords;
 use crate::sentence::Draft;
 use std::alloc::{AllocError, Global};

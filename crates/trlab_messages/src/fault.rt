@@ -1,7 +1,6 @@
 //! The first error of an input: the expected forms, the problem, and a repair.
 
 use crate::body::{Body, Problem};
-use crate::byte_span::ByteSpan;
 use crate::causes::cause_hint;
 use crate::forms::{EXPECTED_OF_CHECK, INSTRUCTIONS, form_of_instruction, form_of_line};
 use crate::names::line_named;
@@ -14,6 +13,14 @@ use trlab_jobs::Subject;
 use trlab_lines::{Place, name_and_operands};
 use trlab_texts::word::head_word;
 use trlab_texts::{Cause, LineName, Wanted};
+
+/// Some bytes of a line.
+#[derive(Clone, Copy)]
+pub struct ByteSpan {
+    /// The number of bytes before them.
+    pub start: usize,
+    pub length: usize,
+}
 
 /// The first fault of an input.
 #[derive(Clone, Copy)]

@@ -11,7 +11,6 @@
 mod alike;
 mod amount;
 mod body;
-mod byte_span;
 mod candidates;
 mod causes;
 mod fault;

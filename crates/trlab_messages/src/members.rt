@@ -1,8 +1,8 @@
 //! The JSON form of explanations: the members that describe the input, its error and its work.
 
 use crate::body::{Body, Known, Number, Problem, Rejection};
-use crate::byte_span::ByteSpan;
 use crate::causes::cause_meaning;
+use crate::fault::ByteSpan;
 use crate::object_writer::{
     ObjectWriter, add_amount, add_count, add_lines, add_string, add_words, begin_member,
 };

@@ -3,8 +3,7 @@
 mod line;
 mod program;
 
-use crate::byte_span::ByteSpan;
-use crate::fault::Fault;
+use crate::fault::{ByteSpan, Fault};
 use crate::instruction::operand_at_fault;
 use crate::problem::line::push_line_problem;
 use crate::problem::program::{push_program_problem, word_span};

@@ -1,9 +1,8 @@
 //! Candidates for keys, programs in bytes and lanes.
 
 use crate::Result;
-use crate::byte_span::ByteSpan;
 use crate::candidates::{Candidates, DIGITS};
-use crate::fault::Fault;
+use crate::fault::{ByteSpan, Fault};
 use crate::problem::{BEFORE_CELLS, KEY_DIGITS, first_non_hex_digit};
 use std::alloc::Global;
 use trlab_lines::{Place, bytes_at};

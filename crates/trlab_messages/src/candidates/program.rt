@@ -2,11 +2,10 @@
 
 use crate::Result;
 use crate::alike::{NearestName, edits_within, nearest_name};
-use crate::byte_span::ByteSpan;
 use crate::candidates::line::joined;
 use crate::candidates::number::{PROBABILITY, value_candidates};
 use crate::candidates::{Candidates, END, ENDLESS, OTHER_COMMENT};
-use crate::fault::Fault;
+use crate::fault::{ByteSpan, Fault};
 use crate::instruction::{OperandWord, operand_at_fault, start_of_name};
 use std::alloc::Global;
 use trlab_asm::{INPUTS, MNEMONICS, OperandKind, REGISTERS, Why, is_label, mnemonic_named};

@@ -1,6 +1,6 @@
 //! The problem with a line of a program.
 
-use crate::byte_span::ByteSpan;
+use crate::fault::ByteSpan;
 use crate::instruction::{operand_at_fault, start_of_name};
 use crate::problem::push_number_problem;
 use crate::sentence::{Draft, Quoted};
