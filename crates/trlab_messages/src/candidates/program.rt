@@ -151,7 +151,7 @@ pub fn label_candidate(list: &mut Candidates, fault: &Fault<'_>) {
     if let Some(OperandWord { at, word, .. }) = operand_at_fault(fault.line, Why::NoLabel) {
         let meant = nearest_label(list.alloc, &fault.place, word);
         if let Some(Some(label)) = list.ok_or_fail(meant) {
-            list.edit_in_line("probably a fix_spelling label.", at, word.len(), label);
+            list.edit_in_line("probably a misspelled label.", at, word.len(), label);
         }
     }
 }
