@@ -1,4 +1,4 @@
--- The points of a sweep are within the max_distance of their roads.
+-- The points of a sweep are under the triangle of their roads.
 use Rattle.std.proofs.Common.{◌≡◌, ℕ, suc, ◌+◌, ◌-◌, ◌*◌, ◌/◌, ◌<◌, ◌≤◌, min, List, [], ◌∷◌, length, get_or, sym, ◌∙◌, ap, subst, arith, mul_comm, mul_assoc, mul_right_comm, le_of_mul-le-mul_right, div-mul-le_self, mul-le-mul_right, le-div_iff_mul-le, le_trans}
 use Rattle.std.specs.Prelude.{All, IfOk, Ok, Result, sum_by}
 use Rattle.std.proofs.Math.Nat.{mul-div-mul_right}

@@ -38,7 +38,7 @@ fn is_like_end(alloc: Global, line: &[u8]) -> Result<bool> {
 /// Places for a missing line `end` in the last program of a text.
 #[derive(Clone, Copy)]
 struct EndPlaces {
-    /// A line that may be `end`, fix_spelling or with something after it.
+    /// A line that may be `end`, misspelled or with something after it.
     like_end: Option<ByteSpan>,
     /// The number of bytes before the first other line that may follow a program.
     next: Option<usize>,
@@ -156,7 +156,7 @@ pub fn label_candidate(list: &mut Candidates, fault: &Fault<'_>) {
     }
 }
 
-/// Adds the operand that a word may mean. A number, also after `r`, is not a fix_spelling name.
+/// Adds the operand that a word may mean. A number, also after `r`, is not a misspelled name.
 fn word_candidate(list: &mut Candidates, found: OperandWord<'_>) {
     let OperandWord { operand, at, word } = found;
     let is_number = is_numeral(without_prefix(b"r", word).unwrap_or(word));
