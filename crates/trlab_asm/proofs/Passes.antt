@@ -9,13 +9,13 @@ use Rattle.trlab_asm.specs.Assembly.{Parts, LineDraft, in_line, with_line, first
 use Rattle.trlab_asm.specs.declared.fault.AsmFault.{AsmFault}
 
 -- a line that says something
-pub first_next : (parts : Parts) (number : ℕ) (line : List ℕ) (left : List (List ℕ)) (said : Line) → Ok said ≡ in_line number (line_content parts.labels (length parts.reads) line)
+pub first_next : (parts : Parts) (number : ℕ) (line : List ℕ) (left : List (List ℕ)) (said : Line) → Ok said ≡ in_line number (line_content parts.labels (length parts.drafts) line)
     → first_pass parts number (line ∷ left) ≡ first_pass (with_line parts number said) (number + 1) left
 unfolding first_pass
 first_next parts number line left said e = rw (← e) refl
 
 -- a line that has a fault
-pub first_fault : (parts : Parts) (number : ℕ) (line : List ℕ) (left : List (List ℕ)) (fault : AsmFault) → Err fault ≡ in_line number (line_content parts.labels (length parts.reads) line)
+pub first_fault : (parts : Parts) (number : ℕ) (line : List ℕ) (left : List (List ℕ)) (fault : AsmFault) → Err fault ≡ in_line number (line_content parts.labels (length parts.drafts) line)
     → first_pass parts number (line ∷ left) ≡ Err fault
 unfolding first_pass
 first_fault parts number line left fault e = rw (← e) refl
@@ -34,22 +34,22 @@ regroup before instr (Ok instrs) = ap Ok (sym (append_assoc before (instr ∷ []
 regroup before instr (Err fault) = refl
 
 -- an instruction whose label is found
-pub second_next : (labels : Labels) (reads : List LineDraft) (i : ℕ) (d : LineDraft) (before : List Instr) (instr : Instr) → i < length reads → Ok instr ≡ resolve labels (get_or reads i d)
-    → following before (second_pass labels (drop i reads)) ≡ following (before ++ (instr ∷ [])) (second_pass labels (drop (i + 1) reads))
+pub second_next : (labels : Labels) (drafts : List LineDraft) (i : ℕ) (d : LineDraft) (before : List Instr) (instr : Instr) → i < length drafts → Ok instr ≡ resolve labels (get_or drafts i d)
+    → following before (second_pass labels (drop i drafts)) ≡ following (before ++ (instr ∷ [])) (second_pass labels (drop (i + 1) drafts))
 unfolding second_pass
-second_next labels reads i d before instr inside e = rw (add-one, drop-cons reads i d, ← e) (regroup before instr (second_pass labels (drop (suc i) reads)))
+second_next labels drafts i d before instr inside e = rw (add-one, drop-cons drafts i d, ← e) (regroup before instr (second_pass labels (drop (suc i) drafts)))
 
 -- an instruction whose label is not
-pub second_fault : (labels : Labels) (reads : List LineDraft) (i : ℕ) (d : LineDraft) (before : List Instr) (fault : AsmFault) → i < length reads → Err fault ≡ resolve labels (get_or reads i d)
-    → following before (second_pass labels (drop i reads)) ≡ Err fault
+pub second_fault : (labels : Labels) (drafts : List LineDraft) (i : ℕ) (d : LineDraft) (before : List Instr) (fault : AsmFault) → i < length drafts → Err fault ≡ resolve labels (get_or drafts i d)
+    → following before (second_pass labels (drop i drafts)) ≡ Err fault
 unfolding second_pass
-second_fault labels reads i d before fault inside e = rw (drop-cons reads i d, ← e) refl
+second_fault labels drafts i d before fault inside e = rw (drop-cons drafts i d, ← e) refl
 
 -- the end of the instructions
-pub second_end : (labels : Labels) (reads : List LineDraft) (i : ℕ) (before : List Instr) → length reads ≤ i → following before (second_pass labels (drop i reads)) ≡ Ok before
+pub second_end : (labels : Labels) (drafts : List LineDraft) (i : ℕ) (before : List Instr) → length drafts ≤ i → following before (second_pass labels (drop i drafts)) ≡ Ok before
 unfolding second_pass
-second_end labels reads i before past = rw (drop_of_length-le reads past) (ap Ok (append-nil before))
+second_end labels drafts i before past = rw (drop_of_length-le drafts past) (ap Ok (append-nil before))
 
 -- where there is an instruction, the second pass tells the rest
-pub some_instrs : (parts : Parts) (reads : List LineDraft) (labels : Labels) → false ≡ (length reads == 0) → reads ≡ parts.reads → labels ≡ parts.labels → instrs_of parts ≡ second_pass labels reads
-some_instrs parts reads labels some all known = rw (← all, ← known, ← some) refl
+pub some_instrs : (parts : Parts) (drafts : List LineDraft) (labels : Labels) → false ≡ (length drafts == 0) → drafts ≡ parts.drafts → labels ≡ parts.labels → instrs_of parts ≡ second_pass labels drafts
+some_instrs parts drafts labels some all known = rw (← all, ← known, ← some) refl

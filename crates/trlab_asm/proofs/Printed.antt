@@ -13,7 +13,7 @@ use Rattle.trlab_code.specs.declared.instruction.Input.TheVariants.{Speed, Limit
 use Rattle.trlab_bounds.specs.declared.programs.TheConstants.{WORDS, CERTAIN}
 use Rattle.trlab_asm.specs.Names.{register_text, input_text, mnemonic_text, mnemonic_named}
 use Rattle.trlab_lines.specs.Numbers.{all_digits}
-use Rattle.trlab_asm.specs.Operands.{register, input, digits_of, numeral, value_within, number, Target, jump_target, target_named, is_label, all_label_bytes, two_registers, three_registers, register_input, register_and_number, two_registers_number, word_chance, register_word_chance, register_target, two_registers_target, ◌then◌}
+use Rattle.trlab_asm.specs.Operands.{register, input, digits_of, numeral, value_within, number, WrittenTarget, jump_target, target_named, is_label, all_label_bytes, two_registers, three_registers, register_input, register_and_number, two_registers_number, word_chance, register_word_chance, register_target, two_registers_target, ◌then◌}
 use Rattle.trlab_asm.specs.Canonical.{label_text, target_text, ◌comma◌}
 use Rattle.trlab_asm.specs.declared.names.Mnemonic.{Mnemonic}
 use Rattle.trlab_asm.specs.declared.names.Mnemonic.TheVariants as name
@@ -134,7 +134,7 @@ and_false true = refl
 and_false false = refl
 
 -- where a printed target goes
-abbrev pub goal_of : ℕ → ℕ → Target
+abbrev pub goal_of : ℕ → ℕ → WrittenTarget
 goal_of count pc = cond (nat_lt pc count) (record { pc = 0; label = Some (label_text pc) }) (record { pc = pc; label = None })
 
 at_sign : (pc : ℕ) → pc < 2 ^ 32 → target_named (64 ∷ decimal pc) ≡ Ok (record { pc = pc; label = None })

@@ -7,9 +7,9 @@ use Rattle.trlab_code.specs.declared.instruction.Instr.{Instr}
 use Rattle.trlab_code.specs.declared.instruction.Instr.TheVariants.{Num, Get, Side, Draw, Copy, Add, Sub, Mul, Div, Min, Max, Not, And, Or, Jump, JumpLess, JumpAtMost, JumpTrue, JumpFalse, Go, Cross, Stay}
 use Rattle.trlab_bounds.specs.declared.programs.TheConstants.{MAX_INSTRUCTIONS}
 use Rattle.trlab_asm.specs.Names.{register_text, input_text, mnemonic_text}
-use Rattle.trlab_asm.specs.Operands.{Target}
+use Rattle.trlab_asm.specs.Operands.{WrittenTarget}
 use Rattle.trlab_asm.specs.Reading.{InstrDraft, draft_of, body}
-use Rattle.trlab_asm.specs.Canonical.{target_text, ◌comma◌, row_text, instr_text}
+use Rattle.trlab_asm.specs.Canonical.{target_text, ◌comma◌, with_operands, instr_text}
 use Rattle.trlab_code.specs.Laws.{FitsIn32Bits}
 use Rattle.trlab_asm.specs.declared.names.Mnemonic.{Mnemonic}
 use Rattle.trlab_asm.specs.declared.names.Mnemonic.TheVariants as name
@@ -20,7 +20,7 @@ use Rattle.trlab_asm.proofs.Printed.{goal_of, name_again, register_again, target
 abbrev pub Fits : Instr → Type 0
 Fits instr = IsInRange instr × FitsIn32Bits instr
 
-abbrev pub jump_draft : (ℕ → Instr) → Target → InstrDraft
+abbrev pub jump_draft : (ℕ → Instr) → WrittenTarget → InstrDraft
 jump_draft instr to = record { instr = instr to.pc; label = to.label }
 
 abbrev plain_draft : Instr → InstrDraft
@@ -55,7 +55,7 @@ not_empty : (text rest : List ℕ) → 0 < length text → (length (text ++ rest
 not_empty text rest some = ne_eqb (length (text ++ rest)) 0 (λ e. absurd (omega (arith, length-append text rest)))
 
 -- a name and operands that say a draft
-named_again : (pc : ℕ) (x : Mnemonic) (operands : List ℕ) (draft : InstrDraft) → pc < MAX_INSTRUCTIONS → draft_of x (32 ∷ operands) ≡ Ok draft → body pc (row_text x operands) ≡ Ok (Some draft)
+named_again : (pc : ℕ) (x : Mnemonic) (operands : List ℕ) (draft : InstrDraft) → pc < MAX_INSTRUCTIONS → draft_of x (32 ∷ operands) ≡ Ok draft → body pc (with_operands x operands) ≡ Ok (Some draft)
 named_again pc x operands draft room says =
     let known = name_again x in
     rw (not_empty (mnemonic_text x) (32 ∷ operands) known.some, word_and_more (mnemonic_text x) operands known.plain, known.again, lt-ltb pc MAX_INSTRUCTIONS room, says) refl

@@ -11,7 +11,7 @@ use Rattle.trlab_lines.specs.Lines.{HasNoLineFeed}
 use Rattle.trlab_lines.specs.Cutting.{without_indent}
 use Rattle.trlab_asm.specs.Names.{register_text, input_text, mnemonic_text}
 use Rattle.trlab_asm.specs.Reading.{Labels, line_content}
-use Rattle.trlab_asm.specs.Canonical.{label_text, target_text, ◌comma◌, row_text, instr_text, instr_line}
+use Rattle.trlab_asm.specs.Canonical.{label_text, target_text, ◌comma◌, with_operands, instr_text, instr_line}
 use Rattle.trlab_asm.specs.declared.names.Mnemonic.{Mnemonic}
 use Rattle.trlab_asm.specs.declared.names.Mnemonic.TheVariants as name
 use Rattle.trlab_asm.proofs.UncutWords.{is_plain, plain_word, and_parts, and_both, not_true, none_of, none_in_plain, alone_at_front, without_blank, behind_blank, cut_here, cut_nowhere, no_colon, no_semicolon, no_line_end}
@@ -42,16 +42,16 @@ spaced_none p [] rest aside plain none = rw aside.space none
 spaced_none p (c ∷ word) rest aside plain none = let both = and_parts (is_plain c) (plain_word word) plain in rw (aside.word c both.0) (spaced_none p word rest aside both.1 none)
 
 -- a name and operands
-named_none : (p : ℕ → Bool) (x : Mnemonic) (operands : List ℕ) → IsAside p → none_of p operands ≡ true → none_of p (row_text x operands) ≡ true
+named_none : (p : ℕ → Bool) (x : Mnemonic) (operands : List ℕ) → IsAside p → none_of p operands ≡ true → none_of p (with_operands x operands) ≡ true
 named_none p x operands aside none = spaced_none p (mnemonic_text x) operands aside (name_again x).plain none
 
-one_none : (p : ℕ → Bool) (x : Mnemonic) (d : Register) (rest : List ℕ) → IsAside p → none_of p rest ≡ true → none_of p (row_text x (register_text d comma rest)) ≡ true
+one_none : (p : ℕ → Bool) (x : Mnemonic) (d : Register) (rest : List ℕ) → IsAside p → none_of p rest ≡ true → none_of p (with_operands x (register_text d comma rest)) ≡ true
 one_none p x d rest aside none = named_none p x (register_text d comma rest) aside (comma_none p (register_text d) rest aside (register_plain d) none)
 
-two_none : (p : ℕ → Bool) (x : Mnemonic) (d a : Register) (rest : List ℕ) → IsAside p → none_of p rest ≡ true → none_of p (row_text x (register_text d comma register_text a comma rest)) ≡ true
+two_none : (p : ℕ → Bool) (x : Mnemonic) (d a : Register) (rest : List ℕ) → IsAside p → none_of p rest ≡ true → none_of p (with_operands x (register_text d comma register_text a comma rest)) ≡ true
 two_none p x d a rest aside none = one_none p x d (register_text a comma rest) aside (comma_none p (register_text a) rest aside (register_plain a) none)
 
-draw_none : (p : ℕ → Bool) (d : Register) (k t : ℕ) → IsAside p → k < WORDS → t ≤ CERTAIN → none_of p (row_text name.Draw (register_text d comma decimal k comma decimal t)) ≡ true
+draw_none : (p : ℕ → Bool) (d : Register) (k t : ℕ) → IsAside p → k < WORDS → t ≤ CERTAIN → none_of p (with_operands name.Draw (register_text d comma decimal k comma decimal t)) ≡ true
 draw_none p d k t aside low less =
     one_none p name.Draw d (decimal k comma decimal t) aside (comma_none p (decimal k) (decimal t) aside (decimal_plain k (omega arith)) (decimal_none p t aside (omega arith)))
 

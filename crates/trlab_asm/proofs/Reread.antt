@@ -13,10 +13,10 @@ use Rattle.trlab_code.specs.declared.instruction.Instr.{Instr}
 use Rattle.trlab_code.specs.declared.instruction.Instr.TheVariants.{Num, Get, Side, Draw, Copy, Add, Sub, Mul, Div, Min, Max, Not, And, Or, Jump, JumpLess, JumpAtMost, JumpTrue, JumpFalse, Go, Cross, Stay}
 use Rattle.trlab_bounds.specs.declared.programs.TheConstants.{MAX_INSTRUCTIONS}
 use Rattle.trlab_lines.specs.Lines.{lines_of}
-use Rattle.trlab_asm.specs.Operands.{Target}
+use Rattle.trlab_asm.specs.Operands.{WrittenTarget}
 use Rattle.trlab_asm.specs.Reading.{Labels, line_content}
 use Rattle.trlab_asm.specs.Assembly.{LineDraft, with_label, first_pass, with_target, resolve_label, resolve, second_pass, code_of}
-use Rattle.trlab_asm.specs.Canonical.{label_text, instr_line, is_pc, is_jumped_to, text_from, text_of}
+use Rattle.trlab_asm.specs.Canonical.{label_text, instr_line, is_pc, is_jumped_to, text_from, canonical_text}
 use Rattle.trlab_code.specs.Laws.{FitsIn32Bits}
 use Rattle.trlab_asm.specs.Laws.{CanonicalTextGivesProgram, TextDeterminesProgram}
 use Rattle.trlab_lines.proofs.Cuts.{line_and_rest}
@@ -84,17 +84,17 @@ says_at labels count pc here marked i same room fits none = subst (λ n. line_co
 
 -- the first pass over the canonical text
 first_again : (instrs : List Instr) (pc number : ℕ) (before : List LineDraft) (left : List Instr) → length before ≡ pc → pc + length left ≤ MAX_INSTRUCTIONS → AllByRecursion Fits left
-    → first_pass (record { labels = labels_below instrs pc; reads = before }) number (lines_of (text_from instrs pc left)) ≡ Ok (record { labels = labels_below instrs (pc + length left); reads = before ++ reads_of (length instrs) number left })
+    → first_pass (record { labels = labels_below instrs pc; drafts = before }) number (lines_of (text_from instrs pc left)) ≡ Ok (record { labels = labels_below instrs (pc + length left); drafts = before ++ reads_of (length instrs) number left })
 unfolding first_pass text_from lines_of
 first_again instrs pc number before [] at room fit = let end : pc + 0 ≡ pc = omega arith in rw (append-nil before, end) refl
 first_again instrs pc number before (i ∷ left) at room fit =
     let says = says_at (labels_below instrs pc) (length instrs) pc (length before) (is_jumped_to instrs pc) i at (omega arith) fit.0 (free instrs pc pc (omega arith) (omega arith)) in
     let line = line_and_rest (instr_line (length instrs) (is_jumped_to instrs pc) pc i) (text_from instrs (pc + 1) left) (line_has_no_end (length instrs) pc (is_jumped_to instrs pc) i (omega arith) fit.0) in
-    let next = first_next (record { labels = labels_below instrs pc; reads = before }) number (instr_line (length instrs) (is_jumped_to instrs pc) pc i) (lines_of (text_from instrs (pc + 1) left)) (record { label = mark (is_jumped_to instrs pc) pc; draft = Some (draft_again (length instrs) i) }) (rw says refl) in
+    let next = first_next (record { labels = labels_below instrs pc; drafts = before }) number (instr_line (length instrs) (is_jumped_to instrs pc) pc i) (lines_of (text_from instrs (pc + 1) left)) (record { label = mark (is_jumped_to instrs pc) pc; draft = Some (draft_again (length instrs) i) }) (rw says refl) in
     let more = first_again instrs (pc + 1) (number + 1) (before ++ (record { line = number; draft = draft_again (length instrs) i } ∷ [])) left (simp length-append (omega arith)) (omega arith) fit.1 in
     let marked : labels_below instrs (pc + 1) ≡ with_label (labels_below instrs pc) (length before) (mark (is_jumped_to instrs pc) pc) = rw (at, add-one) refl in
     let end : pc + 1 + length left ≡ pc + length (i ∷ left) = omega arith in
-    ap (first_pass (record { labels = labels_below instrs pc; reads = before }) number) line ∙ (next ∙ rw (marked, end, append_assoc) at more)
+    ap (first_pass (record { labels = labels_below instrs pc; drafts = before }) number) line ∙ (next ∙ rw (marked, end, append_assoc) at more)
 
 -- where a jump goes is read again
 jump_again : (labels : Labels) (count line t : ℕ) (instr : ℕ → Instr) → ((pc q : ℕ) → with_target pc (instr q) ≡ instr pc) → (t < count → labels (label_text t) ≡ Some t)
@@ -102,7 +102,7 @@ jump_again : (labels : Labels) (count line t : ℕ) (instr : ℕ → Instr) → 
 jump_again labels count line t instr aim known = by_cases (nat_lt t count) refl
   where
     by_cases : (b : Bool) → nat_lt t count ≡ b
-        → resolve_label labels line (instr (cond {A = Target} b (record { pc = 0; label = Some (label_text t) }) (record { pc = t; label = None })).pc) (cond {A = Target} b (record { pc = 0; label = Some (label_text t) }) (record { pc = t; label = None })).label ≡ Ok (instr t)
+        → resolve_label labels line (instr (cond {A = WrittenTarget} b (record { pc = 0; label = Some (label_text t) }) (record { pc = t; label = None })).pc) (cond {A = WrittenTarget} b (record { pc = 0; label = Some (label_text t) }) (record { pc = t; label = None })).label ≡ Ok (instr t)
     by_cases true e = rw (known (ltb-true t count e), aim t 0) refl
     by_cases false e = refl
 
@@ -180,7 +180,7 @@ one_program first second stored stored_too kinds texts =
     cc
 
 -- the same where a machine has seen all the words
-pub reread : (program : Program) (instrs : List Instr) (text : List ℕ) (n : ℕ) → instrs ≡ program.instrs → IsValidProgram program → length instrs ≤ n → All FitsIn32Bits (take n instrs) → text ≡ text_of instrs
+pub reread : (program : Program) (instrs : List Instr) (text : List ℕ) (n : ℕ) → instrs ≡ program.instrs → IsValidProgram program → length instrs ≤ n → All FitsIn32Bits (take n instrs) → text ≡ canonical_text instrs
     → code_of program.kind (lines_of text) ≡ Ok program
 reread program instrs text n same stored all words canonical =
     let whole : take n program.instrs ≡ program.instrs = take_all n program.instrs (rw same at all) in

@@ -221,27 +221,27 @@ in_line_tells P number (Ok x) h = h
 in_line_tells P number (Err why) h = h
 
 -- what was read has instructions in range, and not too many
-record Kept (reads : List LineDraft) : Type 0 where
-  few : length reads ≤ MAX_INSTRUCTIONS
-  fit : All (λ (read : LineDraft). IsInRange read.draft.instr) reads
+record Kept (drafts : List LineDraft) : Type 0 where
+  few : length drafts ≤ MAX_INSTRUCTIONS
+  fit : All (λ (read : LineDraft). IsInRange read.draft.instr) drafts
 
-kept_more : (reads : List LineDraft) (number : ℕ) (o : Option InstrDraft) → Kept reads → MayStand (length reads) o → Kept (with_draft reads number o)
+kept_more : (drafts : List LineDraft) (number : ℕ) (o : Option InstrDraft) → Kept drafts → MayStand (length drafts) o → Kept (with_draft drafts number o)
 unfolding MayStand
-kept_more reads number None kept may = kept
-kept_more reads number (Some draft) kept may =
+kept_more drafts number None kept may = kept
+kept_more drafts number (Some draft) kept may =
     let read : LineDraft = record { line = number; draft = draft } in
     record {
-      few = omega (arith, length-append reads (read ∷ []), may.1);
-      fit = All-push (λ (one : LineDraft). IsInRange one.draft.instr) reads read kept.fit may.0;
+      few = omega (arith, length-append drafts (read ∷ []), may.1);
+      fit = All-push (λ (one : LineDraft). IsInRange one.draft.instr) drafts read kept.fit may.0;
     }
 
-first_tells : (parts : Parts) (number : ℕ) (lines : List (List ℕ)) → Kept parts.reads → Tells (λ (all : Parts). Kept all.reads) (first_pass parts number lines)
+first_tells : (parts : Parts) (number : ℕ) (lines : List (List ℕ)) → Kept parts.drafts → Tells (λ (all : Parts). Kept all.drafts) (first_pass parts number lines)
 unfolding first_pass
 first_tells parts number [] kept = kept
 first_tells parts number (line ∷ left) kept =
-    then_tells (λ (said : Line). MayStand (length parts.reads) said.draft) (λ (all : Parts). Kept all.reads) (in_line number (line_content parts.labels (length parts.reads) line)) _
-    (in_line_tells (λ (said : Line). MayStand (length parts.reads) said.draft) number (line_content parts.labels (length parts.reads) line) (line_gives parts.labels (length parts.reads) line))
-    (λ said may. first_tells (with_line parts number said) (number + 1) left (kept_more parts.reads number said.draft kept may))
+    then_tells (λ (said : Line). MayStand (length parts.drafts) said.draft) (λ (all : Parts). Kept all.drafts) (in_line number (line_content parts.labels (length parts.drafts) line)) _
+    (in_line_tells (λ (said : Line). MayStand (length parts.drafts) said.draft) number (line_content parts.labels (length parts.drafts) line) (line_gives parts.labels (length parts.drafts) line))
+    (λ said may. first_tells (with_line parts number said) (number + 1) left (kept_more parts.drafts number said.draft kept may))
 
 target_fits : (pc : ℕ) (i : Instr) → IsInRange i → IsInRange (with_target pc i)
 target_fits pc (Num d n) h = h
@@ -280,13 +280,13 @@ record Finished (many : ℕ) (instrs : List Instr) : Type 0 where
   all : length instrs ≡ many
   fit : All IsInRange instrs
 
-second_tells : (labels : Labels) (reads : List LineDraft) → All (λ (read : LineDraft). IsInRange read.draft.instr) reads → Tells (Finished (length reads)) (second_pass labels reads)
+second_tells : (labels : Labels) (drafts : List LineDraft) → All (λ (read : LineDraft). IsInRange read.draft.instr) drafts → Tells (Finished (length drafts)) (second_pass labels drafts)
 unfolding second_pass
 second_tells labels [] fit = record { all = refl; fit = λ k d h. absurd (omega arith) }
-second_tells labels (read ∷ reads) fit =
+second_tells labels (read ∷ drafts) fit =
     let P : LineDraft → Type 0 = λ one. IsInRange one.draft.instr in
-    then_tells IsInRange (Finished (suc (length reads))) (resolve labels read) _ (label_tells labels read.line read.draft.instr read.draft.label (All-head P read reads fit)) (λ i h.
-    then_tells (Finished (length reads)) (Finished (suc (length reads))) (second_pass labels reads) _ (second_tells labels reads (All-tail P read reads fit)) (λ instrs k.
+    then_tells IsInRange (Finished (suc (length drafts))) (resolve labels read) _ (label_tells labels read.line read.draft.instr read.draft.label (All-head P read drafts fit)) (λ i h.
+    then_tells (Finished (length drafts)) (Finished (suc (length drafts))) (second_pass labels drafts) _ (second_tells labels drafts (All-tail P read drafts fit)) (λ instrs k.
     record { all = omega (arith, k.all); fit = All-cons IsInRange i instrs h k.fit }))
 
 -- a program's instructions
@@ -299,17 +299,17 @@ whole_of : (many : ℕ) (r : Result (List Instr) AsmFault) → 1 ≤ many → ma
 whole_of many (Ok instrs) some few h = record { some = omega (arith, h.all); few = omega (arith, h.all); fit = h.fit }
 whole_of many (Err fault) some few h = h
 
-instrs_tell : (parts : Parts) (b : Bool) → (length parts.reads == 0) ≡ b → Kept parts.reads → Tells Whole (instrs_of parts)
+instrs_tell : (parts : Parts) (b : Bool) → (length parts.drafts == 0) ≡ b → Kept parts.drafts → Tells Whole (instrs_of parts)
 instrs_tell parts true e kept = rw e (λ f. cc)
 instrs_tell parts false e kept =
-    rw e (whole_of (length parts.reads) (second_pass parts.labels parts.reads) (omega (arith, eqb-false (length parts.reads) 0 e)) kept.few (second_tells parts.labels parts.reads kept.fit))
+    rw e (whole_of (length parts.drafts) (second_pass parts.labels parts.drafts) (omega (arith, eqb-false (length parts.drafts) 0 e)) kept.few (second_tells parts.labels parts.drafts kept.fit))
 
 -- any lines say something
 pub lines_say : (kind : Kind) (lines : List (List ℕ)) → MatchResult (code_of kind lines) IsValidProgram (λ fault. fault.why ≢ Memory)
 lines_say kind lines =
-    then_tells (λ (all : Parts). Kept all.reads) IsValidProgram (first_pass no_parts 1 lines) _
+    then_tells (λ (all : Parts). Kept all.drafts) IsValidProgram (first_pass no_parts 1 lines) _
     (first_tells no_parts 1 lines (record { few = omega arith; fit = λ k d h. absurd (omega arith) })) (λ parts kept.
-    then_tells Whole IsValidProgram (instrs_of parts) _ (instrs_tell parts (length parts.reads == 0) refl kept) (λ instrs h.
+    then_tells Whole IsValidProgram (instrs_of parts) _ (instrs_tell parts (length parts.drafts == 0) refl kept) (λ instrs h.
     record { some = h.some; few = h.few; in_range = h.fit }))
 
 pub something : TextsHaveMeaning

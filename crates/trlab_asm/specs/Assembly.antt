@@ -25,15 +25,15 @@ pub record LineDraft : Type 0 where
 -- the labels of a text, each with its pc, and its instructions in order, as they were read
 pub record Parts : Type 0 where
   pub labels : Labels
-  pub reads : List LineDraft
+  pub drafts : List LineDraft
 
 -- the line number of each instruction of a text, in order
 abbrev pub line_numbers : Parts → List ℕ
-line_numbers parts = map (λ read. read.line) parts.reads
+line_numbers parts = map (λ read. read.line) parts.drafts
 
 -- the parts of an empty text: no label and no instruction
 abbrev pub no_parts : Parts
-no_parts = record { labels = λ name. None; reads = [] }
+no_parts = record { labels = λ name. None; drafts = [] }
 
 -- the labels with one more, `name`, at this pc; unchanged if there is no name
 abbrev pub with_label : Labels → ℕ → Option (List ℕ) → Labels
@@ -42,24 +42,24 @@ with_label labels pc (Some name) = update bytes_eq labels name (Some pc)
 
 -- the instructions read so far, and one more, of line `number`; unchanged if there is no draft
 abbrev pub with_draft : List LineDraft → ℕ → Option InstrDraft → List LineDraft
-with_draft reads number None = reads
-with_draft reads number (Some draft) = reads ++ (record { line = number; draft = draft } ∷ [])
+with_draft drafts number None = drafts
+with_draft drafts number (Some draft) = drafts ++ (record { line = number; draft = draft } ∷ [])
 
--- the parts read so far, and those of one more line: a label gets the pc of the instruction on its line, or
+-- the parts read so far, with one more line added: a label gets the pc of the instruction on its line, or
 -- of the next instruction if the line has none
 abbrev pub with_line : Parts → ℕ → Line → Parts
 with_line parts number line = record {
-  labels = with_label parts.labels (length parts.reads) line.label;
-  reads = with_draft parts.reads number line.draft;
+  labels = with_label parts.labels (length parts.drafts) line.label;
+  drafts = with_draft parts.drafts number line.draft;
 }
 
--- the first pass: the parts read so far, and those of more lines, which are numbered from `number` on; or the
--- first fault
+-- the first pass: the parts read so far, with the given lines added, which are numbered from `number` on; or
+-- the first fault
 unfoldable pub first_pass : Parts → ℕ → List (List ℕ) → Result Parts AsmFault
 first_pass parts number [] = Ok parts
 first_pass parts number (line ∷ lines) =
-    in_line number (line_content parts.labels (length parts.reads) line)
-    >>= λ said. first_pass (with_line parts number said) (number + 1) lines
+    in_line number (line_content parts.labels (length parts.drafts) line)
+    >>= λ content. first_pass (with_line parts number content) (number + 1) lines
 
 -- the same jump with this pc as its target; other instructions stay as they are
 abbrev pub with_target : ℕ → Instr → Instr
@@ -91,16 +91,16 @@ resolve labels read = resolve_label labels read.line read.draft.instr read.draft
 -- fault
 unfoldable pub second_pass : Labels → List LineDraft → Result (List Instr) AsmFault
 second_pass labels [] = Ok []
-second_pass labels (read ∷ reads) =
-    resolve labels read >>= λ instr. second_pass labels reads >>= λ instrs. Ok (instr ∷ instrs)
+second_pass labels (read ∷ drafts) =
+    resolve labels read >>= λ instr. second_pass labels drafts >>= λ instrs. Ok (instr ∷ instrs)
 
 -- the instructions of a text, by the second pass; the fault `Empty`, with line 0, if the text has none
 abbrev pub instrs_of : Parts → Result (List Instr) AsmFault
 instrs_of parts =
-    if length parts.reads == 0 then Err (record { line = 0; why = Empty })
-    else second_pass parts.labels parts.reads
+    if length parts.drafts == 0 then Err (record { line = 0; why = Empty })
+    else second_pass parts.labels parts.drafts
 
--- the program of this kind whose text these lines are, or their first fault; lines are numbered from 1
+-- the program of kind `kind` that these lines assemble to, or their first fault; lines are numbered from 1
 abbrev pub code_of : Kind → List (List ℕ) → Result Program AsmFault
 code_of kind lines = do
   parts ← first_pass no_parts 1 lines

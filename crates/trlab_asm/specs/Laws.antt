@@ -8,7 +8,7 @@ use Rattle.trlab_code.specs.Laws.{IsRepresentable}
 use Rattle.trlab_lines.specs.Lines.{lines_of}
 use Rattle.trlab_asm.specs.Names.{register_text, input_text, mnemonic_text, register_named, input_named, mnemonic_named}
 use Rattle.trlab_asm.specs.Assembly.{code_of}
-use Rattle.trlab_asm.specs.Canonical.{text_of}
+use Rattle.trlab_asm.specs.Canonical.{canonical_text}
 use Rattle.trlab_asm.specs.declared.names.Mnemonic.{Mnemonic}
 use Rattle.trlab_asm.specs.declared.fault.Why.TheVariants.{Memory}
 
@@ -21,12 +21,12 @@ TextsHaveMeaning = (kind : Kind) (text : List ℕ)
 -- reading the lines of the canonical text of a representable program gives this program again
 abbrev pub CanonicalTextGivesProgram : Type 0
 CanonicalTextGivesProgram = (program : Program) → IsRepresentable program
-    → code_of program.kind (lines_of (text_of program.instrs)) ≡ Ok program
+    → code_of program.kind (lines_of (canonical_text program.instrs)) ≡ Ok program
 
 -- two representable programs of one kind with the same canonical text are equal
 abbrev pub TextDeterminesProgram : Type 0
 TextDeterminesProgram = (first second : Program) → IsRepresentable first → IsRepresentable second
-    → first.kind ≡ second.kind → text_of first.instrs ≡ text_of second.instrs → first ≡ second
+    → first.kind ≡ second.kind → canonical_text first.instrs ≡ canonical_text second.instrs → first ≡ second
 
 -- a word is read as a register exactly if it is the name that is printed for this register
 abbrev pub RegistersAreNamed : Type 0

@@ -20,7 +20,7 @@ register_text R5 = codes "r5"
 register_text R6 = codes "r6"
 register_text R7 = codes "r7"
 
--- the name of an input, in small letters
+-- the name of an input, for example `sidegap`
 abbrev pub input_text : Input → List ℕ
 input_text Speed = codes "speed"
 input_text Limit = codes "limit"

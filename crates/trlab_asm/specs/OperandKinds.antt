@@ -35,7 +35,7 @@ kinds_of name.Go = Register ∷ []
 kinds_of name.Cross = []
 kinds_of name.Stay = []
 
--- the smallest and the largest number that an operand of this kind may be; `None` if it is not a number
+-- the smallest and the largest number that an operand of a kind may be; `None` for kinds that are not numbers
 abbrev pub range_of : OperandKind → Option (ℕ × ℕ)
 range_of Number = Some (0, MAX_NUMBER)
 range_of Divisor = Some (1, MAX_NUMBER)
@@ -49,7 +49,8 @@ abbrev pub is_target_after : List ℕ → Option (List ℕ) → Bool
 is_target_after word None = is_label word
 is_target_after word (Some digits) = is_numeral digits
 
--- does a word have the form of an operand of this kind? A number may be outside the range of the kind
+-- does a word have the form of an operand of a kind? A number may be outside the range of the kind; for
+-- example, `0` has the form of a divisor
 abbrev pub has_form : OperandKind → List ℕ → Bool
 has_form Register word = is_some (register_named word)
 has_form Result word = is_some (register_named word)

@@ -47,8 +47,9 @@ value_within low high digits =
 abbrev pub number : ℕ → ℕ → List ℕ → Result ℕ Why
 number low high text = numeral text >>= value_within low high
 
--- the target of a jump: a pc without a label; or a label, with pc 0, because the label's pc is not known yet
-pub record Target : Type 0 where
+-- the target of a jump as it is written: a pc, and no label; or a label, and pc 0, because the label's pc is
+-- not known yet
+pub record WrittenTarget : Type 0 where
   pub pc : ℕ
   pub label : Option (List ℕ)
 
@@ -62,25 +63,21 @@ is_label text =
     (nat_lt 0 (length text) && nat_le (length text) LONGEST_LABEL)
     && (not (is_ascii_digit (slice_index text 0)) && all_label_bytes text)
 
--- the target with this pc and without a label
-abbrev pub at_pc : ℕ → Result Target Why
-at_pc pc = Ok (record { pc = pc; label = None })
-
 -- the target that `@` and the digits of a pc name, for example `@12`; the fault `Operand` for other words,
 -- and `Number` if the pc is above MAX_NUMBER
-abbrev pub pc_named : List ℕ → Result Target Why
+abbrev pub pc_named : List ℕ → Result WrittenTarget Why
 pc_named text = do
   digits ← ok_or (without_prefix (codes "@") text) Operand
   digits ← digits_of digits
   pc ← value_within 0 MAX_NUMBER digits
-  at_pc pc
+  Ok (record { pc = pc; label = None })
 
 -- the target that a word names: a label, for example `slow`, or `@` and a pc, for example `@12`
-abbrev pub target_named : List ℕ → Result Target Why
+abbrev pub target_named : List ℕ → Result WrittenTarget Why
 target_named text = if is_label text then Ok (record { pc = 0; label = Some text }) else pc_named text
 
 -- the target that a jump's operand names; the fault `Operand` or `Number` if it names none
-abbrev pub jump_target : List ℕ → Result Target Why
+abbrev pub jump_target : List ℕ → Result WrittenTarget Why
 jump_target text = word text >>= target_named
 
 infixr 15 ◌then◌
@@ -138,9 +135,9 @@ abbrev pub register_word_chance : List ℕ → Result (Register × (ℕ × ℕ))
 register_word_chance = register then word_chance
 
 -- a register and a jump's target, separated by a comma
-abbrev pub register_target : List ℕ → Result (Register × Target) Why
+abbrev pub register_target : List ℕ → Result (Register × WrittenTarget) Why
 register_target = register then jump_target
 
 -- two registers and a jump's target, separated by commas
-abbrev pub two_registers_target : List ℕ → Result (Register × (Register × Target)) Why
+abbrev pub two_registers_target : List ℕ → Result (Register × (Register × WrittenTarget)) Why
 two_registers_target = register then register_target

@@ -2,67 +2,30 @@
 use Rattle.std.specs.Prelude.{ℕ, ◌==◌, List, length, nat_lt, Option, None, Some, ok_or, Result, Ok, Err, if◌then◌else◌}
 use Rattle.trlab_code.specs.declared.instruction.Instr.{Instr}
 use Rattle.trlab_code.specs.declared.instruction.Instr.TheVariants.{Num, Get, Side, Draw, Copy, Add, Sub, Mul, Div, Min, Max, Not, And, Or, Jump, JumpLess, JumpAtMost, JumpTrue, JumpFalse, Go, Cross, Stay}
-use Rattle.trlab_code.specs.declared.instruction.Register.{Register}
 use Rattle.trlab_bounds.specs.declared.programs.TheConstants.{MAX_INSTRUCTIONS}
 use Rattle.trlab_lines.specs.Cutting.{without_comment, label_and_rest, without_indent, up_to_blank, only_word}
 use Rattle.trlab_asm.specs.Names.{mnemonic_named}
 use Rattle.trlab_asm.specs.Results.{◌>>=◌}
-use Rattle.trlab_asm.specs.Operands.{Target, is_label, no_operand, register, two_registers, three_registers, register_input, register_and_number, two_registers_number, register_word_chance, jump_target, register_target, two_registers_target}
+use Rattle.trlab_asm.specs.Operands.{WrittenTarget, is_label, no_operand, register, two_registers, three_registers, register_input, register_and_number, two_registers_number, register_word_chance, jump_target, register_target, two_registers_target}
 use Rattle.trlab_asm.specs.declared.fault.Why.{Why}
 use Rattle.trlab_asm.specs.declared.fault.Why.TheVariants.{Word, LabelTwice, TooLong}
 use Rattle.trlab_asm.specs.declared.names.Mnemonic.{Mnemonic}
 use Rattle.trlab_asm.specs.declared.names.Mnemonic.TheVariants as name
 
--- an instruction as it was read. If its target is a label, this is `label`, and the target is still 0
+-- an instruction as it was read. If its target is written as a label, `label` is this label, and the target is
+-- still 0
 pub record InstrDraft : Type 0 where
   pub instr : Instr
   pub label : Option (List ℕ)
 
--- an instruction that names no label, as it was read: no target is left to resolve
+-- the draft of an instruction that names no label
 abbrev pub draft_without_label : Instr → Result InstrDraft Why
 draft_without_label instr = Ok (record { instr = instr; label = None })
 
 -- a jump as it was read, from its target: `instr` gives the jump to the target's pc, and the target's label,
 -- if it has one, is kept to be resolved
-abbrev pub jump_draft : (ℕ → Instr) → Target → Result InstrDraft Why
+abbrev pub jump_draft : (ℕ → Instr) → WrittenTarget → Result InstrDraft Why
 jump_draft instr to = Ok (record { instr = instr to.pc; label = to.label })
-
--- the instruction of this name without operands: `Cross` for `cross`, and `Stay` for all other names
-abbrev pub of_none : Mnemonic → Instr
-of_none name.Cross = Cross
-of_none other = Stay
-
--- the instruction of this name with one register: `Side` for `side`, and `Go` for all other names
-abbrev pub of_one : Mnemonic → Register → Instr
-of_one name.Side a = Side a
-of_one other a = Go a
-
--- the instruction of this name with two registers: `Copy` for `copy`, and `Not` for all other names
-abbrev pub of_two : Mnemonic → Register → Register → Instr
-of_two name.Copy d a = Copy d a
-of_two other d a = Not d a
-
--- the instruction of this name with three registers: `Add`, `Sub`, `Min`, `Max` or `And`, and `Or` for all
--- other names
-abbrev pub of_three : Mnemonic → Register → Register → Register → Instr
-of_three name.Add d a b = Add d a b
-of_three name.Sub d a b = Sub d a b
-of_three name.Min d a b = Min d a b
-of_three name.Max d a b = Max d a b
-of_three name.And d a b = And d a b
-of_three other d a b = Or d a b
-
--- the jump of this name with one register and the pc t: `JumpTrue` for `jtrue`, and `JumpFalse` for all other
--- names
-abbrev pub of_one_target : Mnemonic → Register → ℕ → Instr
-of_one_target name.JumpTrue a t = JumpTrue a t
-of_one_target other a t = JumpFalse a t
-
--- the jump of this name with two registers and the pc t: `JumpLess` for `jlt`, and `JumpAtMost` for all other
--- names
-abbrev pub of_two_target : Mnemonic → Register → Register → ℕ → Instr
-of_two_target name.JumpLess a b t = JumpLess a b t
-of_two_target other a b t = JumpAtMost a b t
 
 -- the instruction as it is read, of this name and with this text of its operands; or the fault of the
 -- operands
@@ -135,6 +98,6 @@ content_of_parts labels pc parts = do
   Ok (record { label = label; draft = draft })
 
 -- the content of a line: its label, if it has one, and its instruction, if it has one, which is then at pc;
--- `labels` are those of earlier lines
+-- `labels` has the labels of earlier lines
 abbrev pub line_content : Labels → ℕ → List ℕ → Result Line Why
 line_content labels pc line = content_of_parts labels pc (label_and_rest (without_comment line))

@@ -13,4 +13,4 @@ pcs map name = tree.get_by (λ key. slice_cmp nat_cmp name key.now) map.pcs
 
 -- the labels and the instructions of the first pass that the code keeps
 abbrev pub stored_parts : Lists → Parts
-stored_parts lists = record { labels = pcs lists.labels; reads = lists.reads.items }
+stored_parts lists = record { labels = pcs lists.labels; drafts = lists.drafts.items }

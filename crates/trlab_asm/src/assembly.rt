@@ -24,8 +24,8 @@ fn read_parts(alloc: Global, text: &[u8]) -> Result<Parts<'_>, AsmFault>
     let mut left = text;
     let mut number = 1;
     while let Some((line, rest)) = next_line(left) {
-        let said = parts.says(number, line)?;
-        parts.add(number, said)?;
+        let content = parts.read_line(number, line)?;
+        parts.add(number, content)?;
         left = rest;
         number += 1;
     }
@@ -47,7 +47,7 @@ fn with_target(pc: u32, instr: Instr) -> Instr
     }
 }
 
-/// The instruction of a draft, with the pc of its label, if it has one.
+/// The instruction of a draft. If it names a label, its target is the label's pc.
 fn resolve<'a>(labels: &Labels<'a>, read: &LineDraft<'a>) -> Result<Instr, AsmFault>
     ensures value { result ≡ resolve (pcs labels.now) read.now }
     ensures in_range { IfOk result IsInRange }
@@ -69,17 +69,17 @@ fn resolve<'a>(labels: &Labels<'a>, read: &LineDraft<'a>) -> Result<Instr, AsmFa
 fn resolve_all<'a>(
     alloc: Global,
     labels: &Labels<'a>,
-    reads: &[LineDraft<'a>],
+    drafts: &[LineDraft<'a>],
 ) -> Result<Vec<Instr>, AsmFault>
     ensures told { MatchResult result
-        (λ instrs. second_pass (pcs labels.now) reads.now ≡ Ok instrs.items)
-        (λ fault. (second_pass (pcs labels.now) reads.now ≡ Err fault) ⊎ IsOutOfMemory fault) }
-    ensures count { IfOk result (λ instrs. vec_len instrs ≡ length reads.now) }
+        (λ instrs. second_pass (pcs labels.now) drafts.now ≡ Ok instrs.items)
+        (λ fault. (second_pass (pcs labels.now) drafts.now ≡ Err fault) ⊎ IsOutOfMemory fault) }
+    ensures count { IfOk result (λ instrs. vec_len instrs ≡ length drafts.now) }
     ensures in_range { IfOk result (λ instrs. All IsInRange instrs.items) }
 {
     let mut instrs = Vec::new(alloc);
-    for read in reads {
-        let instr = resolve(labels, read)?;
+    for line_draft in drafts {
+        let instr = resolve(labels, line_draft)?;
         if instrs.push(instr).is_err() {
             return Err(AsmFault::from(AllocError));
         }
@@ -96,14 +96,14 @@ fn instrs_of(alloc: Global, parts: &Parts<'_>) -> Result<Vec<Instr>, AsmFault>
     ensures few { IfOk result (λ instrs. vec_len instrs ≤ MAX_INSTRUCTIONS) }
     ensures in_range { IfOk result (λ instrs. All IsInRange instrs.items) }
 {
-    let reads = parts.reads();
-    if reads.is_empty() {
+    let drafts = parts.drafts();
+    if drafts.is_empty() {
         Err(AsmFault {
             line: 0,
             why: Why::Empty,
         })
     } else {
-        resolve_all(alloc, parts.labels(), reads)
+        resolve_all(alloc, parts.labels(), drafts)
     }
 }
 
@@ -122,16 +122,17 @@ pub fn assemble(alloc: Global, kind: Kind, text: &[u8]) -> Result<Code, AsmFault
 {
     let parts = read_parts(alloc, text)?;
     let instrs = instrs_of(alloc, &parts)?;
-    match Code::new(kind, instrs) {
-        Some(code) => Ok(code),
-        None => unreachable!(),
-    }
+    let Some(code) = Code::new(kind, instrs) else {
+        unreachable!()
+    };
+    Ok(code)
 }
 
-fn numbers_of(alloc: Global, reads: &[LineDraft<'_>]) -> Result<Vec<usize>, AllocError>
-    ensures { IfOk result (λ numbers. numbers.items ≡ map (λ read. read.line) reads.now) }
+/// The line numbers of these instructions.
+fn numbers_of(alloc: Global, drafts: &[LineDraft<'_>]) -> Result<Vec<usize>, AllocError>
+    ensures { IfOk result (λ numbers. numbers.items ≡ map (λ read. read.line) drafts.now) }
 {
-    reads.iter().map(LineDraft::line).collect(alloc)
+    drafts.iter().map(LineDraft::line).collect(alloc)
 }
 
 /// The line number of each instruction of a text, counted from 1.
@@ -147,5 +148,5 @@ pub fn instruction_lines(alloc: Global, text: &[u8]) -> Result<Vec<usize>, AsmFa
         (λ fault. (first_pass no_parts 1 (lines_of text.now) ≡ Err fault) ⊎ IsOutOfMemory fault) }
 {
     let parts = read_parts(alloc, text)?;
-    numbers_of(alloc, parts.reads()).map_err(AsmFault::from)
+    numbers_of(alloc, parts.drafts()).map_err(AsmFault::from)
 }

@@ -2,8 +2,7 @@
 //!
 //! Each law is the contract of a function with an empty body.
 
-ghost use Rattle.trlab_asm.specs.Laws.{CanonicalTextGivesProgram, TextDeterminesProgram, TextsHaveMeaning};
-ghost use Rattle.trlab_asm.specs.Laws.{InputsAreNamed, InstructionsAreNamed, RegistersAreNamed};
+ghost use Rattle.trlab_asm.specs.Laws.{CanonicalTextGivesProgram, TextDeterminesProgram, TextsHaveMeaning, InputsAreNamed, InstructionsAreNamed, RegistersAreNamed};
 
 /// A word names a register, an input or an instruction exactly if it is the name that is printed for it.
 pub fn names()

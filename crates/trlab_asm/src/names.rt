@@ -145,14 +145,14 @@ pub fn mnemonic_text(name: Mnemonic) -> &'static [u8]
 
 /// A value with a name in program texts.
 pub trait HasText: Copy {
-    ghost said: { Self → List ℕ };
+    ghost name: { Self → List ℕ };
 
     fn text(self) -> &'static [u8]
-        ensures { result.now ≡ said self };
+        ensures { result.now ≡ name self };
 }
 
 impl HasText for Register {
-    ghost said = { register_text };
+    ghost name = { register_text };
 
     fn text(self) -> &'static [u8] {
         register_text(self)
@@ -160,7 +160,7 @@ impl HasText for Register {
 }
 
 impl HasText for Input {
-    ghost said = { input_text };
+    ghost name = { input_text };
 
     fn text(self) -> &'static [u8] {
         input_text(self)
@@ -168,7 +168,7 @@ impl HasText for Input {
 }
 
 impl HasText for Mnemonic {
-    ghost said = { mnemonic_text };
+    ghost name = { mnemonic_text };
 
     fn text(self) -> &'static [u8] {
         mnemonic_text(self)
@@ -177,7 +177,7 @@ impl HasText for Mnemonic {
 
 /// The first value in `all` whose name is this word; `None` if there is none.
 fn first_named<X: HasText>(all: &[X], word: &[u8]) -> Option<X>
-    ensures { result ≡ find (λ x. bytes_eq (X.said x) word.now) all.now }
+    ensures { result ≡ find (λ x. bytes_eq (X.name x) word.now) all.now }
 {
     all.iter().copied().find(|x| x.text() == word)
 }

@@ -2,7 +2,7 @@
 
 ghost use Rattle.std.specs.Prelude.{◌≡◌, ◌≤◌, true, IfOk, option_map, Ok, ◌<◌, ok_or};
 ghost use Rattle.trlab_asm.specs.OperandKinds.{kinds_of, range_of, has_form};
-ghost use Rattle.trlab_asm.specs.Operands.{digits_of, value_within, Target as Goal, is_label, all_label_bytes, pc_named, target_named, word, register, input, numeral, two_numerals, number, jump_target, no_operand, two_registers, three_registers, register_input, register_and_number, two_registers_number, word_chance, register_word_chance, register_target, two_registers_target};
+ghost use Rattle.trlab_asm.specs.Operands.{digits_of, value_within, WrittenTarget as Written, is_label, all_label_bytes, pc_named, target_named, word, register, input, numeral, two_numerals, number, jump_target, no_operand, two_registers, three_registers, register_input, register_and_number, two_registers_number, word_chance, register_word_chance, register_target, two_registers_target};
 ghost use Rattle.trlab_asm.specs.Results.{map_ok, ◌>>=◌ as ◌followed◌};
 ghost use Rattle.trlab_lines.specs.Numbers.{all_digits};
 ghost use Rattle.trlab_bounds.specs.declared.programs.TheConstants.{WORDS, CERTAIN};
@@ -150,15 +150,15 @@ pub(crate) fn number_of(low: u32, word: &[u8]) -> Result<u32, Why>
     value_within(low, MAX_NUMBER, digits_of(word)?)
 }
 
-/// The target of a jump: a pc, or a label. The pc of a label is not known yet and is 0 here.
+/// The target of a jump as it is written: a pc, or a label, whose pc is not known yet and 0 here.
 #[derive(Drop)]
-pub(crate) struct Target<'a> {
+pub(crate) struct WrittenTarget<'a> {
     pub pc: u32,
     pub label: Option<&'a [u8]>,
 }
 
-impl<'a> Model for Target<'a> {
-    ghost Value = { Goal };
+impl<'a> Model for WrittenTarget<'a> {
+    ghost Value = { Written };
 
     ghost view = { λ target. record { pc = target.pc; label = option_map (λ label. label.now) target.label } };
 }
@@ -181,19 +181,19 @@ pub fn is_label(text: &[u8]) -> bool
 }
 
 /// The pc of a target such as `@12`.
-fn pc_named(text: &[u8]) -> Result<Target<'_>, Why>
+fn pc_named(text: &[u8]) -> Result<WrittenTarget<'_>, Why>
     ensures { result ≡ pc_named text.now }
 {
     let digits = text.strip_prefix(b"@").ok_or(Why::Operand)?;
     let pc = number_of(0, digits)?;
-    Ok(Target { pc, label: None })
+    Ok(WrittenTarget { pc, label: None })
 }
 
-pub(crate) fn target_named(text: &[u8]) -> Result<Target<'_>, Why>
+pub(crate) fn target_named(text: &[u8]) -> Result<WrittenTarget<'_>, Why>
     ensures { result ≡ target_named text.now }
 {
     if is_label(text) {
-        Ok(Target {
+        Ok(WrittenTarget {
             pc: 0,
             label: Some(text),
         })
@@ -244,7 +244,7 @@ fn number(low: u32, text: &[u8]) -> Result<u32, Why>
     number_of(low, word(text)?)
 }
 
-pub(crate) fn jump_target(text: &[u8]) -> Result<Target<'_>, Why>
+pub(crate) fn jump_target(text: &[u8]) -> Result<WrittenTarget<'_>, Why>
     ensures { result ≡ jump_target text.now }
 {
     target_named(word(text)?)
@@ -344,7 +344,7 @@ pub(crate) fn register_word_chance(text: &[u8]) -> Result<(Register, (u32, u32))
     }
 }
 
-pub(crate) fn register_target(text: &[u8]) -> Result<(Register, Target<'_>), Why>
+pub(crate) fn register_target(text: &[u8]) -> Result<(Register, WrittenTarget<'_>), Why>
     ensures { result ≡ register_target text.now }
 {
     match cut(text, b',') {
@@ -353,7 +353,9 @@ pub(crate) fn register_target(text: &[u8]) -> Result<(Register, Target<'_>), Why
     }
 }
 
-pub(crate) fn two_registers_target(text: &[u8]) -> Result<(Register, (Register, Target<'_>)), Why>
+pub(crate) fn two_registers_target(
+    text: &[u8],
+) -> Result<(Register, (Register, WrittenTarget<'_>)), Why>
     ensures { result ≡ two_registers_target text.now }
 {
     match cut(text, b',') {

@@ -41,8 +41,8 @@ impl<'a> LineDraft<'a> {
 #[derive(Drop)]
 pub(crate) struct Parts<'a> {
     labels: Labels<'a>,
-    reads: Vec<LineDraft<'a>>,
-    ghost few: { length reads.items ≤ MAX_INSTRUCTIONS },
+    drafts: Vec<LineDraft<'a>>,
+    ghost few: { length drafts.items ≤ MAX_INSTRUCTIONS },
 }
 
 impl<'a> Parts<'a> {
@@ -57,7 +57,7 @@ impl<'a> Parts<'a> {
     {
         Parts {
             labels: Labels::new(alloc),
-            reads: Vec::new(alloc),
+            drafts: Vec::new(alloc),
         }
     }
 
@@ -67,21 +67,21 @@ impl<'a> Parts<'a> {
         &self.labels
     }
 
-    pub(crate) fn reads(&self) -> &[LineDraft<'a>]
-        ensures value { result.now ≡ (stored_parts self.now).reads }
+    pub(crate) fn drafts(&self) -> &[LineDraft<'a>]
+        ensures value { result.now ≡ (stored_parts self.now).drafts }
         ensures few { length result.now ≤ MAX_INSTRUCTIONS }
     {
-        &self.reads
+        &self.drafts
     }
 
     /// Reads the next line; a fault gets `number` as its line number.
-    pub(crate) fn says(&self, number: usize, line: &'a [u8]) -> Result<Line<'a>, AsmFault>
+    pub(crate) fn read_line(&self, number: usize, line: &'a [u8]) -> Result<Line<'a>, AsmFault>
         ensures value { result ≡ in_line number
-            (line_content (stored_parts self.now).labels (length (stored_parts self.now).reads) line.now) }
-        ensures room { IfOk result (λ said.
-            OnSome said.draft (length (stored_parts self.now).reads < MAX_INSTRUCTIONS)) }
+            (line_content (stored_parts self.now).labels (length (stored_parts self.now).drafts) line.now) }
+        ensures room { IfOk result (λ content.
+            OnSome content.draft (length (stored_parts self.now).drafts < MAX_INSTRUCTIONS)) }
     {
-        read_line(&self.labels, self.reads.len(), line).map_err(|why| AsmFault {
+        read_line(&self.labels, self.drafts.len(), line).map_err(|why| AsmFault {
             line: number,
             why,
         })
@@ -89,13 +89,13 @@ impl<'a> Parts<'a> {
 
     /// Adds a line. Its label names its instruction, or the next one if the line has none.
     pub(crate) fn add(&mut self, number: usize, line: Line<'a>) -> Result<(), AllocError>
-        requires { OnSome line.draft (length (stored_parts self.old).reads < MAX_INSTRUCTIONS) }
+        requires { OnSome line.draft (length (stored_parts self.old).drafts < MAX_INSTRUCTIONS) }
         ensures { OnOk result (stored_parts self.new ≡ with_line (stored_parts self.old) number line.entry) }
     {
-        let pc = self.reads.len() as u32;
+        let pc = self.drafts.len() as u32;
         let Line { label, draft } = line;
         if let Some(draft) = draft {
-            self.reads.push(LineDraft {
+            self.drafts.push(LineDraft {
                 line: number,
                 draft,
             })?;

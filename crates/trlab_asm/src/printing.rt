@@ -2,7 +2,7 @@
 
 ghost use Rattle.std.specs.Prelude.{◌≡◌, ◌++◌, decimal, OnOk, Ok, IfOk};
 ghost use Rattle.trlab_code.specs.Laws.{FitsIn32Bits};
-ghost use Rattle.trlab_asm.specs.Canonical.{operand_text, target_text, ◌comma◌, row_text, operation_text, instr_text, instr_line, is_pc, is_jumped_to, text_of};
+ghost use Rattle.trlab_asm.specs.Canonical.{operand_text, target_text, ◌comma◌, with_operands, operation_text, instr_text, instr_line, is_pc, is_jumped_to, canonical_text};
 ghost use Rattle.trlab_code.specs.Flow.{target};
 ghost use Rattle.trlab_lines.specs.Lines.{lines_of};
 ghost use Rattle.trlab_asm.specs.Assembly.{code_of};
@@ -33,7 +33,7 @@ enum Operation {
 }
 
 /// The target of a jump in a program of `count` instructions.
-fn target(count: usize, pc: u32) -> Operand
+fn target_operand(count: usize, pc: u32) -> Operand
     ensures { operand_text result ≡ target_text count pc }
 {
     if (pc as usize) < count {
@@ -69,7 +69,7 @@ fn push_operand(
 }
 
 fn push_one(alloc: Global, out: &mut Vec<u8>, name: Mnemonic, a: Operand) -> Result<(), AllocError>
-    ensures { OnOk result (out.new.items ≡ out.old.items ++ row_text name (operand_text a)) }
+    ensures { OnOk result (out.new.items ≡ out.old.items ++ with_operands name (operand_text a)) }
 {
     out.extend_from_slice(mnemonic_text(name))?;
     push_operand(alloc, out, b" ", a)
@@ -82,14 +82,14 @@ fn push_two(
     a: Operand,
     b: Operand,
 ) -> Result<(), AllocError>
-    ensures { OnOk result (out.new.items ≡ out.old.items ++ row_text name (operand_text a comma operand_text b)) }
+    ensures { OnOk result (out.new.items ≡ out.old.items ++ with_operands name (operand_text a comma operand_text b)) }
 {
     push_one(alloc, out, name, a)?;
     push_operand(alloc, out, b", ", b)
 }
 
-/// The name and the operands of an instruction, in a program of `count` instructions.
-fn row_of(count: usize, instr: Instr) -> Operation
+/// The name and the operands of an instruction in a program of `count` instructions.
+fn operation_of(count: usize, instr: Instr) -> Operation
     ensures value { operation_text result ≡ instr_text count instr }
 
     // Holds for each `u32`.
@@ -110,27 +110,27 @@ fn row_of(count: usize, instr: Instr) -> Operation
         Instr::Not(d, a) => Two(Mnemonic::Not, Register(d), Register(a)),
         Instr::And(d, a, b) => Three(Mnemonic::And, Register(d), Register(a), Register(b)),
         Instr::Or(d, a, b) => Three(Mnemonic::Or, Register(d), Register(a), Register(b)),
-        Instr::Jump(pc) => One(Mnemonic::Jump, target(count, pc)),
+        Instr::Jump(pc) => One(Mnemonic::Jump, target_operand(count, pc)),
         Instr::JumpLess(a, b, pc) => {
-            let to = target(count, pc);
+            let to = target_operand(count, pc);
             Three(Mnemonic::JumpLess, Register(a), Register(b), to)
         }
         Instr::JumpAtMost(a, b, pc) => {
-            let to = target(count, pc);
+            let to = target_operand(count, pc);
             Three(Mnemonic::JumpAtMost, Register(a), Register(b), to)
         }
-        Instr::JumpTrue(a, pc) => Two(Mnemonic::JumpTrue, Register(a), target(count, pc)),
-        Instr::JumpFalse(a, pc) => Two(Mnemonic::JumpFalse, Register(a), target(count, pc)),
+        Instr::JumpTrue(a, pc) => Two(Mnemonic::JumpTrue, Register(a), target_operand(count, pc)),
+        Instr::JumpFalse(a, pc) => Two(Mnemonic::JumpFalse, Register(a), target_operand(count, pc)),
         Instr::Go(a) => One(Mnemonic::Go, Register(a)),
         Instr::Cross => Bare(Mnemonic::Cross),
         Instr::Stay => Bare(Mnemonic::Stay),
     }
 }
 
-fn push_row(alloc: Global, out: &mut Vec<u8>, row: Operation) -> Result<(), AllocError>
-    ensures { OnOk result (out.new.items ≡ out.old.items ++ operation_text row) }
+fn push_operation(alloc: Global, out: &mut Vec<u8>, operation: Operation) -> Result<(), AllocError>
+    ensures { OnOk result (out.new.items ≡ out.old.items ++ operation_text operation) }
 {
-    match row {
+    match operation {
         Bare(name) => out.extend_from_slice(mnemonic_text(name)),
         One(name, a) => push_one(alloc, out, name, a),
         Two(name, a, b) => push_two(alloc, out, name, a, b),
@@ -141,25 +141,25 @@ fn push_row(alloc: Global, out: &mut Vec<u8>, row: Operation) -> Result<(), Allo
     }
 }
 
-/// Appends the line of an instruction in a program of `count` instructions; if `marked`, its label comes first.
-pub(crate) fn push_line(
+/// Appends the line of an instruction in a program of `count` instructions; if `is_marked`, its label comes first.
+fn push_line(
     alloc: Global,
     out: &mut Vec<u8>,
     count: usize,
-    marked: bool,
+    is_marked: bool,
     pc: u32,
     instr: Instr,
 ) -> Result<(), AllocError>
-    ensures line { OnOk result (out.new.items ≡ out.old.items ++ instr_line count marked pc instr) }
+    ensures line { OnOk result (out.new.items ≡ out.old.items ++ instr_line count is_marked pc instr) }
 
     // Holds for each `u32`.
     ensures word { FitsIn32Bits instr }
 {
-    if marked {
+    if is_marked {
         push_number(alloc, out, "L", pc)?;
         out.extend_from_slice(b": ")?;
     }
-    push_row(alloc, out, row_of(count, instr))
+    push_operation(alloc, out, operation_of(count, instr))
 }
 
 fn jumps_to(instr: Instr, pc: u32) -> bool
@@ -186,15 +186,15 @@ fn is_jumped_to(instrs: &[Instr], pc: u32) -> bool
 ///
 /// If an allocation fails.
 pub fn disassemble(alloc: Global, code: &Code) -> Result<Vec<u8>, AllocError>
-    ensures canonical { IfOk result (λ text. text.items ≡ text_of code.now.instrs) }
+    ensures canonical { IfOk result (λ text. text.items ≡ canonical_text code.now.instrs) }
 
     ensures again { IfOk result (λ text. code_of code.now.kind (lines_of text.items) ≡ Ok code.now) }
 {
     let instrs = code.instrs();
     let mut text = Vec::new(alloc);
     for (pc, instr) in instrs.iter().enumerate() {
-        let marked = is_jumped_to(instrs, pc as u32);
-        push_line(alloc, &mut text, instrs.len(), marked, pc as u32, *instr)?;
+        let is_marked = is_jumped_to(instrs, pc as u32);
+        push_line(alloc, &mut text, instrs.len(), is_marked, pc as u32, *instr)?;
         text.push(b'\n')?;
     }
     Ok(text)

@@ -21,7 +21,7 @@ use Rattle.trlab_strands.specs.declared.knowledge.Noted.{Noted}
 use Rattle.trlab_strands.specs.Knowledge.{noted, event_number}
 use Rattle.trlab_strands.specs.Tokens.{IsSameStrand}
 use Rattle.trlab_book.specs.declared.desk.Desk.{Desk}
-use Rattle.trlab_book.specs.Desks.{AreRunnerCalls, AddsRunnerCalls, HasEnded, HasSeen, MakesNoEvent, MakesEvent, MakesCallOn, subhistory_of, is_runner_call, finds_no_job, clock_of, no_job_count, parts_of}
+use Rattle.trlab_book.specs.Desks.{AreRunnerCalls, AddsRunnerCalls, HasEnded, HasSeen, MakesNoEvent, MakesEvent, MakesCallOn, subhistory_of, is_runner_call, finds_no_job, clock_of, no_job_count, part_count}
 use Rattle.trlab_sequential_book.specs.declared.book.TheConstants.{MAX_EVENTS}
 
 -- calls within a span are within a wider one
@@ -58,7 +58,7 @@ module _ {L : Type 0} {ledger : Ghosts L} where
       by_full false kept = let q = kept.2 in (kept.1, omega arith)
 
   -- a desk with the same calls has added none
-  stays : (a b : Desk L ledger) → parts_of b ≡ parts_of a → (subhistory_of b ≡ subhistory_of a) × (clock_of a ≤ clock_of b) → AddsRunnerCalls a b
+  stays : (a b : Desk L ledger) → part_count b ≡ part_count a → (subhistory_of b ≡ subhistory_of a) × (clock_of a ≤ clock_of b) → AddsRunnerCalls a b
   stays a b same kept = record {
     parts = same;
     least = kept.1;
@@ -71,7 +71,7 @@ module _ {L : Type 0} {ledger : Ghosts L} where
   pub makes_goes : (Holds : BookState → Type 0) (a b : Desk L ledger) (call : Call) (told : Reply) → MakesCallOn Holds a call told b → is_runner_call call ≡ true → AddsRunnerCalls a b
   makes_goes Holds a b call told made of_runner = by_event (is_event told) made.0 made.1
     where
-      by_event : (one : Bool) → parts_of b ≡ parts_of a
+      by_event : (one : Bool) → part_count b ≡ part_count a
           → MatchBool one ((book : BookState) × MakesEvent a call told b book × Holds book) (MakesNoEvent a told b) → AddsRunnerCalls a b
       by_event true same one =
           let before = one.1.before in
@@ -92,10 +92,10 @@ module _ {L : Type 0} {ledger : Ghosts L} where
   orders_on Holds a b c lease told on made = goes_on a b c on (makes_goes (Holds made.0) b c (OrderCall (offered lease made.0)) told made.1 refl)
 
   -- runners have called through both parts of a desk that was split, and the parts are gathered again
-  pub gathers : (old kept given mine theirs new : Desk L ledger) → parts_of kept + 1 ≡ parts_of old → parts_of given ≡ 1
+  pub gathers : (old kept given mine theirs new : Desk L ledger) → part_count kept + 1 ≡ part_count old → part_count given ≡ 1
       → subhistory_of kept ≡ subhistory_of old → subhistory_of given ≡ [] → clock_of kept ≡ clock_of old → clock_of given ≡ clock_of old
       → AddsRunnerCalls kept mine → AddsRunnerCalls given theirs
-      → parts_of new ≡ parts_of mine + parts_of theirs → subhistory_of new ≡ subhistory_of mine ++ subhistory_of theirs → clock_of new ≡ max (clock_of mine) (clock_of theirs)
+      → part_count new ≡ part_count mine + part_count theirs → subhistory_of new ≡ subhistory_of mine ++ subhistory_of theirs → clock_of new ≡ max (clock_of mine) (clock_of theirs)
       → AddsRunnerCalls old new
   gathers old kept given mine theirs new fewer one was free low least first second parts joined greater =
       let a = first.least in
@@ -149,10 +149,10 @@ module _ {L : Type 0} {ledger : Ghosts L} where
 
   -- the ends of two runners, combined into one
   pub ended_both : (one others : ℕ) (first second told : Result (Unit {0}) RunFault) (old kept given mine theirs new : Desk L ledger)
-      → parts_of kept + 1 ≡ parts_of old → parts_of given ≡ 1
+      → part_count kept + 1 ≡ part_count old → part_count given ≡ 1
       → subhistory_of kept ≡ subhistory_of old → subhistory_of given ≡ [] → clock_of kept ≡ clock_of old → clock_of given ≡ clock_of old
       → HasEnded others second kept mine → HasEnded one first given theirs
-      → parts_of new ≡ parts_of mine + parts_of theirs → subhistory_of new ≡ subhistory_of mine ++ subhistory_of theirs → clock_of new ≡ max (clock_of mine) (clock_of theirs)
+      → part_count new ≡ part_count mine + part_count theirs → subhistory_of new ≡ subhistory_of mine ++ subhistory_of theirs → clock_of new ≡ max (clock_of mine) (clock_of theirs)
       → IsOk told ↔ (IsOk first × IsOk second) → (told ≡ Err run.HistoryFull) ↔ ((first ≡ Err run.HistoryFull) ⊎ (second ≡ Err run.HistoryFull))
       → HasEnded (one + others) told old new
   ended_both one others first second told old kept given mine theirs new fewer part was free low least second_end first_end parts joined greater fine full = record {

@@ -7,16 +7,16 @@ use Rattle.trlab_sequential_book.specs.declared.event.Call.{Call}
 use Rattle.trlab_sequential_book.specs.declared.event.Event.{Event}
 use Rattle.trlab_sequential_book.specs.declared.event.Reply.{Reply}
 use Rattle.trlab_sequential_book.specs.Answers.{is_event, is_history_full}
-use Rattle.trlab_sequential_book.specs.Machine.{BookState, is_full}
+use Rattle.trlab_sequential_book.specs.Machine.{BookState, has_full_history}
 use Rattle.trlab_sequential_book.specs.declared.fault.BookFault.TheVariants.{HistoryFull}
 use Rattle.trlab_sequential_book.specs.declared.event.Reply.TheVariants.{Refused}
 use Rattle.trlab_sequential_book.specs.declared.book.TheConstants.{MAX_EVENTS}
 use Rattle.trlab_sequential_book.specs.Replay.{Replays, event}
 use Rattle.trlab_strands.specs.declared.knowledge.Ledger.{Ghosts}
-use Rattle.trlab_strands.specs.Tokens.{Adds, CatchesUp, IsSameStrand, strand_events}
+use Rattle.trlab_strands.specs.Tokens.{AddsEvent, CatchesUp, IsSameStrand, strand_events}
 use Rattle.trlab_book.specs.declared.desk.Desk.{Desk}
 use Rattle.trlab_book.specs.declared.kept.Kept.{Kept}
-use Rattle.trlab_book.specs.Desks.{MakesNoEvent, MakesEvent, MakesCallOn, NotesCall, clock_of, parts_of}
+use Rattle.trlab_book.specs.Desks.{MakesNoEvent, MakesEvent, MakesCallOn, NotesCall, clock_of, part_count}
 use Rattle.trlab_book.specs.Events.{Appends, WasMadeAfter, IsUnchanged, Records, RefusesIfFull}
 
 appended : (old new : Kept) (call : Call) (told : Reply) (one : Bool) → MatchBool one (Appends old call told new) (IsUnchanged old new)
@@ -30,7 +30,7 @@ has_come old new call told list made was =
     subst (λ (l : List Event). MatchBool (is_event told) (new.history.items ≡ l ++ event call told ∷ []) (new.history.items ≡ l)) was (appended old new call told (is_event told) made)
 
 -- a full book has had MAX_EVENTS events
-history_is_full : (kept : Kept) → is_full kept.book ≡ true → MAX_EVENTS ≤ length kept.history.items
+history_is_full : (kept : Kept) → has_full_history kept.book ≡ true → MAX_EVENTS ≤ length kept.history.items
 history_is_full kept full =
     let most : MAX_EVENTS ≤ kept.book.count = ltb-false kept.book.count MAX_EVENTS (not-true _ full) in
     ∥∥₁_elim kept.replays (hlevel props) (λ (r : Replays kept.history.items kept.book). omega (arith, r.count_is, most))
@@ -40,10 +40,10 @@ full_reply (Refused HistoryFull) is = refl
 full_reply told is = absurd (cc is)
 
 -- a reply says that the history is full exactly if it is
-pub full_told : (old : Kept) (told : Reply) → RefusesIfFull old told → is_history_full told ≡ is_full old.book
-full_told old told full = by (is_history_full told) (is_full old.book) refl refl
+pub full_told : (old : Kept) (told : Reply) → RefusesIfFull old told → is_history_full told ≡ has_full_history old.book
+full_told old told full = by (is_history_full told) (has_full_history old.book) refl refl
   where
-    by : (says is : Bool) → is_history_full told ≡ says → is_full old.book ≡ is → says ≡ is
+    by : (says is : Bool) → is_history_full told ≡ says → has_full_history old.book ≡ is → says ≡ is
     by true true says is = refl
     by false false says is = refl
     by true false says is = absurd (false≢true (sym is ∙ full.0 (full_reply told says)))
@@ -51,19 +51,19 @@ full_told old told full = by (is_history_full told) (is_full old.book) refl refl
 
 -- a call that is not an event leaves the book as full as it was
 pub full_after : (old new : Kept) (call : Call) (told : Reply) → Records old call told new → RefusesIfFull old told
-    → is_event told ≡ false → is_history_full told ≡ is_full new.book
+    → is_event told ≡ false → is_history_full told ≡ has_full_history new.book
 full_after old new call told made full none =
     let same : IsUnchanged old new = MatchBool-at_false _ _ none made in
-    full_told old told full ∙ ap is_full (sym same.book)
+    full_told old told full ∙ ap has_full_history (sym same.book)
 
 module _ {L : Type 0} {ledger : Ghosts L} where
   -- a call that is not an event
-  pub is_none : (old : Kept) (told : Reply) (list : List Event) (from to : Desk L ledger) → parts_of to ≡ parts_of from → old.history.items ≡ list → RefusesIfFull old told
+  pub is_none : (old : Kept) (told : Reply) (list : List Event) (from to : Desk L ledger) → part_count to ≡ part_count from → old.history.items ≡ list → RefusesIfFull old told
       → MatchBool (is_history_full told) (CatchesUp from.strand (length list) to.strand) (IsSameStrand from.strand to.strand) → MakesNoEvent from told to
   is_none old told list from to parts was full down = by_full (is_history_full told) refl down
     where
       by_full : (whole : Bool) → is_history_full told ≡ whole → MatchBool whole (CatchesUp from.strand (length list) to.strand) (IsSameStrand from.strand to.strand)
-          → MatchBool whole ((parts_of to ≡ parts_of from) × (strand_events to.strand ≡ strand_events from.strand) × (clock_of from ≤ clock_of to) × (MAX_EVENTS ≤ clock_of to)) (IsSameStrand from.strand to.strand)
+          → MatchBool whole ((part_count to ≡ part_count from) × (strand_events to.strand ≡ strand_events from.strand) × (clock_of from ≤ clock_of to) × (MAX_EVENTS ≤ clock_of to)) (IsSameStrand from.strand to.strand)
       by_full true is seen =
           let most = history_is_full old (full.0 (full_reply told is)) in
           let long : length old.history.items ≡ length list = ap length was in
@@ -78,7 +78,7 @@ module _ {L : Type 0} {ledger : Ghosts L} where
       (noted.0, by_event (is_event told) refl made noted.1)
     where
       by_event : (one : Bool) → is_event told ≡ one → MatchBool one (Appends old call told new) (IsUnchanged old new)
-          → MatchBool one (Adds from.strand list (event call told) to.strand) (MatchBool (is_history_full told) (CatchesUp from.strand (length list) to.strand) (IsSameStrand from.strand to.strand))
+          → MatchBool one (AddsEvent from.strand list (event call told) to.strand) (MatchBool (is_history_full told) (CatchesUp from.strand (length list) to.strand) (IsSameStrand from.strand to.strand))
           → MatchBool one ((book : BookState) × MakesEvent from call told to book × Holds book) (MakesNoEvent from told to)
       by_event true is appends adds = (
         old.book,

@@ -5,6 +5,8 @@ use Rattle.std.specs.Prelude.{Result, Ok, Err, ◌⊎◌, is_some, not, ltb, len
 use Rattle.std.proofs.lemmas.Bool.{MatchBool-at_false, MatchBool-at_true, cond-false, cond-true, cond_both, false≢true}
 use Rattle.std.proofs.lemmas.List.{map-append}
 use Rattle.std.proofs.Math.Logic.{∥∥₁_map}
+use Rattle.trlab_sequential_book.specs.declared.book.TheConstants.{MAX_JOBS}
+use Rattle.trlab_sequential_book.specs.declared.sheet.TheConstants.{MAX_ENTRIES}
 use Rattle.trlab_sequential_book.specs.declared.event.Call.{Call}
 use Rattle.trlab_sequential_book.specs.declared.event.Event.{Event}
 use Rattle.trlab_sequential_book.specs.declared.event.Call.TheVariants.{Cancel, GiveBack, Read, Replace, Revoke, Submit}
@@ -17,7 +19,7 @@ use Rattle.trlab_sequential_book.specs.declared.fault.BookFault.TheVariants.{End
 use Rattle.trlab_sequential_book.specs.Answers.{LeadsAs, RepliesAs, is_event, is_memory}
 use Rattle.trlab_sequential_book.specs.Comparison.{RunsRoadOfItsJob, LeaseCall, OrderCall, offered}
 use Rattle.trlab_sequential_book.specs.Leases.{LeaseState, suits}
-use Rattle.trlab_sequential_book.specs.Machine.{JobState, JobOutcome, JobsOutcome, BookState, after, cancelling, giving_back, is_free, is_full, accepts_lease, leasing, new_job, next_after, on_free, on_job, ordering, reading, refused, replacing, reply_of, revoking, outcome_of_call, empty_book, submitting}
+use Rattle.trlab_sequential_book.specs.Machine.{JobState, JobOutcome, JobsOutcome, BookState, after, cancel_outcome, give_back_outcome, is_free, has_full_history, accepts_lease, lease_outcome, new_job, next_after, on_free, on_job, order_outcome, read_outcome, refusal, replace_outcome, reply_of, revoke_outcome, outcome_of_call, empty_book, submit_outcome}
 use Rattle.trlab_sequential_book.specs.Sheets.{begin_in_force, with_rule_from}
 use Rattle.trlab_sequential_book.specs.declared.seed.Seed.{Seed}
 use Rattle.trlab_rules.specs.Rules.{Programs}
@@ -34,14 +36,14 @@ state_more : (s : BookState) (cs : List Call) (c : Call) → state_from s (cs ++
 state_more s [] c = refl
 state_more s (d ∷ cs) c = state_more (after s d) cs c
 
-replays_more : (history : List Event) (s : BookState) (c : Call) → Replays history s → is_full s ≡ false
+replays_more : (history : List Event) (s : BookState) (c : Call) → Replays history s → has_full_history s ≡ false
     → Replays (history ++ event c (reply_of s c) ∷ []) (after s c)
 replays_more history s c r room =
     let calls : map call_of (history ++ event c (reply_of s c) ∷ []) ≡ map call_of history ++ c ∷ [] =
     map-append call_of history (event c (reply_of s c) ∷ []) in
     let made : BookState =
     record { count = s.count + 1; next = next_after s.next (outcome_of_call s c).reply; jobs = (outcome_of_call s c).jobs } in
-    let count : (after s c).count ≡ s.count + 1 = ap (λ t. t.count) (cond-false (is_full s) s made room) in
+    let count : (after s c).count ≡ s.count + 1 = ap (λ t. t.count) (cond-false (has_full_history s) s made room) in
     let len = length-append history (event c (reply_of s c) ∷ []) in
     record {
       replies = map-append reply_of_event history (event c (reply_of s c) ∷ [])
@@ -60,7 +62,7 @@ replays_start items s none begun = rw (none, begun) (∣ record { replies = refl
 
 -- a history with a call and its reply after it replays to the state after the call
 replays_on : (history items : List Event) (s t : BookState) (c : Call) (told : Reply)
-    → ∥ Replays history s ∥₁ → is_full s ≡ false → items ≡ history ++ event c told ∷ []
+    → ∥ Replays history s ∥₁ → has_full_history s ≡ false → items ≡ history ++ event c told ∷ []
     → told ≡ reply_of s c → t ≡ after s c → ∥ Replays items t ∥₁
 replays_on history items s t c told replays room items_are answered state_is =
     rw (items_are, answered, state_is) (∥∥₁_map replays (λ r. replays_more history s c r room))
@@ -79,87 +81,87 @@ job_is_event jobs i made each = of_job (slice_get jobs i)
     of_job None = refl
     of_job (Some job) = each job
 
-reply_is_event : (s : BookState) (call : Call) → is_full s ≡ false → is_event (outcome_of_call s call).reply ≡ true → is_event (reply_of s call) ≡ true
+reply_is_event : (s : BookState) (call : Call) → has_full_history s ≡ false → is_event (outcome_of_call s call).reply ≡ true → is_event (reply_of s call) ≡ true
 reply_is_event s call free is_one =
-    ap is_event (cond-false (is_full s) (Refused HistoryFull) (outcome_of_call s call).reply free) ∙ is_one
+    ap is_event (cond-false (has_full_history s) (Refused HistoryFull) (outcome_of_call s call).reply free) ∙ is_one
 
-back_is_event : (s : BookState) (lease : Offered) → is_full s ≡ false → is_event (reply_of s (GiveBack lease)) ≡ true
-back_is_event s lease free = reply_is_event s (GiveBack lease) free (job_is_event s.jobs lease.job (giving_back lease) taken)
+back_is_event : (s : BookState) (lease : Offered) → has_full_history s ≡ false → is_event (reply_of s (GiveBack lease)) ≡ true
+back_is_event s lease free = reply_is_event s (GiveBack lease) free (job_is_event s.jobs lease.job (give_back_outcome lease) taken)
   where
-    taken : (job : JobState) → is_event (giving_back lease job).reply ≡ true
+    taken : (job : JobState) → is_event (give_back_outcome lease job).reply ≡ true
     taken job =
         let done : JobOutcome = record { reply = Done; job = record job { done = lease.step; out = None } } in
-        cond_both (accepts_lease lease job) done (refused StrangerLease job) (λ (o : JobOutcome). is_event o.reply ≡ true) (λ _. refl) (λ _. refl)
+        cond_both (accepts_lease lease job) done (refusal StrangerLease job) (λ (o : JobOutcome). is_event o.reply ≡ true) (λ _. refl) (λ _. refl)
 
-order_is_event : (s : BookState) (lease : Offered) → is_full s ≡ false → is_event (reply_of s (OrderCall lease)) ≡ true
-order_is_event s lease free = reply_is_event s (OrderCall lease) free (job_is_event s.jobs lease.job (ordering lease) taken)
+order_is_event : (s : BookState) (lease : Offered) → has_full_history s ≡ false → is_event (reply_of s (OrderCall lease)) ≡ true
+order_is_event s lease free = reply_is_event s (OrderCall lease) free (job_is_event s.jobs lease.job (order_outcome lease) taken)
   where
-    taken : (job : JobState) → is_event (ordering lease job).reply ≡ true
+    taken : (job : JobState) → is_event (order_outcome lease job).reply ≡ true
     taken job =
-        let refusal = refused StrangerLease job in
+        let stranger = refusal StrangerLease job in
         let told : JobOutcome = record {
           reply = Ordered lease.job lease.number lease.step (begin_in_force job.sheet lease.step);
           job = record job { high = max job.high (lease.step + 1) };
         } in
-        let going : JobOutcome = if accepts_lease lease job then told else refusal in
+        let going : JobOutcome = if accepts_lease lease job then told else stranger in
         let P : JobOutcome → Type 0 = λ (o : JobOutcome). is_event o.reply ≡ true in
-        cond_both (job.cancelled || (lease.step == job.steps)) (refused Ended job) going P (λ _. refl)
-        (λ _. cond_both (accepts_lease lease job) told refusal P (λ _. refl) (λ _. refl))
+        cond_both (job.cancelled || (lease.step == job.steps)) (refusal Ended job) going P (λ _. refl)
+        (λ _. cond_both (accepts_lease lease job) told stranger P (λ _. refl) (λ _. refl))
 
-revoke_is_event : (s : BookState) (i : ℕ) → is_full s ≡ false → is_event (reply_of s (Revoke i)) ≡ true
-revoke_is_event s i free = reply_is_event s (Revoke i) free (job_is_event s.jobs i revoking taken)
+revoke_is_event : (s : BookState) (i : ℕ) → has_full_history s ≡ false → is_event (reply_of s (Revoke i)) ≡ true
+revoke_is_event s i free = reply_is_event s (Revoke i) free (job_is_event s.jobs i revoke_outcome taken)
   where
-    taken : (job : JobState) → is_event (revoking job).reply ≡ true
+    taken : (job : JobState) → is_event (revoke_outcome job).reply ≡ true
     taken job =
         let done : JobOutcome = record { reply = Done; job = record job { out = None } } in
-        cond_both (is_some job.out) done (refused StrangerLease job) (λ (o : JobOutcome). is_event o.reply ≡ true) (λ _. refl) (λ _. refl)
+        cond_both (is_some job.out) done (refusal StrangerLease job) (λ (o : JobOutcome). is_event o.reply ≡ true) (λ _. refl) (λ _. refl)
 
-replace_is_event : (s : BookState) (i : ℕ) (rule : Programs) → is_full s ≡ false → is_event (reply_of s (Replace i rule)) ≡ true
-replace_is_event s i rule free = reply_is_event s (Replace i rule) free (job_is_event s.jobs i (replacing rule) taken)
+replace_is_event : (s : BookState) (i : ℕ) (rule : Programs) → has_full_history s ≡ false → is_event (reply_of s (Replace i rule)) ≡ true
+replace_is_event s i rule free = reply_is_event s (Replace i rule) free (job_is_event s.jobs i (replace_outcome rule) taken)
   where
-    taken : (job : JobState) → is_event (replacing rule job).reply ≡ true
+    taken : (job : JobState) → is_event (replace_outcome rule job).reply ≡ true
     taken job =
         let sheet = with_rule_from job.sheet job.high rule in
         let made : JobOutcome = record { reply = Number job.high; job = record job { sheet = sheet } } in
-        let full : JobOutcome = if ltb 1024 (length sheet) then refused SheetFull job else made in
-        let lanes : JobOutcome = if not (suits rule job.seed.road) then refused LanesMismatch job else full in
+        let full : JobOutcome = if ltb MAX_ENTRIES (length sheet) then refusal SheetFull job else made in
+        let lanes : JobOutcome = if not (suits rule job.seed.road) then refusal LanesMismatch job else full in
         let P : JobOutcome → Type 0 = λ (o : JobOutcome). is_event o.reply ≡ true in
-        cond_both (job.cancelled || (job.high == job.steps)) (refused Ended job) lanes P (λ _. refl)
-        (λ _. cond_both (not (suits rule job.seed.road)) (refused LanesMismatch job) full P (λ _. refl)
-        (λ _. cond_both (ltb 1024 (length sheet)) (refused SheetFull job) made P (λ _. refl) (λ _. refl)))
+        cond_both (job.cancelled || (job.high == job.steps)) (refusal Ended job) lanes P (λ _. refl)
+        (λ _. cond_both (not (suits rule job.seed.road)) (refusal LanesMismatch job) full P (λ _. refl)
+        (λ _. cond_both (ltb MAX_ENTRIES (length sheet)) (refusal SheetFull job) made P (λ _. refl) (λ _. refl)))
 
-submit_is_event : (s : BookState) (seed : Seed) (rule : Programs) (steps : ℕ) → is_full s ≡ false → is_event (reply_of s (Submit seed rule steps)) ≡ true
+submit_is_event : (s : BookState) (seed : Seed) (rule : Programs) (steps : ℕ) → has_full_history s ≡ false → is_event (reply_of s (Submit seed rule steps)) ≡ true
 submit_is_event s seed rule steps free = reply_is_event s (Submit seed rule steps) free taken
   where
-    taken : is_event (submitting s.jobs seed rule steps).reply ≡ true
+    taken : is_event (submit_outcome s.jobs seed rule steps).reply ≡ true
     taken =
         let lanes : JobsOutcome = record { reply = Refused LanesMismatch; jobs = s.jobs } in
         let made : JobsOutcome = record { reply = Number (length s.jobs); jobs = s.jobs ++ new_job seed rule steps ∷ [] } in
         let full : JobsOutcome = record { reply = Refused Full; jobs = s.jobs } in
-        let some : JobsOutcome = if ltb (length s.jobs) 256 then made else full in
+        let some : JobsOutcome = if ltb (length s.jobs) MAX_JOBS then made else full in
         let P : JobsOutcome → Type 0 = λ (o : JobsOutcome). is_event o.reply ≡ true in
         cond_both (not (suits rule seed.road)) lanes some P (λ _. refl)
-        (λ _. cond_both (ltb (length s.jobs) 256) made full P (λ _. refl) (λ _. refl))
+        (λ _. cond_both (ltb (length s.jobs) MAX_JOBS) made full P (λ _. refl) (λ _. refl))
 
-read_is_event : (s : BookState) (i : ℕ) → is_full s ≡ false → is_event (reply_of s (Read i)) ≡ true
-read_is_event s i free = reply_is_event s (Read i) free (job_is_event s.jobs i reading (λ _. refl))
+read_is_event : (s : BookState) (i : ℕ) → has_full_history s ≡ false → is_event (reply_of s (Read i)) ≡ true
+read_is_event s i free = reply_is_event s (Read i) free (job_is_event s.jobs i read_outcome (λ _. refl))
 
-lease_is_event : (s : BookState) → is_full s ≡ false → is_event (reply_of s LeaseCall) ≡ true
+lease_is_event : (s : BookState) → has_full_history s ≡ false → is_event (reply_of s LeaseCall) ≡ true
 lease_is_event s free = reply_is_event s LeaseCall free (of_free (position is_free s.jobs))
   where
     of_free : (found : Option ℕ) → is_event (on_free s.jobs s.next found).reply ≡ true
     of_free None = refl
-    of_free (Some i) = job_is_event s.jobs i (leasing i s.next) (λ _. refl)
+    of_free (Some i) = job_is_event s.jobs i (lease_outcome i s.next) (λ _. refl)
 
-cancel_is_event : (s : BookState) (i : ℕ) → is_full s ≡ false → is_event (reply_of s (Cancel i)) ≡ true
-cancel_is_event s i free = reply_is_event s (Cancel i) free (job_is_event s.jobs i cancelling taken)
+cancel_is_event : (s : BookState) (i : ℕ) → has_full_history s ≡ false → is_event (reply_of s (Cancel i)) ≡ true
+cancel_is_event s i free = reply_is_event s (Cancel i) free (job_is_event s.jobs i cancel_outcome taken)
   where
-    taken : (job : JobState) → is_event (cancelling job).reply ≡ true
+    taken : (job : JobState) → is_event (cancel_outcome job).reply ≡ true
     taken job =
         let done : JobOutcome = record { reply = Done; job = record job { cancelled = true; out = None } } in
-        cond_both (job.cancelled || (job.done == job.steps)) (refused Ended job) done (λ (o : JobOutcome). is_event o.reply ≡ true) (λ _. refl) (λ _. refl)
+        cond_both (job.cancelled || (job.done == job.steps)) (refusal Ended job) done (λ (o : JobOutcome). is_event o.reply ≡ true) (λ _. refl) (λ _. refl)
 
-call_is_event : (s : BookState) (call : Call) → is_full s ≡ false → is_event (reply_of s call) ≡ true
+call_is_event : (s : BookState) (call : Call) → has_full_history s ≡ false → is_event (reply_of s call) ≡ true
 call_is_event s (Submit seed rule steps) free = submit_is_event s seed rule steps free
 call_is_event s (Replace job rule) free = replace_is_event s job rule free
 call_is_event s call.Lease free = lease_is_event s free
@@ -192,14 +194,14 @@ memory_free answer true says is = absurd (false≢true (sym (ap is_memory (says 
 -- a call of a book, its answer, and the history before and after it
 pub record IsPut (s t : BookState) (call : Call) (said : Reply) (history items : List Event) : Type 0 where
   pub ran_out : Bool
-  pub free : ran_out ≡ true → is_full s ≡ false
+  pub free : ran_out ≡ true → has_full_history s ≡ false
   pub memory : ran_out ≡ true → said ≡ Refused Memory
   pub replies : RepliesAs ran_out said s call
   pub leads : LeadsAs ran_out s call t
   pub items_are : MatchBool (is_event said) (items ≡ history ++ event call said ∷ []) (items ≡ history)
 
 -- `put_event` establishes it
-pub put : {s t : BookState} {call noted : Call} {told said : Reply} {history items : List Event} (ran_out : Bool) → (ran_out ≡ true → is_full s ≡ false)
+pub put : {s t : BookState} {call noted : Call} {told said : Reply} {history items : List Event} (ran_out : Bool) → (ran_out ≡ true → has_full_history s ≡ false)
     → (ran_out ≡ true → said ≡ Refused Memory) → RepliesAs ran_out said s call → LeadsAs ran_out s call t → noted ≡ call → told ≡ said
     → MatchBool (is_event told) (items ≡ history ++ event noted told ∷ []) (items ≡ history) → IsPut s t call said history items
 put {s} {t} {call} {noted} {told} {said} {history} {items} ran_out free memory replies leads noted_is told_is ensured =
@@ -216,13 +218,13 @@ put {s} {t} {call} {noted} {told} {said} {history} {items} ran_out free memory r
 -- if the book is full, or an allocation failed, nothing has changed
 record Stays (s t : BookState) (said : Reply) (history items : List Event) : Type 0 where
   none : is_event said ≡ false
-  full : (said ≡ Refused HistoryFull) ↔ (is_full s ≡ true)
+  full : (said ≡ Refused HistoryFull) ↔ (has_full_history s ≡ true)
   state : t ≡ s
   items_are : items ≡ history
 
 -- otherwise there is one more event
 record Grows (s t : BookState) (call : Call) (said : Reply) (history items : List Event) : Type 0 where
-  free : is_full s ≡ false
+  free : has_full_history s ≡ false
   reply : said ≡ reply_of s call
   is_one : is_event said ≡ true
   state : t ≡ after s call
@@ -235,25 +237,25 @@ settled {s} {t} {call} {said} {history} {items} p = by p.ran_out p.free p.memory
     clash : said ≡ Refused Memory → said ≡ Refused HistoryFull → ⊥
     clash memory full = cc
 
-    judged : said ≡ reply_of s call → t ≡ after s call → (full : Bool) → is_full s ≡ full
+    judged : said ≡ reply_of s call → t ≡ after s call → (full : Bool) → has_full_history s ≡ full
         → Stays s t said history items ⊎ Grows s t call said history items
     judged replies leads true is =
         let made : BookState =
         record { count = s.count + 1; next = next_after s.next (outcome_of_call s call).reply; jobs = (outcome_of_call s call).jobs } in
-        let refusal : said ≡ Refused HistoryFull =
-        replies ∙ cond-true (is_full s) (Refused HistoryFull) (outcome_of_call s call).reply is in
-        let none : is_event said ≡ false = ap is_event refusal in
+        let refused_full : said ≡ Refused HistoryFull =
+        replies ∙ cond-true (has_full_history s) (Refused HistoryFull) (outcome_of_call s call).reply is in
+        let none : is_event said ≡ false = ap is_event refused_full in
         inl (record {
           none = none;
-          full = (λ _. is, λ _. refusal);
-          state = leads ∙ cond-true (is_full s) s made is;
+          full = (λ _. is, λ _. refused_full);
+          state = leads ∙ cond-true (has_full_history s) s made is;
           items_are = MatchBool-at_false _ _ none p.items_are;
         })
     judged replies leads false is =
         let one : is_event said ≡ true = ap is_event replies ∙ call_is_event s call is in
         inr (record { free = is; reply = replies; is_one = one; state = leads; items_are = MatchBool-at_true _ _ one p.items_are })
 
-    by : (ran_out : Bool) → (ran_out ≡ true → is_full s ≡ false) → (ran_out ≡ true → said ≡ Refused Memory) → RepliesAs ran_out said s call → LeadsAs ran_out s call t
+    by : (ran_out : Bool) → (ran_out ≡ true → has_full_history s ≡ false) → (ran_out ≡ true → said ≡ Refused Memory) → RepliesAs ran_out said s call → LeadsAs ran_out s call t
         → Stays s t said history items ⊎ Grows s t call said history items
     by true free memory replies leads = inl (record {
       none = ap is_event (memory refl);
@@ -261,7 +263,7 @@ settled {s} {t} {call} {said} {history} {items} p = by p.ran_out p.free p.memory
       state = leads;
       items_are = MatchBool-at_false _ _ (ap is_event (memory refl)) p.items_are;
     })
-    by false free memory replies leads = judged replies leads (is_full s) refl
+    by false free memory replies leads = judged replies leads (has_full_history s) refl
 
 -- the history replays to the book, as it did before
 pub replays_put : {s t : BookState} {call : Call} {said : Reply} {history items : List Event} → IsPut s t call said history items
@@ -298,10 +300,10 @@ makes_put old ready new call said same p = by (settled p)
 pub tells_put : {t : BookState} {call : Call} {items : List Event} (old ready : Kept) (said : Reply) → IsUnchanged old ready
     → IsPut ready.book t call said ready.history.items items → RefusesIfFull old said
 tells_put {t} {call} {items} old ready said same p =
-    subst (λ (b : BookState). (said ≡ Refused HistoryFull) ↔ (is_full b ≡ true)) same.book (by (settled p))
+    subst (λ (b : BookState). (said ≡ Refused HistoryFull) ↔ (has_full_history b ≡ true)) same.book (by (settled p))
   where
     by : Stays ready.book t said ready.history.items items ⊎ Grows ready.book t call said ready.history.items items
-        → (said ≡ Refused HistoryFull) ↔ (is_full ready.book ≡ true)
+        → (said ≡ Refused HistoryFull) ↔ (has_full_history ready.book ≡ true)
     by (inl stays) = stays.full
     by (inr grows) = (
       λ full. absurd (false≢true (sym (ap is_event full) ∙ grows.is_one)),

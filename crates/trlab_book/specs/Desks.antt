@@ -18,7 +18,7 @@ use Rattle.trlab_sequential_book.specs.Replay.{Replays, event}
 use Rattle.trlab_strands.specs.declared.knowledge.Noted.{Noted}
 use Rattle.trlab_strands.specs.Knowledge.{event_number}
 use Rattle.trlab_strands.specs.declared.knowledge.Ledger.{Ghosts}
-use Rattle.trlab_strands.specs.Tokens.{Adds, CatchesUp, IsSameStrand, strand_clock, strand_events}
+use Rattle.trlab_strands.specs.Tokens.{AddsEvent, CatchesUp, IsSameStrand, strand_clock, strand_events}
 use Rattle.trlab_book.specs.declared.desk.Desk.{Desk}
 use Rattle.trlab_book.specs.declared.desk.SharedBook.{SharedBook}
 use Rattle.trlab_book.specs.declared.running.RunFault.{RunFault}
@@ -28,9 +28,9 @@ use Rattle.trlab_book.specs.declared.running.RunFault.TheVariants as run
 abbrev pub IsSameBook : {L : Type 0} {ledger : Ghosts L} → SharedBook L ledger → SharedBook L ledger → Type 0
 IsSameBook old new = new.strands.table.shared.table_id ≡ old.strands.table.shared.table_id
 
--- the number of parts of a desk, from 1 to 1024; a desk with two or more can be split
-abbrev pub parts_of : {L : Type 0} {ledger : Ghosts L} → Desk L ledger → ℕ
-parts_of desk = desk.parts
+-- the number of parts of a desk (the invariant of `Desk` keeps it from 1 to ALL_PARTS)
+abbrev pub part_count : {L : Type 0} {ledger : Ghosts L} → Desk L ledger → ℕ
+part_count desk = desk.parts
 
 -- the subhistory of a desk: the events made through it, each with all earlier events of the history. For
 -- example, if the history is [a, b] and a was made through another desk, it is only b after [a]
@@ -46,7 +46,7 @@ clock_of desk = strand_clock desk.strand
 -- unchanged
 abbrev pub HasSeen : {L : Type 0} {ledger : Ghosts L} → Desk L ledger → ℕ → Desk L ledger → Type 0
 HasSeen old count new =
-    (parts_of new ≡ parts_of old) × (subhistory_of new ≡ subhistory_of old)
+    (part_count new ≡ part_count old) × (subhistory_of new ≡ subhistory_of old)
     × (clock_of old ≤ clock_of new) × (count ≤ clock_of new)
 
 -- the desk has now seen more events than are in its subhistory, so at least one was made through another
@@ -67,22 +67,22 @@ pub record MakesEvent {L : Type 0} {ledger : Ghosts L} (old : Desk L ledger) (ca
   pub before : List Event
   pub replays : ∥ Replays before book ∥₁
   pub reply : answer ≡ reply_of book call
-  pub noted : Adds old.strand before (event call answer) new.strand
+  pub noted : AddsEvent old.strand before (event call answer) new.strand
 
 -- the effect of a call on its desk, which keeps its parts. If the reply makes the call an event, the desk
 -- adds this event, and `Holds` is true of the book before the call; otherwise `MakesNoEvent` holds
 abbrev pub MakesCallOn : {L : Type 0} {ledger : Ghosts L} → (BookState → Type 0)
     → Desk L ledger → Call → Reply → Desk L ledger → Type 0
 MakesCallOn Holds old call reply new =
-    (parts_of new ≡ parts_of old)
+    (part_count new ≡ part_count old)
     × MatchBool (is_event reply)
     ((book : BookState) × MakesEvent old call reply new book × Holds book)
     (MakesNoEvent old reply new)
 
--- the effect of a call on its desk, whatever the book before the call
-abbrev pub Makes : {L : Type 0} {ledger : Ghosts L}
+-- the effect of a call on its desk, with any book before the call
+abbrev pub MakesCall : {L : Type 0} {ledger : Ghosts L}
     → Desk L ledger → Call → Reply → Desk L ledger → Type 0
-Makes old call reply new = MakesCallOn (λ book. Unit {0}) old call reply new
+MakesCall old call reply new = MakesCallOn (λ book. Unit {0}) old call reply new
 
 -- a desk notes a call that was made after the events `before`. If the reply makes the call an event, the desk
 -- adds it. If the reply is that the history is full, the desk has now seen all of `before`. Otherwise the
@@ -90,27 +90,26 @@ Makes old call reply new = MakesCallOn (λ book. Unit {0}) old call reply new
 abbrev pub NotesCall : {L : Type 0} {ledger : Ghosts L} → Desk L ledger → List Event → Call → Reply
     → Desk L ledger → Type 0
 NotesCall old before call reply new =
-    (parts_of new ≡ parts_of old)
+    (part_count new ≡ part_count old)
     × MatchBool (is_event reply)
-    (Adds old.strand before (event call reply) new.strand)
+    (AddsEvent old.strand before (event call reply) new.strand)
     (MatchBool (is_history_full reply)
     (CatchesUp old.strand (length before) new.strand)
     (IsSameStrand old.strand new.strand))
 
--- `same` is true if and only if the lease runs the road of its job in the book
-abbrev pub SameIsCorrect : LeaseState → Bool → BookState → Type 0
-SameIsCorrect lease same book = IsTrue same ↔ comparison.RunsRoadOfItsJob book.jobs lease
+-- the verdict `same` on a lease is correct: it is true if and only if the lease runs the road of its job in
+-- the book
+abbrev pub IsCorrectVerdict : LeaseState → Bool → BookState → Type 0
+IsCorrectVerdict lease same book = IsTrue same ↔ comparison.RunsRoadOfItsJob book.jobs lease
 
 -- if the call `lease` succeeded and a lease went out, it is a fresh lease of a job of the book, with the
 -- book's next number
 abbrev pub LeaseIsFresh : Result (Option LeaseState) BookFault → BookState → Type 0
 LeaseIsFresh answer book = IfOk answer (λ lent. IsFreshIfLent book.jobs book.next lent)
 
--- `same` is true if and only if the lease runs the road of its job in the book; and if the call `order`
--- succeeded, the order has the rule that is in force at its step in its job's sheet
-abbrev pub OrderMatchesJob : LeaseState → Bool → Result Order BookFault → BookState → Type 0
-OrderMatchesJob lease same answer book =
-    SameIsCorrect lease same book × IfOk answer (λ order. HasRuleInForce book.jobs order)
+-- if the call `order` succeeded, the order's rule is in force in the job's sheet at the order's step
+abbrev pub OrderHasRuleInForce : Result Order BookFault → BookState → Type 0
+OrderHasRuleInForce answer book = IfOk answer (λ order. HasRuleInForce book.jobs order)
 
 -- if the call `read` succeeded, the snapshot is one of the book's job with this number
 abbrev pub ReadShowsJob : ℕ → Result Progress BookFault → BookState → Type 0
@@ -134,7 +133,7 @@ AreRunnerCalls from to events =
 -- old one, followed by the calls of the runners (`more`). In the history these come after all events that the
 -- desk had seen, and before all that are made through it from now on
 pub record AddsRunnerCalls {L : Type 0} {ledger : Ghosts L} (old new : Desk L ledger) : Type 0 where
-  pub parts : parts_of new ≡ parts_of old
+  pub parts : part_count new ≡ part_count old
   pub least : clock_of old ≤ clock_of new
   pub more : List (Noted Event)
   pub subhistory : subhistory_of new ≡ subhistory_of old ++ more
@@ -166,3 +165,9 @@ pub record HasEnded {L : Type 0} {ledger : Ghosts L} (runners : ℕ) (ended : Re
   pub on : AddsRunnerCalls old new
   pub no_job : OnOk ended (no_job_count (subhistory_of old) + runners ≤ no_job_count (subhistory_of new))
   pub full : ended ≡ Err run.HistoryFull → MAX_EVENTS ≤ clock_of new
+
+-- the desk `old` is `new` after a runner's turn with one lease: the turn has added runner calls, and if it
+-- ended because the history was full, the desk has seen all of it
+abbrev pub EndsTurn : {L : Type 0} {ledger : Ghosts L}
+    → Result (Unit {0}) RunFault → Desk L ledger → Desk L ledger → Type 0
+EndsTurn result old new = HasEnded 0 result old new

@@ -6,7 +6,7 @@ use Rattle.trlab_sequential_book.specs.declared.event.Event.{Event}
 use Rattle.trlab_sequential_book.specs.declared.event.Reply.{Reply}
 use Rattle.trlab_sequential_book.specs.declared.event.Reply.TheVariants.{Refused}
 use Rattle.trlab_book.specs.declared.kept.Kept.{Kept}
-use Rattle.trlab_sequential_book.specs.Machine.{after, is_full, reply_of}
+use Rattle.trlab_sequential_book.specs.Machine.{after, has_full_history, reply_of}
 use Rattle.trlab_sequential_book.specs.Answers.{is_event}
 use Rattle.trlab_sequential_book.specs.Replay.{event}
 
@@ -34,4 +34,4 @@ WasMadeAfter before call reply kept = MatchBool (is_event reply)
 
 -- a call is refused as `HistoryFull` if and only if the history was full before it
 abbrev pub RefusesIfFull : Kept → Reply → Type 0
-RefusesIfFull old reply = (reply ≡ Refused HistoryFull) ↔ (is_full old.book ≡ true)
+RefusesIfFull old reply = (reply ≡ Refused HistoryFull) ↔ (has_full_history old.book ≡ true)

@@ -39,30 +39,29 @@ impl<L: Ledger> Drop for SharedBook<L> {
     }
 }
 
-/// The right to call a shared book, with 1 to 1024 parts. At run time a desk counts the events made through it; only
-/// contracts see the events themselves.
+/// The right to call a shared book, with 1 to `ALL_PARTS` parts. A desk counts the events made through it; the events
+/// themselves are recorded only in ghost state, so they use no memory at run time.
 #[derive(Drop)]
 pub struct Desk<L: Ledger> {
     parts: u32,
     count: u64,
     strand: Strand<L, Event>,
-    ghost at_least_one: { 0 < parts },
-    ghost at_most_all: { parts ≤ ALL_PARTS },
-    ghost parts_are: { strand_parts strand ≡ parts },
-    ghost count_is: { count ≡ min (length (strand_events strand)) (2 ^ 64 - 1) },
+    ghost in_range: { (0 < parts) × (parts ≤ ALL_PARTS) },
+    ghost same_parts: { strand_parts strand ≡ parts },
+    ghost same_count: { count ≡ min (length (strand_events strand)) (2 ^ 64 - 1) },
 }
 
 impl<L: Ledger> Desk<L> {
     ghost use Rattle.trlab_sequential_book.specs.declared.event.Call.{Call};
     ghost use Rattle.trlab_sequential_book.specs.declared.event.Reply.{Reply};
     ghost use Rattle.trlab_sequential_book.specs.Answers.{is_event, is_history_full};
-    ghost use Rattle.trlab_sequential_book.specs.Machine.{is_full};
+    ghost use Rattle.trlab_sequential_book.specs.Machine.{has_full_history};
     ghost use Rattle.trlab_book.specs.Events.{WasMadeAfter};
-    ghost use Rattle.trlab_book.specs.Desks.{NotesCall, parts_of};
+    ghost use Rattle.trlab_book.specs.Desks.{NotesCall, part_count};
 
-    /// The number of parts, from 1 to 1024.
+    /// The number of parts, from 1 to `ALL_PARTS`.
     pub fn parts(&self) -> u32
-        ensures { result ≡ parts_of self.now }
+        ensures { result ≡ part_count self.now }
     {
         self.parts
     }
@@ -80,15 +79,15 @@ impl<L: Ledger> Desk<L> {
         before: usize,
     )
         requires { before ≡ length (keeper_list keeper.old) }
-        ensures { (call : Call) (told : Reply) → WasMadeAfter (keeper_list keeper.old) call told kept.now
-            → (is_event told ≡ false → is_history_full told ≡ is_full kept.now.book)
+        ensures { (call : Call) (reply : Reply) → WasMadeAfter (keeper_list keeper.old) call reply kept.now
+            → (is_event reply ≡ false → is_history_full reply ≡ has_full_history kept.now.book)
             → (kept.now.history.items ≡ keeper_list keeper.new)
-            × NotesCall self.old (keeper_list keeper.old) call told self.new }
+            × NotesCall self.old (keeper_list keeper.old) call reply self.new }
     {
         if let Some(event) = kept.history.get(before) {
             keeper.note(strands, &mut self.strand, event);
             self.count = self.count.saturating_add(1);
-        } else if kept.book.is_full() {
+        } else if kept.book.has_full_history() {
             keeper.look(strands, &mut self.strand);
         }
     }
@@ -101,13 +100,13 @@ impl<L: Ledger> SharedBook<L> {
     ghost use Rattle.trlab_sequential_book.specs.Replay.{Replays};
     ghost use Rattle.trlab_sequential_book.specs.declared.event.Call.TheVariants.{Cancel, GiveBack, Read};
     ghost use Rattle.trlab_sequential_book.specs.declared.event.Call.TheVariants.{Replace, Revoke, Submit};
-    ghost use Rattle.trlab_book.specs.Desks.{MakesNoEvent, LeaseIsFresh, OrderMatchesJob, ReadShowsJob, IsSameBook, LacksEvents};
-    ghost use Rattle.trlab_book.specs.Desks.{Makes, MakesCallOn, SameIsCorrect, clock_of, parts_of, subhistory_of};
+    ghost use Rattle.trlab_book.specs.Desks.{MakesNoEvent, LeaseIsFresh, OrderHasRuleInForce, ReadShowsJob, IsSameBook, LacksEvents};
+    ghost use Rattle.trlab_book.specs.Desks.{MakesCall, MakesCallOn, IsCorrectVerdict, clock_of, part_count, subhistory_of};
 
-    /// An empty book, and the desk with all 1024 parts. Only the blank takes memory.
+    /// An empty book, and the desk with all parts. This allocates nothing; it uses the memory of the blank.
     pub fn start(alloc: Global, blank: Blank<Event>) -> (SharedBook<L>, Desk<L>)
         requires { name_of blank ≡ L.name }
-        ensures parts { parts_of result.1 ≡ ALL_PARTS }
+        ensures parts { part_count result.1 ≡ ALL_PARTS }
         ensures events { (subhistory_of result.1 ≡ []) × (clock_of result.1 ≡ 0) }
     {
         let (strands, keeper, strand) = blank.open::<L>();
@@ -127,14 +126,14 @@ impl<L: Ledger> SharedBook<L> {
     ///
     /// # Errors
     ///
-    /// The same book and the desk, if events were made at other desks that were not gathered into this one. The
-    /// desk has then seen that it lacks events. A desk with all parts always closes the book.
+    /// The same book and the desk, if events were made at other desks that were not gathered into this one. The desk
+    /// has then seen that it lacks events. A desk with all parts always closes the book.
     pub fn close(self, desk: Desk<L>) -> Result<(Book, Vec<Event>), (SharedBook<L>, Desk<L>)>
         ensures order { IfOk result (λ r. IsLinearization r.1.items (subhistory_of desk)) }
         ensures replays { IfOk result (λ r. ∥ Replays r.1.items r.0 ∥₁) }
         ensures err { IfErr result (λ r. LacksEvents desk r.1) }
         ensures book { IfErr result (λ r. IsSameBook self r.0) }
-        ensures whole { parts_of desk ≡ ALL_PARTS → IsOk result }
+        ensures whole { part_count desk ≡ ALL_PARTS → IsOk result }
     {
         let SharedBook { lock, strands } = self;
         let Locked { kept, mut keeper } = lock.into_inner();
@@ -149,10 +148,10 @@ impl<L: Ledger> SharedBook<L> {
         Err((SharedBook { lock, strands }, desk))
     }
 
-    /// Takes one part out of a desk with two or more, as a desk for another thread.
+    /// Takes one part from a desk with two or more, and returns it as a desk for another thread.
     pub fn split(&self, desk: &mut Desk<L>) -> Desk<L>
-        requires { 1 < parts_of desk.old }
-        ensures parts { (parts_of desk.new + 1 ≡ parts_of desk.old) × (parts_of result ≡ 1) }
+        requires { 1 < part_count desk.old }
+        ensures parts { (part_count desk.new + 1 ≡ part_count desk.old) × (part_count result ≡ 1) }
         ensures events { (subhistory_of desk.new ≡ subhistory_of desk.old) × (subhistory_of result ≡ []) }
         ensures least { (clock_of desk.new ≡ clock_of desk.old) × (clock_of result ≡ clock_of desk.old) }
     {
@@ -167,7 +166,7 @@ impl<L: Ledger> SharedBook<L> {
 
     /// Joins two desks: their parts, and the events of `one` followed by those of `other`.
     pub fn gather(&self, one: Desk<L>, other: Desk<L>) -> Desk<L>
-        ensures parts { parts_of result ≡ parts_of one + parts_of other }
+        ensures parts { part_count result ≡ part_count one + part_count other }
         ensures events { subhistory_of result ≡ subhistory_of one ++ subhistory_of other }
         ensures least { clock_of result ≡ max (clock_of one) (clock_of other) }
     {
@@ -205,7 +204,7 @@ impl<L: Ledger> SharedBook<L> {
         rule: Rule,
         steps: u32,
     ) -> Result<u32, BookFault>
-        ensures { Makes desk.old (Submit seed rule steps) (number_reply result) desk.new }
+        ensures { MakesCall desk.old (Submit seed rule steps) (number_reply result) desk.new }
     {
         let Ok((boxed, call)) = submit_call(alloc, seed, &rule, steps) else {
             return Err(self.refuse_without_memory(rt, desk));
@@ -221,7 +220,7 @@ impl<L: Ledger> SharedBook<L> {
     /// Refuses a call that was not made because an allocation failed.
     fn refuse_without_memory<R: Wait>(&self, rt: &R, desk: &mut Desk<L>) -> BookFault
         ensures none { is_event (Refused result) ≡ false }
-        ensures desk { (parts_of desk.new ≡ parts_of desk.old) × MakesNoEvent desk.old (Refused result) desk.new }
+        ensures desk { (part_count desk.new ≡ part_count desk.old) × MakesNoEvent desk.old (Refused result) desk.new }
     {
         let mut guard = self.lock.lock(rt);
         let Locked { kept, keeper } = &mut *guard;
@@ -245,7 +244,7 @@ impl<L: Ledger> SharedBook<L> {
         job: u32,
         rule: Rule,
     ) -> Result<u32, BookFault>
-        ensures { Makes desk.old (Replace job rule) (number_reply result) desk.new }
+        ensures { MakesCall desk.old (Replace job rule) (number_reply result) desk.new }
     {
         let Ok(call) = replace_call(alloc, job, &rule) else {
             return Err(self.refuse_without_memory(rt, desk));
@@ -293,7 +292,7 @@ impl<L: Ledger> SharedBook<L> {
         lease: &Lease,
     ) -> Result<Order, BookFault>
         ensures { (same : Bool)
-            × MakesCallOn (OrderMatchesJob lease.now same result) desk.old
+            × MakesCallOn (λ book. IsCorrectVerdict lease.now same book × OrderHasRuleInForce result book) desk.old
             (OrderCall (offered lease.now same)) (order_reply result) desk.new }
     {
         let mut guard = self.lock.lock(rt);
@@ -316,9 +315,9 @@ impl<L: Ledger> SharedBook<L> {
         lease: Lease,
     ) -> Result<(), (Lease, BookFault)>
         ensures made { (same : Bool)
-            × MakesCallOn (SameIsCorrect lease same) desk.old
+            × MakesCallOn (IsCorrectVerdict lease same) desk.old
             (GiveBack (offered lease same)) (give_back_reply result) desk.new }
-        ensures err { IfErr result (λ e. e.0 ≡ lease) }
+        ensures returned { IfErr result (λ returned. returned.0 ≡ lease) }
     {
         let mut guard = self.lock.lock(rt);
         let Locked { kept, keeper } = &mut *guard;
@@ -334,7 +333,7 @@ impl<L: Ledger> SharedBook<L> {
     ///
     /// `NoSuchJob`, `StrangerLease` if no lease is out, `HistoryFull` or `Memory`.
     pub fn revoke<R: Wait>(&self, rt: &R, desk: &mut Desk<L>, job: u32) -> Result<(), BookFault>
-        ensures { Makes desk.old (Revoke job) (done_reply result) desk.new }
+        ensures { MakesCall desk.old (Revoke job) (done_reply result) desk.new }
     {
         let mut guard = self.lock.lock(rt);
         let Locked { kept, keeper } = &mut *guard;
@@ -350,7 +349,7 @@ impl<L: Ledger> SharedBook<L> {
     ///
     /// `NoSuchJob`, `Ended`, `HistoryFull` or `Memory`.
     pub fn cancel<R: Wait>(&self, rt: &R, desk: &mut Desk<L>, job: u32) -> Result<(), BookFault>
-        ensures { Makes desk.old (Cancel job) (done_reply result) desk.new }
+        ensures { MakesCall desk.old (Cancel job) (done_reply result) desk.new }
     {
         let mut guard = self.lock.lock(rt);
         let Locked { kept, keeper } = &mut *guard;
@@ -360,7 +359,7 @@ impl<L: Ledger> SharedBook<L> {
         answer
     }
 
-    /// The state of a job at its steps done. A cancelled job can be read as well.
+    /// The state of a job after the steps that it has done. A cancelled job can be read as well.
     ///
     /// # Errors
     ///

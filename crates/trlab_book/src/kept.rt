@@ -8,7 +8,7 @@ ghost use Rattle.trlab_sequential_book.specs.Answers.{give_back_reply, done_repl
 ghost use Rattle.trlab_sequential_book.specs.Answers.{number_reply, order_reply, read_reply};
 ghost use Rattle.trlab_sequential_book.specs.Comparison.{IsFreshIfLent, HasRuleInForce, RunsRoadOfItsJob, ShowsJob};
 ghost use Rattle.trlab_sequential_book.specs.Comparison.{LeaseCall, OrderCall, offered};
-ghost use Rattle.trlab_sequential_book.specs.Machine.{is_full, empty_book};
+ghost use Rattle.trlab_sequential_book.specs.Machine.{has_full_history, empty_book};
 ghost use Rattle.trlab_sequential_book.specs.Replay.{Replays, event};
 ghost use Rattle.trlab_sequential_book.specs.declared.event.Call.TheVariants.{Cancel, GiveBack, Read};
 ghost use Rattle.trlab_sequential_book.specs.declared.event.Call.TheVariants.{Replace, Revoke, Submit};
@@ -51,7 +51,7 @@ impl Kept {
         ensures room { OnOk result (vec_len self.new.history < vec_capacity self.new.history) }
         ensures none { IfErr result (λ f. is_event (Refused f) ≡ false) }
         ensures full { IfErr result (λ f.
-            (Refused f ≡ Refused HistoryFull) ↔ (is_full self.old.book ≡ true)) }
+            (Refused f ≡ Refused HistoryFull) ↔ (has_full_history self.old.book ≡ true)) }
     {
         if self.history.reserve(1).is_err() {
             return Err(self.fault_without_memory());
@@ -59,14 +59,13 @@ impl Kept {
         Ok(())
     }
 
-    /// The fault of a call that was not made because an allocation failed: `HistoryFull` if the history is full,
-    /// otherwise `Memory`.
+    /// The fault of a call that was not made because an allocation failed: `HistoryFull` if the history is full, and
+    /// `Memory` otherwise.
     pub(crate) fn fault_without_memory(&self) -> BookFault
         ensures none { is_event (Refused result) ≡ false }
-        ensures full { (Refused result ≡ Refused HistoryFull) ↔ (is_full self.now.book ≡ true) }
+        ensures full { (Refused result ≡ Refused HistoryFull) ↔ (has_full_history self.now.book ≡ true) }
     {
-        let is_full = self.book.is_full();
-        if is_full {
+        if self.book.has_full_history() {
             BookFault::HistoryFull
         } else {
             BookFault::Memory
@@ -106,11 +105,11 @@ impl Kept {
         answer
     }
 
-    /// Lends the first job that is free, if any.
+    /// Lends the free job with the smallest number, or returns `None` if no job is free.
     ///
     /// # Errors
     ///
-    /// The errors of `Book::lease`; also `Memory` if there is no memory for one more event.
+    /// Those of `Book::lease`; `Memory` also if the history cannot grow.
     pub fn lease(&mut self, alloc: Global) -> Result<Option<Lease>, BookFault>
         ensures made { Records self.old LeaseCall (lease_reply result) self.new }
         ensures lent { IfOk result (λ o. IsFreshIfLent self.old.book.jobs self.old.book.next o) }
@@ -129,18 +128,19 @@ impl Kept {
     ///
     /// Those of `Book::order`; `Memory` also if the history cannot grow.
     pub fn order(&mut self, _: Global, lease: &Lease) -> Result<Order, BookFault>
-        ensures made { (same : Bool) → (IsTrue same ↔ RunsRoadOfItsJob self.old.book.jobs lease.now)
-            → Records self.old (OrderCall (offered lease.now same)) (order_reply result) self.new }
+        ensures made { (runs_its_road : Bool) → (IsTrue runs_its_road ↔ RunsRoadOfItsJob self.old.book.jobs lease.now)
+            → Records self.old (OrderCall (offered lease.now runs_its_road)) (order_reply result) self.new }
         ensures rule { IfOk result (λ o. HasRuleInForce self.old.book.jobs o) }
         ensures full { RefusesIfFull self.old (order_reply result) }
-        ensures noted { (same : Bool)
-            × OnTrue (is_event (order_reply result)) (IsTrue same ↔ RunsRoadOfItsJob self.old.book.jobs lease.now)
-            × Records self.old (OrderCall (offered lease.now same)) (order_reply result) self.new }
+        ensures noted { (runs_its_road : Bool)
+            × OnTrue (is_event (order_reply result))
+            (IsTrue runs_its_road ↔ RunsRoadOfItsJob self.old.book.jobs lease.now)
+            × Records self.old (OrderCall (offered lease.now runs_its_road)) (order_reply result) self.new }
     {
         self.make_room()?;
-        let same = self.book.is_same(lease);
-        let call = Call::Order(offered(lease, same));
-        let answer = self.book.order_as(lease, same);
+        let runs_its_road = self.book.lease_runs_its_road(lease);
+        let call = Call::Order(offered(lease, runs_its_road));
+        let answer = self.book.order_as(lease, runs_its_road);
         let reply = reply_to_order(&answer);
         put_event(&mut self.history, call, reply);
         answer
@@ -152,21 +152,22 @@ impl Kept {
     ///
     /// Those of `Book::give_back`, or `Memory` if the history cannot grow, with the lease.
     pub fn give_back(&mut self, lease: Lease) -> Result<(), (Lease, BookFault)>
-        ensures made { (same : Bool) → (IsTrue same ↔ RunsRoadOfItsJob self.old.book.jobs lease)
-            → Records self.old (GiveBack (offered lease same)) (give_back_reply result) self.new }
-        ensures err { IfErr result (λ e. e.0 ≡ lease) }
+        ensures made { (runs_its_road : Bool) → (IsTrue runs_its_road ↔ RunsRoadOfItsJob self.old.book.jobs lease)
+            → Records self.old (GiveBack (offered lease runs_its_road)) (give_back_reply result) self.new }
+        ensures returned { IfErr result (λ returned. returned.0 ≡ lease) }
         ensures full { RefusesIfFull self.old (give_back_reply result) }
-        ensures noted { (same : Bool)
-            × OnTrue (is_event (give_back_reply result)) (IsTrue same ↔ RunsRoadOfItsJob self.old.book.jobs lease)
-            × Records self.old (GiveBack (offered lease same)) (give_back_reply result) self.new }
+        ensures noted { (runs_its_road : Bool)
+            × OnTrue (is_event (give_back_reply result))
+            (IsTrue runs_its_road ↔ RunsRoadOfItsJob self.old.book.jobs lease)
+            × Records self.old (GiveBack (offered lease runs_its_road)) (give_back_reply result) self.new }
     {
         if let Err(fault) = self.make_room() {
             return Err((lease, fault));
         }
-        let same = self.book.is_same(&lease);
-        let call = Call::GiveBack(offered(&lease, same));
-        let answer = self.book.give_back_as(lease, same);
-        let reply = reply_to_back(&answer);
+        let runs_its_road = self.book.lease_runs_its_road(&lease);
+        let call = Call::GiveBack(offered(&lease, runs_its_road));
+        let answer = self.book.give_back_as(lease, runs_its_road);
+        let reply = reply_to_give_back(&answer);
         put_event(&mut self.history, call, reply);
         answer
     }
@@ -203,7 +204,7 @@ impl Kept {
         answer
     }
 
-    /// The state of a job at its steps done.
+    /// The state of a job after the steps that it has done.
     ///
     /// # Errors
     ///
@@ -245,9 +246,9 @@ pub(crate) fn submit_call(
     ensures call { IfOk result (λ made. made.1 ≡ Submit made.0 rule.now steps) }
 {
     let shared = BoxedSeed::new(alloc, seed)?;
-    let kept = shared.share()?;
+    let for_history = shared.share()?;
     let copy = BoxedRule::copy_of(alloc, rule)?;
-    Ok((shared, Call::Submit(kept, copy, steps)))
+    Ok((shared, Call::Submit(for_history, copy, steps)))
 }
 
 /// The `Replace` call for the history, with a copy of the rule.
@@ -258,16 +259,16 @@ pub(crate) fn replace_call(alloc: Global, job: u32, rule: &Rule) -> Result<Call,
     Ok(Call::Replace(job, copy))
 }
 
-/// The lease as the history records it. `same`: it runs its job's road.
-fn offered(lease: &Lease, same: bool) -> Offered
-    ensures { result ≡ offered lease.now same }
+/// The parts of a lease that the history records. `runs_its_road` is whether it runs its job's road.
+fn offered(lease: &Lease, runs_its_road: bool) -> Offered
+    ensures { result ≡ offered lease.now runs_its_road }
 {
     Offered {
         job: lease.job(),
         number: lease.number(),
         base: lease.base_step(),
         step: lease.step(),
-        same,
+        same: runs_its_road,
     }
 }
 
@@ -328,7 +329,7 @@ fn reply_to_order(answer: &Result<Order, BookFault>) -> Reply
     }
 }
 
-fn reply_to_back(answer: &Result<(), (Lease, BookFault)>) -> Reply
+fn reply_to_give_back(answer: &Result<(), (Lease, BookFault)>) -> Reply
     ensures { result ≡ give_back_reply answer.now }
 {
     match answer {

@@ -5,7 +5,7 @@
 //! ```text
 //! book.submit(rt, alloc, desk, seed, rule, STEPS)
 //! run_jobs(rt, alloc, book, desk, RUNNERS, WORKERS, &OpenGate)
-//! let seen = book.read(rt, alloc, desk, job).ok()?;
+//! let snapshot = book.read(rt, alloc, desk, job).ok()?;
 //! ```
 //!
 //! Each thread calls the book through its own [`Desk`], which knows the events made through it. The crate

@@ -5,7 +5,7 @@ ghost use Rattle.std.specs.Thread.{IsSend, IsSync};
 ghost use Rattle.trlab_bounds.specs.declared.runs.TheConstants.{MAX_RUNNERS, MAX_WORKERS};
 ghost use Rattle.trlab_sequential_book.specs.declared.book.TheConstants.{MAX_EVENTS};
 ghost use Rattle.trlab_sequential_book.specs.declared.fault.BookFault.TheVariants.{HistoryFull};
-ghost use Rattle.trlab_book.specs.Desks.{AddsRunnerCalls, HasEnded, clock_of, parts_of};
+ghost use Rattle.trlab_book.specs.Desks.{AddsRunnerCalls, EndsTurn, HasEnded, clock_of, part_count};
 ghost use Rattle.trlab_book.specs.declared.running.RunFault.TheVariants as run;
 
 use crate::desk::{Desk, SharedBook};
@@ -25,13 +25,14 @@ pub enum RunFault {
     /// An allocation failed.
     #[error("out of memory")]
     Memory,
-    /// The book has had 1,000,000 events.
+    /// The book has had `MAX_EVENTS` events.
     #[error("the book's history is full")]
     HistoryFull,
 }
 
-/// Runs the jobs of a book with 1 to 16 runners, each until it finds no free job. Each runner has 1 to 16 workers, who
-/// pass the gate. Returns the desk; the runners' calls follow its own, one runner after the other.
+/// Runs the jobs of a book with 1 to `MAX_RUNNERS` runners, each until it finds no free job. Each runner has 1 to
+/// `MAX_WORKERS` workers, which pass the gate. Returns the desk; the runners' calls follow its own, one runner after
+/// the other.
 ///
 /// The desk needs a part for each runner. The calling thread is one of the runners. It begins after the others were
 /// started, and does the work of any that cannot be started.
@@ -50,7 +51,7 @@ pub fn run_jobs<L: Ledger + Send + Sync, R: Threads + Wait + Sync, G: Gate + Syn
     gate: &G,
 ) -> Result<Desk<L>, (Desk<L>, RunFault)>
     requires workers { (0 < workers) × (workers ≤ MAX_WORKERS) }
-    requires runners { (0 < runners) × (runners ≤ MAX_RUNNERS) × (runners ≤ parts_of desk) }
+    requires runners { (0 < runners) × (runners ≤ MAX_RUNNERS) × (runners ≤ part_count desk) }
     ensures { MatchResult result
         (λ d. HasEnded runners (Ok tt) desk d)
         (λ e. HasEnded runners (Err e.1) desk e.0) }
@@ -74,7 +75,7 @@ fn run_all<L: Ledger + Send + Sync, R: Threads + Wait + Sync, G: Gate + Sync>(
     gate: &G,
 ) -> (Desk<L>, Result<(), RunFault>)
     requires workers { (0 < workers) × (workers ≤ MAX_WORKERS) }
-    requires runners { (0 < runners) × (runners ≤ parts_of desk) }
+    requires runners { (0 < runners) × (runners ≤ part_count desk) }
     ensures { HasEnded runners result.1 desk result.0 }
 {
     let mut desk = desk;
@@ -95,7 +96,7 @@ fn run_all<L: Ledger + Send + Sync, R: Threads + Wait + Sync, G: Gate + Sync>(
         },
         move || -> (Desk<L>, Result<(), RunFault>)
             requires { IsSync R.row × IsSync G.row × IsSend L.row × IsSync L.row
-                × (0 < workers) × (workers ≤ MAX_WORKERS) × (0 < others) × (others ≤ parts_of desk) }
+                × (0 < workers) × (workers ≤ MAX_WORKERS) × (0 < others) × (others ≤ part_count desk) }
             ensures { HasEnded others result.1 desk result.0 }
         { run_all(rt, alloc, book, desk, others, workers, gate) },
     );
@@ -183,9 +184,9 @@ impl<'a, L: Ledger, R: Threads + Wait + Sync, G: Gate + Sync> Runner<'a, L, R, G
         }
     }
 
-    /// Runs a lease for some steps and gives it back.
+    /// Runs up to `STEPS_PER_TURN` steps of a lease and gives it back.
     fn take_turn(&self, desk: &mut Desk<L>, lease: Lease) -> Result<(), RunFault>
-        ensures { HasEnded 0 result desk.old desk.new }
+        ensures { EndsTurn result desk.old desk.new }
     {
         let mut lease = lease;
         match self.run_steps(desk, &mut lease) {
@@ -224,7 +225,7 @@ impl<'a, L: Ledger, R: Threads + Wait + Sync, G: Gate + Sync> Runner<'a, L, R, G
     /// lease, the runner goes on.
     fn end_lease(&self, desk: &mut Desk<L>, lease: Lease, fault: BookFault) -> Result<(), RunFault>
         requires seen { fault ≡ HistoryFull → MAX_EVENTS ≤ clock_of desk.old }
-        ensures { HasEnded 0 result desk.old desk.new }
+        ensures { EndsTurn result desk.old desk.new }
     {
         let job = lease.job();
         drop(lease);

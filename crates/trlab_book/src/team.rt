@@ -16,7 +16,8 @@ use trlab_sequential_book::{Lease, LeaseFault, Order};
 use trlab_step::{Caller, Executor, StepObserver};
 use trlab_verify::{Change, Motion};
 
-/// Runs the ordered step of a lease with 1 to 16 workers, who pass the gate. It needs no book and holds no lock.
+/// Runs the ordered step of a lease with 1 to `MAX_WORKERS` workers, which pass the gate. It needs no book and holds no
+/// lock.
 ///
 /// # Errors
 ///
@@ -32,7 +33,7 @@ pub fn advance<R: Threads + Sync, G: Gate + Sync>(
 ) -> Result<(), LeaseFault>
     requires { (0 < workers) × (workers ≤ MAX_WORKERS) }
     ensures ok { OnOk result (HasRun lease.old order.now lease.new) }
-    ensures err { OnErr result (lease.new ≡ lease.old) }
+    ensures unchanged { OnErr result (lease.new ≡ lease.old) }
     ensures wrong { (result ≡ Err WrongOrder) ↔ (FitsOrder lease.old order.now → ⊥) }
 {
     let crew = Crew::new(rt, workers, gate);
@@ -98,7 +99,7 @@ impl<'a, G: Gate> Executor for OneWorker<'a, G> {
     }
 }
 
-/// The 1 to 16 workers of one runner, who take the steps of its leases together, and their gate.
+/// The 1 to `MAX_WORKERS` workers of one runner, which take the steps of its leases together, and their gate.
 #[derive(Drop)]
 pub struct Team<'a, R, G> {
     gate: &'a G,
@@ -108,6 +109,7 @@ pub struct Team<'a, R, G> {
 }
 
 impl<'a, R: Threads + Wait + Sync, G: Gate + Sync> Team<'a, R, G> {
+    /// A team of `workers` workers, whose threads are started by `Pool::run`.
     pub fn new(rt: &'a R, workers: u32, gate: &'a G) -> Team<'a, R, G>
         requires { (0 < workers) × (workers ≤ MAX_WORKERS) }
     {

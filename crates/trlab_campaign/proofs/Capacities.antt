@@ -1,4 +1,4 @@
--- The points of a sweep are within the capacity of their roads.
+-- The points of a sweep are under the triangle of their roads.
 use Rattle.std.proofs.Common.{◌≡◌, ℕ, suc, ◌+◌, ◌-◌, ◌*◌, ◌/◌, ◌<◌, ◌≤◌, min, List, [], ◌∷◌, length, get_or, sym, ◌∙◌, ap, subst, arith, mul_comm, mul_assoc, mul_right_comm, le_of_mul-le-mul_right, div-mul-le_self, mul-le-mul_right, le-div_iff_mul-le, le_trans}
 use Rattle.std.specs.Prelude.{All, IfOk, Ok, Result, sum_by}
 use Rattle.std.proofs.Math.Nat.{mul-div-mul_right}
@@ -13,13 +13,13 @@ use Rattle.trlab_jobs.specs.Shapes.{all_steps}
 use Rattle.trlab_jobs.specs.Stored.{IsStoredSweep, CanSpreadOn}
 use Rattle.trlab_jobs.specs.Sweep.{Setup, Sweep, ParsesAsSweep}
 use Rattle.trlab_jobs.proofs.OneSweep.{one_thing, says_stored}
-use Rattle.trlab_traffic.specs.Capacity.{all_cells as cells_of_road, capacity, empty_cells, lane_cells}
-use Rattle.trlab_traffic.proofs.Capacities.{run_keeps_to_capacity}
-use Rattle.trlab_traffic.proofs.EvenFlows.{even_cars_flow_at_capacity}
+use Rattle.trlab_traffic.specs.Triangle.{all_cells as cells_of_road, max_distance, empty_cells, lane_cells}
+use Rattle.trlab_traffic.proofs.Capacities.{run_stays_under_triangle}
+use Rattle.trlab_traffic.proofs.EvenFlows.{even_cars_flow_on_triangle}
 use Rattle.trlab_traffic.proofs.Moving.{run_goes_by_moving_cars, run_keeps_below_peak}
 use Rattle.trlab_traffic.proofs.RoomAhead.{taken_or_empty}
-use Rattle.trlab_campaign.specs.Capacity.{DiagramIsTriangle, IsNotAbovePeak, IsOnTriangle, IsUnderTriangle, AsksForTriangle}
-use Rattle.trlab_campaign.specs.Capacity.{HasBoundedMovingSpeed, SweepsBoundMovingSpeed, SweepsDoNotExceedPeak, SweepsKeepToCapacity}
+use Rattle.trlab_campaign.specs.Triangle.{DiagramIsTriangle, IsAtMostPeak, IsOnTriangle, IsUnderTriangle, AsksForTriangle}
+use Rattle.trlab_campaign.specs.Triangle.{HasBoundedMovingSpeed, SweepsBoundMovingSpeed, SweepsDoNotExceedPeak, SweepsStayUnderTriangle}
 use Rattle.trlab_campaign.specs.SweepOutput.{ArePoints, IsPoint, point_seed, sweep_sheet}
 use Rattle.trlab_campaign.proofs.Points.{some_cells}
 use Rattle.trlab_campaign.proofs.StatedRules.{stated_nasch}
@@ -61,14 +61,14 @@ flow_below_peak distance cells steps limit some_cell some_step low =
     subst (λ k. k ≤ limit * 1000000 / (limit + 1)) e within
 
 -- the road of a point at the start: what its cars can go, by the counts of cells and cars
-module _ (shape : Shape) (count : ℕ) (start : Cells) (fits : CanSpreadOn shape count) (even : IsEvenlySpaced shape.lanes shape.cells shape.limit count start) where
+module _ (shape : Shape) (count : ℕ) (start : Cells) (fits : CanSpreadOn shape count) (even : IsEvenlySpaced shape.lanes shape.length shape.limit count start) where
   all_cars : cars start ≡ count
-  all_cars = even_count shape.lanes shape.cells shape.limit count start fits even
+  all_cars = even_count shape.lanes shape.length shape.limit count start fits even
 
-  empty_at_start : empty_cells start ≡ shape.lanes * shape.cells - count
+  empty_at_start : empty_cells start ≡ shape.lanes * shape.length - count
   empty_at_start =
       let all = all_cars in
-      let cells = even_cells shape.lanes shape.cells shape.limit count start even in
+      let cells = even_cells shape.lanes shape.length shape.limit count start even in
       let split = taken_or_empty start in
       omega (arith, all, cells, split)
 
@@ -82,37 +82,37 @@ module _ (common : Setup) (counted : 1 ≤ common.span.measure) where
       let shape = common.shape in
       let span = common.span in
       let start = is.start in
-      let legal = even_legal shape.lanes shape.cells shape.limit count start fits is.even in
-      let within = run_keeps_to_capacity (point_seed common number start) (sweep_sheet common) (all_steps span) is.counted.0 is.tally legal is.counted.1 in
+      let legal = even_legal shape.lanes shape.length shape.limit count start fits is.even in
+      let within = run_stays_under_triangle (point_seed common number start) (sweep_sheet common) (all_steps span) is.counted.0 is.tally legal is.counted.1 in
       let steps : span.warm + span.measure - span.warm ≡ span.measure = omega arith in
-      let empty : empty_cells start ≡ shape.lanes * shape.cells - count = empty_at_start shape count start fits is.even in
+      let empty : empty_cells start ≡ shape.lanes * shape.length - count = empty_at_start shape count start fits is.even in
       let most : start.limit * cars start ≡ shape.limit * count = at_limit shape count start fits is.even in
-      let by_cells : is.tally.distance ≤ span.measure * (shape.lanes * shape.cells - count) = rw (← steps, ← empty) within.by_empty_cells in
+      let by_cells : is.tally.distance ≤ span.measure * (shape.lanes * shape.length - count) = rw (← steps, ← empty) within.by_empty_cells in
       let by_limit : is.tally.distance ≤ span.measure * (shape.limit * count) = rw (← steps, ← most) within.by_limit in
-      let some = some_cells shape.lanes shape.cells fits.lanes_fit.some_lane fits.length_fits.some_cell in
+      let some = some_cells shape.lanes shape.length fits.lanes_fit.some_lane fits.length_fits.some_cell in
       subst (IsUnderTriangle shape.limit) (sym is.told) (record {
         room = fits.room;
         by_empty_cells = by_cells;
         by_limit = by_limit;
-        flow_by_empty_cells = flow_within is.tally.distance (shape.lanes * shape.cells) span.measure (shape.lanes * shape.cells - count) some counted by_cells;
-        flow_by_limit = flow_within is.tally.distance (shape.lanes * shape.cells) span.measure (shape.limit * count) some counted by_limit;
+        flow_by_empty_cells = flow_within is.tally.distance (shape.lanes * shape.length) span.measure (shape.lanes * shape.length - count) some counted by_cells;
+        flow_by_limit = flow_within is.tally.distance (shape.lanes * shape.length) span.measure (shape.limit * count) some counted by_limit;
       })
 
   -- and that it is below the peak
-  told_below_peak : (number cars : ℕ) (point : Point) → CanSpreadOn common.shape cars → IsPoint common number cars point → IsNotAbovePeak common.shape.limit point
+  told_below_peak : (number cars : ℕ) (point : Point) → CanSpreadOn common.shape cars → IsPoint common number cars point → IsAtMostPeak common.shape.limit point
   told_below_peak number count point fits is =
       let shape = common.shape in
       let span = common.span in
       let start = is.start in
-      let legal = even_legal shape.lanes shape.cells shape.limit count start fits is.even in
+      let legal = even_legal shape.lanes shape.length shape.limit count start fits is.even in
       let below = run_keeps_below_peak (point_seed common number start) (sweep_sheet common) (all_steps span) is.counted.0 is.tally legal is.counted.1 in
       let steps : span.warm + span.measure - span.warm ≡ span.measure = omega arith in
-      let cells : cells_of_road start ≡ shape.lanes * shape.cells = even_cells shape.lanes shape.cells shape.limit count start is.even in
-      let low : (shape.limit + 1) * is.tally.distance ≤ span.measure * (shape.limit * (shape.lanes * shape.cells)) = rw (← steps, ← cells, ← is.even.same_limit) below in
-      let some = some_cells shape.lanes shape.cells fits.lanes_fit.some_lane fits.length_fits.some_cell in
-      subst (IsNotAbovePeak shape.limit) (sym is.told) (record {
-        distance = low;
-        flow = flow_below_peak is.tally.distance (shape.lanes * shape.cells) span.measure shape.limit some counted low;
+      let cells : cells_of_road start ≡ shape.lanes * shape.length = even_cells shape.lanes shape.length shape.limit count start is.even in
+      let low : (shape.limit + 1) * is.tally.distance ≤ span.measure * (shape.limit * (shape.lanes * shape.length)) = rw (← steps, ← cells, ← is.even.same_limit) below in
+      let some = some_cells shape.lanes shape.length fits.lanes_fit.some_lane fits.length_fits.some_cell in
+      subst (IsAtMostPeak shape.limit) (sym is.told) (record {
+        mean_distance_bounded = low;
+        flow_bounded = flow_below_peak is.tally.distance (shape.lanes * shape.length) span.measure shape.limit some counted low;
       })
 
   -- and how far its moving cars went
@@ -121,7 +121,7 @@ module _ (common : Setup) (counted : 1 ≤ common.span.measure) where
       let shape = common.shape in
       let span = common.span in
       let start = is.start in
-      let legal = even_legal shape.lanes shape.cells shape.limit count start fits is.even in
+      let legal = even_legal shape.lanes shape.length shape.limit count start fits is.even in
       let moving = run_goes_by_moving_cars (point_seed common number start) (sweep_sheet common) (all_steps span) is.counted.0 is.tally legal is.counted.1 in
       let steps : span.warm + span.measure - span.warm ≡ span.measure = omega arith in
       let all : cars start ≡ count = all_cars shape count start fits is.even in
@@ -142,11 +142,11 @@ module _ (IsSo : ℕ → Point → Type 0) (told : (common : Setup) → 1 ≤ co
       let on : i < length sweep.cars = (let size = are.one_each in omega (arith, size, inside)) in
       told sweep.setup stored.counted i (get_or sweep.cars i 0) (get_or points i d) (stored.spreads i 0 on) (are.each i 0 d on)
 
-pub sweeps_keep_to_capacity : SweepsKeepToCapacity
-sweeps_keep_to_capacity = each_point IsUnderTriangle told_within
+pub sweeps_stay_under_triangle : SweepsStayUnderTriangle
+sweeps_stay_under_triangle = each_point IsUnderTriangle told_within
 
 pub sweeps_keep_below_peak : SweepsDoNotExceedPeak
-sweeps_keep_below_peak = each_point IsNotAbovePeak told_below_peak
+sweeps_keep_below_peak = each_point IsAtMostPeak told_below_peak
 
 pub sweeps_go_by_moving_cars : SweepsBoundMovingSpeed
 sweeps_go_by_moving_cars = each_point HasBoundedMovingSpeed told_by_moving_cars
@@ -163,19 +163,19 @@ module _ (text : List ℕ) (common : Setup) (counted : 1 ≤ common.span.measure
       let shape = common.shape in
       let span = common.span in
       let one = without.lanes in
-      let alone = subst (λ lanes. CanSpread lanes shape.cells shape.limit count) one fits in
-      let even = subst (λ lanes. IsEvenlySpaced lanes shape.cells shape.limit count is.start) one is.even in
-      let gone = even_cars_flow_at_capacity shape.cells shape.limit count common.rule (point_seed common number is.start) (all_steps span) is.counted.0 is.tally is_nasch alone even without.warm is.counted.1 in
+      let alone = subst (λ lanes. CanSpread lanes shape.length shape.limit count) one fits in
+      let even = subst (λ lanes. IsEvenlySpaced lanes shape.length shape.limit count is.start) one is.even in
+      let gone = even_cars_flow_on_triangle shape.length shape.limit count common.rule (point_seed common number is.start) (all_steps span) is.counted.0 is.tally is_nasch alone even without.warm is.counted.1 in
       let steps : span.warm + span.measure - span.warm ≡ span.measure = omega arith in
       let empty = empty_at_start shape count is.start fits is.even in
       let most = at_limit shape count is.start fits is.even in
-      let far : is.tally.distance ≡ span.measure * min (shape.limit * count) (shape.lanes * shape.cells - count) =
-      gone ∙ ap (λ k. k * capacity is.start) steps
+      let far : is.tally.distance ≡ span.measure * min (shape.limit * count) (shape.lanes * shape.length - count) =
+      gone ∙ ap (λ k. k * max_distance is.start) steps
       ∙ ap (λ k. span.measure * min k (empty_cells is.start)) most
       ∙ ap (λ k. span.measure * min (shape.limit * count) k) empty in
       subst (IsOnTriangle shape.limit) (sym is.told) (record {
         distance = far;
-        flow = flow_is is.tally.distance (shape.lanes * shape.cells) span.measure (min (shape.limit * count) (shape.lanes * shape.cells - count)) counted far;
+        flow = flow_is is.tally.distance (shape.lanes * shape.length) span.measure (min (shape.limit * count) (shape.lanes * shape.length - count)) counted far;
       })
 
 pub diagram_is_triangle : DiagramIsTriangle

@@ -19,15 +19,15 @@ use Rattle.trlab_jobs.proofs.OneSweep as sweeps
 use Rattle.trlab_jobs.proofs.OneSweep.{says_stored}
 use Rattle.trlab_jobs.proofs.OneText.{says_plain}
 use Rattle.trlab_campaign.specs.Headline.{IsDrivenJob, IsDrivenPoint, IsDrivenSweep, JobTextsAreDriven, SweepTextsAreDriven}
-use Rattle.trlab_campaign.specs.Output.{JobOutput}
+use Rattle.trlab_campaign.specs.Output.{IsOutputForJob}
 use Rattle.trlab_campaign.specs.Refusal.{IsOutputForResult}
-use Rattle.trlab_campaign.specs.SweepOutput.{IsPoint, SweepOutput}
+use Rattle.trlab_campaign.specs.SweepOutput.{IsPoint, IsOutputForSweep}
 use Rattle.trlab_campaign.specs.SweepOutput as sweep
 use Rattle.trlab_campaign.proofs.Points.{suits}
 use Rattle.trlab_campaign.proofs.Sheets.{plain_sheet}
 use Rattle.trlab_campaign.proofs.SomePoints.{even_some}
 
-drives_job : (shown : ℕ → Bool) (text out : List ℕ) (parsed_as : Result Job Fault) → ParsesAsJob text parsed_as → IfOk parsed_as IsStoredJob → IsOutputForResult (JobOutput shown) parsed_as false out → IsDrivenJob shown text out
+drives_job : (shown : ℕ → Bool) (text out : List ℕ) (parsed_as : Result Job Fault) → ParsesAsJob text parsed_as → IfOk parsed_as IsStoredJob → IsOutputForResult (IsOutputForJob shown) parsed_as false out → IsDrivenJob shown text out
 drives_job shown text out (Ok job) parsed_as stored output =
     let roads = output.1.0 in
     let is = output.1.1 in
@@ -44,13 +44,13 @@ pub job_texts_are_driven : JobTextsAreDriven
 job_texts_are_driven shown text out is =
     let found = says_plain text in
     let same = jobs.one_thing text is.0 found.0 is.1.0 found.1.0 in
-    drives_job shown text out found.0 found.1.0 found.1.1 (subst (λ (parsed_as : Result Job Fault). IsOutputForResult (JobOutput shown) parsed_as false out) same is.1.1)
+    drives_job shown text out found.0 found.1.0 found.1.1 (subst (λ (parsed_as : Result Job Fault). IsOutputForResult (IsOutputForJob shown) parsed_as false out) same is.1.1)
 
 -- the road on which cars are evenly spread is legal
-even_is_legal : (setup : Setup) (cars : ℕ) (road : Cells) → CanSpreadOn setup.shape cars → IsEvenlySpaced setup.shape.lanes setup.shape.cells setup.shape.limit cars road → IsLegal road
+even_is_legal : (setup : Setup) (cars : ℕ) (road : Cells) → CanSpreadOn setup.shape cars → IsEvenlySpaced setup.shape.lanes setup.shape.length setup.shape.limit cars road → IsLegal road
 even_is_legal setup cars road fits even =
-    let found = even_some setup.shape.lanes setup.shape.cells setup.shape.limit cars fits in
-    subst IsLegal (one_even setup.shape.lanes setup.shape.cells setup.shape.limit cars found.0 road found.1.0 even) found.1.1
+    let found = even_some setup.shape.lanes setup.shape.length setup.shape.limit cars fits in
+    subst IsLegal (one_even setup.shape.lanes setup.shape.length setup.shape.limit cars found.0 road found.1.0 even) found.1.1
 
 drives_point : (setup : Setup) (number cars : ℕ) (point : Point) → IsRuleFor setup.shape.lanes setup.rule → CanSpreadOn setup.shape cars
     → IsPoint setup number cars point → IsDrivenPoint setup number cars point
@@ -70,7 +70,7 @@ drives_point setup number cars point rule fits is =
       told = is.told;
     }
 
-drives_sweep : (text out : List ℕ) (parsed_as : Result Sweep Fault) → ParsesAsSweep text parsed_as → IfOk parsed_as IsStoredSweep → IsOutputForResult SweepOutput parsed_as false out → IsDrivenSweep text out
+drives_sweep : (text out : List ℕ) (parsed_as : Result Sweep Fault) → ParsesAsSweep text parsed_as → IfOk parsed_as IsStoredSweep → IsOutputForResult IsOutputForSweep parsed_as false out → IsDrivenSweep text out
 drives_sweep text out (Ok parsed_sweep) parsed_as stored output =
     let points = output.1.0 in
     let are = output.1.1.0 in
@@ -88,4 +88,4 @@ pub sweep_texts_are_driven : SweepTextsAreDriven
 sweep_texts_are_driven text out is =
     let found = says_stored text in
     let same = sweeps.one_thing text is.0 found.0 is.1.0 found.1.0 in
-    drives_sweep text out found.0 found.1.0 found.1.1 (subst (λ (parsed_as : Result Sweep Fault). IsOutputForResult SweepOutput parsed_as false out) same is.1.1)
+    drives_sweep text out found.0 found.1.0 found.1.1 (subst (λ (parsed_as : Result Sweep Fault). IsOutputForResult IsOutputForSweep parsed_as false out) same is.1.1)

@@ -1,9 +1,9 @@
--- Hundredths of a work: at most 100, no fewer by more parts, and all of them where no part is left.
+-- Percentages of a work: at most 100, no fewer by more parts, and 100 where no part is left.
 use Rattle.std.proofs.Common.{◌≡◌, ℕ, ◌*◌, ◌/◌, ◌<◌, ◌≤◌, refl, sym, ap, arith, inl, inr, Bool, true, false, cond, nat_le}
 use Rattle.std.proofs.lemmas.Bool.{cases_lt, le-leb, leb-false, lt-leb}
 use Rattle.std.proofs.lemmas.Nat.{le-div}
 use Rattle.std.proofs.Math.Nat.{div-le_of_le-mul, div-mul-le_self}
-use Rattle.trlab_campaign.specs.Hundredths.{hundredths}
+use Rattle.trlab_campaign.specs.Percent.{percent_done}
 
 at_most_all : (done whole : ℕ) (b : Bool) → nat_le whole done ≡ b → cond b 100 (done * 100 / whole) ≤ 100
 at_most_all done whole true is = omega arith
@@ -11,7 +11,7 @@ at_most_all done whole false is =
     let below = leb-false whole done is in
     div-le_of_le-mul whole (omega (arith, below))
 
-few : (done whole : ℕ) → hundredths done whole ≤ 100
+few : (done whole : ℕ) → percent_done done whole ≤ 100
 few done whole = at_most_all done whole (nat_le whole done) refl
 
 -- parts of a work that has more of them
@@ -20,26 +20,26 @@ part_of before after whole rises left =
     let shares = div-mul-le_self (before * 100) whole in
     le-div (before * 100 / whole) (after * 100) whole (omega (arith, left)) (omega (arith, shares, rises))
 
-rises_by : (before after whole : ℕ) (b : Bool) → nat_le whole after ≡ b → before ≤ after → hundredths before whole ≤ cond b 100 (after * 100 / whole)
+rises_by : (before after whole : ℕ) (b : Bool) → nat_le whole after ≡ b → before ≤ after → percent_done before whole ≤ cond b 100 (after * 100 / whole)
 rises_by before after whole true is rises = few before whole
 rises_by before after whole false is rises =
     let left = leb-false whole after is in
     rw (lt-leb whole before (omega (arith, left, rises))) (part_of before after whole rises left)
 
-no_fewer : (before after whole : ℕ) → before ≤ after → hundredths before whole ≤ hundredths after whole
+no_fewer : (before after whole : ℕ) → before ≤ after → percent_done before whole ≤ percent_done after whole
 no_fewer before after whole rises = rises_by before after whole (nat_le whole after) refl rises
 
-all_done : (before after whole : ℕ) → before ≤ after → whole ≤ before → hundredths before whole ≡ hundredths after whole
+all_done : (before after whole : ℕ) → before ≤ after → whole ≤ before → percent_done before whole ≡ percent_done after whole
 all_done before after whole rises done = rw (le-leb whole before done, le-leb whole after (omega (arith, rises, done))) refl
 
--- where another hundredth is reached, there is one, it is at most the last, and some part was left to be done
+-- where another percentage is reached, there is one, it is at most the last, and some part was left to be done
 pub record IsReached (before after whole : ℕ) : Type 0 where
-  pub some : 1 ≤ hundredths after whole
-  pub few : hundredths after whole ≤ 100
+  pub some : 1 ≤ percent_done after whole
+  pub few : percent_done after whole ≤ 100
   pub more : before < after
   pub left : before < whole
 
-pub is_reached : (before after whole : ℕ) → before ≤ after → (hundredths after whole ≡ hundredths before whole → ⊥) → IsReached before after whole
+pub is_reached : (before after whole : ℕ) → before ≤ after → (percent_done after whole ≡ percent_done before whole → ⊥) → IsReached before after whole
 is_reached before after whole rises other =
     let most = no_fewer before after whole rises in
     record {
@@ -47,7 +47,7 @@ is_reached before after whole rises other =
       few = few after whole;
       more = elim (cases_lt before after) [
         | inl more ↦ more
-        | inr done ↦ let same : after ≡ before = omega (arith, rises, done) in absurd (other (ap (λ n. hundredths n whole) same))
+        | inr done ↦ let same : after ≡ before = omega (arith, rises, done) in absurd (other (ap (λ n. percent_done n whole) same))
       ];
       left = elim (cases_lt before whole) [
         | inl left ↦ left

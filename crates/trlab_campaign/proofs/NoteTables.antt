@@ -10,7 +10,7 @@ use Rattle.trlab_code.specs.Program.{Program}
 use Rattle.trlab_notes.specs.Notes.{with_side}
 use Rattle.trlab_verify.specs.declared.note.Mark.TheVariants.{Unset}
 use Rattle.trlab_verify.specs.declared.note.Note.{Note as Form}
-use Rattle.trlab_verify.specs.TableForm.{empty_form, meaning, meaning_at, mark_value, table_of}
+use Rattle.trlab_verify.specs.TableForm.{form_without_marks, meaning, meaning_at, mark_value, table_of}
 use Rattle.trlab_verify.specs.Incoming.{note_at}
 use Rattle.trlab_verify.specs.Tables.{AreVerdictNotes, empty_note}
 use Rattle.trlab_campaign.specs.NoteLines.{maybe_note_line, note_line, notes_text, abstract_value_text}
@@ -34,7 +34,7 @@ pub table_lines : (program : Program) (forms : List Form) → AreVerdictNotes pr
 table_lines program forms are =
     let count : length forms ≡ length program.instrs = sym (length-map forms (meaning program.kind)) ∙ are.one_each in
     let agree = pieces_agree (λ pc. note_line pc (meaning_at program.kind forms pc)) (λ pc. maybe_note_line pc (note_at program.kind program.instrs pc)) 0 (length forms)
-    (λ pc below. sym (ap (maybe_note_line pc) (are.each pc (omega (arith, count)) ∙ ap Some (get_or-map (meaning program.kind) forms pc empty_form empty_note (omega arith))))) in
+    (λ pc below. sym (ap (maybe_note_line pc) (are.each pc (omega (arith, count)) ∙ ap Some (get_or-map (meaning program.kind) forms pc form_without_marks empty_note (omega arith))))) in
     agree ∙ ap (λ n. flat_map (λ pc. maybe_note_line pc (note_at program.kind program.instrs pc)) (range_with_len 0 n)) count
 
 -- the parts of a note's line were put after a text

@@ -5,13 +5,13 @@ use Rattle.trlab_step.proofs.RunLaws.{road_at_is_one}
 use Rattle.trlab_texts.specs.Reading.{Fault}
 use Rattle.trlab_jobs.specs.Job.{Job, seed_of, sheet_of}
 use Rattle.trlab_jobs.proofs.OneText.{one_thing}
-use Rattle.trlab_campaign.specs.Output.{JobOutput, shown_text}
+use Rattle.trlab_campaign.specs.Output.{IsOutputForJob, shown_text}
 use Rattle.trlab_campaign.specs.Refusal.{IsOutputForResult}
 use Rattle.trlab_campaign.specs.ShownLaws.{ShownHasAtMostOneOutput}
 use Rattle.trlab_campaign.proofs.Lines.{pieces_agree}
 
-output_one : (shown : ℕ → Bool) (says : Result Job Fault) (refused also : Bool) (out other : List ℕ) → IsOutputForResult (JobOutput shown) says refused out
-    → IsOutputForResult (JobOutput shown) says also other → (refused ≡ also) × (out ≡ other)
+output_one : (shown : ℕ → Bool) (says : Result Job Fault) (refused also : Bool) (out other : List ℕ) → IsOutputForResult (IsOutputForJob shown) says refused out
+    → IsOutputForResult (IsOutputForJob shown) says also other → (refused ≡ also) × (out ≡ other)
 output_one shown (Ok said) refused also out other p q =
     let a = p.1.1 in
     let b = q.1.1 in
@@ -23,4 +23,4 @@ output_one shown (Err fault) refused also out other p q = (p.0 ∙ sym q.0, p.1 
 pub one_output : ShownHasAtMostOneOutput
 one_output shown text refused also out other p q =
     let same = one_thing text p.0 q.0 p.1.0 q.1.0 in
-    output_one shown q.0 refused also out other (subst (λ (says : Result Job Fault). IsOutputForResult (JobOutput shown) says refused out) same p.1.1) q.1.1
+    output_one shown q.0 refused also out other (subst (λ (says : Result Job Fault). IsOutputForResult (IsOutputForJob shown) says refused out) same p.1.1) q.1.1

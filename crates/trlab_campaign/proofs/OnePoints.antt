@@ -13,13 +13,13 @@ use Rattle.trlab_jobs.specs.Shapes.{all_steps}
 use Rattle.trlab_jobs.specs.Sweep.{Setup, Sweep}
 use Rattle.trlab_jobs.proofs.OneSweep.{one_thing}
 use Rattle.trlab_campaign.specs.Refusal.{IsOutputForResult}
-use Rattle.trlab_campaign.specs.SweepOutput.{IsPoint, ArePoints, SweepOutput, point_of, point_seed, sweep_sheet, IsSweepOutput}
+use Rattle.trlab_campaign.specs.SweepOutput.{IsPoint, ArePoints, IsOutputForSweep, point_of, point_seed, sweep_sheet, IsSweepOutput}
 use Rattle.trlab_campaign.specs.Laws.{HasAtMostOneOutput}
 
 -- a sweep has one point with a number and a count of cars
 point_one : (common : Setup) (number cars : ℕ) (point other : Point) → IsPoint common number cars point → IsPoint common number cars other → point ≡ other
 point_one common number cars point other p q =
-    let start = one_even common.shape.lanes common.shape.cells common.shape.limit cars p.start q.start p.even q.even in
+    let start = one_even common.shape.lanes common.shape.length common.shape.limit cars p.start q.start p.even q.even in
     let counted = subst (λ (road : Cells). IsTallyAt (point_seed common number road) (sweep_sheet common) (all_steps common.span) p.tally) start p.counted in
     let same = road_is_one (point_seed common number q.start) (sweep_sheet common) (all_steps common.span) counted.0 q.counted.0 p.tally q.tally counted.1 q.counted.1 in
     p.told ∙ (ap (point_of common cars) same.1 ∙ sym q.told)
@@ -29,7 +29,7 @@ points_one sweep points others p q =
     same_lists points others (p.one_each ∙ sym q.one_each) (λ i d inside.
     point_one sweep.setup i (get_or sweep.cars i 0) (get_or points i d) (get_or others i d) (p.each i 0 d (omega (arith, p.one_each))) (q.each i 0 d (omega (arith, p.one_each))))
 
-output_one : (says : Result Sweep Fault) (refused also : Bool) (out other : List ℕ) → IsOutputForResult SweepOutput says refused out → IsOutputForResult SweepOutput says also other → (refused ≡ also) × (out ≡ other)
+output_one : (says : Result Sweep Fault) (refused also : Bool) (out other : List ℕ) → IsOutputForResult IsOutputForSweep says refused out → IsOutputForResult IsOutputForSweep says also other → (refused ≡ also) × (out ≡ other)
 output_one (Ok sweep) refused also out other p q =
     (p.0 ∙ sym q.0, p.1.1.1 ∙ (ap points_text (points_one sweep p.1.0 q.1.0 p.1.1.0 q.1.1.0) ∙ sym q.1.1.1))
 output_one (Err fault) refused also out other p q = (p.0 ∙ sym q.0, p.1 ∙ sym q.1)
@@ -37,4 +37,4 @@ output_one (Err fault) refused also out other p q = (p.0 ∙ sym q.0, p.1 ∙ sy
 pub sweep_one_output : HasAtMostOneOutput IsSweepOutput
 sweep_one_output text refused also out other p q =
     let same = one_thing text p.0 q.0 p.1.0 q.1.0 in
-    output_one q.0 refused also out other (subst (λ (says : Result Sweep Fault). IsOutputForResult SweepOutput says refused out) same p.1.1) q.1.1
+    output_one q.0 refused also out other (subst (λ (says : Result Sweep Fault). IsOutputForResult IsOutputForSweep says refused out) same p.1.1) q.1.1

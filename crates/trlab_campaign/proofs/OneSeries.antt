@@ -15,7 +15,7 @@ use Rattle.trlab_jobs.specs.Stored.{IsStoredJob}
 use Rattle.trlab_jobs.proofs.OneText.{one_thing, says_plain}
 use Rattle.trlab_campaign.specs.Refusal.{IsOutputForResult, fault_line}
 use Rattle.trlab_campaign.specs.SeriesLaws.{SeriesHasAtMostOneOutput, SeriesHasSomeOutput}
-use Rattle.trlab_campaign.specs.SeriesOutput.{IsCourse, IsSeries, SeriesOutput, first_windows, nth_window, window_of}
+use Rattle.trlab_campaign.specs.SeriesOutput.{IsCourse, IsSeries, IsSeriesOutputForJob, first_windows, nth_window, window_of}
 use Rattle.trlab_campaign.proofs.Courses.{course_of, one_tally, whole_windows}
 use Rattle.trlab_campaign.proofs.Sheets.{plain_sheet}
 
@@ -64,8 +64,8 @@ one_series job every from windows others a b =
     a.told ∙ same_windows (seed_of job) (sheet_of job) a.roads b.roads a.tallies b.tallies a.course b.course every from a.count
     ∙ ap (first_windows b.roads b.tallies every from) count ∙ sym b.told
 
-output_one : (every from : ℕ) (says : Result Job Fault) (refused also : Bool) (out other : List ℕ) → IsOutputForResult (SeriesOutput every from) says refused out
-    → IsOutputForResult (SeriesOutput every from) says also other → (refused ≡ also) × (out ≡ other)
+output_one : (every from : ℕ) (says : Result Job Fault) (refused also : Bool) (out other : List ℕ) → IsOutputForResult (IsSeriesOutputForJob every from) says refused out
+    → IsOutputForResult (IsSeriesOutputForJob every from) says also other → (refused ≡ also) × (out ≡ other)
 output_one every from (Ok said) refused also out other p q =
     (p.0 ∙ sym q.0, p.1.1.1 ∙ ap series_text (one_series said every from p.1.0 q.1.0 p.1.1.0 q.1.1.0) ∙ sym q.1.1.1)
 output_one every from (Err fault) refused also out other p q = (p.0 ∙ sym q.0, p.1 ∙ sym q.1)
@@ -73,9 +73,9 @@ output_one every from (Err fault) refused also out other p q = (p.0 ∙ sym q.0,
 pub one_output : SeriesHasAtMostOneOutput
 one_output every from text refused also out other p q =
     let same = one_thing text p.0 q.0 p.1.0 q.1.0 in
-    output_one every from q.0 refused also out other (subst (λ (says : Result Job Fault). IsOutputForResult (SeriesOutput every from) says refused out) same p.1.1) q.1.1
+    output_one every from q.0 refused also out other (subst (λ (says : Result Job Fault). IsOutputForResult (IsSeriesOutputForJob every from) says refused out) same p.1.1) q.1.1
 
-output_some : (every from : ℕ) → 1 ≤ every → (says : Result Job Fault) → IfOk says IsStoredJob → (refused : Bool) × (out : List ℕ) × IsOutputForResult (SeriesOutput every from) says refused out
+output_some : (every from : ℕ) → 1 ≤ every → (says : Result Job Fault) → IfOk says IsStoredJob → (refused : Bool) × (out : List ℕ) × IsOutputForResult (IsSeriesOutputForJob every from) says refused out
 output_some every from some (Ok job) stored =
     let course = course_of (seed_of job) (sheet_of job) stored.legal (plain_sheet job stored) in
     let count = (job.steps - from) / every in

@@ -1,5 +1,5 @@
 -- A run whose pictures are written step by step.
-use Rattle.std.proofs.Common.{◌≡◌, ℕ, zero, suc, ◌+◌, ◌-◌, ◌<◌, ◌≤◌, Bool, List, [], ◌++◌, flat_map, refl, ◌∙◌, ap, arith, add-one, inr, false}
+use Rattle.std.proofs.Common.{◌≡◌, ℕ, zero, suc, ◌+◌, ◌<◌, ◌≤◌, Bool, List, [], ◌++◌, flat_map, refl, ◌∙◌, ap, arith, add-one, inr, false}
 use Rattle.std.specs.Prelude.{Result, Ok, Err}
 use Rattle.std.specs.List.{range_with_len}
 use Rattle.trlab_road.specs.Cells.{Cells}
@@ -8,7 +8,7 @@ use Rattle.trlab_step.proofs.RunLaws.{run_comes_to_road, road_at_is_one}
 use Rattle.trlab_step.specs.Progress.{Progress, IsOneStepOn, at_start}
 use Rattle.trlab_jobs.specs.Job.{Job, seed_of, sheet_of}
 use Rattle.trlab_jobs.specs.Stored.{IsStoredJob}
-use Rattle.trlab_campaign.specs.Output.{JobOutput, shown_text, steps_text}
+use Rattle.trlab_campaign.specs.Output.{IsOutputForJob, shown_text, steps_text}
 use Rattle.trlab_campaign.specs.Ending.{WroteAll, WroteByResult, WrotePrefix}
 use Rattle.trlab_campaign.specs.Writers.{HasWritten, AddsByResult, AddsPrefix, SinkBytes}
 use Rattle.trlab_campaign.proofs.Sheets.{plain_sheet}
@@ -113,10 +113,10 @@ went_on shown job step left old now w = record { roads = w.roads; each = w.each;
 
 -- it stops within the text of a step
 stop_within : (shown : ℕ → Bool) (job : Job) (step left : ℕ) (road : Cells) (old a b : SinkBytes) → Underway shown job step left old a
-    → IsRoadAt (seed_of job) (sheet_of job) step road → AddsPrefix a b (shown_text shown step road) → WrotePrefix (JobOutput shown job) old b
+    → IsRoadAt (seed_of job) (sheet_of job) step road → AddsPrefix a b (shown_text shown step road) → WrotePrefix (IsOutputForJob shown job) old b
 stop_within shown job step left road old a b u at text =
     let whole = steps_text shown u.roads (job.steps + 1) in
-    let is : JobOutput shown job false whole = (refl, (u.roads, record { road_at = λ s _. u.each s; pictures = refl })) in
+    let is : IsOutputForJob shown job false whole = (refl, (u.roads, record { road_at = λ s _. u.each s; pictures = refl })) in
     inr (
       false,
       (
@@ -140,7 +140,7 @@ no_text shown roads step (suc count) none =
 -- the text of the last step that is shown is written
 all_written : (shown : ℕ → Bool) (job : Job) (step left : ℕ) (road : Cells) (old a b : SinkBytes) → Underway shown job step left old a
     → IsRoadAt (seed_of job) (sheet_of job) step road → HasWritten a b (shown_text shown step road) → ((s : ℕ) → step < s → s ≤ job.steps → shown s ≡ false)
-    → WroteAll (JobOutput shown job) false old b
+    → WroteAll (IsOutputForJob shown job) false old b
 all_written shown job step left road old a b u at text none =
     let w = wrote shown job step left road old a b u at text in
     let whole = steps_text shown w.roads (job.steps + 1) in
@@ -157,7 +157,7 @@ step_on shown steps step left start run next old a b writes road text on job beg
 
 -- it stops within the text of a step of the run
 pub step_stops : (shown : ℕ → Bool) (steps step left : ℕ) (start run : Progress) (old a b : SinkBytes) → Writes shown steps start step left run old a
-    → IsRoadAt run.seed run.sheet run.step run.road → AddsPrefix a b (shown_text shown step run.road) → (job : Job) → Begins job steps start → WrotePrefix (JobOutput shown job) old b
+    → IsRoadAt run.seed run.sheet run.step run.road → AddsPrefix a b (shown_text shown step run.road) → (job : Job) → Begins job steps start → WrotePrefix (IsOutputForJob shown job) old b
 step_stops shown steps step left start run old a b writes road text job begins =
     let here = writes job begins in
     stop_within shown job step left run.road old a b here.0 (driven_road job step run run.road here.1 road) text
@@ -169,7 +169,7 @@ no_step_left step last inside all = omega arith
 -- the text of the last step that is shown was written, or a prefix of it
 pub last_wrote : {A E : Type 0} (r : Result A E) (shown : ℕ → Bool) (steps last left : ℕ) (start run : Progress) (road : Cells) (old a b : SinkBytes)
     → Writes shown steps start last left run old a → IsRoadAt run.seed run.sheet run.step road → AddsByResult r a b (shown_text shown last road)
-    → ((s : ℕ) → last < s → s ≤ steps → shown s ≡ false) → (job : Job) → Begins job steps start → WroteByResult (JobOutput shown job) r old b
+    → ((s : ℕ) → last < s → s ≤ steps → shown s ≡ false) → (job : Job) → Begins job steps start → WroteByResult (IsOutputForJob shown job) r old b
 last_wrote (Ok x) shown steps last left start run road old a b writes at text none job begins =
     let here = writes job begins in
     all_written shown job last left road old a b here.0 (driven_road job last run road here.1 at) text (λ s after within. none s after (omega (arith, within, begins.ends)))

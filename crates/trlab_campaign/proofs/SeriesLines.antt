@@ -10,7 +10,7 @@ use Rattle.trlab_step.specs.Progress.{Progress, at_start}
 use Rattle.trlab_jobs.specs.Job.{Job, seed_of, sheet_of}
 use Rattle.trlab_jobs.specs.Stored.{IsStoredJob}
 use Rattle.trlab_campaign.specs.Ending.{WroteByResult, WrotePrefix}
-use Rattle.trlab_campaign.specs.SeriesOutput.{IsCourse, IsSeries, SeriesOutput, first_windows, nth_window, window_of}
+use Rattle.trlab_campaign.specs.SeriesOutput.{IsCourse, IsSeries, IsSeriesOutputForJob, first_windows, nth_window, window_of}
 use Rattle.trlab_campaign.specs.Writers.{HasWritten, AddsByResult, AddsPrefix, SinkBytes}
 use Rattle.trlab_campaign.proofs.Courses.{course_of}
 use Rattle.trlab_campaign.proofs.WrittenBytes.{adds_more}
@@ -71,16 +71,16 @@ module _ (job : Job) (every from count steps : ℕ) (run : Progress) (stored : I
   is_series : IsSeries job every from the_windows
   is_series = record { roads = job_course.0; tallies = job_course.1; course = job_course.2; count = count; whole = rw ends at whole; told = refl }
 
-  is_output : SeriesOutput every from job false (series_text the_windows)
+  is_output : IsSeriesOutputForJob every from job false (series_text the_windows)
   is_output = (refl, (the_windows, (is_series, refl)))
 
   pub series_stops : (old new : SinkBytes)
       → ((roads : ℕ → Cells) (tallies : ℕ → StepTally) → IsCourse run.seed run.sheet roads tallies → AddsPrefix old new (series_text (first_windows roads tallies every from count)))
-      → WrotePrefix (SeriesOutput every from job) old new
+      → WrotePrefix (IsSeriesOutputForJob every from job) old new
   series_stops old new told = inr (false, (series_text the_windows, (is_output, told job_course.0 job_course.1 run_course)))
 
   pub series_wrote : {A E : Type 0} (r : Result A E) (old new : SinkBytes)
       → ((roads : ℕ → Cells) (tallies : ℕ → StepTally) → IsCourse run.seed run.sheet roads tallies → AddsByResult r old new (series_text (first_windows roads tallies every from count)))
-      → WroteByResult (SeriesOutput every from job) r old new
+      → WroteByResult (IsSeriesOutputForJob every from job) r old new
   series_wrote (Ok x) old new told = (series_text the_windows, (is_output, told job_course.0 job_course.1 run_course))
   series_wrote (Err e) old new told = series_stops old new told

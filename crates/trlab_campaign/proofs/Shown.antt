@@ -6,7 +6,7 @@ use Rattle.std.proofs.lemmas.Nat.{div-add-mod', mul-le}
 use Rattle.std.proofs.Math.Nat.{mod-lt, mul-mod_left}
 use Rattle.trlab_texts.specs.Reading.{Fault}
 use Rattle.trlab_jobs.specs.Job.{Job}
-use Rattle.trlab_campaign.specs.Output.{IsOutput, IsShownOutput, JobOutput, each_step, every_from, shown_text}
+use Rattle.trlab_campaign.specs.Output.{IsOutput, IsShownOutput, IsOutputForJob, each_step, every_from, shown_text}
 use Rattle.trlab_campaign.specs.Refusal.{IsOutputForResult}
 use Rattle.trlab_campaign.specs.ShownLaws.{EveryNthStepIsShown, EveryStepFromStartIsEach}
 use Rattle.trlab_campaign.proofs.Lines.{pieces_agree}
@@ -70,7 +70,7 @@ every_one step =
 
 -- where the same steps are shown, the outputs are the same
 shown_alike : (shown other : ℕ → Bool) → ((step : ℕ) → shown step ≡ other step) → (says : Result Job Fault) (refused : Bool) (out : List ℕ)
-    → IsOutputForResult (JobOutput shown) says refused out → IsOutputForResult (JobOutput other) says refused out
+    → IsOutputForResult (IsOutputForJob shown) says refused out → IsOutputForResult (IsOutputForJob other) says refused out
 shown_alike shown other same (Ok job) refused out p =
     let roads = p.1.0 in
     let is = p.1.1 in

@@ -6,11 +6,11 @@ use Rattle.trlab_jobs.specs.Job.{Job}
 use Rattle.trlab_jobs.specs.Stored.{IsStoredJob}
 use Rattle.trlab_jobs.proofs.OneText.{says_plain}
 use Rattle.trlab_campaign.specs.Refusal.{IsOutputForResult, fault_line}
-use Rattle.trlab_campaign.specs.Output.{JobOutput, steps_text}
+use Rattle.trlab_campaign.specs.Output.{IsOutputForJob, steps_text}
 use Rattle.trlab_campaign.specs.ShownLaws.{ShownHasSomeOutput}
 use Rattle.trlab_campaign.proofs.Running.{roads_of}
 
-output_some : (shown : ℕ → Bool) (says : Result Job Fault) → IfOk says IsStoredJob → (refused : Bool) × (out : List ℕ) × IsOutputForResult (JobOutput shown) says refused out
+output_some : (shown : ℕ → Bool) (says : Result Job Fault) → IfOk says IsStoredJob → (refused : Bool) × (out : List ℕ) × IsOutputForResult (IsOutputForJob shown) says refused out
 output_some shown (Ok job) plain =
     let found = roads_of job plain in
     let out = steps_text shown found.0 (job.steps + 1) in

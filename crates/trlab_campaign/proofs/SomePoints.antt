@@ -18,7 +18,7 @@ use Rattle.trlab_jobs.specs.Sweep.{Setup, Sweep}
 use Rattle.trlab_jobs.specs.Stored.{CanSpreadOn, IsStoredSweep}
 use Rattle.trlab_jobs.proofs.OneSweep.{says_stored}
 use Rattle.trlab_campaign.specs.Refusal.{IsOutputForResult, fault_line}
-use Rattle.trlab_campaign.specs.SweepOutput.{IsPoint, ArePoints, SweepOutput, point_of, point_seed, sweep_sheet, IsSweepOutput}
+use Rattle.trlab_campaign.specs.SweepOutput.{IsPoint, ArePoints, IsOutputForSweep, point_of, point_seed, sweep_sheet, IsSweepOutput}
 use Rattle.trlab_campaign.specs.Laws.{HasSomeOutput}
 use Rattle.trlab_campaign.proofs.Points.{suits}
 
@@ -33,7 +33,7 @@ even_some lanes cells limit n fits = let said = something lanes cells limit n in
 -- a point of a sweep for any number and count of cars that fits
 point_some : (common : Setup) (number cars : ℕ) → IsRuleFor common.shape.lanes common.rule → CanSpreadOn common.shape cars → (point : Point) × IsPoint common number cars point
 point_some common number cars rule fits =
-    let start = even_some common.shape.lanes common.shape.cells common.shape.limit cars fits in
+    let start = even_some common.shape.lanes common.shape.length common.shape.limit cars fits in
     let sheet = suits (length start.0.lanes) common (rw start.1.0.same_lanes rule) in
     let run = run_comes_to_road (point_seed common number start.0) (sweep_sheet common) (all_steps common.span) start.1.1 sheet in
     (point_of common cars run.1, record { start = start.0; tally = run.1; even = start.1.0; counted = (run.0, run.2); told = refl })
@@ -67,7 +67,7 @@ from_start sweep points from = record {
       subst (λ (n : ℕ). IsPoint sweep.setup n (get_or sweep.cars i cars) (get_or points i point)) same (from.each i cars point inside);
 }
 
-output_some : (says : Result Sweep Fault) → IfOk says IsStoredSweep → (refused : Bool) × (out : List ℕ) × IsOutputForResult SweepOutput says refused out
+output_some : (says : Result Sweep Fault) → IfOk says IsStoredSweep → (refused : Bool) × (out : List ℕ) × IsOutputForResult IsOutputForSweep says refused out
 output_some (Ok sweep) stored =
     let points = points_some sweep.setup 0 sweep.cars stored.rule stored.spreads in
     (false, points_text points.0, (refl, (points.0, (from_start sweep points.0 points.1, refl))))

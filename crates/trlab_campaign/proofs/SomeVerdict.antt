@@ -6,10 +6,10 @@ use Rattle.trlab_verify.proofs.Judged.{accepted_or_refused, some_budget}
 use Rattle.trlab_texts.specs.Reading.{Fault}
 use Rattle.trlab_jobs.proofs.OneCheck.{HasProgram, says_program}
 use Rattle.trlab_campaign.specs.Refusal.{IsOutputForResult, fault_line}
-use Rattle.trlab_campaign.specs.CheckOutput.{answer_text, refused_line, VerdictOutput, IsCheckOutput}
+use Rattle.trlab_campaign.specs.CheckOutput.{answer_text, refused_line, IsOutputForCheck, IsCheckOutput}
 use Rattle.trlab_campaign.specs.Laws.{HasSomeOutput}
 
-verdict_some : (check : Check) → HasProgram check → (refused : Bool) × (out : List ℕ) × VerdictOutput check refused out
+verdict_some : (check : Check) → HasProgram check → (refused : Bool) × (out : List ℕ) × IsOutputForCheck check refused out
 verdict_some check is = elim (accepted_or_refused check.program.kind check.program) [
   | inl accepted ↦
       let found = some_budget check.program.kind check.program is accepted in
@@ -17,7 +17,7 @@ verdict_some check is = elim (accepted_or_refused check.program.kind check.progr
   | inr refused ↦ (true, refused_line refused.0 refused.1, (refused.0, refused.1, (refused.2, refl)))
 ]
 
-output_some : (says : Result Check Fault) → IfOk says HasProgram → (refused : Bool) × (out : List ℕ) × IsOutputForResult VerdictOutput says refused out
+output_some : (says : Result Check Fault) → IfOk says HasProgram → (refused : Bool) × (out : List ℕ) × IsOutputForResult IsOutputForCheck says refused out
 output_some (Ok check) is = verdict_some check is
 output_some (Err fault) is = (true, fault_line fault, (refl, refl))
 

@@ -10,7 +10,7 @@ use Rattle.trlab_rules.proofs.NaschRuns.{nasch_moves}
 use Rattle.trlab_bounds.specs.declared.texts.TheConstants.{TEXT_LIMIT}
 use Rattle.trlab_texts.specs.declared.fault.Cause.{Cause}
 use Rattle.trlab_texts.specs.Lines.{Rest, all_lines}
-use Rattle.trlab_texts.specs.Reading.{Fault, Continues, LineParsesTo, Reading, SizedTextParsesTo, at_line, before, exactly, line_with_rest, line, say, ◌>>=◌}
+use Rattle.trlab_texts.specs.Reading.{Fault, Continues, LineParsesTo, Reading, SizedTextParsesTo, at_line, before, exactly, line_with_rest, line, give, ◌>>=◌}
 use Rattle.trlab_jobs.specs.declared.rule_line.RuleLine.{RuleLine}
 use Rattle.trlab_jobs.specs.declared.rule_line.RuleLine.TheVariants.{Nasch}
 use Rattle.trlab_jobs.specs.Counts.{counts}
@@ -21,7 +21,7 @@ use Rattle.trlab_jobs.specs.Shapes.{cell_count, all_steps, lanes_line, length_li
 use Rattle.trlab_jobs.specs.Sweep.{Setup, Sweep, SweepLinesParseTo, ParsesAsSweep, sweep_heading, setup, sweep_line, with_counts}
 use Rattle.trlab_jobs.proofs.SweepLines.{after_cells, after_key, after_limit, after_rule, after_shape}
 use Rattle.trlab_asm.specs.Results.{map_ok}
-use Rattle.trlab_campaign.specs.Capacity.{stated_rule}
+use Rattle.trlab_campaign.specs.Triangle.{stated_rule}
 
 -- the parts of what is read
 ok_parts : {A B : Type 0} (x y : A) (a b : B) → ◌≡◌ {A = Result (A × B) Fault} (Ok (x, a)) (Ok (y, b)) → (x ≡ y) × (a ≡ b)
@@ -74,7 +74,7 @@ then_takes first next m n a b = record {
       ap (λ i. get_or rest.left i []) e ∙ a.left rest two.x two.after (n + k) two.one ∙ (b two.x).left two.after out after k two.two;
 }
 
-say_takes : {A : Type 0} (x : A) → Takes (say x) 0
+say_takes : {A : Type 0} (x : A) → Takes (give x) 0
 say_takes x = record {
   left = λ rest out after k told.
       let e : 0 + k ≡ k = omega arith in
@@ -90,7 +90,7 @@ shape_takes : Takes shape 3
 shape_takes =
     then_takes (line (exactly limit_line)) after_limit 1 2 (line_takes limit_line)
     (λ limit. then_takes (line (exactly length_line)) (after_cells limit) 1 1 (line_takes length_line)
-    (λ cells. then_takes (line (exactly lanes_line)) (λ lanes. say (record { limit = limit; cells = cells; lanes = lanes })) 1 0 (line_takes lanes_line) (λ lanes. say_takes _)))
+    (λ cells. then_takes (line (exactly lanes_line)) (λ lanes. give (record { limit = limit; length = cells; lanes = lanes })) 1 0 (line_takes lanes_line) (λ lanes. say_takes _)))
 
 -- a line that states the rule of 1992 gives it
 is_nasch : (p : ℕ) (first : Programs) → IsMotionRule (nasch_program p) (Ok first) → IsNasch p first
@@ -123,7 +123,7 @@ setup_is p rest after common stated told =
     let key = both sweep_heading after_key rest (common, after) told.0 told.1.0 told.1.1 in
     let roads = both shape (after_shape key.x) key.after (common, after) key.two.0 key.two.1.0 key.two.1.1 in
     let first = both (rule roads.x.lanes) (after_rule key.x roads.x) roads.after (common, after) roads.two.0 roads.two.1.0 roads.two.1.1 in
-    let steps = both span (λ steps. say (record { key = key.x; shape = roads.x; rule = first.x; span = steps })) first.after (common, after) first.two.0 first.two.1.0 first.two.1.1 in
+    let steps = both span (λ steps. give (record { key = key.x; shape = roads.x; rule = first.x; span = steps })) first.after (common, after) first.two.0 first.two.1.0 first.two.1.1 in
     let lines : get_or rest.left 5 [] ≡ get_or roads.after.left 0 [] = heading_takes.left rest key.x key.after 3 key.one ∙ shape_takes.left key.after roads.x roads.after 0 roads.one in
     let there = rule_is p roads.x.lanes roads.after first.after first.x (ap rule_line (sym lines) ∙ stated) first.one in
     let whole : Setup = record { key = key.x; shape = roads.x; rule = first.x; span = steps.x } in

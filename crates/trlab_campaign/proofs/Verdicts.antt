@@ -6,11 +6,11 @@ use Rattle.trlab_code.specs.Program.{Program}
 use Rattle.trlab_verify.specs.Longest.{IsLongest}
 use Rattle.trlab_verify.specs.Verdict.{IsAccepted}
 use Rattle.trlab_jobs.specs.Check.{Check}
-use Rattle.trlab_campaign.specs.CheckOutput.{VerdictOutput, answer_text}
+use Rattle.trlab_campaign.specs.CheckOutput.{IsOutputForCheck, answer_text}
 
 pub accepted_said : {A E : Type 0} (r : Result A E) (refused : A → Bool) (out : A → List ℕ) (check : Check) (kind : Kind) (shown program : Program) (budget : ℕ)
     → check.program.kind ≡ kind → IsAccepted kind check.program → shown ≡ program → program ≡ check.program → IsLongest program.instrs 0 budget
-    → IfOk r (λ x. (refused x ≡ false) × (out x ≡ answer_text check.question budget shown)) → IfOk r (λ x. VerdictOutput check (refused x) (out x))
+    → IfOk r (λ x. (refused x ≡ false) × (out x ≡ answer_text check.question budget shown)) → IfOk r (λ x. IsOutputForCheck check (refused x) (out x))
 accepted_said (Ok x) refused out check kind shown program budget of_kind accepted whole same longest said =
     rw said.0 (subst (λ (k : Kind). IsAccepted k check.program) (sym of_kind) accepted, (budget, (rw same at longest, said.1 ∙ ap (λ (p : Program). answer_text check.question budget p) (whole ∙ same))))
 accepted_said (Err e) refused out check kind shown program budget of_kind accepted whole same longest said = tt

@@ -1,7 +1,7 @@
 -- The output for a check text.
 use Rattle.std.specs.Prelude.{◌≡◌, ℕ, true, false, List, [], ◌∷◌, ◌++◌, decimal, codes}
 use Rattle.trlab_code.specs.Program.{Program}
-use Rattle.trlab_asm.specs.Canonical.{text_of}
+use Rattle.trlab_asm.specs.Canonical.{canonical_text}
 use Rattle.trlab_verify.specs.Longest.{IsLongest}
 use Rattle.trlab_verify.specs.Verdict.{IsAccepted, IsRefused}
 use Rattle.trlab_jobs.specs.declared.check.Question.{Question}
@@ -12,7 +12,7 @@ use Rattle.trlab_campaign.specs.Refusal.{Outputs, IsOutputForText}
 
 -- the text for an accepted program: the line `accepted budget B`, and then the program in canonical form
 abbrev pub accepted_text : ℕ → Program → List ℕ
-accepted_text budget program = codes "accepted budget " ++ (decimal budget ++ (10 ∷ text_of program.instrs))
+accepted_text budget program = codes "accepted budget " ++ (decimal budget ++ (10 ∷ canonical_text program.instrs))
 
 -- the text for an accepted program, by the question of the check: its budget and canonical form, and for
 -- notes also the lines of its notes
@@ -28,13 +28,13 @@ refused_line at reason =
 
 -- a complete output for a check, whose program is judged as one of its own kind: the text for an accepted
 -- program, or as a refusal (`true`) the line for a rejected one
-abbrev pub VerdictOutput : Check → Outputs
-VerdictOutput check false out = IsAccepted check.program.kind check.program × ((budget : ℕ)
+abbrev pub IsOutputForCheck : Check → Outputs
+IsOutputForCheck check false out = IsAccepted check.program.kind check.program × ((budget : ℕ)
     × (IsLongest check.program.instrs 0 budget × (out ≡ answer_text check.question budget check.program)))
-VerdictOutput check true out = (at reason : ℕ)
+IsOutputForCheck check true out = (at reason : ℕ)
     × (IsRefused check.program.kind check.program at reason × (out ≡ refused_line at reason))
 
--- a complete output of `check` for a text, marked as a refusal or not: the output for its check, or the line
--- of its first fault
+-- a complete output of `check` for a text, marked as a refusal or not: the output for its check, or, as
+-- a refusal, the line of the text's first fault
 abbrev pub IsCheckOutput : List ℕ → Outputs
-IsCheckOutput text refused out = IsOutputForText ParsesAsCheck VerdictOutput text refused out
+IsCheckOutput text refused out = IsOutputForText ParsesAsCheck IsOutputForCheck text refused out

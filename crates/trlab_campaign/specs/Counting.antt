@@ -11,16 +11,16 @@ pub record IsLaterBy (count : ℕ) (old new : Progress) : Type 0 where
   pub same_sheet : new.sheet ≡ old.sheet
   pub later : new.step ≡ old.step + count
 
--- the counts of a lane, summed over the roads after `steps` steps, are possible: for each of these roads at
--- most MAX_LENGTH cars, the distance MAX_LIMIT for each car, and MAX_LENGTH stopped cars
+-- upper bounds on the counts of a lane, summed over `steps` steps: per step at most
+-- MAX_LENGTH cars and MAX_LENGTH stopped cars, and per car at most the distance MAX_LIMIT
 pub record IsBoundedCount (steps : ℕ) (count : LaneCount) : Type 0 where
   pub cars : count.cars ≤ MAX_LENGTH * steps
   pub distance : count.distance ≤ MAX_LIMIT * MAX_LENGTH * steps
   pub stopped : count.stopped ≤ MAX_LENGTH * steps
 
--- the counts of a lane, from its cars: their number, the sum of their speeds, and the number of stopped cars
-abbrev pub line_count : List LaneCar → LaneCount
-line_count cars = record {
+-- the counts of the cars of a lane: their number, the sum of their speeds, and the number of stopped cars
+abbrev pub counts_of_cars : List LaneCar → LaneCount
+counts_of_cars cars = record {
   cars = length cars;
   distance = sum_by (λ (car : LaneCar). car.speed) cars;
   stopped = count_by (λ (car : LaneCar). nat_eq car.speed 0) cars;

@@ -64,13 +64,13 @@ pub record LeavesUnflushed {A K : Type 0} (sink : Sink.Ghosts K) (result : Resul
   pub fails : IfErr result (λ fault. (fault ≡ Device) ↔ (sink.failed new ≡ true))
   pub flushed : sink.flushes new ≡ sink.flushes old
 
--- the writer when an engine has ended: `Wrote` holds of the end and the written bytes, the flushes are those
--- of the end, and the end is `DeviceFault` exactly if the writer has failed
+-- the writer when an engine has ended: `Wrote` holds of the end and the written bytes, the writer was flushed
+-- as `FlushedAtEnd` states, and the end is `DeviceFault` exactly if the writer has failed
 pub record LeavesWriter {K : Type 0} (sink : Sink.Ghosts K)
     (Wrote : End → SinkBytes → SinkBytes → Type 0)
     (end : End) (old new : K) : Type 0 where
   pub answer : Wrote end (bytes_of sink old) (bytes_of sink new)
-  pub handed : FlushedAtEnd end (sink.handed_on new) (sink.flushes old) (sink.flushes new)
+  pub handed : FlushedAtEnd end (sink.is_flushed new) (sink.flushes old) (sink.flushes new)
   pub device : (end ≡ DeviceFault) ↔ (sink.failed new ≡ true)
 
 -- the end of an engine that reads an input and writes one of the possible outputs for it: `before` and
@@ -88,7 +88,7 @@ pub record EngineEnds {S K : Type 0} (source : Source.Ghosts S) (sink : Sink.Gho
   -- nothing was written if the reader has failed
   pub silent : source.failed after ≡ true → AddsNone (bytes_of sink old) (bytes_of sink new)
   -- a complete output was flushed once; nothing was flushed if an allocation failed
-  pub handed : FlushedAtEnd end (sink.handed_on new) (sink.flushes old) (sink.flushes new)
+  pub handed : FlushedAtEnd end (sink.is_flushed new) (sink.flushes old) (sink.flushes new)
   -- the end is `DeviceFault` exactly if the reader or the writer has failed
   pub device : (end ≡ DeviceFault) ↔ ((source.failed after || sink.failed new) ≡ true)
   -- at most one byte more than the size limit of an input was read, of the bytes that were left

@@ -1,4 +1,4 @@
--- The output for a text that is not refused: one worker drives its roads.
+-- The output for a text that is not rejected: one worker drives its roads.
 use Rattle.std.specs.Prelude.{◌≡◌, ◌+◌, ◌<◌, ℕ, Bool, false, List, Ok, length, slice_index_or}
 use Rattle.trlab_diagram.specs.declared.point.Point.{Point}
 use Rattle.trlab_diagram.specs.Table.{points_text}
@@ -31,12 +31,12 @@ JobTextsAreDriven =
     → IsShownOutput shown text false out → IsDrivenJob shown text out
 
 -- a point of a sweep with this common part: one worker drives road `number`, whose `cars` cars are evenly
--- spread at the start, and the point has the counts of this run
+-- spaced at the start, and the point has the counts of this run
 pub record IsDrivenPoint (setup : Setup) (number cars : ℕ) (point : Point) : Type 0 where
   pub start : Cells
   pub tally : StepTally
   pub roads : ℕ → Cells
-  pub even : IsEvenlySpaced setup.shape.lanes setup.shape.cells setup.shape.limit cars start
+  pub even : IsEvenlySpaced setup.shape.lanes setup.shape.length setup.shape.limit cars start
   pub driven : IsDriven (sweep.point_seed setup number start) (sweep.sweep_sheet setup)
       (all_steps setup.span) roads
   pub counted : IsTallyAt (sweep.point_seed setup number start) (sweep.sweep_sheet setup)

@@ -10,10 +10,10 @@ pub mod NoteLines
 pub mod CheckOutput
 pub mod SweepOutput
 pub mod SeriesOutput
-pub mod Capacity
+pub mod Triangle
 pub mod Headline
 -- progress
-pub mod Hundredths
+pub mod Percent
 -- how engines end, and laws
 pub mod Ending
 pub mod Counting

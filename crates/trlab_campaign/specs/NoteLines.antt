@@ -14,20 +14,20 @@ use Rattle.trlab_verify.specs.Incoming.{note_at}
 
 -- a register with the text of its value, in a note's line: a space, its name, a space and the text
 abbrev pub register_entry : Register → List ℕ → List ℕ
-register_entry register value = 32 ∷ (register_text register ++ (32 ∷ value))
+register_entry register value = codes " " ++ (register_text register ++ (codes " " ++ value))
 
 -- the text for a register with this abstract value: ` r0 0 35` for r0 from 0 to 35, ` r0 flag` for a flag,
 -- ` r0 side` for a flag that implies, if true, that the side cell is empty, and nothing if r0 may be unset
 abbrev pub abstract_value_text : Register → AbstractValue → List ℕ
 abstract_value_text register Nothing = []
-abstract_value_text register (Between lo hi) = register_entry register (decimal lo ++ (32 ∷ decimal hi))
+abstract_value_text register (Between lo hi) = register_entry register (decimal lo ++ (codes " " ++ decimal hi))
 abstract_value_text register (Implies true) = register_entry register (codes "side")
 abstract_value_text register (Implies false) = register_entry register (codes "flag")
 
 -- the text for a register of a note; if the side cell is known to be empty, every flag is `side`
 abbrev pub register_value_text : Note → Register → List ℕ
 register_value_text note register =
-    abstract_value_text register (with_side note.side (note.said (variable.Register register)))
+    abstract_value_text register (with_side note.side (note.values (variable.Register register)))
 
 -- the text for all registers of a note, in their order
 abbrev pub registers_text : Note → List ℕ

@@ -8,7 +8,7 @@ use Rattle.trlab_step.specs.Run.{IsRoadAt}
 use Rattle.trlab_campaign.specs.Refusal.{Outputs, IsOutputForText}
 use Rattle.trlab_jobs.specs.Job.{Job, ParsesAsJob, seed_of, sheet_of}
 
--- the picture of a lane, and the LF that ends its line
+-- the picture of a lane, one character per cell, and the LF that ends its line
 abbrev pub picture_line : List ℕ → List ℕ
 picture_line characters = characters ++ (10 ∷ [])
 
@@ -21,8 +21,8 @@ step_text step road =
 abbrev pub each_step : ℕ → Bool
 each_step step = true
 
--- whether a step is one of `from`, `from + every`, `from + 2 * every` and so on: 3, 13, 23 and so on for
--- every 10 from 3
+-- whether a step is one of `from`, `from + every`, `from + 2 * every` and so on; for example, with `every` 10
+-- and `from` 3, the steps 3, 13, 23 and so on
 abbrev pub every_from : ℕ → ℕ → ℕ → Bool
 every_from every from step = nat_le from step && nat_eq ((step - from) % every) 0
 
@@ -42,19 +42,21 @@ pub record IsRunText (job : Job) (shown : ℕ → Bool) (roads : ℕ → Cells) 
   pub pictures : out ≡ steps_text shown roads (job.steps + 1)
 
 -- a complete output for a job: the text of its run at the steps that are shown, which is not a refusal
-abbrev pub JobOutput : (ℕ → Bool) → Job → Outputs
-JobOutput shown job refused out =
+abbrev pub IsOutputForJob : (ℕ → Bool) → Job → Outputs
+IsOutputForJob shown job refused out =
     (refused ≡ false) × ((roads : ℕ → Cells) × IsRunText job shown roads out)
 
 -- a complete output for a job text, marked as a refusal or not: an output that `Output` allows for its job,
--- or the line of its first fault
-abbrev pub IsOutputOf : (Job → Outputs) → List ℕ → Outputs
-IsOutputOf Output text refused out = IsOutputForText ParsesAsJob Output text refused out
+-- or, as a refusal, the line of its first fault
+abbrev pub IsOutputForJobText : (Job → Outputs) → List ℕ → Outputs
+IsOutputForJobText Output text refused out = IsOutputForText ParsesAsJob Output text refused out
 
--- a complete output of `run` for a job text at the steps that are shown, marked as a refusal or not
+-- a complete output of `run` for a job text, marked as a refusal or not: the pictures at the steps that are
+-- shown, or, as a refusal, the line of the text's first fault
 abbrev pub IsShownOutput : (ℕ → Bool) → List ℕ → Outputs
-IsShownOutput shown text refused out = IsOutputOf (JobOutput shown) text refused out
+IsShownOutput shown text refused out = IsOutputForJobText (IsOutputForJob shown) text refused out
 
--- a complete output of `run` for a job text with every step shown, marked as a refusal or not
+-- a complete output of `run` for a job text, marked as a refusal or not: the pictures at all steps, or, as a
+-- refusal, the line of the text's first fault
 abbrev pub IsOutput : List ℕ → Outputs
 IsOutput text refused out = IsShownOutput each_step text refused out

@@ -1,4 +1,4 @@
--- Outputs, and the output for a text that is refused.
+-- Outputs, and the output for a text that is rejected.
 use Rattle.std.specs.Prelude.{◌≡◌, ℕ, Bool, true, List, [], ◌∷◌, ◌++◌, decimal, codes, Result, Ok, Err}
 use Rattle.trlab_texts.specs.Causes.{cause_number}
 use Rattle.trlab_texts.specs.Reading.{Fault}

@@ -14,10 +14,10 @@ use Rattle.trlab_step.specs.declared.tally.StepTally.{StepTally}
 use Rattle.trlab_step.specs.Next.{IsNext}
 use Rattle.trlab_step.specs.Run.{Seed, Sheet, IsRoadAt, dice_at, in_force}
 use Rattle.trlab_jobs.specs.Job.{Job, seed_of, sheet_of}
-use Rattle.trlab_campaign.specs.Output.{IsOutputOf}
+use Rattle.trlab_campaign.specs.Output.{IsOutputForJobText}
 use Rattle.trlab_campaign.specs.Refusal.{Outputs}
 
--- step `step` of a run leads from `before` to `after` under the rule in force, with this tally
+-- step `step` of a run, under the rule in force, takes the road `before` to `after` and has this tally
 pub record IsStepAt (seed : Seed) (sheet : Sheet) (step : ℕ) (before after : Cells)
     (tally : StepTally) : Type 0 where
   pub rule : Programs
@@ -51,7 +51,7 @@ total_speed_on lane road = sum_by (λ (car : Car). cond (is_on lane car) car.spe
 abbrev pub stopped_on : ℕ → Cells → ℕ
 stopped_on lane road = count_by (λ (car : Car). is_on lane car && nat_eq car.speed 0) (standing road)
 
--- the counts of a lane, each summed over these roads: its cars, their speeds and the stopped cars
+-- the counts of a lane, each summed over these roads: its cars, their speeds and its stopped cars
 abbrev pub lane_count : ℕ → List Cells → LaneCount
 lane_count lane roads = record {
   cars = sum_by (cars_on lane) roads;
@@ -117,11 +117,12 @@ pub record IsSeries (job : Job) (every from : ℕ) (windows : List Window) : Typ
 
 -- a complete output for a job: the table of its series, with windows of `every` steps from the step `from`
 -- on, which is not a refusal
-abbrev pub SeriesOutput : ℕ → ℕ → Job → Outputs
-SeriesOutput every from job refused out =
+abbrev pub IsSeriesOutputForJob : ℕ → ℕ → Job → Outputs
+IsSeriesOutputForJob every from job refused out =
     (refused ≡ false)
     × ((windows : List Window) × (IsSeries job every from windows × (out ≡ series_text windows)))
 
--- a complete output of `series` for a job text, marked as a refusal or not
+-- a complete output of `series` for a job text, marked as a refusal or not: the table of the job's windows of
+-- `every` steps from the step `from` on, or, as a refusal, the line of the text's first fault
 abbrev pub IsSeriesOutput : ℕ → ℕ → List ℕ → Outputs
-IsSeriesOutput every from text refused out = IsOutputOf (SeriesOutput every from) text refused out
+IsSeriesOutput every from text refused out = IsOutputForJobText (IsSeriesOutputForJob every from) text refused out

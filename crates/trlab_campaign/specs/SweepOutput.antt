@@ -13,7 +13,7 @@ use Rattle.trlab_jobs.specs.Shapes.{cell_count, all_steps}
 use Rattle.trlab_jobs.specs.Sweep.{Setup, Sweep, ParsesAsSweep}
 use Rattle.trlab_campaign.specs.Refusal.{Outputs, IsOutputForText}
 
--- the start of a point's run: this road, which has the number `number`, the key of the sweep, and its warm
+-- the seed of a point's run: this road, the key of the sweep, the number of the point, and the sweep's warm
 -- steps, which are not counted
 abbrev pub point_seed : Setup → ℕ → Cells → Seed
 point_seed setup number road =
@@ -34,12 +34,12 @@ point_of setup cars tally = record {
   changes = tally.changes;
 }
 
--- a point of a sweep with this common part: road `number` has its `cars` cars evenly spread at the start, and
+-- a point of a sweep with this common part: road `number` has its `cars` cars evenly spaced at the start, and
 -- the point has the counts after all steps of the run
 pub record IsPoint (setup : Setup) (number cars : ℕ) (point : Point) : Type 0 where
   pub start : Cells
   pub tally : StepTally
-  pub even : IsEvenlySpaced setup.shape.lanes setup.shape.cells setup.shape.limit cars start
+  pub even : IsEvenlySpaced setup.shape.lanes setup.shape.length setup.shape.limit cars start
   pub counted : IsTallyAt (point_seed setup number start) (sweep_sheet setup) (all_steps setup.span) tally
   pub told : point ≡ point_of setup cars tally
 
@@ -59,14 +59,14 @@ pub record AreFirstPoints (sweep : Sweep) (points : List Point) : Type 0 where
   pub measured : All IsMeasured points
 
 -- a complete output for a sweep: the table of its points, which is not a refusal
-abbrev pub SweepOutput : Sweep → Outputs
-SweepOutput sweep refused out =
+abbrev pub IsOutputForSweep : Sweep → Outputs
+IsOutputForSweep sweep refused out =
     (refused ≡ false) × ((points : List Point) × (ArePoints sweep points × (out ≡ points_text points)))
 
--- a complete output of `sweep` for a text, marked as a refusal or not: the table of the sweep's points, or
--- the line of the text's first fault
+-- a complete output of `sweep` for a text, marked as a refusal or not: the table of the sweep's points, or,
+-- as a refusal, the line of the text's first fault
 abbrev pub IsSweepOutput : List ℕ → Outputs
-IsSweepOutput text refused out = IsOutputForText ParsesAsSweep SweepOutput text refused out
+IsSweepOutput text refused out = IsOutputForText ParsesAsSweep IsOutputForSweep text refused out
 
 -- a call with the contract `pre` and `post` can be made for any sweep, and returns the sweep's table unless
 -- it fails
@@ -74,4 +74,4 @@ abbrev pub ReturnsTable : {A B E : Type 0} → (A → Bor Sweep → Type 0)
     → (A → Bor Sweep → Result (Vec ℕ B) E → Type 0) → Type 0
 ReturnsTable pre post = (alloc : _) (sweep : Bor Sweep) → pre alloc sweep
     × ((returned : _) → post alloc sweep returned
-    → IfOk returned (λ table. SweepOutput sweep.now false table.items))
+    → IfOk returned (λ table. IsOutputForSweep sweep.now false table.items))

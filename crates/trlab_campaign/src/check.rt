@@ -5,7 +5,7 @@ ghost use Rattle.trlab_verify.specs.Faults.{IsFaultOf};
 ghost use Rattle.trlab_verify.specs.Verdict.{IsAccepted};
 ghost use Rattle.trlab_jobs.specs.Check.{Check as Request};
 ghost use Rattle.trlab_campaign.specs.declared.end.End.TheVariants.{Memory};
-ghost use Rattle.trlab_campaign.specs.CheckOutput.{IsCheckOutput, VerdictOutput};
+ghost use Rattle.trlab_campaign.specs.CheckOutput.{IsCheckOutput, IsOutputForCheck};
 ghost use Rattle.trlab_campaign.specs.CheckOutput.{accepted_text, answer_text, refused_line};
 ghost use Rattle.trlab_campaign.specs.Ending.{EngineEnds};
 ghost use Rattle.trlab_campaign.specs.Writers.{AddsNone, bytes_of};
@@ -26,7 +26,7 @@ use trlab_verify::{VerifyFault, verify_change, verify_motion};
 /// The verdict on a program, as it is written.
 #[derive(Drop)]
 struct CheckVerdict {
-    refused: bool,
+    is_refusal: bool,
     text: Vec<u8>,
 }
 
@@ -41,7 +41,7 @@ fn accepted_text(alloc: Global, budget: u32, code: &Code) -> Result<Vec<u8>, All
     Ok(text)
 }
 
-/// The text of a refused program.
+/// The text of a rejected program.
 fn refused_text(alloc: Global, at: u32, reason: u32) -> Result<Vec<u8>, AllocError>
     ensures { IfOk result (λ text. text.items ≡ refused_line at reason) }
 {
@@ -79,25 +79,25 @@ fn accepted_verdict(
 ) -> Result<CheckVerdict, AllocError>
     requires { IsAccepted code.now.kind code.now }
     ensures { IfOk result (λ verdict.
-        (verdict.refused ≡ false) × (verdict.text.items ≡ answer_text question budget code.now)) }
+        (verdict.is_refusal ≡ false) × (verdict.text.items ≡ answer_text question budget code.now)) }
 {
     let text = answer_text(alloc, question, budget, code)?;
     Ok(CheckVerdict {
-        refused: false,
+        is_refusal: false,
         text,
     })
 }
 
-/// The verdict on a program that the verifier refuses.
+/// The verdict on a program that the verifier rejects for this fault.
 fn refused_verdict(alloc: Global, fault: VerifyFault) -> Result<CheckVerdict, AllocError>
     ensures { (check : Request) → IsFaultOf check.program.kind check.program fault
-        → IfOk result (λ verdict. VerdictOutput check verdict.refused verdict.text.items) }
+        → IfOk result (λ verdict. IsOutputForCheck check verdict.is_refusal verdict.text.items) }
 {
     match fault {
         VerifyFault::Why { at, reason } => {
             let text = refused_text(alloc, at, reason)?;
             Ok(CheckVerdict {
-                refused: true,
+                is_refusal: true,
                 text,
             })
         }
@@ -105,9 +105,9 @@ fn refused_verdict(alloc: Global, fault: VerifyFault) -> Result<CheckVerdict, Al
     }
 }
 
-/// The verdict on the program of a check.
+/// The verdict on the program of a check, judged as a program of its own kind.
 fn verdict_of(alloc: Global, check: Check) -> Result<CheckVerdict, AllocError>
-    ensures { IfOk result (λ verdict. VerdictOutput check verdict.refused verdict.text.items) }
+    ensures { IfOk result (λ verdict. IsOutputForCheck check verdict.is_refusal verdict.text.items) }
 {
     let Check { question, code } = check;
     match code.kind() {
@@ -140,7 +140,7 @@ impl Engine for CheckEngine {
             Err(TextFault::Memory) => return End::Memory,
         };
         match verdict_of(alloc, check) {
-            Ok(verdict) => write_output(verdict.refused, &verdict.text, writer),
+            Ok(verdict) => write_output(verdict.is_refusal, &verdict.text, writer),
             Err(_) => End::Memory,
         }
     }

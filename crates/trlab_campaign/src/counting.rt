@@ -7,7 +7,7 @@ ghost use Rattle.trlab_diagram.specs.Flow.{IsMeasured};
 ghost use Rattle.trlab_road.specs.Cells.{Cells, cars, lane_of};
 ghost use Rattle.trlab_road.specs.Stored.{no_car};
 ghost use Rattle.trlab_step.specs.declared.tally.StepTally.{StepTally};
-ghost use Rattle.trlab_campaign.specs.Counting.{IsBoundedCount, IsLaterBy, line_count};
+ghost use Rattle.trlab_campaign.specs.Counting.{IsBoundedCount, IsLaterBy, counts_of_cars};
 ghost use Rattle.trlab_campaign.specs.SeriesOutput.{AreRoads, IsCourse, cars_on, lane_count, roads_after};
 ghost use Rattle.trlab_campaign.specs.SeriesOutput.{total_speed_on, stopped_on, window_of};
 
@@ -16,6 +16,7 @@ use trlab_diagram::{LaneCount, Point, Window};
 use trlab_road::{LaneCar, Road};
 use trlab_step::{Executor, Run, StepTally};
 
+/// The counts of a lane without cars.
 fn no_cars() -> LaneCount
     ensures { result ≡ record { cars = 0; distance = 0; stopped = 0 } }
 {
@@ -27,11 +28,11 @@ fn no_cars() -> LaneCount
 }
 
 /// The number of cars on a lane, the sum of their speeds, and the number of stopped cars.
-fn count_line(line: &[LaneCar]) -> LaneCount
+fn count_cars(line: &[LaneCar]) -> LaneCount
     requires few { length line.now ≤ MAX_LENGTH }
     requires slow { (k : ℕ) → k < length line.now
         → (slice_index_or line.now k no_car).speed ≤ MAX_LIMIT }
-    ensures value { result ≡ line_count line.now }
+    ensures value { result ≡ counts_of_cars line.now }
     ensures few { IsBoundedCount 1 result }
 {
     let mut distance = 0;
@@ -58,7 +59,7 @@ fn count_lane(road: &Road, lane: u32) -> LaneCount
     if road.lanes() <= lane {
         return no_cars();
     }
-    count_line(road.line_of(lane))
+    count_cars(road.line_of(lane))
 }
 
 /// The sum of two counts.
@@ -146,7 +147,7 @@ fn point_since(run: &Run, before: StepTally, steps: u32) -> Point
     }
 }
 
-/// Takes the `every` steps of a window, and returns its counts.
+/// Advances a run by the `every` steps of a window, and returns the window's counts.
 pub fn take_window<A: Executor>(
     executor: &A,
     alloc: Global,

@@ -69,7 +69,7 @@ pub trait Sink {
     // All bytes that its calls have taken so far, known or not.
     ghost accepted: { Self → List ℕ };
     // Whether everything that was written has been flushed.
-    ghost handed_on: { Self → Bool };
+    ghost is_flushed: { Self → Bool };
     // How often the writer was flushed.
     ghost flushes: { Self → Flushes };
     // Whether a call has failed.
@@ -85,7 +85,7 @@ pub trait Sink {
         ensures some { IfOk result (λ n. 0 < length bytes.now → 0 < n) }
         ensures bytes { WriteAppends (written self.old) (written self.new) result bytes.now }
         ensures accepts { accepted self.new ≡ accepted self.old ++ transferred_bytes result bytes.now }
-        ensures held { handed_on self.new ≡ false }
+        ensures held { is_flushed self.new ≡ false }
         ensures flushed { flushes self.new ≡ flushes self.old }
         ensures fails { failed self.new ≡ (failed self.old || is_err result) };
 
@@ -97,7 +97,7 @@ pub trait Sink {
     fn flush(&mut self) -> Result<(), DeviceError>
         ensures bytes { Keeps (written self.old) (written self.new) }
         ensures accepts { accepted self.new ≡ accepted self.old }
-        ensures handed { OnOk result (handed_on self.new ≡ true) }
+        ensures handed { OnOk result (is_flushed self.new ≡ true) }
         ensures flushed { flushes self.new ≡ once_more (flushes self.old) }
         ensures fails { failed self.new ≡ (failed self.old || is_err result) };
 }

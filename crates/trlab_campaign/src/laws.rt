@@ -3,8 +3,8 @@
 //!
 //! Each law is the contract of a function with an empty body.
 
-ghost use Rattle.trlab_campaign.specs.Capacity.{DiagramIsTriangle, SweepsBoundMovingSpeed, SweepsDoNotExceedPeak};
-ghost use Rattle.trlab_campaign.specs.Capacity.{SweepsKeepToCapacity};
+ghost use Rattle.trlab_campaign.specs.Triangle.{DiagramIsTriangle, SweepsBoundMovingSpeed, SweepsDoNotExceedPeak};
+ghost use Rattle.trlab_campaign.specs.Triangle.{SweepsStayUnderTriangle};
 ghost use Rattle.trlab_campaign.specs.CheckOutput.{IsCheckOutput};
 ghost use Rattle.trlab_campaign.specs.Headline.{JobTextsAreDriven, SweepTextsAreDriven};
 ghost use Rattle.trlab_campaign.specs.Laws.{HasAtMostOneOutput, HasSomeOutput};
@@ -12,15 +12,15 @@ ghost use Rattle.trlab_campaign.specs.SeriesLaws.{LanesOfSeriesAddUp, SeriesHasA
 ghost use Rattle.trlab_campaign.specs.ShownLaws.{EveryNthStepIsShown, EveryStepFromStartIsEach, ShownHasAtMostOneOutput, ShownHasSomeOutput};
 ghost use Rattle.trlab_campaign.specs.SweepOutput.{IsSweepOutput};
 
-/// The output for a job text that is not refused shows the roads of a driven run, at the steps that are shown, from the
-/// road of the text to the road after the last step. Each step follows the rule in force, its programs end within their
-/// budgets, no car goes onto or through another, and none is lost or made.
+/// The output for a job text that is not rejected shows the roads of a driven run, at the steps that are shown, from
+/// the road of the text to the road after the last step. Each step follows the rule in force, its programs end within
+/// their budgets, no car goes onto or through another, and none is lost or added.
 pub fn job_texts_are_driven()
     ensures { JobTextsAreDriven }
 {}
 
-/// The table for a sweep text that is not refused has a point for each number of cars, in the order of the text. Each
-/// point counts a driven run, whose cars are evenly spread at the start.
+/// The table for a sweep text that is not rejected has a point for each number of cars, in the order of the text. Each
+/// point counts a driven run, whose cars are evenly spaced at the start.
 pub fn sweep_texts_are_driven()
     ensures { SweepTextsAreDriven }
 {}
@@ -51,12 +51,12 @@ pub fn sweep_has_one_output()
 {}
 
 /// Each point of the table for a sweep text is on or below a triangle: the flow is at most 1 minus the density, and at
-/// most the limit times the density. So the flow is at most limit / (limit + 1), the peak of the triangle. On average,
-/// a moving car goes at least one cell per step, and at most the limit. On one lane, in the Nagel-Schreckenberg model
-/// without randomization, the fundamental diagram is the triangle itself, if no step is counted before cars can reach
-/// the limit.
-pub fn sweeps_keep_to_capacity()
-    ensures within { SweepsKeepToCapacity }
+/// most v_max (the sweep's `limit`) times the density, so it is at most v_max / (v_max + 1), the peak of the triangle.
+/// On average, a moving car goes at least one cell per step, and at most v_max. On one lane, in the Nagel-Schreckenberg
+/// model without randomization, the fundamental diagram is the triangle itself, if no step is counted before cars can
+/// reach v_max.
+pub fn sweeps_stay_under_triangle()
+    ensures within { SweepsStayUnderTriangle }
     ensures peak { SweepsDoNotExceedPeak }
     ensures moving { SweepsBoundMovingSpeed }
     ensures triangle { DiagramIsTriangle }

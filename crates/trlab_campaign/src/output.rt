@@ -1,4 +1,4 @@
-//! Output lines: a step with its pictures, the first fault of a refused text, and the reason for a refused program.
+//! Output lines: a step with its pictures, the first fault of a rejected text, and the reason for a rejected program.
 
 ghost use Rattle.std.specs.Prelude.{◌≡◌, ◌∷◌, ◌++◌, ℕ, List, [], IfOk, OnOk, codes, decimal};
 ghost use Rattle.std.specs.String.{string_bytes};
@@ -12,7 +12,7 @@ use trlab_lines::Page;
 use trlab_road::Road;
 use trlab_texts::Cause;
 
-/// Adds a formatted text, or returns the error of formatting it.
+/// Adds a text that was formatted before, or returns the error of formatting it.
 ///
 /// # Errors
 ///
@@ -21,10 +21,8 @@ pub fn push_text(out: &mut Vec<u8>, text: Result<String, AllocError>) -> Result<
     ensures { (bytes : List ℕ) → IfOk text (λ text. string_bytes text ≡ bytes)
         → OnOk result (out.new.items ≡ out.old.items ++ bytes) }
 {
-    match text {
-        Ok(text) => out.extend_from_slice(text.as_bytes()),
-        Err(error) => Err(error),
-    }
+    let text = text?;
+    out.extend_from_slice(text.as_bytes())
 }
 
 /// Adds the line `step N`. The digits are formatted without an allocation.
@@ -55,7 +53,7 @@ pub fn push_step(out: &mut Vec<u8>, step: u32, road: &Road) -> Result<(), AllocE
     Ok(())
 }
 
-/// Adds `fault line N cause K`, the line of a refused text: the line of its first fault (0 if the text is too
+/// Adds `fault line N cause K`, the line of a rejected text: the line of its first fault (0 if the text is too
 /// long) and the number of the cause.
 ///
 /// # Errors
@@ -71,7 +69,7 @@ pub fn push_fault_line(page: &mut Page, line: u32, cause: Cause) -> Result<(), A
     page.end_line()
 }
 
-/// A page with only the line of a refused text.
+/// A page with only the line of a rejected text.
 ///
 /// # Errors
 ///
@@ -84,7 +82,7 @@ pub fn fault_page(alloc: Global, line: u32, cause: Cause) -> Result<Page, AllocE
     Ok(page)
 }
 
-/// Adds `refused at N reason K`, the line of a refused program: the instruction, counted from 0, and the number
+/// Adds `refused at N reason K`, the line of a rejected program: the instruction, counted from 0, and the number
 /// of the verifier's reason.
 ///
 /// # Errors

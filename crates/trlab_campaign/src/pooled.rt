@@ -1,4 +1,4 @@
-//! The engine of job texts, shared by `run` and `series`: a pool of workers asks the cars of the job's run, and
+//! The engine of job texts, shared by `run` and `series`: a pool of workers computes the cars of the job's run, and
 //! progress is reported. An `Account` writes the output meanwhile.
 
 ghost use Rattle.std.specs.Thread.{IsSync};
@@ -7,7 +7,7 @@ ghost use Rattle.trlab_bounds.specs.declared.runs.TheConstants.{MAX_WORKERS};
 ghost use Rattle.trlab_jobs.specs.Job.{Job as Told, seed_of, sheet_of};
 ghost use Rattle.trlab_step.specs.Progress.{at_start};
 ghost use Rattle.trlab_campaign.specs.Ending.{WroteAtEnd, EngineEnds, LeavesWriter, LeavesUnflushed, WroteByResult};
-ghost use Rattle.trlab_campaign.specs.Output.{IsOutputOf};
+ghost use Rattle.trlab_campaign.specs.Output.{IsOutputForJobText};
 ghost use Rattle.trlab_campaign.specs.Refusal.{Outputs};
 ghost use Rattle.trlab_campaign.specs.Writers.{bytes_of};
 
@@ -102,7 +102,7 @@ fn write_by_pool<'x, R: Threads + Wait + Sync, G: Gate + Sync, C: Account, A: Ex
     )
 }
 
-/// Whether a program draws on a random word. A draw of probability 0 or 1 needs none.
+/// Whether an instruction draws a random number. A draw of probability 0 or 1 needs none.
 fn some_instr_draws(instrs: &[Instr]) -> bool {
     instrs.iter().any(|instr| match *instr {
         Instr::Draw(_, _, parts) => 0 < parts && parts < CERTAIN,
@@ -110,7 +110,7 @@ fn some_instr_draws(instrs: &[Instr]) -> bool {
     })
 }
 
-/// Whether a program of a rule draws on a random word.
+/// Whether a program of a rule draws random numbers.
 fn rule_draws(rule: &Rule) -> bool {
     some_instr_draws(rule.motion().code().instrs())
         || match rule.change() {
@@ -131,23 +131,21 @@ struct JobEngine<'a, R, C, O> {
     account: &'a C,
     workers: u32,
     progress: &'a O,
-    ghost some_worker: { 0 < workers },
-    ghost few_workers: { workers ≤ MAX_WORKERS },
+    ghost worker_count: { (0 < workers) × (workers ≤ MAX_WORKERS) },
 }
 
 impl<'a, R: Threads + Wait + Sync, C: Account, O: ProgressObserver> JobEngine<'a, R, C, O> {
-    /// Writes the account of a job and flushes the writer. The pool, which is made now, has only the workers
-    /// that make the job's road faster.
+    /// Writes the account of a job and flushes the writer. Starts only as many workers as speed up the job's road.
     fn drive<K: Sink>(&self, alloc: Global, job: Job, writer: &mut K) -> End
         requires works { K.failed writer.old ≡ false }
         ensures { LeavesWriter K.Sink (WroteAtEnd (C.outputs self.now.account.now job)) result writer.old writer.new }
     {
         let gate = OpenGate;
         let draws = some_rule_draws(&job);
-        let pool = Pool::new(self.rt, self.workers, &gate).sparing(job.road.cars(), draws);
+        let pool = Pool::new(self.rt, self.workers, &gate).with_workers_for(job.road.cars(), draws);
         let with_progress = WithProgress::new(&pool, self.progress, self.account.steps(&job));
         let end = write_by_pool(alloc, &pool, self.account, &with_progress, job, writer);
-        with_progress.ended(end);
+        with_progress.report_end(end);
         end
     }
 }
@@ -156,7 +154,7 @@ impl<'a, R: Threads + Wait + Sync, C: Account, O: ProgressObserver> Engine
     for JobEngine<'a, R, C, O> {
     ghost is_ready = { λ _. IsSync R.row };
 
-    ghost outputs = { λ engine text. IsOutputOf (C.outputs engine.account.now) text };
+    ghost outputs = { λ engine text. IsOutputForJobText (C.outputs engine.account.now) text };
 
     ghost at_once = { false };
 
@@ -171,7 +169,7 @@ impl<'a, R: Threads + Wait + Sync, C: Account, O: ProgressObserver> Engine
 }
 
 /// The run of a job, at its start.
-pub fn run_of(alloc: Global, job: Job) -> Run
+pub fn run_of_job(alloc: Global, job: Job) -> Run
     ensures { result ≡ at_start (seed_of job) (sheet_of job) }
 {
     let Job {
@@ -185,7 +183,7 @@ pub fn run_of(alloc: Global, job: Job) -> Run
 }
 
 /// Reads a job text, and writes the account of its run, or the line of the text's first fault. A pool of at most
-/// `workers` workers asks the cars.
+/// `workers` workers computes the cars.
 pub fn run_pooled<
     R: AllocGlobal + Threads + Wait + Sync,
     C: Account,
@@ -197,7 +195,7 @@ pub fn run_pooled<
     requires writer_works { K.failed writer.old ≡ false }
     requires some_worker { 1 ≤ workers }
     requires few_workers { workers ≤ MAX_WORKERS }
-    ensures { EngineEnds S.Source K.Sink (IsOutputOf (C.outputs account.now)) result
+    ensures { EngineEnds S.Source K.Sink (IsOutputForJobText (C.outputs account.now)) result
         reader.old reader.new writer.old writer.new }
 {
     run_engine(

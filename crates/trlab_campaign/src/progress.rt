@@ -1,7 +1,7 @@
-//! Progress: how far a command's work is, and the observers of it. They never change an output.
+//! Reports of progress: the share of a command's work that is done. They never change an output.
 
 ghost use Rattle.std.specs.Prelude.{◌≡◌, ◌↔◌, ◌-◌, ◌<◌, ◌≤◌, None, IfSome};
-ghost use Rattle.trlab_campaign.specs.Hundredths.{hundredths};
+ghost use Rattle.trlab_campaign.specs.Percent.{percent_done};
 
 use crate::end::End;
 use std::alloc::{AllocError, Global};
@@ -10,26 +10,26 @@ use trlab_road::Road;
 use trlab_step::{Executor, StepObserver};
 use trlab_verify::{Change, Motion};
 
-/// Observes how far a command's work is. No contract depends on an observer.
+/// Receives reports of a command's progress. No contract depends on an observer.
 pub trait ProgressObserver {
-    /// Whether it observes the work. If not, nothing is counted.
+    /// Whether the observer wants reports. If not, no work is counted.
     fn is_watching(&self) -> bool;
 
-    /// Called when the work has reached another hundredth. Any worker may call it.
+    /// Called each time another percent of the work is done. Any worker may call it.
     fn reached(&self, milestone: Milestone);
 }
 
-/// How far the work is.
+/// A report of progress.
 #[derive(Clone, Copy, Debug, PartialEq, Eq)]
 pub struct Milestone {
-    /// The hundredths of the work that are done, 1 to 100.
-    pub hundredths: u32,
+    /// How much of the work is done, in percent: 1 to 100.
+    pub percent: u32,
     /// The current step (of a run or a series) or point (of a sweep), from 1 on.
     pub number: u32,
     /// The number of steps or points.
     pub count: u32,
-    pub ghost at_least_one: { 1 ≤ hundredths },
-    pub ghost at_most_all: { hundredths ≤ 100 },
+    pub ghost at_least_one: { 1 ≤ percent },
+    pub ghost at_most_all: { percent ≤ 100 },
     pub ghost from_one: { 1 ≤ number },
     pub ghost to_last: { number ≤ count },
 }
@@ -47,8 +47,8 @@ impl ProgressObserver for NoProgress {
 }
 
 /// The percentage of work that is done with `done` of `whole` parts, rounded down; 100 if no part is left.
-fn hundredths(done: u64, whole: u64) -> u32
-    ensures { result ≡ hundredths done whole }
+fn percent_done(done: u64, whole: u64) -> u32
+    ensures { result ≡ percent_done done whole }
 {
     if whole <= done {
         100
@@ -57,9 +57,9 @@ fn hundredths(done: u64, whole: u64) -> u32
     }
 }
 
-/// The milestone after `after` of the work's `whole` parts, if its hundredth differs from the hundredth after `before`
+/// The milestone after `after` of the work's `whole` parts, if its percentage differs from the one after `before`
 /// parts. `number` is the current step or point, of `count`.
-pub fn newly_reached(
+pub fn milestone_between(
     before: u64,
     after: u64,
     whole: u64,
@@ -69,17 +69,17 @@ pub fn newly_reached(
     requires rises { before ≤ after }
     // While parts are left and some are done, there is a current step or point.
     requires at_hand { before < after → before < whole → (1 ≤ number) × (number ≤ count) }
-    ensures hundredths { IfSome result (λ milestone. milestone.hundredths ≡ hundredths after whole) }
+    ensures percent { IfSome result (λ milestone. milestone.percent ≡ percent_done after whole) }
     ensures number { IfSome result (λ milestone. milestone.number ≡ number) }
     ensures count { IfSome result (λ milestone. milestone.count ≡ count) }
-    ensures silent { (result ≡ None) ↔ (hundredths before whole ≡ hundredths after whole) }
+    ensures silent { (result ≡ None) ↔ (percent_done before whole ≡ percent_done after whole) }
 {
-    let reached = hundredths(after, whole);
-    if reached == hundredths(before, whole) {
+    let reached = percent_done(after, whole);
+    if reached == percent_done(before, whole) {
         None
     } else {
         Some(Milestone {
-            hundredths: reached,
+            percent: reached,
             number,
             count,
         })
@@ -110,16 +110,16 @@ impl<'a, A, O: ProgressObserver> WithProgress<'a, A, O> {
         }
     }
 
-    /// The milestone after `taken` steps, if its hundredth differs from the hundredth one step earlier.
+    /// The milestone after `taken` steps, if its percentage differs from the one a step earlier.
     fn milestone(&self, taken: u32) -> Option<Milestone>
-        ensures hundredths { IfSome result (λ milestone. milestone.hundredths ≡ hundredths taken self.now.steps) }
+        ensures percent { IfSome result (λ milestone. milestone.percent ≡ percent_done taken self.now.steps) }
         ensures number { IfSome result (λ milestone. milestone.number ≡ taken) }
         ensures count { IfSome result (λ milestone. milestone.count ≡ self.now.steps) }
         ensures silent { (result ≡ None)
-            ↔ (hundredths (taken - 1) self.now.steps ≡ hundredths taken self.now.steps) }
+            ↔ (percent_done (taken - 1) self.now.steps ≡ percent_done taken self.now.steps) }
     {
         let before = u64::from(taken.saturating_sub(1));
-        newly_reached(
+        milestone_between(
             before,
             u64::from(taken),
             u64::from(self.steps),
@@ -138,7 +138,7 @@ impl<'a, A, O: ProgressObserver> WithProgress<'a, A, O> {
     }
 
     /// Reports all steps, if the run ended with `Done`.
-    pub fn ended(&self, end: End) {
+    pub fn report_end(&self, end: End) {
         if end == End::Done {
             self.report_step(self.steps);
         }

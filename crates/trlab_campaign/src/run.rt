@@ -1,5 +1,5 @@
 //! The engine of runs: job texts in, pictures out. The whole text is checked before the first picture is
-//! written. The picture of a road is made while its cars are asked, and written once they have moved.
+//! written. The picture of a road is made while its cars are computed, and written once they have moved.
 
 ghost use Rattle.std.specs.Prelude.{◌≡◌, ℕ, ◌+◌, ◌<◌, ◌≤◌, ◌^◌, List, [], false, OnOk, if◌then◌else◌};
 ghost use Rattle.trlab_jobs.specs.Job.{Job as Told, seed_of, sheet_of};
@@ -7,13 +7,13 @@ ghost use Rattle.trlab_jobs.specs.Stored.{IsStoredJob};
 ghost use Rattle.trlab_step.specs.Progress.{IsOneStepOn, at_start};
 ghost use Rattle.trlab_step.specs.Run.{IsRoadAt};
 ghost use Rattle.trlab_campaign.specs.Ending.{EngineEnds, LeavesUnflushed, WroteByResult};
-ghost use Rattle.trlab_campaign.specs.Output.{IsOutput, IsShownOutput, JobOutput, every_from, shown_text, step_text};
+ghost use Rattle.trlab_campaign.specs.Output.{IsOutput, IsShownOutput, IsOutputForJob, every_from, shown_text, step_text};
 ghost use Rattle.trlab_campaign.specs.Writers.{AddsByResult, bytes_of};
 
 use crate::device::{Sink, Source, write_text};
 use crate::end::{End, Failure};
 use crate::output::push_step;
-use crate::pooled::{Account, run_of, run_pooled};
+use crate::pooled::{Account, run_of_job, run_pooled};
 use crate::progress::{NoProgress, ProgressObserver};
 use std::alloc::{AllocError, AllocGlobal, Global};
 use std::sync::Wait;
@@ -62,15 +62,15 @@ impl ShownSteps {
     }
 }
 
-/// The text of a step, which is made while the cars are asked. Its memory is reused from step to step.
+/// The text of a step, which is made while the cars are computed. Its memory is reused from step to step.
 #[derive(Drop)]
 struct StepText {
     step: u32,
     /// Whether the step is shown. The text of any other step is empty, and no picture is made of its road.
     is_shown: bool,
     bytes: Vec<u8>,
-    /// `Ok` if the bytes are the whole text, `Err` if an allocation failed.
-    made: Result<(), AllocError>,
+    /// `Ok` if the bytes are the complete text, `Err` if an allocation failed.
+    outcome: Result<(), AllocError>,
 }
 
 impl StepText {
@@ -80,18 +80,18 @@ impl StepText {
             step: 0,
             is_shown: false,
             bytes: Vec::new(alloc),
-            made: Ok(()),
+            outcome: Ok(()),
         }
     }
 }
 
 impl StepObserver for StepText {
-    ghost observes = { λ before road text. OnOk text.made
+    ghost observes = { λ before road text. OnOk text.outcome
         (text.bytes.items ≡ if before.is_shown then step_text before.step road else []) };
 
     fn observe(&mut self, road: &Road) {
         self.bytes.clear();
-        self.made = if self.is_shown {
+        self.outcome = if self.is_shown {
             push_step(&mut self.bytes, self.step, road)
         } else {
             Ok(())
@@ -99,14 +99,14 @@ impl StepObserver for StepText {
     }
 }
 
-/// Writes the text of a step. Returns `Memory` if it could not be made.
-fn write_made<K: Sink>(text: &StepText, writer: &mut K) -> Result<(), Failure>
+/// Writes the text of a step. Returns `Memory` if the text is not complete.
+fn write_step_text<K: Sink>(text: &StepText, writer: &mut K) -> Result<(), Failure>
     requires { K.failed writer.old ≡ false }
-    ensures wrote { (bytes : List ℕ) → OnOk text.now.made (text.now.bytes.items ≡ bytes)
+    ensures wrote { (bytes : List ℕ) → OnOk text.now.outcome (text.now.bytes.items ≡ bytes)
         → AddsByResult result (bytes_of K.Sink writer.old) (bytes_of K.Sink writer.new) bytes }
     ensures writer { LeavesUnflushed K.Sink result writer.old writer.new }
 {
-    match text.made {
+    match text.outcome {
         Ok(()) => match write_text(writer, &text.bytes) {
             Ok(()) => Ok(()),
             Err(_) => Err(Failure::Device),
@@ -136,7 +136,7 @@ fn show_step<A: Executor, K: Sink>(
     text.step = run.step();
     text.is_shown = shown.has(text.step);
     let advanced = run.advance_showing(executor, alloc, text);
-    write_made(text, writer)?;
+    write_step_text(text, writer)?;
     match advanced {
         Ok(()) => Ok(()),
         Err(_) => Err(Failure::Memory),
@@ -159,7 +159,7 @@ fn show_last<K: Sink>(
     text.step = run.step();
     text.is_shown = shown.has(text.step);
     text.observe(run.road());
-    write_made(text, writer)
+    write_step_text(text, writer)
 }
 
 /// Writes the pictures of a run from its start to the last step that is shown.
@@ -176,7 +176,7 @@ fn write_run<A: Executor, K: Sink>(
     requires start { run.old.step ≡ 0 }
     ensures wrote { (job : Told) → IsStoredJob job
         → run.old ≡ at_start (seed_of job) (sheet_of job) → steps ≡ job.steps
-        → WroteByResult (JobOutput (every_from shown.now.every shown.now.from) job) result
+        → WroteByResult (IsOutputForJob (every_from shown.now.every shown.now.from) job) result
         (bytes_of K.Sink writer.old) (bytes_of K.Sink writer.new) }
     ensures writer { LeavesUnflushed K.Sink result writer.old writer.new }
 {
@@ -195,7 +195,7 @@ struct StepPictures<'a> {
 }
 
 impl<'a> Account for StepPictures<'a> {
-    ghost outputs = { λ pictures job. JobOutput (every_from pictures.shown.now.every pictures.shown.now.from) job };
+    ghost outputs = { λ pictures job. IsOutputForJob (every_from pictures.shown.now.every pictures.shown.now.from) job };
 
     fn steps(&self, job: &Job) -> u32 {
         self.shown.last(job.steps)
@@ -209,7 +209,7 @@ impl<'a> Account for StepPictures<'a> {
         writer: &mut K,
     ) -> Result<(), Failure> {
         let steps = job.steps;
-        let mut run = run_of(alloc, job);
+        let mut run = run_of_job(alloc, job);
         let written = write_run(executor, alloc, self.shown, &mut run, steps, writer);
         drop(run);
         written

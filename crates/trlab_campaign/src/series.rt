@@ -9,14 +9,14 @@ ghost use Rattle.trlab_road.specs.Cells.{Cells};
 ghost use Rattle.trlab_step.specs.declared.tally.StepTally.{StepTally};
 ghost use Rattle.trlab_campaign.specs.Counting.{IsLaterBy};
 ghost use Rattle.trlab_campaign.specs.Ending.{EngineEnds, LeavesUnflushed, WroteByResult};
-ghost use Rattle.trlab_campaign.specs.SeriesOutput.{CompletesWindows, IsCourse, IsSeriesOutput, SeriesOutput};
+ghost use Rattle.trlab_campaign.specs.SeriesOutput.{CompletesWindows, IsCourse, IsSeriesOutput, IsSeriesOutputForJob};
 ghost use Rattle.trlab_campaign.specs.SeriesOutput.{first_windows, window_of};
 ghost use Rattle.trlab_campaign.specs.Writers.{AddsByResult, bytes_of};
 
 use crate::counting::{skip_steps, take_window};
 use crate::device::{Sink, Source, write_text};
 use crate::end::{End, Failure};
-use crate::pooled::{Account, run_of, run_pooled};
+use crate::pooled::{Account, run_of_job, run_pooled};
 use crate::progress::ProgressObserver;
 use std::alloc::{AllocGlobal, Global};
 use std::sync::Wait;
@@ -37,7 +37,7 @@ pub struct Windows {
 }
 
 impl Windows {
-    /// Windows of `every` steps (1 to 500,000) each, from the step `from` (0 to 500,000) on.
+    /// Windows of `every` steps (1 to `MAX_STEPS`) each, from the step `from` (0 to `MAX_STEPS`) on.
     pub fn new(every: u32, from: u32) -> Windows
         requires some_steps { 1 ≤ every }
         requires few_steps { every ≤ MAX_STEPS }
@@ -177,13 +177,13 @@ fn write_series<A: Executor, K: Sink>(
 ) -> Result<(), Failure>
     requires ready { A.is_ready executor.now }
     requires works { K.failed writer.old ≡ false }
-    ensures wrote { WroteByResult (SeriesOutput windows.now.every windows.now.from job) result
+    ensures wrote { WroteByResult (IsSeriesOutputForJob windows.now.every windows.now.from job) result
         (bytes_of K.Sink writer.old) (bytes_of K.Sink writer.new) }
     ensures writer { LeavesUnflushed K.Sink result writer.old writer.new }
 {
     let count = windows.count(job.steps);
     write_line(series_heading(alloc), writer)?;
-    let mut run = run_of(alloc, job);
+    let mut run = run_of_job(alloc, job);
     let written = write_windows(executor, alloc, &mut run, windows, count, writer);
     drop(run);
     written
@@ -196,7 +196,7 @@ struct Series<'a> {
 }
 
 impl<'a> Account for Series<'a> {
-    ghost outputs = { λ series job. SeriesOutput series.windows.now.every series.windows.now.from job };
+    ghost outputs = { λ series job. IsSeriesOutputForJob series.windows.now.every series.windows.now.from job };
 
     fn steps(&self, job: &Job) -> u32 {
         self.windows.steps(job.steps)

@@ -9,7 +9,7 @@ ghost use Rattle.std.specs.Prelude.{◌≡◌, ◌<◌, ◌≤◌, true, false, 
 ghost use Rattle.trlab_campaign.specs.declared.end.End.TheVariants.{Memory};
 ghost use Rattle.trlab_bounds.specs.declared.runs.TheConstants.{MAX_RUNNERS, MAX_WORKERS};
 ghost use Rattle.trlab_campaign.specs.Ending.{WroteAtEnd, EngineEnds, LeavesWriter};
-ghost use Rattle.trlab_campaign.specs.SweepOutput.{IsSweepOutput, SweepOutput, ReturnsTable};
+ghost use Rattle.trlab_campaign.specs.SweepOutput.{IsSweepOutput, IsOutputForSweep, ReturnsTable};
 ghost use Rattle.trlab_campaign.specs.Writers.{AddsNone, bytes_of};
 
 use crate::device::{Sink, Source};
@@ -40,7 +40,7 @@ fn table<R: Threads + Wait + Sync, O: ProgressObserver + Sync>(
 ) -> Result<Vec<u8>, AllocError>
     requires runners { (0 < runners) × (runners ≤ MAX_RUNNERS) }
     requires workers { (0 < workers) × (workers ≤ MAX_WORKERS) }
-    ensures { IfOk result (λ text. SweepOutput sweep.now false text.items) }
+    ensures { IfOk result (λ text. IsOutputForSweep sweep.now false text.items) }
 {
     let gate = WorkGate::new(sweep, progress);
     let runners = Runners {
@@ -52,7 +52,7 @@ fn table<R: Threads + Wait + Sync, O: ProgressObserver + Sync>(
         workers,
     };
     let points = runners.points()?;
-    gate.finished();
+    gate.report_end();
     match points_text(alloc, &points) {
         Ok(text) => Ok(text),
         Err(_) => Err(AllocError),
@@ -61,9 +61,9 @@ fn table<R: Threads + Wait + Sync, O: ProgressObserver + Sync>(
 
 /// Writes the table of a sweep. Returns `Memory` if it could not be made.
 fn write_table<K: Sink>(sweep: &Sweep, table: Result<Vec<u8>, AllocError>, writer: &mut K) -> End
-    requires made { IfOk table (λ table. SweepOutput sweep.now false table.items) }
+    requires made { IfOk table (λ table. IsOutputForSweep sweep.now false table.items) }
     requires works { K.failed writer.old ≡ false }
-    ensures ends { LeavesWriter K.Sink (WroteAtEnd (SweepOutput sweep.now)) result writer.old writer.new }
+    ensures ends { LeavesWriter K.Sink (WroteAtEnd (IsOutputForSweep sweep.now)) result writer.old writer.new }
     ensures kept { result ≡ Memory → AddsNone (bytes_of K.Sink writer.old) (bytes_of K.Sink writer.new) }
 {
     match table {

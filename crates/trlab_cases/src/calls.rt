@@ -1,25 +1,25 @@
 //! The calls of the input, and their answers.
 
-use crate::programs::{assembled, decoded, noted};
+use crate::programs::{write_assembled, write_decoded, write_notes};
 use crate::report::{Outcome, Report};
-use crate::roads::{pictured, spread};
-use crate::steps::stepped;
+use crate::roads::{write_even_road, write_parsed_road};
+use crate::steps::write_step;
 use std::alloc::{AllocError, AllocGlobal, Global};
 use std::io;
 use std::io::Write;
 use trlab_code::Kind;
 
-/// Makes the call of these words with a text, and writes its output.
+/// Makes the call that `words` name with a text, and writes its output.
 fn write_answer(report: &mut Report, words: &str, text: &str) -> Outcome {
     match words {
-        "motion" => assembled(report, Kind::Motion, text.as_bytes()),
-        "change" => assembled(report, Kind::Change, text.as_bytes()),
-        "code" => decoded(report, text.as_bytes()),
-        "notes motion" => noted(report, Kind::Motion, text.as_bytes()),
-        "notes change" => noted(report, Kind::Change, text.as_bytes()),
-        "road" => pictured(report, text),
-        "even" => spread(report, text),
-        "step" => stepped(report, text.as_bytes()),
+        "motion" => write_assembled(report, Kind::Motion, text.as_bytes()),
+        "change" => write_assembled(report, Kind::Change, text.as_bytes()),
+        "code" => write_decoded(report, text.as_bytes()),
+        "notes motion" => write_notes(report, Kind::Motion, text.as_bytes()),
+        "notes change" => write_notes(report, Kind::Change, text.as_bytes()),
+        "road" => write_parsed_road(report, text),
+        "even" => write_even_road(report, text),
+        "step" => write_step(report, text.as_bytes()),
         _ => report.finish(Outcome::Refused, "no such call\n"),
     }
 }
@@ -40,8 +40,8 @@ impl<'a> PendingCall<'a> {
         }
     }
 
-    /// Begins a new call if there are words, and adds a line to the text.
-    fn add(&mut self, words: &'a str, line: &str) -> Result<(), AllocError> {
+    /// Begins a new call if there are words, and appends a line to the text.
+    fn push_line(&mut self, words: &'a str, line: &str) -> Result<(), AllocError> {
         if !words.is_empty() {
             self.words = words;
             self.text.clear();
@@ -50,13 +50,13 @@ impl<'a> PendingCall<'a> {
         self.text.push('\n')
     }
 
-    /// Reads a line of the input, and prints it, or the answer if the line is `?`.
+    /// Reads a line of the input, and prints it; for a line `?`, makes the current call and prints its answer instead.
     pub fn take(&mut self, rt: &(impl AllocGlobal + Print), line: &'a str) -> io::Result<()> {
         if line == "?" {
             return self.print_answer(rt);
         }
         if let Some((words, text)) = line.split_once("| ") {
-            self.add(words.trim(), text)?;
+            self.push_line(words.trim(), text)?;
         }
         println!(rt; "{line}")
     }

@@ -5,66 +5,68 @@ ghost use Rattle.trlab_bounds.specs.declared.programs.TheConstants.{VARIABLES};
 
 use crate::report::{Outcome, Report};
 use std::alloc::{AllocError, Global};
-use trlab_asm::{AsmFault, Why, assemble, disassemble};
+use trlab_asm::{
+    AsmFault, INPUTS, REGISTERS, Why, assemble, disassemble, input_text, register_text,
+};
 use trlab_code::{Code, CodeFault, Kind, VARIABLES, decode, encode};
 use trlab_verify::{Mark, Note, NotesFault, check_notes, notes};
 
-/// Assembles a program, and writes its bytes and its canonical text, or the fault.
-pub fn assembled(report: &mut Report, kind: Kind, text: &[u8]) -> Outcome {
+/// Assembles a program, and writes its bytes in hexadecimal and its canonical text, or the fault.
+pub fn write_assembled(report: &mut Report, kind: Kind, text: &[u8]) -> Outcome {
     match assemble(report.alloc, kind, text) {
-        Ok(code) => spelled(report, &code),
-        Err(fault) => not_assembled(report, fault),
+        Ok(code) => write_code(report, &code),
+        Err(fault) => write_asm_fault(report, fault),
     }
 }
 
-/// Writes why a program was not assembled.
-fn not_assembled(report: &mut Report, fault: AsmFault) -> Outcome {
+/// Writes the line and the number of the fault of a program that was not assembled.
+fn write_asm_fault(report: &mut Report, fault: AsmFault) -> Outcome {
     match fault.why {
         Why::Memory => report.fail(),
         why => {
             let (line, why) = (fault.line, why as u32);
-            report.add_text(format!(in report.alloc; "line {line} why {why}\n"));
+            report.push_allocated(format!(in report.alloc; "line {line} why {why}\n"));
             Outcome::Refused
         }
     }
 }
 
-/// Writes the bytes and the canonical text of a program.
-fn spelled(report: &mut Report, code: &Code) -> Outcome {
+/// Writes the bytes of a program in hexadecimal and its canonical text.
+fn write_code(report: &mut Report, code: &Code) -> Outcome {
     match encode(report.alloc, code) {
-        Ok(bytes) => add_rows(report, &bytes),
+        Ok(bytes) => push_hex(report, &bytes),
         Err(_) => return report.fail(),
     }
-    canonical(report, code)
+    write_canonical(report, code)
 }
 
 /// Writes bytes in hexadecimal, eight per line.
-fn add_rows(report: &mut Report, bytes: &[u8]) {
+fn push_hex(report: &mut Report, bytes: &[u8]) {
     for row in bytes.chunks(8) {
-        report.add_text(hex::encode(report.alloc, row));
-        report.add("\n");
+        report.push_allocated(hex::encode(report.alloc, row));
+        report.push_str("\n");
     }
 }
 
 /// Writes the canonical text of a program.
-fn canonical(report: &mut Report, code: &Code) -> Outcome {
+fn write_canonical(report: &mut Report, code: &Code) -> Outcome {
     match disassemble(report.alloc, code) {
-        Ok(text) => report.add_bytes(&text),
+        Ok(text) => report.push_bytes(&text),
         Err(_) => return report.fail(),
     }
     Outcome::Done
 }
 
 /// Decodes a program from hexadecimal digits, and writes its kind and its canonical text, or the fault.
-pub fn decoded(report: &mut Report, text: &[u8]) -> Outcome {
-    match digits_of(report.alloc, text) {
-        Ok(digits) => decoded_digits(report, &digits),
+pub fn write_decoded(report: &mut Report, text: &[u8]) -> Outcome {
+    match without_white_space(report.alloc, text) {
+        Ok(digits) => write_decoded_digits(report, &digits),
         Err(_) => report.fail(),
     }
 }
 
-/// The bytes of a text, without its white space.
-fn digits_of(alloc: Global, text: &[u8]) -> Result<Vec<u8>, AllocError> {
+/// A copy of a text without its white space.
+fn without_white_space(alloc: Global, text: &[u8]) -> Result<Vec<u8>, AllocError> {
     let mut digits = Vec::new(alloc);
     for byte in text {
         if !byte.is_ascii_whitespace() {
@@ -74,138 +76,129 @@ fn digits_of(alloc: Global, text: &[u8]) -> Result<Vec<u8>, AllocError> {
     Ok(digits)
 }
 
-/// Writes the kind and the canonical text of the program of these digits, or the fault.
-fn decoded_digits(report: &mut Report, digits: &[u8]) -> Outcome {
+/// Writes the kind and the canonical text of the program that hexadecimal digits encode, or the fault.
+fn write_decoded_digits(report: &mut Report, digits: &[u8]) -> Outcome {
     match hex::decode(report.alloc, digits) {
-        Ok(bytes) => decoded_bytes(report, &bytes),
+        Ok(bytes) => write_decoded_bytes(report, &bytes),
         Err(_) => report.finish(Outcome::Refused, "no hexadecimal\n"),
     }
 }
 
-/// Writes the kind and the canonical text of the program of these bytes, or the fault.
-fn decoded_bytes(report: &mut Report, bytes: &[u8]) -> Outcome {
+/// Writes the kind and the canonical text of the program that bytes encode, or the fault.
+fn write_decoded_bytes(report: &mut Report, bytes: &[u8]) -> Outcome {
     match decode(report.alloc, bytes) {
         Ok(code) => {
-            report.add(match code.kind() {
+            report.push_str(match code.kind() {
                 Kind::Motion => "Motion\n",
                 Kind::Change => "Change\n",
             });
-            canonical(report, &code)
+            write_canonical(report, &code)
         }
         Err(CodeFault::Memory) => report.fail(),
         Err(fault) => {
-            report.add_text(format!(in report.alloc; "{fault:?}\n"));
+            report.push_allocated(format!(in report.alloc; "{fault:?}\n"));
             Outcome::Refused
         }
     }
 }
 
 /// Assembles a program, checks its notes as a table, and writes them, or the fault.
-pub fn noted(report: &mut Report, kind: Kind, text: &[u8]) -> Outcome {
+pub fn write_notes(report: &mut Report, kind: Kind, text: &[u8]) -> Outcome {
     match assemble(report.alloc, kind, text) {
-        Ok(code) => noted_code(report, &code),
-        Err(fault) => not_assembled(report, fault),
+        Ok(code) => write_code_notes(report, &code),
+        Err(fault) => write_asm_fault(report, fault),
     }
 }
 
 /// Writes the notes of a program.
-fn noted_code(report: &mut Report, code: &Code) -> Outcome {
+fn write_code_notes(report: &mut Report, code: &Code) -> Outcome {
     match notes(report.alloc, code) {
-        Ok(table) => listed(report, &table, check_notes(code, &table)),
+        Ok(table) => push_notes(report, &table, check_notes(code, &table)),
         Err(NotesFault::Refused) => report.finish(Outcome::Refused, "no notes\n"),
         Err(NotesFault::Memory) => report.fail(),
     }
 }
 
-/// Writes the notes, if the check accepted them.
-fn listed(report: &mut Report, table: &[Note], is_checked: bool) -> Outcome {
+/// Writes a table of notes, one note per line, if the check accepted it.
+fn push_notes(report: &mut Report, table: &[Note], is_checked: bool) -> Outcome {
     if !is_checked {
         return report.finish(Outcome::Refused, "notes that do not check\n");
     }
     for note in table {
-        add_note(report, note);
+        push_note(report, note);
     }
     Outcome::Done
 }
 
-/// The names of the variables, in their order.
-const NAMES: [&str; VARIABLES] = [
-    "r0",
-    "r1",
-    "r2",
-    "r3",
-    "r4",
-    "r5",
-    "r6",
-    "r7",
-    "speed",
-    "limit",
-    "gap",
-    "sidegap",
-    "sideback",
-    "lane",
-    "headspeed",
-];
-
-/// The name of the variable with this number.
-fn name_of(variable: usize) -> &'static str
+/// The name of the variable with this number: first come the registers, then the inputs.
+fn variable_name(variable: usize) -> &'static [u8]
     requires { variable < VARIABLES }
 {
-    NAMES[variable]
+    match variable.checked_sub(REGISTERS.len()) {
+        Some(input) => input_text(INPUTS[input]),
+        None => register_text(REGISTERS[variable]),
+    }
 }
 
-/// Writes a note on a line: the registers, the order of the variables (`<=` or `<`), and whether the side cell is known
-/// to be empty.
-fn add_note(report: &mut Report, note: &Note) {
+/// The level of a variable that is at most another one.
+const AT_MOST: u8 = 1;
+
+/// The level of a variable that is below another one.
+const BELOW: u8 = 2;
+
+/// Writes a note on a line: the values of the registers, the order of the variables (`<=` or `<`), and `side` if the
+/// side cell is known to be empty.
+fn push_note(report: &mut Report, note: &Note) {
     for register in 0..note.regs.len() {
-        add_mark(report, name_of(register), note.regs[register]);
+        push_mark(report, variable_name(register), note.regs[register]);
     }
     for variable in 0..VARIABLES {
-        add_order(report, variable, "<=", &note.levels[variable], 1);
-        add_order(report, variable, "<", &note.levels[variable], 2);
+        push_order(report, variable, "<=", &note.levels[variable], AT_MOST);
+        push_order(report, variable, "<", &note.levels[variable], BELOW);
     }
     if note.side {
-        add_named(report, "side", "");
+        push_named(report, b"side", "");
     }
-    report.add("\n");
+    report.push_str("\n");
 }
 
-/// Writes a register's range or kind of flag, or nothing if it is unset.
-fn add_mark(report: &mut Report, name: &str, mark: Mark) {
+/// Writes a register's name with its range or its kind of flag, or nothing if it is unset.
+fn push_mark(report: &mut Report, name: &[u8], mark: Mark) {
     match mark {
         Mark::Unset => {}
         Mark::Num(low, high) => {
-            add_named(report, name, " ");
-            report.add_text(format!(in report.alloc; "{low} {high}"));
+            push_named(report, name, " ");
+            report.push_allocated(format!(in report.alloc; "{low} {high}"));
         }
-        Mark::Flag(true) => add_named(report, name, " side"),
-        Mark::Flag(false) => add_named(report, name, " flag"),
+        Mark::Flag(true) => push_named(report, name, " side"),
+        Mark::Flag(false) => push_named(report, name, " flag"),
     }
 }
 
-/// Writes a name and the words after it, with a space before them unless a line begins.
-fn add_named(report: &mut Report, name: &str, after: &str) {
+/// Writes a name and the words after it. A space comes before the name unless it begins a line.
+fn push_named(report: &mut Report, name: &[u8], after: &str) {
     match report.bytes.last() {
         None | Some(b'\n') => {}
-        Some(_) => report.add(" "),
+        Some(_) => report.push_str(" "),
     }
-    report.add(name);
-    report.add(after);
+    report.push_bytes(name);
+    report.push_str(after);
 }
 
-/// Writes a variable, a sign, and the other variables to which it has this level, if there are any.
-fn add_order(report: &mut Report, variable: usize, sign: &str, levels: &[u8; VARIABLES], level: u8)
+/// Writes a variable, a sign, and the other variables to which it has this level, separated by commas; nothing if there
+/// are none.
+fn push_order(report: &mut Report, variable: usize, sign: &str, levels: &[u8; VARIABLES], level: u8)
     requires { variable < VARIABLES }
 {
     let mut is_first = true;
     for other in 0..VARIABLES {
         if variable != other && levels[other] == level {
             if is_first {
-                add_named(report, name_of(variable), sign);
+                push_named(report, variable_name(variable), sign);
             } else {
-                report.add(",");
+                report.push_str(",");
             }
-            report.add(name_of(other));
+            report.push_bytes(variable_name(other));
             is_first = false;
         }
     }

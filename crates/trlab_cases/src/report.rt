@@ -2,7 +2,7 @@
 
 use std::alloc::{AllocError, Global};
 
-/// The outcome of a call.
+/// The outcome of a call, which is printed above its output as `done` or `refused`.
 #[derive(Clone, Copy)]
 pub enum Outcome {
     Done,
@@ -14,7 +14,7 @@ pub enum Outcome {
 pub struct Report {
     pub alloc: Global,
     pub bytes: Vec<u8>,
-    /// Has an allocation failed?
+    /// Whether an allocation has failed.
     pub is_incomplete: bool,
 }
 
@@ -28,41 +28,41 @@ impl Report {
         }
     }
 
-    /// Notes that an allocation failed.
+    /// Records that an allocation failed. The outcome that it returns is not printed.
     pub fn fail(&mut self) -> Outcome {
         self.is_incomplete = true;
         Outcome::Refused
     }
 
-    /// Adds bytes.
-    pub fn add_bytes(&mut self, bytes: &[u8]) {
+    /// Appends bytes.
+    pub fn push_bytes(&mut self, bytes: &[u8]) {
         if self.bytes.extend_from_slice(bytes).is_err() {
             self.is_incomplete = true;
         }
     }
 
-    /// Adds words.
-    pub fn add(&mut self, words: &str) {
-        self.add_bytes(words.as_bytes());
+    /// Appends a string.
+    pub fn push_str(&mut self, text: &str) {
+        self.push_bytes(text.as_bytes());
     }
 
-    /// Adds a text, or notes that its allocation failed.
-    pub fn add_text(&mut self, text: Result<String, AllocError>) {
+    /// Appends a string, or records that its allocation failed.
+    pub fn push_allocated(&mut self, text: Result<String, AllocError>) {
         match text {
-            Ok(text) => self.add(text.as_str()),
+            Ok(text) => self.push_str(text.as_str()),
             Err(_) => self.is_incomplete = true,
         }
     }
 
-    /// Adds words and then a number.
-    pub fn add_number(&mut self, words: &str, number: u32) {
-        self.add(words);
-        self.add_text(number.to_string(self.alloc));
+    /// Appends a string and then a number in decimal.
+    pub fn push_number(&mut self, words: &str, number: u32) {
+        self.push_str(words);
+        self.push_allocated(number.to_string(self.alloc));
     }
 
-    /// Adds the last words, and returns the outcome.
+    /// Appends the last words, and returns `outcome`.
     pub fn finish(&mut self, outcome: Outcome, words: &str) -> Outcome {
-        self.add(words);
+        self.push_str(words);
         outcome
     }
 }

@@ -6,8 +6,8 @@ ghost use Rattle.trlab_road.specs.Cells.{cars};
 use crate::report::{Outcome, Report};
 use trlab_road::{Road, RoadFault};
 
-/// Reads a limit and the pictures of lanes, one per line, and writes the road, or the fault.
-pub fn pictured(report: &mut Report, text: &str) -> Outcome {
+/// Reads a maximum speed and the pictures of lanes, one per line, and writes the road, or the fault.
+pub fn write_parsed_road(report: &mut Report, text: &str) -> Outcome {
     let mut lines = text.lines();
     let limit = lines.next().unwrap_or("").parse::<u32>().unwrap_or(0);
     let mut lanes = Vec::new(report.alloc);
@@ -16,15 +16,15 @@ pub fn pictured(report: &mut Report, text: &str) -> Outcome {
             return report.fail();
         }
     }
-    drawn(report, Road::parse(report.alloc, limit, &lanes))
+    write_road_or_fault(report, Road::parse(report.alloc, limit, &lanes))
 }
 
 /// Reads a number of lanes, a length, a limit and a number of evenly spaced cars, and writes the road, or the fault.
-pub fn spread(report: &mut Report, text: &str) -> Outcome {
+pub fn write_even_road(report: &mut Report, text: &str) -> Outcome {
     match four_numbers(text) {
         Some(numbers) => {
             let [lanes, length, limit, cars] = numbers;
-            drawn(report, Road::even(report.alloc, lanes, length, limit, cars))
+            write_road_or_fault(report, Road::even(report.alloc, lanes, length, limit, cars))
         }
         None => report.finish(Outcome::Refused, "not four numbers\n"),
     }
@@ -37,79 +37,79 @@ fn four_numbers(text: &str) -> Option<[u32; 4]> {
     for number in &mut numbers {
         *number = words.next()?.parse::<u32>().unwrap_or(0);
     }
-    match words.next() {
-        Some(_) => None,
-        None => Some(numbers),
+    if words.next().is_some() {
+        return None;
     }
+    Some(numbers)
 }
 
 /// Writes a road, or the fault.
-fn drawn(report: &mut Report, road: Result<Road, RoadFault>) -> Outcome {
+fn write_road_or_fault(report: &mut Report, road: Result<Road, RoadFault>) -> Outcome {
     match road {
-        Ok(road) => shown(report, &road),
+        Ok(road) => write_road(report, &road),
         Err(RoadFault::Memory) => report.fail(),
         Err(fault) => {
-            report.add_text(format!(in report.alloc; "{fault:?}\n"));
+            report.push_allocated(format!(in report.alloc; "{fault:?}\n"));
             Outcome::Refused
         }
     }
 }
 
-/// Writes the number of lanes, the length, the limit and the number of cars of a road, its cars in standing order, and
-/// its pictures.
-fn shown(report: &mut Report, road: &Road) -> Outcome {
-    report.add_number("lanes ", road.lanes());
-    report.add_number(" length ", road.length());
-    report.add_number(" limit ", road.limit());
-    report.add_number(" cars ", road.cars());
-    report.add("\n");
+/// Writes the number of lanes, the length, the maximum speed and the number of cars of a road, then its cars in
+/// standing order, then its pictures.
+fn write_road(report: &mut Report, road: &Road) -> Outcome {
+    report.push_number("lanes ", road.lanes());
+    report.push_number(" length ", road.length());
+    report.push_number(" limit ", road.limit());
+    report.push_number(" cars ", road.cars());
+    report.push_str("\n");
     for k in 0..road.cars() {
-        add_standing(report, road, k);
+        push_car(report, road, k);
     }
-    add_pictures(report, road);
+    push_pictures(report, road);
     Outcome::Done
 }
 
 /// Writes the k-th car in standing order, with its gaps and its headspeed, on a line.
-fn add_standing(report: &mut Report, road: &Road, k: u32)
+fn push_car(report: &mut Report, road: &Road, k: u32)
     requires { k < cars road.now }
 {
     let car = road.standing(k);
-    report.add_number("car ", car.number);
-    report.add_number(" lane ", car.lane);
-    report.add_number(" place ", car.place);
-    report.add_number(" speed ", car.speed);
-    report.add_number(" gap ", road.gap(k));
-    report.add_number(" headspeed ", road.headspeed(k));
+    report.push_number("car ", car.number);
+    report.push_number(" lane ", car.lane);
+    report.push_number(" place ", car.place);
+    report.push_number(" speed ", car.speed);
+    report.push_number(" gap ", road.gap(k));
+    report.push_number(" headspeed ", road.headspeed(k));
     if road.lanes() == 2 {
-        add_beside(report, road, k);
+        push_side(report, road, k);
     }
-    report.add("\n");
+    report.push_str("\n");
 }
 
 /// Writes whether the side cell is empty, and the gaps ahead and behind on the other lane.
-fn add_beside(report: &mut Report, road: &Road, k: u32)
+fn push_side(report: &mut Report, road: &Road, k: u32)
     requires below { k < cars road.now }
     requires two { length road.now.lanes ≡ 2 }
 {
-    report.add(if road.side(k) {
+    report.push_str(if road.side(k) {
         " side empty"
     } else {
         " side taken"
     });
-    report.add_number(" sidegap ", road.sidegap(k));
-    report.add_number(" sideback ", road.sideback(k));
+    report.push_number(" sidegap ", road.sidegap(k));
+    report.push_number(" sideback ", road.sideback(k));
 }
 
 /// Writes the picture of each lane on a line of its own.
-pub fn add_pictures(report: &mut Report, road: &Road) {
+pub fn push_pictures(report: &mut Report, road: &Road) {
     for lane in 0..road.lanes() {
         match road.picture(report.alloc, lane) {
-            Ok(picture) => report.add_bytes(&picture),
+            Ok(picture) => report.push_bytes(&picture),
             Err(_) => {
                 report.fail();
             }
         }
-        report.add("\n");
+        report.push_str("\n");
     }
 }

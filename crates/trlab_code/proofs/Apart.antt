@@ -3,7 +3,7 @@ use Rattle.std.proofs.Common.{◌≡◌, ◌≢◌, ℕ, ◌<◌, ◌⊎◌, Lis
 use Rattle.std.proofs.lemmas.Bool.{cases_order}
 use Rattle.trlab_code.specs.declared.fault.CodeFault.{CodeFault}
 use Rattle.trlab_code.specs.declared.fault.CodeFault.TheVariants as fault
-use Rattle.trlab_code.specs.Faults.{HasOpcode, IsFirstCodeFault, bytes_at}
+use Rattle.trlab_code.specs.Faults.{HasOpcode, IsFirstCodeFault, row_at}
 use Rattle.trlab_code.proofs.EncodedCode.{opcode_of_row}
 
 -- the order in which faults are met; those of rows are told apart by their rows
@@ -23,7 +23,7 @@ rank fault.Memory = 9
 rows_apart : (bytes : List ℕ) (pc qc : ℕ) → IsFirstCodeFault bytes (fault.Opcode pc) → IsFirstCodeFault bytes (fault.Field qc) → ⊥
 rows_apart bytes pc qc f g =
     elim (cases_order pc qc) [
-      | inl same ↦ f.2 (let P : ℕ → Type 0 = λ k. HasOpcode (bytes_at bytes k) in subst P (sym same) g.2.0)
+      | inl same ↦ f.2 (let P : ℕ → Type 0 = λ k. HasOpcode (row_at bytes k) in subst P (sym same) g.2.0)
       | inr other ↦ elim other [
         | inl below ↦ f.2 (opcode_of_row _ _ (g.1.rows pc below))
         | inr above ↦ g.2.1 (f.1.rows qc above)

@@ -9,7 +9,7 @@ use Rattle.trlab_code.specs.declared.fault.CodeFault.{CodeFault}
 use Rattle.trlab_code.specs.declared.fault.CodeFault.TheVariants as fault
 use Rattle.trlab_code.specs.Program.{Program, IsValidProgram, VersionAllows, reads_headspeed}
 use Rattle.trlab_code.specs.Encoding.{instr_bytes, encoding}
-use Rattle.trlab_code.specs.Faults.{HasValidHeader, IsValidBefore, EncodesSomeInstr, HasOpcode, VersionIsNeeded, IsFirstCodeFault, stated_count, stated_version, bytes_at}
+use Rattle.trlab_code.specs.Faults.{HasValidHeader, IsValidBefore, EncodesSomeInstr, HasOpcode, VersionIsNeeded, IsFirstCodeFault, stated_count, stated_version, row_at}
 
 -- the bytes of instructions, eight for each
 length_rows : (instrs : List Instr) → length (flat_map instr_bytes instrs) ≡ 8 * length instrs
@@ -45,7 +45,7 @@ header_is program is = record {
   count = (omega (arith, count_is program, is.some), omega (arith, count_is program, is.few));
 }
 
-row_of_spelling : (program : Program) (k : ℕ) (d : Instr) → k < length program.instrs → bytes_at (encoding program) k ≡ instr_bytes (get_or program.instrs k d)
+row_of_spelling : (program : Program) (k : ℕ) (d : Instr) → k < length program.instrs → row_at (encoding program) k ≡ instr_bytes (get_or program.instrs k d)
 unfolding encoding
 row_of_spelling program k d h =
     let more : 8 + 8 * k ≡ suc (suc (suc (suc (suc (suc (suc (suc (8 * k)))))))) = omega arith in
@@ -56,7 +56,7 @@ of_version : (program : Program) (k : ℕ) → k < length program.instrs → Ver
 unfolding encoding
 of_version program k h reads = ap (λ (b : Bool). cond b 2 1) (list_any_at reads_headspeed program.instrs k Stay h reads)
 
-row_of_program : (program : Program) → IsValidProgram program → (k : ℕ) → k < length program.instrs → EncodesSomeInstr (stated_version (encoding program)) (bytes_at (encoding program) k)
+row_of_program : (program : Program) → IsValidProgram program → (k : ℕ) → k < length program.instrs → EncodesSomeInstr (stated_version (encoding program)) (row_at (encoding program) k)
 row_of_program program is k h =
     (get_or program.instrs k Stay, (row_of_spelling program k Stay h, is.in_range k Stay h, of_version program k h))
 

@@ -21,7 +21,7 @@ use Rattle.trlab_code.specs.declared.fault.CodeFault.TheVariants as fault
 use Rattle.trlab_code.specs.Program.{Program, IsInRange, IsValidProgram, VersionAllows, reads_headspeed, version_of}
 use Rattle.trlab_code.specs.Machine.{register_number, input_number}
 use Rattle.trlab_code.specs.Encoding.{kind_byte, header, instr_bytes, encoding}
-use Rattle.trlab_code.specs.Faults.{HasRoom, HasVersion, EncodesSomeInstr, HasValidHeader, IsValidBefore, VersionIsNeeded, IsFirstCodeFault, stated_count, stated_version, bytes_at}
+use Rattle.trlab_code.specs.Faults.{HasRoom, HasVersion, EncodesSomeInstr, HasValidHeader, IsValidBefore, VersionIsNeeded, IsFirstCodeFault, stated_count, stated_version, row_at}
 use Rattle.trlab_code.specs.Laws.{BytesMean}
 use Rattle.trlab_code.proofs.Opcodes.{opcode_or_not}
 use Rattle.trlab_code.proofs.Rows.{rows_more, good_more}
@@ -157,9 +157,9 @@ rows_or_fault : (bytes : List ℕ) → HasValidHeader bytes → HasRoom bytes �
 rows_or_fault bytes head room zero h = inl (record { header = head; room = room; rows = λ k below. absurd (omega arith) })
 rows_or_fault bytes head room (suc pc) h =
     elim (rows_or_fault bytes head room pc (omega arith)) [
-      | inl good ↦ elim (spells_or_not (stated_version bytes) (bytes_at bytes pc)) [
+      | inl good ↦ elim (spells_or_not (stated_version bytes) (row_at bytes pc)) [
         | inl row ↦ let next : pc + 1 ≡ suc pc = omega arith in inl (rw (← next) (good_more bytes pc row.0 good row.1))
-        | inr not ↦ elim (opcode_or_not (slice_index (bytes_at bytes pc) 0)) [
+        | inr not ↦ elim (opcode_or_not (slice_index (row_at bytes pc) 0)) [
           | inl opcode ↦ inr (fault.Field pc, ((omega arith, good, (opcode, not)), λ e. cc))
           | inr none ↦ inr (fault.Opcode pc, ((omega arith, good, none), λ e. cc))
         ]

@@ -6,10 +6,10 @@ use Rattle.std.proofs.lemmas.List.Concat.{flat_map-append}
 use Rattle.std.specs.List.{flat_map}
 use Rattle.trlab_code.specs.declared.instruction.Instr.{Instr}
 use Rattle.trlab_code.specs.Encoding.{instr_bytes, EncodesInstr}
-use Rattle.trlab_code.specs.Faults.{IsValidBefore, EncodesSomeInstr, stated_version, bytes_at}
+use Rattle.trlab_code.specs.Faults.{IsValidBefore, EncodesSomeInstr, stated_version, row_at}
 
 -- one more instruction
-pub rows_more : (bytes : List ℕ) (instrs : List Instr) (pc : ℕ) (i : Instr) → flat_map instr_bytes instrs ≡ take (8 * pc) (drop 8 bytes) → bytes_at bytes pc ≡ instr_bytes i → flat_map instr_bytes (instrs ++ i ∷ []) ≡ take (8 * (pc + 1)) (drop 8 bytes)
+pub rows_more : (bytes : List ℕ) (instrs : List Instr) (pc : ℕ) (i : Instr) → flat_map instr_bytes instrs ≡ take (8 * pc) (drop 8 bytes) → row_at bytes pc ≡ instr_bytes i → flat_map instr_bytes (instrs ++ i ∷ []) ≡ take (8 * (pc + 1)) (drop 8 bytes)
 rows_more bytes instrs pc i spelt here =
     let next : 8 * (pc + 1) ≡ 8 * pc + 8 = omega arith in
     let joined = flat_map-append instr_bytes instrs (i ∷ []) in
@@ -18,9 +18,9 @@ rows_more bytes instrs pc i spelt here =
     cc
 
 -- all is well before the next instruction
-pub good_more : (bytes : List ℕ) (pc : ℕ) (i : Instr) → IsValidBefore bytes pc → EncodesInstr (stated_version bytes) i (bytes_at bytes pc) → IsValidBefore bytes (pc + 1)
+pub good_more : (bytes : List ℕ) (pc : ℕ) (i : Instr) → IsValidBefore bytes pc → EncodesInstr (stated_version bytes) i (row_at bytes pc) → IsValidBefore bytes (pc + 1)
 good_more bytes pc i before here = record {
   header = before.header;
   room = before.room;
-  rows = below_more (λ k. EncodesSomeInstr (stated_version bytes) (bytes_at bytes k)) pc before.rows (i, here);
+  rows = below_more (λ k. EncodesSomeInstr (stated_version bytes) (row_at bytes k)) pc before.rows (i, here);
 }

@@ -8,13 +8,13 @@ use Rattle.trlab_code.specs.declared.instruction.Instr.{Instr}
 use Rattle.trlab_code.specs.declared.instruction.Instr.TheVariants.{Stay}
 use Rattle.trlab_code.specs.Program.{Program, reads_headspeed, version_of}
 use Rattle.trlab_code.specs.Encoding.{instr_bytes}
-use Rattle.trlab_code.specs.Faults.{IsValidBefore, HasHeadspeed, VersionIsNeeded, stated_count, stated_version, bytes_at}
+use Rattle.trlab_code.specs.Faults.{IsValidBefore, HasHeadspeed, VersionIsNeeded, stated_count, stated_version, row_at}
 use Rattle.trlab_code.proofs.Injective.{same_instr}
 use Rattle.trlab_code.proofs.EncodedCode.{row_is}
 
 -- the row of an instruction, where the rows of bytes are those of instructions
-row_at : (bytes : List ℕ) (instrs : List Instr) (count : ℕ) → length instrs ≡ count → flat_map instr_bytes instrs ≡ take (8 * count) (drop 8 bytes) → (k : ℕ) (d : Instr) → k < length instrs → bytes_at bytes k ≡ instr_bytes (get_or instrs k d)
-row_at bytes instrs count many rows k d h =
+stated_row : (bytes : List ℕ) (instrs : List Instr) (count : ℕ) → length instrs ≡ count → flat_map instr_bytes instrs ≡ take (8 * count) (drop 8 bytes) → (k : ℕ) (d : Instr) → k < length instrs → row_at bytes k ≡ instr_bytes (get_or instrs k d)
+stated_row bytes instrs count many rows k d h =
     let rest = 8 * (count - k) in
     let all : 8 * k + rest ≡ 8 * count = omega (arith, many) in
     ap (take 8) (sym (drop-drop (8 * k) 8 bytes))
@@ -29,13 +29,13 @@ module _ (bytes : List ℕ) (program : Program) (many : length program.instrs �
   row_reads : HasHeadspeed bytes → list_any reads_headspeed program.instrs ≡ true
   row_reads h =
       let inside : h.0 < length program.instrs = omega (arith, many, h.2) in
-      let same : h.1 ≡ get_or program.instrs h.0 Stay = same_instr (sym h.3 ∙ row_at bytes program.instrs (stated_count bytes) many rows h.0 Stay inside) in
+      let same : h.1 ≡ get_or program.instrs h.0 Stay = same_instr (sym h.3 ∙ stated_row bytes program.instrs (stated_count bytes) many rows h.0 Stay inside) in
       list_any_at reads_headspeed program.instrs h.0 Stay inside (ap reads_headspeed (sym same) ∙ h.4)
 
   reads_row : list_any reads_headspeed program.instrs ≡ true → HasHeadspeed bytes
   reads_row e =
       let some = Any-from_list_any reads_headspeed program.instrs e in
-      (some.0, some.1, omega (arith, many, some.2), row_at bytes program.instrs (stated_count bytes) many rows some.0 some.1 some.2 ∙ ap instr_bytes some.3, some.4)
+      (some.0, some.1, omega (arith, many, some.2), stated_row bytes program.instrs (stated_count bytes) many rows some.0 some.1 some.2 ∙ ap instr_bytes some.3, some.4)
 
   -- good rows have an instruction that came with the second version only where the second is stated
   second : IsValidBefore bytes (stated_count bytes) → HasHeadspeed bytes → stated_version bytes ≡ 2

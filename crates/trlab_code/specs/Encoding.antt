@@ -20,7 +20,7 @@ abbrev pub row : ℕ → ℕ → ℕ → ℕ → ℕ → InstructionRow
 row opcode a b c number = record { opcode = opcode; a = a; b = b; c = c; number = number }
 
 -- the row of each instruction, with 0 for the fields that it does not have; a register or an input is encoded
--- as its number, and the number of a draw is its chance, that of a jump its target
+-- as its number, and the last field has a constant, the chance of a draw or the target of a jump
 abbrev pub row_of : Instr → InstructionRow
 row_of (Num d n) = row 0x01 (register_number d) 0 0 n
 row_of (Get d k) = row 0x02 (register_number d) (input_number k) 0 0
@@ -57,7 +57,7 @@ number_bytes n = n % 256 ∷ n / 256 % 256 ∷ n / 256 ^ 2 % 256 ∷ n / 256 ^ 3
 abbrev pub row_bytes : InstructionRow → List ℕ
 row_bytes fields = fields.opcode ∷ fields.a ∷ fields.b ∷ fields.c ∷ number_bytes fields.number
 
--- the eight bytes of an instruction: those of its row
+-- the eight bytes of an instruction's row
 abbrev pub instr_bytes : Instr → List ℕ
 instr_bytes instr = row_bytes (row_of instr)
 

@@ -19,9 +19,10 @@ stated_version bytes = slice_index bytes 4
 abbrev pub stated_count : List ℕ → ℕ
 stated_count bytes = slice_index bytes 6 + 256 * slice_index bytes 7
 
--- the eight bytes of instruction pc, counted from 0 after the header; fewer if the bytes end there
-abbrev pub bytes_at : List ℕ → ℕ → List ℕ
-bytes_at bytes pc = take INSTR_BYTES (drop (HEADER_BYTES + INSTR_BYTES * pc) bytes)
+-- row pc of the bytes, in which instruction pc is encoded: the INSTR_BYTES bytes after the header and pc rows;
+-- fewer if the bytes end there
+abbrev pub row_at : List ℕ → ℕ → List ℕ
+row_at bytes pc = take INSTR_BYTES (drop (HEADER_BYTES + INSTR_BYTES * pc) bytes)
 
 -- the bytes are long enough for a header
 abbrev pub HasHeader : List ℕ → Type 0
@@ -67,30 +68,30 @@ pub record HasValidHeader (bytes : List ℕ) : Type 0 where
 pub record IsValidBefore (bytes : List ℕ) (pc : ℕ) : Type 0 where
   pub header : HasValidHeader bytes
   pub room : HasRoom bytes
-  pub rows : (k : ℕ) → k < pc → EncodesSomeInstr (stated_version bytes) (bytes_at bytes k)
+  pub rows : (k : ℕ) → k < pc → EncodesSomeInstr (stated_version bytes) (row_at bytes k)
 
 -- the bytes are too short for a header, or have a valid header but are too short for the stated instructions
 abbrev pub EndsEarly : List ℕ → Type 0
 EndsEarly bytes = (¬ (HasHeader bytes)) ⊎ (HasValidHeader bytes × ¬ (HasRoom bytes))
 
--- the bytes are long enough for a header and begin with MAGIC, and the given claim on the next bytes is true
+-- the bytes are long enough for a header, they begin with MAGIC, and the given claim is true
 abbrev pub PassesMagic : List ℕ → Type 0 → Type 0
 PassesMagic bytes claim = HasHeader bytes × HasMagic bytes × claim
 
--- the header is valid up to its kind, that is in MAGIC, version and kind, and the given claim is true
+-- the bytes are long enough for a header, its MAGIC, version and kind are valid, and the given claim is true
 abbrev pub PassesKind : List ℕ → Type 0 → Type 0
 PassesKind bytes claim = PassesMagic bytes (HasVersion bytes × HasKind bytes × claim)
 
--- instruction pc is one of the stated instructions, all bytes before it are valid, and `IsFaulty` holds for
--- its own eight bytes
+-- instruction pc is one of the stated instructions, all bytes before it are valid, and its row has the property
+-- `IsFaulty`
 abbrev pub ReachesInstr : List ℕ → ℕ → (List ℕ → Type 0) → Type 0
 ReachesInstr bytes pc IsFaulty =
-    (pc < stated_count bytes) × IsValidBefore bytes pc × IsFaulty (bytes_at bytes pc)
+    (pc < stated_count bytes) × IsValidBefore bytes pc × IsFaulty (row_at bytes pc)
 
 -- one of the stated instructions reads the headspeed
 abbrev pub HasHeadspeed : List ℕ → Type 0
 HasHeadspeed bytes = (pc : ℕ) × (instr : Instr)
-    × (pc < stated_count bytes) × (bytes_at bytes pc ≡ instr_bytes instr) × IsTrue (reads_headspeed instr)
+    × (pc < stated_count bytes) × (row_at bytes pc ≡ instr_bytes instr) × IsTrue (reads_headspeed instr)
 
 -- the stated version is needed: PLAIN_VERSION always is, and HEADSPEED_VERSION is if a stated instruction
 -- reads the headspeed

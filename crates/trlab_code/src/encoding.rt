@@ -2,7 +2,7 @@
 
 ghost use Rattle.std.specs.Prelude.{◌≡◌, IfOk, ◌≤◌, length, take, IfErr, ◌≢◌, ◌*◌, ◌<◌, ◌⊎◌, ℕ, drop, All, MatchResult};
 ghost use Rattle.trlab_code.specs.Encoding.{encoding, kind_byte, header, instr_bytes, EncodesInstr};
-ghost use Rattle.trlab_code.specs.Faults.{HasValidHeader, HasRoom, IsFirstCodeFault, stated_count, stated_version, IsValidBefore, bytes_at};
+ghost use Rattle.trlab_code.specs.Faults.{HasValidHeader, HasRoom, IsFirstCodeFault, stated_count, stated_version, IsValidBefore, row_at};
 ghost use Rattle.std.specs.List.{flat_map};
 ghost use Rattle.trlab_code.specs.Program.{Program, IsInRange, IsValidProgram};
 ghost use Rattle.trlab_code.specs.declared.fault.CodeFault.{CodeFault};
@@ -16,7 +16,7 @@ use trlab_bounds::programs::{
     HEADER_BYTES, HEADSPEED_VERSION, INSTR_BYTES, MAGIC, MAX_INSTRUCTIONS, PLAIN_VERSION,
 };
 
-/// The fields of a header.
+/// The fields of a header after `TRLB`.
 #[derive(Clone, Copy)]
 struct Header {
     version: u8,
@@ -73,7 +73,7 @@ impl Header {
         })
     }
 
-    /// The bytes of the header, the count's lower byte first.
+    /// The bytes of the header, with the lower byte of the number of instructions first.
     fn bytes(self) -> [u8; HEADER_BYTES]
         requires { self.count ≤ MAX_INSTRUCTIONS }
         ensures { result ≡ header self.version self.kind self.count }
@@ -106,13 +106,13 @@ pub fn encode(alloc: Global, code: &Code) -> Result<Vec<u8>, AllocError>
     Ok(bytes)
 }
 
-/// The instruction at `pc` in bytes of this version, if everything before it is valid.
+/// Reads the instruction at `pc` from bytes of this version; all bytes before it are valid.
 fn instr_at(bytes: &[u8], version: u8, pc: u32) -> Result<Instr, CodeFault>
     requires version { version ≡ stated_version bytes.now }
     requires inside { pc < stated_count bytes.now }
     requires before { IsValidBefore bytes.now pc }
     ensures { MatchResult result
-        (λ i. EncodesInstr (stated_version bytes.now) i (bytes_at bytes.now pc)) (IsFirstCodeFault bytes.now) }
+        (λ i. EncodesInstr (stated_version bytes.now) i (row_at bytes.now pc)) (IsFirstCodeFault bytes.now) }
 {
     let row = InstructionRow::read(bytes, HEADER_BYTES + INSTR_BYTES * pc as usize);
     match row::instruction_of(row, version) {
@@ -122,8 +122,8 @@ fn instr_at(bytes: &[u8], version: u8, pc: u32) -> Result<Instr, CodeFault>
     }
 }
 
-/// The instructions that follow a good header.
-fn instrs(alloc: Global, bytes: &[u8], header: Header) -> Result<Vec<Instr>, CodeFault>
+/// Reads the instructions after a valid header.
+fn read_instrs(alloc: Global, bytes: &[u8], header: Header) -> Result<Vec<Instr>, CodeFault>
     requires header { HasValidHeader bytes.now }
     requires room { HasRoom bytes.now }
     requires version { header.version ≡ stated_version bytes.now }
@@ -170,8 +170,8 @@ pub fn decode(alloc: Global, bytes: &[u8]) -> Result<Code, CodeFault>
         → (result ≡ Err fault) ⊎ (result ≡ Err CodeFault.Memory) }
 {
     let header = Header::read(bytes)?;
-    let instrs = instrs(alloc, bytes, header)?;
-    let code = Code::of(header.kind, instrs);
+    let instrs = read_instrs(alloc, bytes, header)?;
+    let code = Code::from_valid(header.kind, instrs);
     if code.version() != header.version {
         return Err(CodeFault::NeedlessVersion);
     }

@@ -89,11 +89,12 @@ impl Variable {
 pub enum Instr {
     /// A number.
     Num(Register, u32),
-    /// An input: a number that the car sees.
+    /// The value of an input in the car's view.
     Get(Register, Input),
-    /// A flag: is the car's side cell empty?
+    /// A flag: whether the car's side cell is empty.
     Side(Register),
-    /// A flag: does an event happen on random word 0 to 15? The last number is its probability times 2^31.
+    /// A flag: whether an event happens on the random word of this index, 0 to 15. The last number is the event's
+    /// probability times 2^31.
     Draw(Register, u8, u32),
     /// The number or flag in a register.
     Copy(Register, Register),
@@ -109,11 +110,11 @@ pub enum Instr {
     Min(Register, Register, Register),
     /// The larger of two registers.
     Max(Register, Register, Register),
-    /// Is a flag false?
+    /// Whether a flag is false.
     Not(Register, Register),
-    /// Are both flags true?
+    /// Whether both flags are true.
     And(Register, Register, Register),
-    /// Is at least one of two flags true?
+    /// Whether at least one of two flags is true.
     Or(Register, Register, Register),
     /// A jump.
     Jump(u32),
@@ -136,7 +137,7 @@ pub enum Instr {
 impl Instr {
     ghost use Rattle.trlab_code.specs.Flow.{destination, falls, target};
 
-    /// The register that the instruction writes, if it writes one.
+    /// The register that the instruction writes; `None` if it writes none.
     pub fn destination(self) -> Option<Register>
         ensures { result ≡ destination self }
     {
@@ -159,7 +160,7 @@ impl Instr {
         }
     }
 
-    /// The target of a jump: the index of an instruction.
+    /// The target of a jump: the index of an instruction, counted from 0; `None` for other instructions.
     pub fn target(self) -> Option<u32>
         ensures { result ≡ target self }
     {
@@ -173,7 +174,7 @@ impl Instr {
         }
     }
 
-    /// May the instruction after this one be executed next?
+    /// Whether the program may continue with the next instruction; true for conditional jumps.
     pub fn falls(self) -> bool
         ensures { result ≡ falls self }
     {

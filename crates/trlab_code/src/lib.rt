@@ -21,5 +21,4 @@ pub use fault::CodeFault;
 pub use instruction::{Input, Instr, Register, Variable};
 pub use program::{Code, Kind};
 pub use trlab_bounds::programs::{CERTAIN, MAX_INSTRUCTIONS, VARIABLES, WORDS};
-pub use trlab_bounds::roads::{MAX_GAP, MAX_LIMIT};
 pub use view::{ChangeView, MotionView, View};

@@ -43,7 +43,7 @@ impl Model for Code {
     ghost invariant = { λ code. IsValidProgram (record { kind = code.kind; instrs = code.instrs.items }) };
 }
 
-/// Are the fields of an instruction in range?
+/// Whether the fields of an instruction are in range.
 pub(crate) fn is_in_range(instr: Instr) -> bool
     ensures { IsTrue result ↔ IsInRange instr }
 {
@@ -54,21 +54,21 @@ pub(crate) fn is_in_range(instr: Instr) -> bool
     }
 }
 
-/// Does an instruction read the speed of the next car ahead?
+/// Whether an instruction reads the speed of the next car ahead.
 fn reads_headspeed(instr: Instr) -> bool
     ensures { result ≡ reads_headspeed instr }
 {
     matches!(instr, Instr::Get(_, Input::Headspeed))
 }
 
-/// Does any of the instructions read the speed of the next car ahead?
+/// Whether one of the instructions reads the speed of the next car ahead.
 fn some_reads_headspeed(instrs: &[Instr]) -> bool
     ensures { result ≡ list_any reads_headspeed instrs.now }
 {
     instrs.iter().any(|instr| reads_headspeed(*instr))
 }
 
-/// May an encoding of this version contain the instruction?
+/// Whether an encoding of this version may contain the instruction.
 pub(crate) fn is_of_version(instr: Instr, version: u8) -> bool
     ensures { IsTrue result ↔ VersionAllows version instr }
 {
@@ -92,15 +92,15 @@ impl Code {
         }
     }
 
-    /// A program with instructions whose number and fields are known to be in range.
-    pub(crate) fn of(kind: Kind, instrs: Vec<Instr>) -> Code
+    /// A program with these instructions, whose number and fields are known to be in range.
+    pub(crate) fn from_valid(kind: Kind, instrs: Vec<Instr>) -> Code
         requires { IsValidProgram (record { kind = kind; instrs = instrs.items }) }
         ensures { result ≡ record { kind = kind; instrs = instrs.items } }
     {
         Code { kind, instrs }
     }
 
-    /// Does the program decide a motion or a lane change?
+    /// The kind of the program.
     pub fn kind(&self) -> Kind
         ensures { result ≡ self.now.kind }
     {
@@ -115,7 +115,7 @@ impl Code {
         &self.instrs
     }
 
-    /// The version of the program's bytes: 2 if it reads `Input::Headspeed`, else 1.
+    /// The version of the program's encoding: 2 if it reads `Input::Headspeed`, else 1.
     pub fn version(&self) -> u8
         ensures { result ≡ version_of self.now }
     {

@@ -9,7 +9,7 @@ use crate::instruction::{Input, Instr, Register};
 use crate::program::{is_in_range, is_of_version};
 use trlab_bounds::programs::INSTR_BYTES;
 
-/// An opcode, three one-byte fields and a number; those that an instruction does not use are 0 in its row.
+/// The row of an instruction: its opcode, three one-byte fields and a number. Unused fields are 0.
 #[derive(Clone, Copy, PartialEq)]
 pub(crate) struct InstructionRow {
     pub opcode: u8,
@@ -227,8 +227,8 @@ fn candidate(row: InstructionRow) -> Instr
     }
 }
 
-/// Is this the row of the instruction?
-fn spells(row: InstructionRow, instr: Instr) -> bool
+/// Whether this is the row of the instruction.
+fn is_row_of(row: InstructionRow, instr: Instr) -> bool
     ensures { IsTrue result ↔ (row ≡ row_of instr) }
 {
     row_of(instr) == row
@@ -243,14 +243,14 @@ pub(crate) fn instruction_of(row: InstructionRow, version: u8) -> Option<Instr>
         (row ≡ row_of instr) × IsInRange instr × VersionAllows version instr) }
 {
     let instr = candidate(row);
-    if spells(row, instr) && is_in_range(instr) && is_of_version(instr, version) {
+    if is_row_of(row, instr) && is_in_range(instr) && is_of_version(instr, version) {
         Some(instr)
     } else {
         None
     }
 }
 
-/// Does an instruction have this opcode?
+/// Whether a byte is the opcode of an instruction.
 pub(crate) fn is_opcode(byte: u8) -> bool
     ensures { IsTrue result ↔ IsOpcode byte }
 {

@@ -6,14 +6,13 @@ ghost use Rattle.trlab_code.specs.Views.{IsViewInRange, motion_view, change_view
 use std::marker::Model;
 use trlab_bounds::roads::{MAX_GAP, MAX_LIMIT};
 
-/// The numbers that a car sees: speeds and the limit in cells per step, gaps in cells, and the number of its
-/// lane, 0 or 1.
+/// The values that a car sees: speeds and the limit in cells per step, gaps in cells, and its lane, 0 or 1.
 #[derive(Clone, Copy, Debug, PartialEq, Eq)]
 pub struct View {
     pub speed: u32,
     pub limit: u32,
     pub gap: u32,
-    /// Is the side cell empty?
+    /// Whether the side cell is empty.
     pub side: bool,
     pub sidegap: u32,
     pub sideback: u32,
@@ -48,8 +47,8 @@ impl MotionView {
         ensures some { IfSome result (λ seen. seen ≡ motion_view speed limit gap headspeed) }
         ensures in_range { IfSome result IsViewInRange }
     {
-        let ahead = 1 <= limit && limit <= MAX_LIMIT && speed <= limit && gap <= MAX_GAP;
-        if ahead && headspeed <= limit {
+        let is_ahead_valid = 1 <= limit && limit <= MAX_LIMIT && speed <= limit && gap <= MAX_GAP;
+        if is_ahead_valid && headspeed <= limit {
             Some(MotionView {
                 view: View {
                     speed,
@@ -125,9 +124,9 @@ impl ChangeView {
             lane,
             headspeed,
         };
-        let ahead = 1 <= limit && limit <= MAX_LIMIT && speed <= limit && gap <= MAX_GAP;
-        let beside = sidegap <= MAX_GAP && sideback <= MAX_GAP && lane <= 1;
-        if ahead && beside && headspeed <= limit {
+        let is_ahead_valid = 1 <= limit && limit <= MAX_LIMIT && speed <= limit && gap <= MAX_GAP;
+        let is_beside_valid = sidegap <= MAX_GAP && sideback <= MAX_GAP && lane <= 1;
+        if is_ahead_valid && is_beside_valid && headspeed <= limit {
             Some(ChangeView { view })
         } else {
             None

@@ -10,11 +10,11 @@ use Rattle.clap.specs.Simple.{subcommand_of}
 use Rattle.clap.specs.declared.error.kind.ErrorKind.{ErrorKind}
 use Rattle.clap.proofs.OnLiterals.{clap_on_literals}
 use Rattle.trlab_command_line.specs.CommandLine.{command_line}
-use Rattle.trlab_command_line.specs.Explains.{request_by_matches}
+use Rattle.trlab_command_line.specs.Explains.{request_from_matches}
 use Rattle.trlab_command_line.specs.Numbers.{GivesFlag, GivesNumber}
 use Rattle.trlab_command_line.specs.Requests.{IsRequestOf, command_name}
-use Rattle.trlab_command_line.specs.declared.arguments.explain.Explaining.{Explaining}
-use Rattle.trlab_command_line.specs.declared.arguments.explain.Explaining.TheVariants.{Text as OfText}
+use Rattle.trlab_command_line.specs.declared.arguments.explain.ExplainRequest.{ExplainRequest}
+use Rattle.trlab_command_line.specs.declared.arguments.explain.ExplainRequest.TheVariants.{Text as OfText}
 use Rattle.trlab_explain.specs.declared.explain.Form.TheVariants.{Text as Lines}
 use Rattle.trlab_command_line.specs.declared.arguments.Request.{Request}
 use Rattle.trlab_command_line.specs.declared.arguments.Request.TheVariants.{Check, Explain, Run, Series, Sweep}
@@ -40,7 +40,7 @@ flag_is : (rows : List Row) (given : Bool) → one_of (codes "progress") rows �
 flag_is rows false has is = refl
 flag_is rows true has is = absurd (differ (codes "true") (codes "false") refl (some_same (codes "true") (codes "false") (sym is ∙ has)))
 
-ok_same : {E : Type 0} (x y : Explaining) → ◌≡◌ {A = Result Explaining E} (Ok x) (Ok y) → x ≡ y
+ok_same : {E : Type 0} (x y : ExplainRequest) → ◌≡◌ {A = Result ExplainRequest E} (Ok x) (Ok y) → x ≡ y
 ok_same x y e = cc
 
 -- ---- `run`
@@ -125,8 +125,8 @@ series_alone request a = go request a (ap (λ t. t.0) (some_same _ _ (sym series
 
 -- ---- `explain`
 
-abbrev of_explain : Text × List Row → Text × Result Explaining ErrorKind
-of_explain p = (p.0, request_by_matches p.1)
+abbrev of_explain : Text × List Row → Text × Result ExplainRequest ErrorKind
+of_explain p = (p.0, request_from_matches p.1)
 
 explain_has : option_map of_explain (subcommand_of command_line (codes "explain" ∷ [])) ≡ Some (codes "explain", Ok (OfText None Lines))
 unfolding clap_on_literals

@@ -8,7 +8,7 @@ use Rattle.clap.specs.Faults.{level_fault}
 use Rattle.clap.specs.declared.builder.value_parser.ValueParser.TheVariants.{Bool as OfBool, Signed}
 use Rattle.clap.proofs.ValueTestLemmas.{accepts-Accepts}
 use Rattle.trlab_command_line.specs.CommandLine.{flag, number_argument, number_option}
-use Rattle.trlab_command_line.specs.Numbers.{HasFlag, HasValueFrom, MayHaveNumber}
+use Rattle.trlab_command_line.specs.Numbers.{HasFlagValue, HasValueFrom, MayHaveNumber}
 use Rattle.trlab_command_line.specs.Requests.{IsEntered}
 use Rattle.trlab_command_line.proofs.CommandLine.{line, named_by}
 use Rattle.trlab_command_line.proofs.Options.{AllKnown, own_if_given, own_value}
@@ -43,9 +43,9 @@ option_of c name default least most at rows e =
     (value.0, (value.1, accepts-Accepts false (Signed (pos least) (pos most)) value.0 value.2)))
 
 -- a flag
-pub flag_of : (c : Command) (name : Text) → arg_by_id c.level.rules name ≡ Some (filled (flag name)) → (rows : List Row) → IsEntered c.name rows → HasFlag name rows
+pub flag_of : (c : Command) (name : Text) → arg_by_id c.level.rules name ≡ Some (filled (flag name)) → (rows : List Row) → IsEntered c.name rows → HasFlagValue name rows
 flag_of c name at rows e =
-    of_entered c (HasFlag name) rows e (λ words passes.
+    of_entered c (HasFlagValue name) rows e (λ words passes.
     let value = own_value c.level.rules c.all c.level (filled (flag name)) (codes "false") words at refl passes in
     (value.0, value.1, accepts-Accepts false OfBool value.0 value.2))
 

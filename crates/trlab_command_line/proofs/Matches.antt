@@ -19,10 +19,10 @@ use Rattle.clap.specs.declared.parser.matches.ArgMatches.{ArgMatches}
 use Rattle.clap.specs.declared.parser.matches.ArgMatches.TheViews.{out-ArgMatches, out-SubCommand}
 use Rattle.clap.specs.declared.parser.matches.SubCommand.{SubCommand}
 use Rattle.clap.proofs.CallerReads.{signed_reads}
-use Rattle.trlab_command_line.specs.Numbers.{GivesFlag, GivesNumber, HasFlag, HasValueFrom, MayHaveNumber, flag_text, argument_number, numeral_value, is_true_value}
+use Rattle.trlab_command_line.specs.Numbers.{GivesFlag, GivesNumber, HasFlagValue, HasValueFrom, MayHaveNumber, flag_text, argument_number, numeral_value, is_true_value}
 use Rattle.trlab_command_line.specs.CommandLine.{command_line}
-use Rattle.trlab_command_line.specs.Explains.{explained, request_by_matches}
-use Rattle.trlab_command_line.specs.declared.arguments.explain.Explaining.{Explaining}
+use Rattle.trlab_command_line.specs.Explains.{explain_request, request_from_matches}
+use Rattle.trlab_command_line.specs.declared.arguments.explain.ExplainRequest.{ExplainRequest}
 use Rattle.trlab_command_line.specs.Requests.{IsEntered}
 use Rattle.trlab_command_line.proofs.CommandLine.{taken}
 use Rattle.trlab_command_line.proofs.Rows.{some_same}
@@ -129,7 +129,7 @@ module _ (E : Type 0) (G : List ℕ → Result ℕ E → Type 0) (only : (u : Li
       here.1 ∙ sym (ap (option_map numeral_value) gives.1 ∙ ap Some gives.2)
 
 -- whether a flag was given
-pub the_flag : (flag : Text) (rows : List Row) (r : Bool) → HasFlag flag rows → (one_of flag rows ≡ Some (codes "true") → r ≡ true) → (one_of flag rows ≡ Some (codes "false") → r ≡ false)
+pub the_flag : (flag : Text) (rows : List Row) (r : Bool) → HasFlagValue flag rows → (one_of flag rows ≡ Some (codes "true") → r ≡ true) → (one_of flag rows ≡ Some (codes "false") → r ≡ false)
     → one_of flag rows ≡ flag_text r
 the_flag flag rows r has set unset = by_true (bytes_eq has.0 (codes "true")) refl has.2
   where
@@ -151,9 +151,9 @@ flag_says true = refl
 flag_says false = refl
 
 -- what they ask for, by what was found of each
-pub explained_same : (rows : List Row) (asked : Result Explaining ErrorKind) (what : Option Text) (number : Option ℕ) (json : Bool)
-    → asked ≡ explained what number json → what ≡ first_of (codes "what") rows → number ≡ argument_number (codes "number") rows → GivesFlag (codes "json") rows json
-    → asked ≡ request_by_matches rows
+pub explained_same : (rows : List Row) (asked : Result ExplainRequest ErrorKind) (what : Option Text) (number : Option ℕ) (json : Bool)
+    → asked ≡ explain_request what number json → what ≡ first_of (codes "what") rows → number ≡ argument_number (codes "number") rows → GivesFlag (codes "json") rows json
+    → asked ≡ request_from_matches rows
 explained_same rows asked what number json is first second flag =
-    is ∙ ap₂ (λ w n. explained w n json) first second
-    ∙ ap (explained (first_of (codes "what") rows) (argument_number (codes "number") rows)) (sym (ap is_true_value flag ∙ flag_says json))
+    is ∙ ap₂ (λ w n. explain_request w n json) first second
+    ∙ ap (explain_request (first_of (codes "what") rows) (argument_number (codes "number") rows)) (sym (ap is_true_value flag ∙ flag_says json))

@@ -39,11 +39,11 @@ from_option = number_option (codes "from") 0 MAX_STEPS (codes "0")
 abbrev pub flag : Text → Rule
 flag name = record (new_rule name) { long = Some name; action = Some SetTrue }
 
--- the flag `--progress`
+-- the flag `--progress` of `run`, `sweep` and `series`: report progress on standard error
 abbrev pub progress_flag : Rule
 progress_flag = flag (codes "progress")
 
--- the flag `--json`
+-- the flag `--json` of `explain`: print the explanation as a JSON object
 abbrev pub json_flag : Rule
 json_flag = flag (codes "json")
 
@@ -51,42 +51,44 @@ json_flag = flag (codes "json")
 abbrev pub what_argument : Rule
 what_argument = new_rule (codes "what")
 
--- the second argument of `explain`: a number below 2^32
+-- the second argument of `explain`: an integer from 0 to 2^32 - 1
 abbrev pub number_argument : Rule
 number_argument = record (new_rule (codes "number")) { parser = Some (Signed (pos 0) (pos 4294967295)) }
 
--- the command of this name, with these arguments
+-- the command `name`, with `arguments` (options, flags and others) added in order
 abbrev pub command : Text → List Rule → App
 command name arguments = fold with_rule (new_app name) arguments
 
--- the command `check`, which has no options
+-- the command `check`, which verifies a driver program and has no options
 abbrev pub check_command : App
 check_command = command (codes "check") []
 
--- the command of this name that runs a job, with the options `--every`, `--from`, `--workers` and
+-- a command that runs a job, `run` or `series`, with the options `--every`, `--from`, `--workers` and
 -- `--progress`
 abbrev pub job_command : Text → App
 job_command name =
     command name (every_option ∷ from_option ∷ workers_option ∷ progress_flag ∷ [])
 
--- the command `run`
+-- the command `run`, which prints the road of a job, with the options of `job_command`
 abbrev pub run_command : App
 run_command = job_command (codes "run")
 
--- the command `sweep`, with the options `--runners`, `--workers` and `--progress`
+-- the command `sweep`, which measures the flow on the roads of a sweep, with the options `--runners`,
+-- `--workers` and `--progress`
 abbrev pub sweep_command : App
 sweep_command = command (codes "sweep") (runners_option ∷ workers_option ∷ progress_flag ∷ [])
 
--- the command `series`
+-- the command `series`, which counts the traffic of a job in windows, with the options of `job_command`
 abbrev pub series_command : App
 series_command = job_command (codes "series")
 
--- the command `explain`, with its two arguments and the flag `--json`
+-- the command `explain`, which explains an input, a cause or a reason, with its two arguments and the flag
+-- `--json`
 abbrev pub explain_command : App
 explain_command = command (codes "explain") (what_argument ∷ number_argument ∷ json_flag ∷ [])
 
--- the program without its commands: it has a version and requires a command, and its arguments begin after
--- its name
+-- the program `trlab` without its commands: it has a version, its arguments begin with the name of a command
+-- and not of the program, and without arguments help is printed
 abbrev pub program : App
 program = on_top (λ s. record s {
   no_binary_name = true;

@@ -10,19 +10,18 @@ use Rattle.trlab_explain.specs.declared.explain.Form.{Form}
 use Rattle.trlab_explain.specs.declared.explain.Form.TheVariants.{Json, Text as Lines}
 use Rattle.trlab_explain.specs.declared.topics.Topic.{Topic}
 use Rattle.trlab_explain.specs.declared.topics.Topic.TheVariants.{Cause, Reason}
-use Rattle.trlab_command_line.specs.Numbers.{is_given, argument_number}
-use Rattle.trlab_command_line.specs.declared.arguments.explain.Explaining.{Explaining}
-use Rattle.trlab_command_line.specs.declared.arguments.explain.Explaining.TheVariants.{Text, Number}
+use Rattle.trlab_command_line.specs.Numbers.{is_flag_given, argument_number}
+use Rattle.trlab_command_line.specs.declared.arguments.explain.ExplainRequest.{ExplainRequest}
+use Rattle.trlab_command_line.specs.declared.arguments.explain.ExplainRequest.TheVariants.{Text, Number}
 
--- the kind of input that the command of this name reads; none for a name that is not `run`, `sweep` or
--- `check`
+-- the kind of input that the command `name` reads; none if `name` is not `run`, `sweep` or `check`
 abbrev pub subject_of_command : List ℕ → Option Subject
 subject_of_command name =
     if bytes_eq name (codes "run") then Some Job
     else if bytes_eq name (codes "sweep") then Some Sweep
     else if bytes_eq name (codes "check") then Some Check else None
 
--- the topic of this name, `cause` or `reason`; none for any other name
+-- the topic that `name` names, `cause` or `reason`; none for any other name
 abbrev pub topic_named : List ℕ → Option Topic
 topic_named name =
     if bytes_eq name (codes "cause") then Some Cause
@@ -33,9 +32,9 @@ abbrev pub form_by : Bool → Form
 form_by false = Lines
 form_by true = Json
 
--- the request of `explain` with a first argument, or its kind of error. The first argument names a command,
--- which takes no number, or a topic, which takes no `--json` and needs a number; otherwise it is invalid
-abbrev pub request_by_name : Option Subject → Option Topic → Option ℕ → Bool → Result Explaining ErrorKind
+-- the request of `explain` with a first argument, or its kind of error. After a command, a number is not
+-- allowed; after a topic, `--json` is not allowed and a number is needed; any other first argument is invalid
+abbrev pub request_by_name : Option Subject → Option Topic → Option ℕ → Bool → Result ExplainRequest ErrorKind
 request_by_name (Some subject) topic None json = Ok (Text (Some subject) (form_by json))
 request_by_name (Some subject) topic (Some number) json = Err UnknownArgument
 request_by_name None (Some topic) number true = Err ArgumentConflict
@@ -45,18 +44,18 @@ request_by_name None None number json = Err InvalidValue
 
 -- the request of `explain`, or its kind of error, by its two arguments, each of which may be missing, and by
 -- whether `--json` is given; without arguments, the input is explained as the kind that it is meant to be
-abbrev pub explained : Option Word → Option ℕ → Bool → Result Explaining ErrorKind
-explained None number json = Ok (Text None (form_by json))
-explained (Some name) number json = request_by_name (subject_of_command name) (topic_named name) number json
+abbrev pub explain_request : Option Word → Option ℕ → Bool → Result ExplainRequest ErrorKind
+explain_request None number json = Ok (Text None (form_by json))
+explain_request (Some name) number json = request_by_name (subject_of_command name) (topic_named name) number json
 
--- the request of `explain`, or its kind of error, by its matches
-abbrev pub request_by_matches : List Row → Result Explaining ErrorKind
-request_by_matches matches =
-    explained (first_of (codes "what") matches) (argument_number (codes "number") matches)
-    (is_given (codes "json") matches)
+-- the request of `explain`, or its kind of error, from the matches of its arguments
+abbrev pub request_from_matches : List Row → Result ExplainRequest ErrorKind
+request_from_matches matches =
+    explain_request (first_of (codes "what") matches) (argument_number (codes "number") matches)
+    (is_flag_given (codes "json") matches)
 
--- the kinds of error of a request of `explain`: none if it is accepted, and otherwise its one kind
-abbrev pub error_kinds : Result Explaining ErrorKind → Kinds
+-- the kinds of error of a request of `explain`: empty if it is accepted, and otherwise its one kind
+abbrev pub error_kinds : Result ExplainRequest ErrorKind → Kinds
 error_kinds (Ok request) = []
 error_kinds (Err kind) = kind ∷ []
 
@@ -65,4 +64,4 @@ error_kinds (Err kind) = kind ∷ []
 abbrev pub explain_arguments_fault : Option (Word × List Row) → Kinds
 explain_arguments_fault None = []
 explain_arguments_fault (Some (name, matches)) =
-    if bytes_eq name (codes "explain") then error_kinds (request_by_matches matches) else []
+    if bytes_eq name (codes "explain") then error_kinds (request_from_matches matches) else []

@@ -16,8 +16,9 @@ abbrev pub GivesNumber : Text → List Row → ℕ → Type 0
 GivesNumber option matches number =
     (numeral : Text) × (one_of option matches ≡ Some numeral) × (numeral_value numeral ≡ number)
 
--- among the matches of a command, `option` has the text `value` without its minus sign, if any, and its
--- parser accepts `value` as a number from `least` to `most`; so a minus sign is possible only before 0
+-- among the matches of a command, `option` has the text `value` without its minus sign, if it has one, and
+-- its parser accepts `value` as a number from `least` to `most`. The numbers are not negative, so only 0 may
+-- have a minus sign
 abbrev pub HasValueFrom : Text → ℕ → ℕ → List Row → Text → Type 0
 HasValueFrom option least most matches value =
     (one_of option matches ≡ Some (without_minus value)) × IsSignedIn (pos least) (pos most) value
@@ -32,24 +33,23 @@ MayHaveNumber argument matches =
     (one_of argument matches ≡ None)
     ⊎ ((value : Text) × HasValueFrom argument 0 4294967295 matches value)
 
--- the value of a flag among the matches of a command: the text `true` if it is given, and otherwise `false`
+-- the value of a flag among the matches of a command: the text `true` if the flag is given, otherwise `false`
 abbrev pub flag_text : Bool → Option Text
 flag_text given = Some (bool_text given)
 
--- whether a flag is given, by its value among the matches of a command: it is given if the value is `true`
+-- is the value of a flag among the matches of a command the text `true`?
 abbrev pub is_true_value : Option Text → Bool
 is_true_value None = false
 is_true_value (Some text) = bytes_eq text (bool_text true)
 
--- whether `flag` is given, among the matches of a command
-abbrev pub is_given : Text → List Row → Bool
-is_given flag matches = is_true_value (one_of flag matches)
+-- is `flag` given? That is, is its value among the matches of a command `true`?
+abbrev pub is_flag_given : Text → List Row → Bool
+is_flag_given flag matches = is_true_value (one_of flag matches)
 
--- among the matches of a command, `flag` has the value `true` if `given` is true, and otherwise the value
--- `false`
+-- among the matches of a command, the value of `flag` is the text `true` if `given` is true, else `false`
 abbrev pub GivesFlag : Text → List Row → Bool → Type 0
 GivesFlag flag matches given = one_of flag matches ≡ flag_text given
 
--- among the matches of a command, `flag` has a value that its parser accepts: `true` or `false`
-abbrev pub HasFlag : Text → List Row → Type 0
-HasFlag flag matches = (value : Text) × (one_of flag matches ≡ Some value) × Accepts false OfBool value
+-- among the matches of a command, `flag` has one of the values `true` and `false`, which its parser accepts
+abbrev pub HasFlagValue : Text → List Row → Type 0
+HasFlagValue flag matches = (value : Text) × (one_of flag matches ≡ Some value) × Accepts false OfBool value

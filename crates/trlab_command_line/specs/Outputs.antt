@@ -6,7 +6,7 @@ use Rattle.trlab_campaign.specs.Output.{IsShownOutput, every_from}
 use Rattle.trlab_campaign.specs.SeriesOutput.{IsSeriesOutput}
 use Rattle.trlab_campaign.specs.SweepOutput.{IsSweepOutput}
 use Rattle.trlab_explain.specs.Explanations.{Explains, IsNumberPage}
-use Rattle.trlab_command_line.specs.declared.arguments.explain.Explaining.TheVariants.{Number, Text}
+use Rattle.trlab_command_line.specs.declared.arguments.explain.ExplainRequest.TheVariants.{Number, Text}
 use Rattle.trlab_command_line.specs.declared.arguments.Request.{Request}
 use Rattle.trlab_command_line.specs.declared.arguments.Request.TheVariants.{Check, Explain, Run, Series, Sweep}
 
@@ -22,6 +22,6 @@ output_of (Series workers every from progress) text = IsSeriesOutput every from 
 output_of (Explain (Text subject form)) text = Explains form subject text
 output_of (Explain (Number topic number)) text = IsNumberPage topic number
 
--- the output if help or the version is asked for: any text, which is not a refusal
+-- the output if help or the version is asked for: any text; it does not count as the rejection of an input
 abbrev pub IsHelp : Outputs
-IsHelp refused text = refused ≡ false
+IsHelp rejected text = rejected ≡ false

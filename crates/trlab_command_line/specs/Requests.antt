@@ -7,7 +7,7 @@ use Rattle.clap.specs.Simple.{label_of}
 use Rattle.clap.specs.Faults.{level_fault}
 use Rattle.trlab_command_line.specs.CommandLine.{command_line}
 use Rattle.trlab_command_line.specs.Numbers.{GivesFlag, GivesNumber}
-use Rattle.trlab_command_line.specs.Explains.{request_by_matches, explain_arguments_fault}
+use Rattle.trlab_command_line.specs.Explains.{request_from_matches, explain_arguments_fault}
 use Rattle.trlab_command_line.specs.declared.arguments.Request.{Request}
 use Rattle.trlab_command_line.specs.declared.arguments.Request.TheVariants.{Check, Explain, Run, Series, Sweep}
 use Rattle.trlab_bounds.specs.declared.runs.TheConstants.{MAX_RUNNERS, MAX_STEPS, MAX_WORKERS}
@@ -18,7 +18,7 @@ command_name Check = codes "check"
 command_name (Run workers every from progress) = codes "run"
 command_name (Sweep runners workers progress) = codes "sweep"
 command_name (Series workers every from progress) = codes "series"
-command_name (Explain explained) = codes "explain"
+command_name (Explain request) = codes "explain"
 
 -- the matches of a command give the values of a request: the numbers of its options and whether progress is
 -- reported; for `explain` the request of its arguments
@@ -33,9 +33,9 @@ MatchesGive matches (Sweep runners workers progress) =
 MatchesGive matches (Series workers every from progress) =
     GivesNumber (codes "workers") matches workers × GivesNumber (codes "every") matches every
     × GivesNumber (codes "from") matches from × GivesFlag (codes "progress") matches progress
-MatchesGive matches (Explain explained) = request_by_matches matches ≡ Ok explained
+MatchesGive matches (Explain request) = request_from_matches matches ≡ Ok request
 
--- the request of the command that was entered with these matches: it names this command and has the values of
+-- `request` is the request of the command that was entered: it has the name of this command and the values of
 -- its matches
 abbrev pub IsRequestOf : Option (Text × List Row) → Request → Type 0
 IsRequestOf entered request =
@@ -53,26 +53,26 @@ FitsEngines (Sweep runners workers progress) =
 FitsEngines (Series workers every from progress) =
     ((1 ≤ workers) × (workers ≤ MAX_WORKERS))
     × ((1 ≤ every) × (every ≤ MAX_STEPS)) × (from ≤ MAX_STEPS)
-FitsEngines (Explain explained) = ⊤
+FitsEngines (Explain request) = ⊤
 
--- the first argument is the name of the command of the request
+-- the first of the arguments is the name of the command of the request, for example `run`
 abbrev pub IsNamedFirst : List Text → Request → Type 0
 IsNamedFirst arguments request = (rest : List Text) × (arguments ≡ command_name request ∷ rest)
 
--- the kinds of error of these arguments: those of `clap`, or if it has none, that the arguments of `explain`
--- do not go together; empty if the arguments are accepted
+-- the kinds of error of the arguments: the errors of `clap`, or if it finds none, the error that arguments of
+-- `explain` do not go together; empty if the arguments are accepted
 abbrev pub arguments_fault : List Text → Kinds
 arguments_fault arguments =
     or_else (fault_of command_line arguments) (explain_arguments_fault (subcommand_of command_line arguments))
 
--- the command of this name accepts these arguments, with the matches `matches`
+-- the command `name` accepts the arguments `arguments`, and gives them the matches `matches`
 abbrev pub TakesArguments : Text → List Text → List Row → Type 0
 TakesArguments name arguments matches = (level : Shape)
     × (find (λ s. answers_to name (label_of s)) (built command_line).subs ≡ Some level)
     × (level_fault level [] nothing_held arguments false [] ≡ [])
     × (matches ≡ rows_after level.rules [] arguments)
 
--- the command of this name, which is not `help`, accepts some arguments, with the matches `matches`
+-- the command `name`, which is not `help`, accepts some arguments, and gives them the matches `matches`
 abbrev pub IsEntered : Text → List Row → Type 0
 IsEntered name matches =
     (name ≡ codes "help" → ⊥) × ((arguments : List Text) × TakesArguments name arguments matches)

@@ -5,15 +5,15 @@ use Rattle.clap.specs.declared.error.kind.ErrorKind.TheVariants.{DisplayHelp, Di
 use Rattle.trlab_campaign.specs.declared.end.End.{End}
 use Rattle.trlab_campaign.specs.declared.end.End.TheVariants.{Done, Refused, Memory, DeviceFault}
 
--- the exit status by how a command ended: 0 after a complete output, 1 after a complete refusal, 3 if an
--- allocation failed, 4 if a device failed
+-- the exit status of a command, from its end: 0 if the output for a valid input is complete, 1 if the output
+-- for a rejected input is complete, 3 if an allocation failed, and 4 if reading or writing failed
 abbrev pub status_of_end : End → ℕ
 status_of_end Done = 0
 status_of_end Refused = 1
 status_of_end Memory = 3
 status_of_end DeviceFault = 4
 
--- whether `clap`'s error is that help or the version was asked for
+-- is `clap`'s error that help or the version was asked for?
 abbrev pub asks_for_help : ErrorKind → Bool
 asks_for_help DisplayHelp = true
 asks_for_help DisplayVersion = true

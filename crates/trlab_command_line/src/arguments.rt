@@ -9,14 +9,14 @@ ghost use Rattle.std.specs.Prelude.{◌≡◌, ◌∷◌, [], IfOk, None, Some, 
 ghost use Rattle.clap.specs.Words.{FailsBy, found_of, rows_of, subcommand_of};
 ghost use Rattle.trlab_command_line.specs.CommandLine.{command_line};
 ghost use Rattle.trlab_command_line.specs.Explains.{explain_arguments_fault};
-ghost use Rattle.trlab_command_line.specs.Requests.{IsRequestOf, FitsEngines, IsEntered, IsNamedFirst, arguments_fault};
-ghost use Rattle.trlab_command_line.specs.declared.arguments.explain.Explaining.TheVariants.{Text};
+ghost use Rattle.trlab_command_line.specs.Requests.{FitsEngines, IsEntered, IsNamedFirst, IsRequestOf, arguments_fault};
+ghost use Rattle.trlab_command_line.specs.declared.arguments.explain.ExplainRequest.TheVariants.{Text};
 ghost use Rattle.trlab_explain.specs.declared.explain.Form.TheVariants.{Text as Lines};
 
 use crate::arguments::commands::command_line;
-pub use crate::arguments::explain::Explaining;
-use crate::arguments::explain::explaining_of;
-use crate::arguments::matches::{count_of, flag_of, number_of};
+pub use crate::arguments::explain::ExplainRequest;
+use crate::arguments::explain::explain_request_from_matches;
+use crate::arguments::matches::{is_flag_given, option_number, thread_count_of};
 use clap::{ArgMatches, Error};
 use std::alloc::Global;
 
@@ -25,39 +25,39 @@ use std::alloc::Global;
 pub enum Request {
     /// Check the program on standard input.
     Check,
-    /// Run the job on standard input, and print its road at some steps.
+    /// Run the job on standard input, and print its road at the steps `from`, `from` + `every` and so on.
     Run {
         /// The number of workers that share the work, 1 to 16.
         workers: u32,
-        /// The steps from one printed step to the next, 1 to 500000.
+        /// The number of steps from one printed step to the next, 1 to 500000.
         every: u32,
         /// The first printed step, 0 to 500000.
         from: u32,
         /// Whether progress is reported.
-        progress: bool,
+        has_progress: bool,
     },
-    /// Run the roads of the sweep on standard input.
+    /// Run the roads of the sweep on standard input, and measure the flow of each.
     Sweep {
         /// The number of runners that share the roads, 1 to 16.
         runners: u32,
         /// The number of workers that share the work of each road, 1 to 16.
         workers: u32,
         /// Whether progress is reported.
-        progress: bool,
+        has_progress: bool,
     },
-    /// Run the job on standard input and count its windows.
+    /// Run the job on standard input, and count its traffic in windows of steps.
     Series {
         /// The number of workers that share the work, 1 to 16.
         workers: u32,
-        /// The steps of a window, 1 to 500000.
+        /// The number of steps per window, 1 to 500000.
         every: u32,
         /// The step at which the first window starts, 0 to 500000.
         from: u32,
         /// Whether progress is reported.
-        progress: bool,
+        has_progress: bool,
     },
     /// Explain an input, a cause or a reason.
-    Explain(Explaining),
+    Explain(ExplainRequest),
 }
 
 /// The request of a command, by its name and its matches.
@@ -70,23 +70,23 @@ fn request_of(alloc: Global, name: &str, matches: &ArgMatches) -> Result<Request
     match name {
         "check" => Ok(Request::Check),
         "run" => Ok(Request::Run {
-            workers: count_of(matches, "workers"),
-            every: number_of(matches, "every"),
-            from: number_of(matches, "from"),
-            progress: flag_of(matches, "progress"),
+            workers: thread_count_of(matches, "workers"),
+            every: option_number(matches, "every"),
+            from: option_number(matches, "from"),
+            has_progress: is_flag_given(matches, "progress"),
         }),
         "sweep" => Ok(Request::Sweep {
-            runners: count_of(matches, "runners"),
-            workers: count_of(matches, "workers"),
-            progress: flag_of(matches, "progress"),
+            runners: thread_count_of(matches, "runners"),
+            workers: thread_count_of(matches, "workers"),
+            has_progress: is_flag_given(matches, "progress"),
         }),
         "series" => Ok(Request::Series {
-            workers: count_of(matches, "workers"),
-            every: number_of(matches, "every"),
-            from: number_of(matches, "from"),
-            progress: flag_of(matches, "progress"),
+            workers: thread_count_of(matches, "workers"),
+            every: option_number(matches, "every"),
+            from: option_number(matches, "from"),
+            has_progress: is_flag_given(matches, "progress"),
         }),
-        "explain" => Ok(Request::Explain(explaining_of(alloc, matches)?)),
+        "explain" => Ok(Request::Explain(explain_request_from_matches(alloc, matches)?)),
         _ => unreachable!(),
     }
 }

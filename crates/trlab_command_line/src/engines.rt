@@ -5,7 +5,7 @@ ghost use Rattle.trlab_campaign.specs.Ending.{EngineEnds};
 ghost use Rattle.trlab_command_line.specs.Requests.{FitsEngines};
 ghost use Rattle.trlab_command_line.specs.Outputs.{output_of};
 
-use crate::{Explaining, Request};
+use crate::{ExplainRequest, Request};
 use std::alloc::AllocGlobal;
 use std::sync::Wait;
 use std::thread::Threads;
@@ -53,10 +53,10 @@ pub fn execute<
             let windows = Windows::new(every, from);
             run_series_text(rt, reader, writer, workers, &windows, progress)
         }
-        Request::Explain(Explaining::Text(subject, form)) => {
+        Request::Explain(ExplainRequest::Text(subject, form)) => {
             explain_text(rt, form, subject, reader, writer)
         }
-        Request::Explain(Explaining::Number(topic, number)) => {
+        Request::Explain(ExplainRequest::Number(topic, number)) => {
             explain_number(rt, topic, number, writer)
         }
     }

@@ -6,7 +6,7 @@ pub const ABOUT: &str =
 
 /// The program's version, and on a second line the logic in which it is proved. Several kits of the toolchain
 /// share one logic.
-pub const VERSION: &str = "0.5.5
+pub const VERSION: &str = "0.5.6
 proved in logic dac8208d650f15bf";
 
 /// Below the list of commands: examples, exit statuses, and further reading.
@@ -30,10 +30,12 @@ Exit statuses:
 
 File formats: docs/FILES.md. Error numbers: `trlab explain cause K`.";
 
+/// The help texts of a command.
 #[derive(Clone, Copy)]
 pub struct Help {
     /// One line, also shown in the list of commands.
     pub about: &'static str,
+    /// How to call the command, one form per line.
     pub usage: &'static str,
     /// The text below the options: input, output and an example.
     pub after: &'static str,

@@ -10,6 +10,6 @@ mod engines;
 mod help;
 mod printing;
 
-pub use arguments::{Explaining, Request, read_words};
+pub use arguments::{ExplainRequest, Request, read_words};
 pub use engines::execute;
-pub use printing::{REFUSED_ARGUMENTS, print_help_or_error, status_of_end};
+pub use printing::{REJECTED_ARGUMENTS, print_help_or_error, status_of_end};

@@ -16,7 +16,7 @@ use std::alloc::{AllocGlobal, Global};
 use trlab_campaign::{End, Sink, write_output};
 
 /// The exit status of arguments that are rejected.
-pub const REFUSED_ARGUMENTS: u8 = 2;
+pub const REJECTED_ARGUMENTS: u8 = 2;
 
 /// The exit status of a command, by how it ended.
 pub fn status_of_end(end: End) -> u8
@@ -33,7 +33,7 @@ pub fn status_of_error(error: &Error) -> u8
     match error.kind() {
         ErrorKind::DisplayHelp | ErrorKind::DisplayVersion => status_of_end(End::Done),
         ErrorKind::OutOfMemory => status_of_end(End::Memory),
-        _ => REFUSED_ARGUMENTS,
+        _ => REJECTED_ARGUMENTS,
     }
 }
 
@@ -50,32 +50,31 @@ fn write_help<K: Sink>(alloc: Global, error: &Error, writer: &mut K) -> End
 }
 
 /// The commands that read standard input and take no file name.
-const READING: [&[u8]; 4] = [b"check", b"run", b"sweep", b"series"];
+const INPUT_COMMANDS: [&[u8]; 4] = [b"check", b"run", b"sweep", b"series"];
 
-/// The options whose number is the next argument.
-const NUMBERED: [&[u8]; 4] = [b"--workers", b"--runners", b"--every", b"--from"];
+/// The options whose value is the next argument.
+const OPTIONS_WITH_VALUE: [&[u8]; 4] = [b"--workers", b"--runners", b"--every", b"--from"];
 
-/// The first argument after the command that is neither an option nor an option's number: probably the name of a file.
+/// The first of a command's arguments that is neither an option nor an option's value. It is probably a file name.
 fn file_name(arguments: &[String]) -> Option<&str> {
-    let mut is_number = true;
+    let mut is_value = false;
     for argument in arguments {
         let word = argument.as_bytes();
-        if !is_number && word.first() != Some(&b'-') {
+        if !is_value && word.first() != Some(&b'-') {
             return Some(argument);
         }
-        is_number = NUMBERED.contains(&word);
+        is_value = OPTIONS_WITH_VALUE.contains(&word);
     }
     None
 }
 
-/// Prints on standard error how to read a file, if the arguments name a file.
+/// Prints on standard error how to read a file, if an argument is probably a file name.
 fn suggest_redirection<R: AllocGlobal + Eprint>(rt: &R, arguments: &[String]) {
-    if let Some(command) = arguments.first() {
-        if READING.contains(&command.as_bytes()) {
-            if let Some(name) = file_name(arguments) {
-                let _ = eprintln!(rt; "trlab reads standard input. Type: trlab {command} < {name}");
-            }
-        }
+    if let Some((command, rest)) = arguments.split_first()
+        && INPUT_COMMANDS.contains(&command.as_bytes())
+        && let Some(name) = file_name(rest)
+    {
+        let _ = eprintln!(rt; "trlab reads standard input. Type: trlab {command} < {name}");
     }
 }
 
@@ -93,7 +92,7 @@ pub fn print_help_or_error<R: AllocGlobal + Eprint, K: Sink>(
     ensures device { (result ≡ 4) ↔ (K.failed writer.new ≡ true) }
     ensures kept { result ≡ 3 → AddsNone (bytes_of K.Sink writer.old) (bytes_of K.Sink writer.new) }
     ensures handed { asks_for_help (kind_of error.now) ≡ true → result ≡ 0
-        → FlushedOnce (K.handed_on writer.new) (K.flushes writer.old) (K.flushes writer.new) }
+        → FlushedOnce (K.is_flushed writer.new) (K.flushes writer.old) (K.flushes writer.new) }
     ensures silent { asks_for_help (kind_of error.now) ≡ false → writer.new ≡ writer.old }
 {
     match error.kind() {

@@ -13,8 +13,8 @@ use Rattle.csv.specs.Quoting.{needs_byte}
 use Rattle.trlab_diagram.specs.declared.point.Point.{Point}
 use Rattle.trlab_diagram.specs.Flow.{flow_of}
 use Rattle.trlab_diagram.specs.declared.point.Window.{Window}
-use Rattle.trlab_diagram.specs.Series.{series_heading, window_line, window_numbers}
-use Rattle.trlab_diagram.specs.Table.{heading, numbers, point_line, line_text, points_text}
+use Rattle.trlab_diagram.specs.Series.{series_heading, window_line, window_columns}
+use Rattle.trlab_diagram.specs.Table.{points_heading, point_columns, point_line, line_text, points_text}
 
 -- none of these fields needs quotes
 abbrev ArePlain : List (List ℕ) → Type 0
@@ -53,7 +53,7 @@ plain_row first next fields plain all = rw (plain_body first (next ∷ fields) p
 abbrev pub columns : List (List ℕ)
 columns = codes "cars" ∷ codes "cells" ∷ codes "steps" ∷ codes "distance" ∷ codes "stopped" ∷ codes "changes" ∷ codes "flow" ∷ []
 
-pub heading_row : row_text default_writer columns ≡ line_text heading
+pub heading_row : row_text default_writer columns ≡ line_text points_heading
 heading_row = plain_row (codes "cars") (codes "cells") (codes "steps" ∷ codes "distance" ∷ codes "stopped" ∷ codes "changes" ∷ codes "flow" ∷ []) refl
     (refl, (refl, (refl, (refl, (refl, (refl, tt))))))
 
@@ -63,7 +63,7 @@ pub next_line : (points : List Point) (i : ℕ) (d : Point) → i < length point
 next_line points i d below = search (rules, take_more points i d below, map-append, flat_map-append, append_assoc, append-nil)
 
 pub point_row : (p : Point) → p.cars < 2 ^ 64 → p.cells < 2 ^ 64 → p.steps < 2 ^ 64 → p.distance < 2 ^ 64 → p.stopped < 2 ^ 64 → p.changes < 2 ^ 64
-    → flow_of p < 2 ^ 128 → row_text default_writer (map decimal (numbers p)) ≡ line_text (point_line p)
+    → flow_of p < 2 ^ 128 → row_text default_writer (map decimal (point_columns p)) ≡ line_text (point_line p)
 point_row p cars cells steps distance stopped changes flow =
     plain_row (decimal p.cars) (decimal p.cells) (decimal p.steps ∷ decimal p.distance ∷ decimal p.stopped ∷ decimal p.changes ∷ decimal (flow_of p) ∷ [])
     (plain_number p.cars (omega arith)) (
@@ -102,7 +102,7 @@ plain_numbers : (a b : ℕ) (ns : List ℕ) → AreSmall (a ∷ b ∷ ns)
     → row_text default_writer (map decimal (a ∷ b ∷ ns)) ≡ line_text (join_with_byte 44 (map decimal (a ∷ b ∷ ns)))
 plain_numbers a b ns small = plain_row (decimal a) (decimal b) (map decimal ns) (plain_number a small.0) (plain_all (b ∷ ns) small.1)
 
-pub window_row : (w : Window) → AreSmall (window_numbers w) → row_text default_writer (map decimal (window_numbers w)) ≡ line_text (window_line w)
+pub window_row : (w : Window) → AreSmall (window_columns w) → row_text default_writer (map decimal (window_columns w)) ≡ line_text (window_line w)
 window_row w small = plain_numbers w.step w.point.cars
     (w.point.cells ∷ w.point.steps ∷ w.point.distance ∷ w.point.stopped ∷ w.point.changes ∷ flow_of w.point
     ∷ w.lane0.cars ∷ w.lane0.distance ∷ w.lane0.stopped ∷ w.lane1.cars ∷ w.lane1.distance ∷ w.lane1.stopped ∷ []) small

@@ -8,7 +8,7 @@ use Rattle.std.proofs.lemmas.Fmt.{decimal_is_IsNumeral, decimal_injective}
 use Rattle.std.proofs.lemmas.Str.Parse.{digit_from_value}
 use Rattle.trlab_diagram.specs.declared.point.Point.{Point}
 use Rattle.trlab_diagram.specs.Flow.{flow_of}
-use Rattle.trlab_diagram.specs.Table.{heading, line_text, point_line}
+use Rattle.trlab_diagram.specs.Table.{points_heading, line_text, point_line}
 use Rattle.trlab_diagram.specs.Laws.{CountsFit64Bits, TableDeterminesPoints}
 
 -- digits end where a comma stands
@@ -83,4 +83,4 @@ same_rows (p ∷ points) (q ∷ others) ps qs e =
 
 pub table_tells_points : TableDeterminesPoints
 table_tells_points points others ps qs e =
-    same_rows points others ps qs (append_cancel_left (line_text heading) (rows points) (rows others) e)
+    same_rows points others ps qs (append_cancel_left (line_text points_heading) (rows points) (rows others) e)

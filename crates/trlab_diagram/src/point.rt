@@ -8,9 +8,9 @@ ghost use Rattle.trlab_diagram.specs.Flow.{IsMeasured, flow_of};
 /// The density, in cars per cell, is `cars / cells`; `flow` returns the flow.
 #[derive(Clone, Copy, Debug, PartialEq, Eq)]
 pub struct Point {
-    /// The cars on the road.
+    /// The number of cars on the road.
     pub cars: u64,
-    /// The cells of the road: the length of a lane times the number of lanes.
+    /// The number of cells of the road: the length of a lane times the number of lanes.
     pub cells: u64,
     /// The number of counted steps.
     pub steps: u64,
@@ -18,7 +18,7 @@ pub struct Point {
     pub distance: u64,
     /// How many times a car had speed 0, over all these steps.
     pub stopped: u64,
-    /// How many times a car crossed to the other lane, over all these steps.
+    /// The number of lane changes in all these steps.
     pub changes: u64,
 }
 
@@ -30,24 +30,24 @@ pub fn flow(point: &Point) -> u128
     requires { IsMeasured point.now }
     ensures { result ≡ flow_of point.now }
 {
-    u128::from(point.distance) * 1000000 / (u128::from(point.cells) * u128::from(point.steps))
+    u128::from(point.distance) * 1_000_000 / (u128::from(point.cells) * u128::from(point.steps))
 }
 
-/// The counts of a lane, summed over the roads after some steps.
+/// The counts of a lane, summed over the roads after each of some steps.
 #[derive(Clone, Copy, Debug, PartialEq, Eq)]
 pub struct LaneCount {
-    /// The cars on the lane.
+    /// The number of cars on the lane.
     pub cars: u64,
     /// The sum of their speeds, in cells.
     pub distance: u64,
-    /// The cars on the lane with speed 0.
+    /// The number of cars on the lane with speed 0.
     pub stopped: u64,
 }
 
 /// A window of a series: the counts over consecutive steps, of the whole road and of each lane.
 #[derive(Clone, Copy, Debug, PartialEq, Eq)]
 pub struct Window {
-    /// The step at the end of the window, as pictures are numbered.
+    /// The step at which the window ends, numbered like the pictures of a run.
     pub step: u64,
     /// The counts of the road.
     pub point: Point,

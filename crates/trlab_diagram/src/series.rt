@@ -15,8 +15,8 @@ use itoa::Buffer;
 use std::alloc::{AllocError, Global};
 use std::marker::Model;
 
-/// A writer keeps the bytes of all its lines. Above this number of bytes it is replaced.
-const MAX_KEPT: usize = 16384;
+/// The number of bytes above which a writer is replaced, because it keeps the bytes of all its lines.
+const MAX_WRITER_BYTES: usize = 16_384;
 
 /// The fields of the first line.
 fn heading_row(alloc: Global) -> Result<ByteRecord, AllocError>
@@ -148,7 +148,7 @@ impl Model for SeriesLines {
 }
 
 impl SeriesLines {
-    /// Starts without a line.
+    /// A maker that has made no line yet.
     pub fn new(alloc: Global) -> SeriesLines {
         SeriesLines {
             writer: Writer::from_writer(Vec::new(alloc)),
@@ -169,7 +169,7 @@ impl SeriesLines {
     {
         put_window(&mut self.row, window)?;
         let line = written_line(alloc, &mut self.writer, &self.row);
-        if line.is_err() || self.writer.get_ref().len() > MAX_KEPT {
+        if line.is_err() || self.writer.get_ref().len() > MAX_WRITER_BYTES {
             self.writer = Writer::from_writer(Vec::new(alloc));
         }
         line

@@ -4,7 +4,7 @@ ghost use Rattle.std.specs.Prelude.{◌≡◌, All, IfOk};
 ghost use Rattle.csv.specs.Records.{fields_of};
 ghost use Rattle.csv.specs.Writing.{default_writer, row_text};
 ghost use Rattle.trlab_diagram.specs.Flow.{IsMeasured};
-ghost use Rattle.trlab_diagram.specs.Table.{heading, line_text, point_line, points_text};
+ghost use Rattle.trlab_diagram.specs.Table.{points_heading, line_text, point_line, points_text};
 
 use crate::point::{Point, flow};
 use csv::{ByteRecord, Writer};
@@ -34,7 +34,7 @@ impl From<csv::Error> for DiagramFault {
 
 /// The fields of the first line.
 fn heading_row(alloc: Global) -> Result<ByteRecord, AllocError>
-    ensures { IfOk result (λ row. row_text default_writer (fields_of row) ≡ line_text heading) }
+    ensures { IfOk result (λ row. row_text default_writer (fields_of row) ≡ line_text points_heading) }
 {
     let mut row = ByteRecord::new(alloc);
     for name in [

@@ -19,7 +19,7 @@ fn main(rt: HostRuntime) -> ExitCode {
     }
 }
 
-/// Drives the road, and then runs the book.
+/// Drives the road, and then runs the book. `None` if an allocation or printing fails.
 fn show_both<R: AllocGlobal + Threads + Wait + Sync + Print>(rt: &R) -> Option<()> {
     drive(rt)?;
     let blank = Blank::new(rt.alloc()).ok()?;

@@ -16,7 +16,7 @@ const LIMIT: u32 = 5;
 /// Two stopped cars on one lane of ten cells.
 const LANES: [&[u8]; 1] = [b"0.0......."];
 
-/// A run of these cars, which never brake at random.
+/// A run of the cars on `LANES`, which never brake at random.
 fn new_run(alloc: Global) -> Option<Run>
     ensures { IfSome result (λ run. run.step ≡ 0) }
 {
@@ -36,7 +36,7 @@ fn show<R: Print>(rt: &R, alloc: Global, road: &Road) -> Option<()> {
     Some(())
 }
 
-/// Takes the steps of a run that begins, and prints its road before and after each.
+/// Takes `STEPS` steps of a run at step 0, and prints its road before the first and after each.
 fn walk<R: Print>(rt: &R, alloc: Global, run: &mut Run) -> Option<()>
     requires { run.old.step ≡ 0 }
 {
@@ -48,7 +48,7 @@ fn walk<R: Print>(rt: &R, alloc: Global, run: &mut Run) -> Option<()>
     Some(())
 }
 
-/// Drives the cars, and prints their road at each step. `None` if allocation or printing fails.
+/// Drives the cars for `STEPS` steps, and prints their road at each step. `None` if an allocation or printing fails.
 pub fn drive<R: AllocGlobal + Print>(rt: &R) -> Option<()> {
     let alloc = rt.alloc();
     let mut run = new_run(alloc)?;

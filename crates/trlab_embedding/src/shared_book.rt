@@ -24,17 +24,19 @@ const RUNNERS: u32 = 2;
 /// The number of threads that run each step of a job.
 const WORKERS: u32 = 1;
 
-/// Ten stopped cars, evenly spaced on a lane of 100 cells. The random numbers of a job depend on `number`.
-fn seed_of(alloc: Global, number: u32) -> Option<Seed> {
+/// A job's road and random seed: ten stopped cars, evenly spaced on a lane of 100 cells. The cars' random numbers
+/// depend on `number`.
+fn new_seed(alloc: Global, number: u32) -> Option<Seed> {
+    let (lanes, length, limit, cars) = (1, 100, 5, 10);
     Some(Seed {
-        road: Road::even(alloc, 1, 100, 5, 10).ok()?,
+        road: Road::even(alloc, lanes, length, limit, cars).ok()?,
         key: Key([0; 32]),
         number,
         warm: 0,
     })
 }
 
-/// Submits a job whose cars brake with probability 1/4.
+/// Submits a job of `STEPS` steps whose cars brake with probability 1/4. Returns the job's number in the book.
 fn submit<L: Ledger, R: Wait>(
     rt: &R,
     alloc: Global,
@@ -43,11 +45,12 @@ fn submit<L: Ledger, R: Wait>(
     number: u32,
 ) -> Option<u32> {
     let rule = nasch(alloc, Chance::new(CERTAIN / 4)?).ok()?;
-    let seed = seed_of(alloc, number)?;
+    let seed = new_seed(alloc, number)?;
     book.submit(rt, alloc, desk, seed, rule, STEPS).ok()
 }
 
-/// Runs all jobs of a book to their end. Each runner calls the book through a part of the desk.
+/// Runs all jobs of a book to their end. Each runner calls the book through a part of the desk, so the desk must have
+/// `RUNNERS` parts. Returns the desk.
 fn run<L: Ledger + Send + Sync, R: Threads + Wait + Sync>(
     rt: &R,
     alloc: Global,
@@ -60,7 +63,7 @@ fn run<L: Ledger + Send + Sync, R: Threads + Wait + Sync>(
     run_jobs(rt, alloc, book, desk, RUNNERS, WORKERS, &OpenGate).ok()
 }
 
-/// Prints the number of steps that a job has done, and of cells that its cars drove.
+/// Prints the number of steps that a job has done, and the number of cells that its cars drove.
 fn show<L: Ledger, R: Wait + Print>(
     rt: &R,
     alloc: Global,
@@ -68,12 +71,12 @@ fn show<L: Ledger, R: Wait + Print>(
     desk: &mut Desk<L>,
     job: u32,
 ) -> Option<()> {
-    let seen = book.read(rt, alloc, desk, job).ok()?;
-    let (step, distance) = (seen.step(), seen.tally().distance);
+    let snapshot = book.read(rt, alloc, desk, job).ok()?;
+    let (step, distance) = (snapshot.step(), snapshot.tally().distance);
     println!(rt; "job {job}: {step} steps, {distance} cells").ok()
 }
 
-/// Submits jobs to a new book, runs them, and prints the result of each. `None` if allocation or printing fails.
+/// Submits jobs to a new book, runs them, and prints the result of each. `None` if an allocation or printing fails.
 pub fn share<L: Ledger + Send + Sync, R: AllocGlobal + Threads + Wait + Sync + Print>(
     rt: &R,
     blank: Blank<Event>,
@@ -89,8 +92,6 @@ pub fn share<L: Ledger + Send + Sync, R: AllocGlobal + Threads + Wait + Sync + P
     for job in 0..JOBS {
         show(rt, alloc, &book, &mut desk, job)?;
     }
-    match book.close(desk) {
-        Ok(_) => Some(()),
-        Err(_) => None,
-    }
+    book.close(desk).ok()?;
+    Some(())
 }

@@ -22,15 +22,16 @@ use Rattle.trlab_explain.specs.Meant.{IsMeant, MayBeMeantAs}
 use Rattle.trlab_jobs.specs.declared.subject.Subject.{Subject}
 use Rattle.trlab_jobs.specs.declared.subject.Subject.TheVariants.{Job, Sweep, Check}
 use Rattle.trlab_explain.specs.Explanations.{Explains, IsReadAs, IsHeadAs, IsCheckHead, IsTextHead}
+use Rattle.trlab_explain.specs.declared.explanation.Head.{Head}
 use Rattle.trlab_explain.specs.declared.explain.Form.{Form}
 
 -- the end of a written output
-pub output_ends_so : {A E : Type 0} (told : Result (Bool × A) E) (bytes : A → List ℕ) (IsWhole : Outputs) (e : End) (old new : SinkBytes)
-    → IfOk told (λ t. IsWhole t.0 (bytes t.1))
-    → MatchResult told (λ t. WroteOutputAtEnd t.0 (bytes t.1) e old new) (λ _. (e ≡ Memory) × AddsNone old new)
+pub output_ends_so : {A E : Type 0} (told : Result A E) (rejected : A → Bool) (bytes : A → List ℕ) (IsWhole : Outputs) (e : End) (old new : SinkBytes)
+    → IfOk told (λ t. IsWhole (rejected t) (bytes t))
+    → MatchResult told (λ t. WroteOutputAtEnd (rejected t) (bytes t) e old new) (λ _. (e ≡ Memory) × AddsNone old new)
     → WroteAtEnd IsWhole e old new
-output_ends_so (Ok t) bytes IsWhole e old new whole ends = output_ends IsWhole t.0 (bytes t.1) e old new whole ends
-output_ends_so (Err x) bytes IsWhole e old new whole ends = rw ends.0 (inl ends.1)
+output_ends_so (Ok t) rejected bytes IsWhole e old new whole ends = output_ends IsWhole (rejected t) (bytes t) e old new whole ends
+output_ends_so (Err x) rejected bytes IsWhole e old new whole ends = rw ends.0 (inl ends.1)
 
 -- each text is meant to be something
 meant_by : (word : List ℕ) (named : Option Subject) → (subject : Subject) × MatchOption named (MayBeMeantAs word subject) (λ s. subject ≡ s)
@@ -52,41 +53,39 @@ too_big = record { line = 0; cause = TooBig }
 abbrev too_big_line : List ℕ
 too_big_line = fault_line too_big
 
--- a text that is too long, as whatever it is read
-big_as : (subject : Subject) (text : List ℕ) → TEXT_LIMIT < length text → IsHeadAs subject text true too_big_line []
-big_as Job text big = (Err too_big, rw (lt-ltb TEXT_LIMIT (length text) big) refl, (refl, refl, refl))
-big_as Sweep text big = (Err too_big, rw (lt-ltb TEXT_LIMIT (length text) big) refl, (refl, refl, refl))
-big_as Check text big = (Err too_big, rw (lt-ltb TEXT_LIMIT (length text) big) refl, (refl, refl, refl))
+-- the only head for a text that is too long, whatever it is read as
+abbrev IsBigHead : Head → Type 0
+IsBigHead head = (head.is_rejected ≡ true) × (head.answer ≡ too_big_line) × (head.quote ≡ [])
 
--- the head for a text that is too long
-abbrev BigHead : Bool → List ℕ → List ℕ → Type 0
-BigHead refused answer quote = (refused ≡ true) × (answer ≡ too_big_line) × (quote ≡ [])
+big_as : (subject : Subject) (text : List ℕ) (head : Head) → TEXT_LIMIT < length text → IsBigHead head → IsHeadAs subject text head
+big_as Job text head big is = (Err too_big, rw (lt-ltb TEXT_LIMIT (length text) big) refl, is)
+big_as Sweep text head big is = (Err too_big, rw (lt-ltb TEXT_LIMIT (length text) big) refl, is)
+big_as Check text head big is = (Err too_big, rw (lt-ltb TEXT_LIMIT (length text) big) refl, is)
 
-big_head : (subject : Subject) (text : List ℕ) (refused : Bool) (answer quote : List ℕ) → TEXT_LIMIT < length text
-    → IsHeadAs subject text refused answer quote → BigHead refused answer quote
-big_head Job text refused answer quote big told =
-    subst (λ (says : Result JobSaid Fault). IsTextHead text says refused answer quote) (rw (lt-ltb TEXT_LIMIT (length text) big) at told.1) told.2
-big_head Sweep text refused answer quote big told =
-    subst (λ (says : Result SweepSaid Fault). IsTextHead text says refused answer quote) (rw (lt-ltb TEXT_LIMIT (length text) big) at told.1) told.2
-big_head Check text refused answer quote big told =
-    subst (λ (says : Result CheckSaid Fault). IsCheckHead text says refused answer quote) (rw (lt-ltb TEXT_LIMIT (length text) big) at told.1) told.2
+big_head : (subject : Subject) (text : List ℕ) (head : Head) → TEXT_LIMIT < length text → IsHeadAs subject text head → IsBigHead head
+big_head Job text head big told =
+    subst (λ (says : Result JobSaid Fault). IsTextHead text says head) (rw (lt-ltb TEXT_LIMIT (length text) big) at told.1) told.2
+big_head Sweep text head big told =
+    subst (λ (says : Result SweepSaid Fault). IsTextHead text says head) (rw (lt-ltb TEXT_LIMIT (length text) big) at told.1) told.2
+big_head Check text head big told =
+    subst (λ (says : Result CheckSaid Fault). IsCheckHead text says head) (rw (lt-ltb TEXT_LIMIT (length text) big) at told.1) told.2
 
 -- an explanation of what was read of an input is one of the input
 read_explains : (form : Form) (wanted : Option Subject) (text input : List ℕ) (refused : Bool) (out : List ℕ) → IsInputOrTooLong text input
     → Explains form wanted text refused out → Explains form wanted input refused out
 read_explains form wanted text input refused out (inl same) explains = subst (λ (t : List ℕ). Explains form wanted t refused out) same explains
 read_explains form wanted text input refused out (inr long) explains =
-    let big = big_head explains.2.0 text refused explains.0 explains.1 long.0 explains.2.2 in
     let read = some_read wanted input in
-    (explains.0, explains.1, (read.0, read.1, rw (big.0, big.1, big.2) (big_as read.0 input long.1)), explains.3, explains.4)
+    let big = big_head explains.2.0 text explains.0 long.0 explains.2.2 in
+    (explains.0, explains.1, (read.0, read.1, big_as read.0 input explains.0 long.1 big), explains.3, explains.4)
 
-pub reads : {A E : Type 0} (told : Result (Bool × A) E) (bytes : A → List ℕ) (form : Form) (wanted : Option Subject) (text input : List ℕ) → IsInputOrTooLong text input
-    → IfOk told (λ t. Explains form wanted text t.0 (bytes t.1)) → IfOk told (λ t. Explains form wanted input t.0 (bytes t.1))
-reads (Ok t) bytes form wanted text input read explains = read_explains form wanted text input t.0 (bytes t.1) read explains
-reads (Err x) bytes form wanted text input read explains = tt
+pub reads : {A E : Type 0} (told : Result A E) (rejected : A → Bool) (bytes : A → List ℕ) (form : Form) (wanted : Option Subject) (text input : List ℕ) → IsInputOrTooLong text input
+    → IfOk told (λ t. Explains form wanted text (rejected t) (bytes t)) → IfOk told (λ t. Explains form wanted input (rejected t) (bytes t))
+reads (Ok t) rejected bytes form wanted text input read explains = read_explains form wanted text input (rejected t) (bytes t) read explains
+reads (Err x) rejected bytes form wanted text input read explains = tt
 
 -- if an allocation fails, nothing was written
-pub nothing_written : {A E : Type 0} (told : Result (Bool × A) E) (bytes : A → List ℕ) (e : End) (old new : SinkBytes)
-    → MatchResult told (λ t. WroteOutputAtEnd t.0 (bytes t.1) e old new) (λ _. (e ≡ Memory) × AddsNone old new) → e ≡ Memory → AddsNone old new
-nothing_written (Ok t) bytes e old new ends is = kept_at_memory t.0 (bytes t.1) e old new ends is
-nothing_written (Err x) bytes e old new ends is = ends.1
+pub nothing_written : {A E : Type 0} (told : Result A E) (rejected : A → Bool) (bytes : A → List ℕ) (e : End) (old new : SinkBytes)
+    → MatchResult told (λ t. WroteOutputAtEnd (rejected t) (bytes t) e old new) (λ _. (e ≡ Memory) × AddsNone old new) → e ≡ Memory → AddsNone old new
+nothing_written (Ok t) rejected bytes e old new ends is = kept_at_memory (rejected t) (bytes t) e old new ends is
+nothing_written (Err x) rejected bytes e old new ends is = ends.1

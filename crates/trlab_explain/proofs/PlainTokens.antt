@@ -1,5 +1,5 @@
 -- The text of plain tokens is plain.
-use Rattle.std.proofs.Common.{◌≡◌, ◌∙◌, ◌≤◌, ◌<◌, ◌++◌, ◌&&◌, ◌||◌, ◌==◌, ap, ℕ, zero, suc, nat_le, List, [], ◌∷◌, Bool, cond, true, false, refl, arith, inl, inr, eqb-true}
+use Rattle.std.proofs.Common.{◌≡◌, ◌∙◌, ◌<◌, ◌++◌, ◌&&◌, ap, ℕ, zero, suc, nat_le, List, [], ◌∷◌, Bool, cond, true, false, refl, arith, inl, inr}
 use Rattle.std.specs.Prelude.{All, ◌^◌, decimal, Result, Ok, Err, IfOk, OnOk, OnErr, IsUtf8}
 use Rattle.std.proofs.lemmas.Bool.{and_parts, cases_eq, leb-true}
 use Rattle.std.proofs.lemmas.List.Elements.{All-append, All-cons, All-head, All-nil, All-push, All-same, All-tail, All-weaker}

@@ -1,5 +1,5 @@
 -- Every text has the head of an explanation.
-use Rattle.std.proofs.Common.{ℕ, List, [], refl, inl, inr, Bool, true, false}
+use Rattle.std.proofs.Common.{ℕ, List, [], refl, inl, inr, true, false}
 use Rattle.std.specs.Prelude.{Result, Ok, Err, IfOk}
 use Rattle.trlab_verify.proofs.Judged.{accepted_or_refused, some_budget}
 use Rattle.trlab_texts.specs.Reading.{Fault}
@@ -13,25 +13,26 @@ use Rattle.trlab_campaign.specs.Refusal.{fault_line}
 use Rattle.trlab_lines.specs.Lines.{line_at}
 use Rattle.trlab_jobs.specs.declared.subject.Subject.TheVariants.{Job, Sweep, Check}
 use Rattle.trlab_explain.specs.Quotes.{quote_line}
+use Rattle.trlab_explain.specs.declared.explanation.Head.{Head}
 use Rattle.trlab_explain.specs.Explanations.{accepted_line, IsCheckHead, IsFaultHead, IsProgramHead, IsTextHead}
 use Rattle.trlab_explain.specs.Laws.{EveryTextHasAHead}
 
-fault_some : (text : List ℕ) (fault : Fault) → (refused : Bool) × (answer quote : List ℕ) × IsFaultHead text fault refused answer quote
-fault_some text fault = (true, fault_line fault, quote_line fault.line (line_at fault.line (lines_of text)), (refl, refl, refl))
+fault_some : (text : List ℕ) (fault : Fault) → (head : Head) × IsFaultHead text fault head
+fault_some text fault = (record { is_rejected = true; answer = fault_line fault; quote = quote_line fault.line (line_at fault.line (lines_of text)) }, (refl, refl, refl))
 
-text_some : {A : Type 0} (text : List ℕ) (says : Result A Fault) → (refused : Bool) × (answer quote : List ℕ) × IsTextHead text says refused answer quote
-text_some text (Ok said) = (false, [], [], (refl, refl))
+text_some : {A : Type 0} (text : List ℕ) (says : Result A Fault) → (head : Head) × IsTextHead text says head
+text_some text (Ok said) = (record { is_rejected = false; answer = []; quote = [] }, (refl, refl, refl))
 text_some text (Err fault) = fault_some text fault
 
-program_some : (check : CheckSaid) → HasProgram check → (refused : Bool) × (answer quote : List ℕ) × IsProgramHead check refused answer quote
+program_some : (check : CheckSaid) → HasProgram check → (head : Head) × IsProgramHead check head
 program_some check is = elim (accepted_or_refused check.program.kind check.program) [
   | inl accepted ↦
       let found = some_budget check.program.kind check.program is accepted in
-      (false, accepted_line found.0, [], (accepted, (found.0, found.1.longest, refl)))
-  | inr refused ↦ (true, refused_line refused.0 refused.1, [], (refused.0, refused.1, refused.2, refl, refl))
+      (record { is_rejected = false; answer = accepted_line found.0; quote = [] }, (accepted, (found.0, found.1.longest, refl)))
+  | inr refused ↦ (record { is_rejected = true; answer = refused_line refused.0 refused.1; quote = [] }, (refused.0, refused.1, refused.2, refl, refl))
 ]
 
-check_some : (text : List ℕ) (says : Result CheckSaid Fault) → IfOk says HasProgram → (refused : Bool) × (answer quote : List ℕ) × IsCheckHead text says refused answer quote
+check_some : (text : List ℕ) (says : Result CheckSaid Fault) → IfOk says HasProgram → (head : Head) × IsCheckHead text says head
 check_some text (Ok check) is = program_some check is
 check_some text (Err fault) is = fault_some text fault
 
@@ -39,12 +40,12 @@ pub some_head : EveryTextHasAHead
 some_head Job text =
     let found = job_says text in
     let told = text_some text found.0 in
-    (told.0, told.1, told.2, (found.0, found.1, told.3))
+    (told.0, (found.0, found.1, told.1))
 some_head Sweep text =
     let found = sweep_says text in
     let told = text_some text found.0 in
-    (told.0, told.1, told.2, (found.0, found.1, told.3))
+    (told.0, (found.0, found.1, told.1))
 some_head Check text =
     let found = says_program text in
     let told = check_some text found.0 found.1.1 in
-    (told.0, told.1, told.2, (found.0, found.1.0, told.3))
+    (told.0, (found.0, found.1.0, told.1))

@@ -1,7 +1,6 @@
--- Changes of texts, and whether a change lets a text get further.
+-- Edits of texts, and whether an edited text gets further.
 use Rattle.std.specs.Prelude.{◌≡◌, ℕ, ◌+◌, ◌<◌, List, ◌++◌, drop, length, take, Option, None, Some, Result, Ok, Err}
 use Rattle.trlab_lines.specs.Lines.{lines_of}
-use Rattle.trlab_texts.specs.declared.fault.Cause.{Cause}
 use Rattle.trlab_texts.specs.Reading.{Fault}
 use Rattle.trlab_jobs.specs.Job.{Job as JobSaid, ParsesAsJob}
 use Rattle.trlab_jobs.specs.Sweep.{Sweep as SweepSaid, ParsesAsSweep}
@@ -14,31 +13,31 @@ use Rattle.trlab_jobs.specs.declared.subject.Subject.TheVariants.{Job, Sweep, Ch
 abbrev pub edited : ℕ → ℕ → List ℕ → List ℕ → List ℕ
 edited at removed inserted text = take at text ++ (inserted ++ drop (at + removed) text)
 
--- the line and the cause of the fault in a result; none if the result is a value
-abbrev pub fault_of : {A : Type 0} → Result A Fault → Option (ℕ × Cause)
-fault_of (Ok x) = None
-fault_of (Err fault) = Some (fault.line, fault.cause)
+-- the line of the first fault, from the result of reading a text; none if the text is valid
+abbrev pub first_fault_line : {A : Type 0} → Result A Fault → Option ℕ
+first_fault_line (Ok x) = None
+first_fault_line (Err fault) = Some fault.line
 
--- `fault` is the line and the cause of the first fault of a text that is read as this kind of input; none if
--- the text has no fault
-abbrev pub HasFirstFault : Subject → List ℕ → Option (ℕ × Cause) → Type 0
-HasFirstFault Job text fault =
-    (result : Result JobSaid Fault) × ParsesAsJob text result × (fault ≡ fault_of result)
-HasFirstFault Sweep text fault =
-    (result : Result SweepSaid Fault) × ParsesAsSweep text result × (fault ≡ fault_of result)
-HasFirstFault Check text fault =
-    (result : Result CheckSaid Fault) × ParsesAsCheck text result × (fault ≡ fault_of result)
+-- `line` is the line of the first fault of a text that is read as a job, a sweep or a check; none if the text
+-- is valid
+abbrev pub HasFirstFault : Subject → List ℕ → Option ℕ → Type 0
+HasFirstFault Job text line =
+    (result : Result JobSaid Fault) × ParsesAsJob text result × (line ≡ first_fault_line result)
+HasFirstFault Sweep text line =
+    (result : Result SweepSaid Fault) × ParsesAsSweep text result × (line ≡ first_fault_line result)
+HasFirstFault Check text line =
+    (result : Result CheckSaid Fault) × ParsesAsCheck text result × (line ≡ first_fault_line result)
 
--- there is no fault in a text with the lines `changed`; or it is after the line `number`, and fewer lines
--- come after it than after the line `number` in a text with the lines `lines`. For example, line 4 of 9 is
--- later than line 3 of 9, but not later than line 3 of 8
-abbrev pub IsLaterOrNone : List (List ℕ) → ℕ → List (List ℕ) → Option (ℕ × Cause) → Type 0
+-- a text with the lines `changed` has no fault; or its first fault is after the line `number`, and fewer
+-- lines come after it than after the line `number` in a text with the lines `lines`. For example, line 4 of
+-- 9 is later than line 3 of 9, but not later than line 3 of 8
+abbrev pub IsLaterOrNone : List (List ℕ) → ℕ → List (List ℕ) → Option ℕ → Type 0
 IsLaterOrNone lines number changed None = Unit {0}
-IsLaterOrNone lines number changed (Some fault) =
-    (number < fault.0) × (length changed + number < length lines + fault.0)
+IsLaterOrNone lines number changed (Some line) =
+    (number < line) × (length changed + number < length lines + line)
 
--- the text `changed`, read as this kind of input, gets further than `text`, whose first fault is at the line
--- `number`
+-- the text `changed`, read as `subject`, gets further than `text`, whose first fault is at the line `number`:
+-- it is valid, or its first fault is later in the sense of `IsLaterOrNone`
 abbrev pub GetsFurther : List ℕ → ℕ → Subject → List ℕ → Type 0
-GetsFurther text number subject changed = (fault : Option (ℕ × Cause))
-    × HasFirstFault subject changed fault × IsLaterOrNone (lines_of text) number (lines_of changed) fault
+GetsFurther text number subject changed = (line : Option ℕ)
+    × HasFirstFault subject changed line × IsLaterOrNone (lines_of text) number (lines_of changed) line

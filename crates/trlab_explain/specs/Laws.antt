@@ -1,9 +1,10 @@
 -- Laws of explanations.
-use Rattle.std.specs.Prelude.{ℕ, Bool, List}
+use Rattle.std.specs.Prelude.{ℕ, List}
 use Rattle.trlab_jobs.specs.declared.subject.Subject.{Subject}
 use Rattle.trlab_explain.specs.Explanations.{IsHeadAs}
+use Rattle.trlab_explain.specs.declared.explanation.Head.{Head}
 
--- every text, read as any kind of input, has the head of an explanation
+-- every text, read as a job, a sweep or a check, has the head of an explanation
 abbrev pub EveryTextHasAHead : Type 0
 EveryTextHasAHead = (subject : Subject) (text : List ℕ)
-    → (refused : Bool) × (answer quote : List ℕ) × IsHeadAs subject text refused answer quote
+    → (head : Head) × IsHeadAs subject text head

@@ -6,8 +6,8 @@ use Rattle.trlab_jobs.specs.Subjects.{subject_named}
 use Rattle.trlab_jobs.specs.declared.subject.Subject.{Subject}
 use Rattle.trlab_jobs.specs.declared.subject.Subject.TheVariants.{Job, Sweep, Check}
 
--- a word is at most one edit away from this name: a byte inserted, deleted or replaced, or two neighbours
--- swapped. For example, `raod` and `roads` are one edit away from `road`
+-- a word is at most one edit away from a name: a byte is inserted, deleted or replaced, or two neighbouring
+-- bytes are swapped. For example, `raod` and `roads` are one edit away from `road`
 abbrev pub IsWithinOneEdit : List ℕ → List ℕ → Type 0
 IsWithinOneEdit word name = damerau nat_eq word name ≤ 1
 
@@ -18,8 +18,8 @@ MayBeMeantAs word Job = IsWithinOneEdit word (codes "road")
 MayBeMeantAs word Sweep = IsWithinOneEdit word (codes "sweep")
 MayBeMeantAs word Check = Unit {0}
 
--- a text with these lines may be meant as this kind of input: the kind that its first word names, or if it
--- names none, one that `MayBeMeantAs` allows; a text without lines is meant as a check
+-- a text with the lines `line ∷ left` may be meant as `subject`: the kind of input that its first word names,
+-- or if that names none, a kind that `MayBeMeantAs` allows; a text without lines is meant as a check
 abbrev pub IsMeant : List (List ℕ) → Subject → Type 0
 IsMeant [] subject = subject ≡ Check
 IsMeant (line ∷ left) subject =

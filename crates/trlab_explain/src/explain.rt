@@ -8,7 +8,7 @@ ghost use Rattle.trlab_lines.specs.Plain.{IsPlain};
 ghost use Rattle.trlab_verify.specs.Faults.{IsFaultOf};
 ghost use Rattle.trlab_jobs.specs.Check.{Check as CheckSaid};
 ghost use Rattle.trlab_explain.specs.Quotes.{quote_line};
-ghost use Rattle.trlab_explain.specs.Explanations.{Explains, HasHead, IsBlankHead, IsRefusedWith, IsHeadAs, IsFaultHead, IsProgramHead, accepted_line};
+ghost use Rattle.trlab_explain.specs.Explanations.{Explains, HasHead, IsBlankHead, IsRejectedWith, IsHeadAs, IsFaultHead, IsProgramHead, accepted_line};
 
 use crate::explanation::{Explanation, json_form, text_form};
 use crate::meant::subject_of;
@@ -24,7 +24,7 @@ use trlab_messages::{Fault, ProgramVerdict, Result, add_fault, add_job, add_prog
 use trlab_texts::{Refusal, TextFault, Wanted};
 use trlab_verify::{VerifyFault, verify_change, verify_motion};
 
-/// A form of explanations.
+/// The form in which an explanation is written.
 #[derive(Clone, Copy)]
 pub enum Form {
     /// Lines of text.
@@ -48,21 +48,20 @@ fn push_quote(page: &mut Page, number: u32, line: Option<&[u8]>) -> Result<()>
     page.end_line()
 }
 
-/// Explains a rejected input by its first fault. `at_fault` has the rest of the line, in which positions are counted,
-/// and the lines or values that the reader wanted there.
+/// Explains a rejected input by its first fault. Positions in the fault are counted in `within`, a part of the line;
+/// `wanted` has the lines or values that the reader expected there.
 fn explain_fault(
     explanation: &mut Explanation,
     text: &[u8],
     line: u32,
     cause: Cause,
-    at_fault: (&[u8], &Wanted),
+    within: &[u8],
+    wanted: &Wanted,
 ) -> Result<()>
-    requires { IsBlankHead explanation.old.refused explanation.old.answer explanation.old.quote }
-    ensures { OnOk result (IsFaultHead text.now (record { line = line; cause = cause })
-        explanation.new.refused explanation.new.answer explanation.new.quote) }
+    requires { IsBlankHead explanation.old.head }
+    ensures { OnOk result (IsFaultHead text.now (record { line = line; cause = cause }) explanation.new.head) }
 {
     let place = Place::at(text, line);
-    let (within, wanted) = at_fault;
     let fault = Fault {
         subject: explanation.body.subject,
         place,
@@ -71,15 +70,15 @@ fn explain_fault(
         wanted,
         within,
     };
-    explanation.refused = true;
-    push_fault_line(&mut explanation.answer, line, cause)?;
-    push_quote(&mut explanation.quote, line, place.line)?;
+    explanation.head.is_rejected = true;
+    push_fault_line(&mut explanation.head.answer, line, cause)?;
+    push_quote(&mut explanation.head.quote, line, place.line)?;
     let repair = likely_repair(explanation.body.alloc, fault)?;
     add_fault(&mut explanation.body, &fault, repair);
     Ok(())
 }
 
-/// Explains an input that its reader rejects.
+/// Explains an input that its reader rejects. Fails if its fault is a failed allocation.
 #[tactic(auto, using(crate::proofs::Refusals::refusal_has_head))]
 fn explain_refusal(
     explanation: &mut Explanation,
@@ -87,14 +86,13 @@ fn explain_refusal(
     text: &[u8],
     refusal: Refusal<'_>,
 ) -> Result<()>
-    requires new { IsBlankHead explanation.old.refused explanation.old.answer explanation.old.quote }
-    requires refused { IsRefusedWith subject text.now refusal }
-    ensures { OnOk result (IsHeadAs subject text.now
-        explanation.new.refused explanation.new.answer explanation.new.quote) }
+    requires new { IsBlankHead explanation.old.head }
+    requires rejected { IsRejectedWith subject text.now refusal }
+    ensures { OnOk result (IsHeadAs subject text.now explanation.new.head) }
 {
     match refusal.into_parts() {
         (TextFault::At { line, cause }, within, wanted) => {
-            explain_fault(explanation, text, line, cause, (within, &wanted))
+            explain_fault(explanation, text, line, cause, within, &wanted)
         }
         (TextFault::Memory, ..) => Err(AllocError),
     }
@@ -107,51 +105,51 @@ fn explain_accepted(
     code: &Code,
     budget: u32,
 ) -> Result<()>
-    requires { explanation.old.answer ≡ [] }
-    ensures refused { explanation.new.refused ≡ explanation.old.refused }
-    ensures answer { OnOk result (explanation.new.answer ≡ accepted_line budget) }
+    requires { explanation.old.head.answer ≡ [] }
+    ensures rejected { explanation.new.head.is_rejected ≡ explanation.old.head.is_rejected }
+    ensures answer { OnOk result (explanation.new.head.answer ≡ accepted_line budget) }
 {
-    explanation.answer.say("accepted budget ")?;
-    explanation.answer.number(u64::from(budget))?;
-    explanation.answer.end_line()?;
+    explanation.head.answer.say("accepted budget ")?;
+    explanation.head.answer.number(u64::from(budget))?;
+    explanation.head.answer.end_line()?;
     add_program(
         &mut explanation.body,
         text,
         code,
-        ProgramVerdict::Accepted(budget),
+        ProgramVerdict::Accepted { budget },
     );
     Ok(())
 }
 
-/// Explains a program that the verifier does not accept.
+/// Explains a program that the verifier rejects. Fails if `fault` is a failed allocation.
 fn explain_rejected(
     explanation: &mut Explanation,
     text: &[u8],
     code: &Code,
     fault: VerifyFault,
 ) -> Result<()>
-    requires { IsBlankHead explanation.old.refused explanation.old.answer explanation.old.quote }
+    requires { IsBlankHead explanation.old.head }
     ensures { (check : CheckSaid) → IsFaultOf check.program.kind check.program fault
-        → OnOk result (IsProgramHead check explanation.new.refused explanation.new.answer explanation.new.quote) }
+        → OnOk result (IsProgramHead check explanation.new.head) }
 {
     let VerifyFault::Why { at, reason } = fault else {
         return Err(AllocError);
     };
-    explanation.refused = true;
-    push_refused_line(&mut explanation.answer, at, reason)?;
+    explanation.head.is_rejected = true;
+    push_refused_line(&mut explanation.head.answer, at, reason)?;
     add_program(
         &mut explanation.body,
         text,
         code,
-        ProgramVerdict::Rejected(at, reason),
+        ProgramVerdict::Rejected { pc: at, reason },
     );
     Ok(())
 }
 
-/// Explains the program of a check.
+/// Explains the verifier's verdict on the program of a check.
 fn explain_program(explanation: &mut Explanation, text: &[u8], check: Check) -> Result<()>
-    requires { IsBlankHead explanation.old.refused explanation.old.answer explanation.old.quote }
-    ensures { OnOk result (IsProgramHead check explanation.new.refused explanation.new.answer explanation.new.quote) }
+    requires { IsBlankHead explanation.old.head }
+    ensures { OnOk result (IsProgramHead check explanation.new.head) }
 {
     let Check { code, .. } = check;
     let alloc = explanation.body.alloc;
@@ -167,11 +165,10 @@ fn explain_program(explanation: &mut Explanation, text: &[u8], check: Check) -> 
     }
 }
 
-/// Explains an input as one of this kind.
+/// Explains an input that is read as `subject`.
 fn explain_as(explanation: &mut Explanation, subject: Subject, text: &[u8]) -> Result<()>
-    requires { IsBlankHead explanation.old.refused explanation.old.answer explanation.old.quote }
-    ensures { OnOk result (IsHeadAs subject text.now
-        explanation.new.refused explanation.new.answer explanation.new.quote) }
+    requires { IsBlankHead explanation.old.head }
+    ensures { OnOk result (IsHeadAs subject text.now explanation.new.head) }
 {
     let alloc = explanation.body.alloc;
     match subject {
@@ -196,7 +193,7 @@ fn explain_as(explanation: &mut Explanation, subject: Subject, text: &[u8]) -> R
     }
 }
 
-/// Plain text as bytes.
+/// A copy of the bytes of a page.
 pub fn plain_bytes(alloc: Global, page: &Page) -> Result<Vec<u8>>
     ensures text { IfOk result (λ bytes. bytes.items ≡ page.now) }
     ensures plain { IfOk result (λ bytes. All IsPlain bytes.items) }
@@ -206,55 +203,57 @@ pub fn plain_bytes(alloc: Global, page: &Page) -> Result<Vec<u8>>
     Ok(bytes)
 }
 
-/// Whether an explanation is a rejection, and its bytes in this form.
-fn bytes_in_form(alloc: Global, form: Form, explanation: &Explanation) -> Result<(bool, Vec<u8>)>
-    ensures refused { IfOk result (λ output. output.0 ≡ explanation.now.refused) }
-    ensures head { IfOk result (λ output.
-        HasHead form explanation.now.refused explanation.now.answer explanation.now.quote output.1.items) }
-    ensures plain { IfOk result (λ output. All IsPlain output.1.items) }
+/// An explanation that is ready to be written.
+#[derive(Drop)]
+pub struct Output {
+    /// Whether the input, its program or the number is rejected.
+    pub is_rejected: bool,
+    pub bytes: Vec<u8>,
+}
+
+/// The output for an explanation.
+fn output_in_form(alloc: Global, form: Form, explanation: &Explanation) -> Result<Output>
+    ensures rejected { IfOk result (λ output. output.is_rejected ≡ explanation.now.head.is_rejected) }
+    ensures head { IfOk result (λ output. HasHead form explanation.now.head output.bytes.items) }
+    ensures plain { IfOk result (λ output. All IsPlain output.bytes.items) }
 {
     explanation.body.outcome()?;
     let bytes = match form {
         Form::Text => plain_bytes(alloc, &text_form(alloc, explanation)?)?,
         Form::Json => json_form(alloc, explanation)?,
     };
-    Ok((explanation.refused, bytes))
+    Ok(Output {
+        is_rejected: explanation.head.is_rejected,
+        bytes,
+    })
 }
 
-/// Whether an input is rejected, and its explanation in a form.
-fn explained(
-    alloc: Global,
-    form: Form,
-    wanted: Option<Subject>,
-    text: &[u8],
-) -> Result<(bool, Vec<u8>)>
-    ensures { IfOk result (λ output. Explains form wanted text.now output.0 output.1.items) }
+/// Explains an input, read as `subject`, or if that is `None`, as the kind of input that its first word determines.
+fn explain_input(alloc: Global, form: Form, subject: Option<Subject>, text: &[u8]) -> Result<Output>
+    ensures { IfOk result (λ output. Explains form subject text.now output.is_rejected output.bytes.items) }
 {
-    let subject = match wanted {
+    let read_as = match subject {
         Some(subject) => subject,
         None => subject_of(alloc, text)?,
     };
-    let mut explanation = Explanation::new(alloc, subject);
-    match explain_as(&mut explanation, subject, text) {
-        Ok(()) => bytes_in_form(alloc, form, &explanation),
-        Err(error) => Err(error),
-    }
+    let mut explanation = Explanation::new(alloc, read_as);
+    explain_as(&mut explanation, read_as, text)?;
+    output_in_form(alloc, form, &explanation)
 }
 
-/// Writes a whole output and flushes the writer; writes nothing if an allocation failed. The `bool` is true for a
-/// rejection.
-pub fn write_explanation<K: Sink>(output: Result<(bool, Vec<u8>)>, writer: &mut K) -> End
+/// Writes a whole output and flushes the writer; writes nothing if an allocation failed.
+pub fn write_explanation<K: Sink>(output: Result<Output>, writer: &mut K) -> End
     requires { K.failed writer.old ≡ false }
     ensures answer { MatchResult output
-        (λ output. WroteOutputAtEnd output.0 output.1.items result
+        (λ output. WroteOutputAtEnd output.is_rejected output.bytes.items result
         (bytes_of K.Sink writer.old) (bytes_of K.Sink writer.new))
         (λ _. (result ≡ Memory) × AddsNone (bytes_of K.Sink writer.old) (bytes_of K.Sink writer.new)) }
     ensures handed { FlushedAtEnd result
-        (K.handed_on writer.new) (K.flushes writer.old) (K.flushes writer.new) }
+        (K.is_flushed writer.new) (K.flushes writer.old) (K.flushes writer.new) }
     ensures device { (result ≡ DeviceFault) ↔ (K.failed writer.new ≡ true) }
 {
     match output {
-        Ok((refused, bytes)) => write_output(refused, &bytes, writer),
+        Ok(Output { is_rejected, bytes }) => write_output(is_rejected, &bytes, writer),
         Err(_) => End::Memory,
     }
 }
@@ -273,7 +272,7 @@ impl Engine for ExplainEngine {
     ghost at_once = { true };
 
     fn write<K: Sink>(self, alloc: Global, text: &[u8], writer: &mut K) -> End {
-        write_explanation(explained(alloc, self.form, self.subject, text), writer)
+        write_explanation(explain_input(alloc, self.form, self.subject, text), writer)
     }
 }
 

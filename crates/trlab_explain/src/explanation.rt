@@ -1,9 +1,9 @@
 //! Explanations: their heads and bodies, and the two forms in which they are written.
 
-ghost use Rattle.std.specs.Prelude.{◌≡◌, [], false, All, IfOk};
+ghost use Rattle.std.specs.Prelude.{All, IfOk};
 ghost use Rattle.trlab_lines.specs.Plain.{IsPlain};
 ghost use Rattle.trlab_explain.specs.Json.{EndsObject};
-ghost use Rattle.trlab_explain.specs.Explanations.{BeginsWith, text_front};
+ghost use Rattle.trlab_explain.specs.Explanations.{BeginsWith, IsBlankHead, text_front};
 
 use crate::object::Object;
 use std::alloc::Global;
@@ -11,14 +11,20 @@ use trlab_jobs::Subject;
 use trlab_lines::Page;
 use trlab_messages::{Body, Draft, Result, add_body, page_of, push_text};
 
-/// An explanation of an input: its head and its body.
-pub struct Explanation {
+/// The head of an explanation: the verdict on an input and the lines that belong to it.
+#[derive(Drop)]
+pub struct Head {
     /// Whether the input or its program is rejected.
-    pub refused: bool,
-    /// The line that the command prints for a rejected input or for a program; else empty.
+    pub is_rejected: bool,
+    /// The line that the command prints for a rejected input or for a program; otherwise empty.
     pub answer: Page,
     /// The line at fault with its number, if there is one.
     pub quote: Page,
+}
+
+/// An explanation of an input.
+pub struct Explanation {
+    pub head: Head,
     pub body: Body,
 }
 
@@ -26,9 +32,7 @@ pub struct Explanation {
 impl Drop for Explanation {
     fn drop(self) {
         let Explanation {
-            refused: _refused,
-            answer: _answer,
-            quote: _quote,
+            head: _head,
             body: _body,
         } = self;
     }
@@ -37,30 +41,31 @@ impl Drop for Explanation {
 impl Explanation {
     /// A blank explanation of an input that is not rejected.
     pub fn new(alloc: Global, subject: Subject) -> Explanation
-        ensures refused { result.refused ≡ false }
-        ensures answer { result.answer ≡ [] }
-        ensures quote { result.quote ≡ [] }
+        ensures { IsBlankHead result.head }
     {
         Explanation {
-            refused: false,
-            answer: Page::new(alloc),
-            quote: Page::new(alloc),
+            head: Head {
+                is_rejected: false,
+                answer: Page::new(alloc),
+                quote: Page::new(alloc),
+            },
             body: Body::new(alloc, subject),
         }
     }
 }
 
+/// The text form of an explanation: for a rejected input first its answer and its quote, then the body.
 pub fn text_form(alloc: Global, explanation: &Explanation) -> Result<Page>
-    ensures { IfOk result (BeginsWith
-        (text_front explanation.now.refused explanation.now.answer explanation.now.quote)) }
+    ensures { IfOk result (BeginsWith (text_front explanation.now.head)) }
 {
     let mut text = Draft::new(alloc);
     push_text(&mut text, &explanation.body);
     let body = page_of(alloc, text.text()?)?;
     let mut page = Page::new(alloc);
-    if explanation.refused {
-        page.add(&explanation.answer)?;
-        page.add(&explanation.quote)?;
+    let head = &explanation.head;
+    if head.is_rejected {
+        page.add(&head.answer)?;
+        page.add(&head.quote)?;
     }
     page.add(&body)?;
     Ok(page)
@@ -69,10 +74,11 @@ pub fn text_form(alloc: Global, explanation: &Explanation) -> Result<Page>
 /// The JSON form of an explanation: one object on one line.
 pub fn json_form(alloc: Global, explanation: &Explanation) -> Result<Vec<u8>>
     ensures plain { IfOk result (λ text. All IsPlain text.items) }
-    ensures object { IfOk result (λ text. EndsObject explanation.now.refused explanation.now.answer text.items) }
+    ensures object { IfOk result (λ text.
+        EndsObject explanation.now.head.is_rejected explanation.now.head.answer text.items) }
 {
     let mut out = Object::new(alloc);
     add_body(&mut out, &explanation.body);
-    out.finish(explanation.refused, &explanation.answer)?;
+    out.finish(explanation.head.is_rejected, &explanation.head.answer)?;
     out.into_line()
 }

@@ -14,8 +14,8 @@ use trlab_texts::word::head_word;
 /// The maximum length of a word that may be a misspelled name.
 const LONGEST_WORD: usize = 16;
 
-/// Whether a word is at most one edit away from this name: a letter inserted, deleted or replaced, or two neighbours
-/// exchanged.
+/// Whether a word is at most one edit away from a name: a byte inserted, deleted or replaced, or two neighbours
+/// swapped. False for words longer than `LONGEST_WORD`.
 fn is_nearly(alloc: Global, word: &[u8], name: &[u8]) -> Result<bool>
     requires { name.now ≢ [] }
     ensures { IfOk result (λ is_so. is_so ≡ true → IsWithinOneEdit word.now name.now) }
@@ -27,7 +27,7 @@ fn is_nearly(alloc: Global, word: &[u8], name: &[u8]) -> Result<bool>
     Ok(edits <= 1)
 }
 
-/// The kind of an input whose first word is unknown.
+/// The kind that an input with an unknown first word is meant to be.
 fn misspelled_subject(alloc: Global, word: &[u8]) -> Result<Subject>
     ensures { IfOk result (MayBeMeantAs word.now) }
 {

@@ -1,4 +1,4 @@
-//! The causes by their numbers.
+//! Causes by their numbers.
 
 ghost use Rattle.std.specs.Prelude.{◌≡◌, IfSome, is_some, nat_eq};
 ghost use Rattle.std.specs.List.{find};
@@ -12,10 +12,11 @@ use trlab_notes::Reason;
 use trlab_road::RoadFault;
 use trlab_texts::Cause;
 
-/// A reason's cause has the reason's number plus this.
-const BEFORE_REASONS: u32 = 40;
+/// The difference between the number of a reason's cause and the number of the reason.
+const REASON_OFFSET: u32 = 40;
 
-/// The causes, except those of reasons. No input has the last one. A cause that names a place is listed with place 0.
+/// The causes, except those of the verifier's reasons. No input has the last cause. A cause with a position is listed
+/// with position 0.
 const CAUSES: [Cause; 30] = [
     Cause::Line,
     Cause::Number,
@@ -49,8 +50,8 @@ const CAUSES: [Cause; 30] = [
     Cause::StandardRefused,
 ];
 
-/// The first cause of the list with this number.
-fn listed(number: u32) -> Option<Cause>
+/// The first cause of `CAUSES` with this number.
+fn cause_in_list(number: u32) -> Option<Cause>
     ensures { result ≡ find (λ cause. nat_eq (cause_number cause) number) CAUSES }
 {
     CAUSES
@@ -64,9 +65,9 @@ pub fn cause_numbered(number: u32) -> Option<Cause>
     ensures known { is_some result ≡ is_known OfCause number }
     ensures number { IfSome result (λ cause. cause_number cause ≡ number) }
 {
-    if let Some(cause) = listed(number) {
+    if let Some(cause) = cause_in_list(number) {
         return Some(cause);
     }
-    let reason = Reason::from_number(number.checked_sub(BEFORE_REASONS)?)?;
+    let reason = Reason::from_number(number.checked_sub(REASON_OFFSET)?)?;
     Some(Cause::Verdict(reason.number()))
 }

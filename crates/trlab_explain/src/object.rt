@@ -60,25 +60,20 @@ impl Object {
         }
     }
 
-    /// Adds a token of plain text.
+    /// Adds a token whose text, if it has one, is plain.
     fn put(&mut self, token: Token<'_>) -> Result<()>
         requires plain { HasPlainText (token_of token) }
         requires printable { IsPrintable (token_of token) }
         ensures { OnOk result (self.new ≡ self.old ++ token_of token.entry ∷ []) }
     {
-        match self.out.token(token) {
-            Ok(()) => Ok(()),
-            Err(error) => Err(error),
-        }
+        self.out.token(token)
     }
 
+    /// Adds a number.
     fn number(&mut self, n: u64) -> Result<()>
         ensures { OnOk result (self.new ≡ self.old ++ number (decimal n) ∷ []) }
     {
-        match self.out.u64(n) {
-            Ok(()) => Ok(()),
-            Err(error) => Err(error),
-        }
+        self.out.u64(n)
     }
 
     /// Adds the name of a member.
@@ -123,20 +118,20 @@ impl Object {
     /// # Errors
     ///
     /// If an allocation fails, or failed before.
-    pub fn finish(&mut self, refused: bool, answer: &Page) -> Result<()>
-        ensures { OnOk result (self.new ≡ self.old ++ object_end refused answer.now) }
+    pub fn finish(&mut self, is_rejected: bool, answer: &Page) -> Result<()>
+        ensures { OnOk result (self.new ≡ self.old ++ object_end is_rejected answer.now) }
     {
         if self.has_failed {
             return Err(AllocError);
         }
         self.key("status")?;
-        self.number(u64::from(refused))?;
+        self.number(u64::from(is_rejected))?;
         self.key("answer")?;
         self.answer(answer)?;
         self.put(Token::EndObject)
     }
 
-    /// Adds the line that the command prints, without its end.
+    /// Adds the line that the command prints, without its LF; null for an empty page.
     fn answer(&mut self, answer: &Page) -> Result<()>
         ensures { OnOk result (self.new ≡ self.old ++ answer_token answer.now ∷ []) }
     {
@@ -165,10 +160,10 @@ impl ObjectWriter for Object {
     }
 
     fn token(&mut self, token: Result<Token<'_>>) {
-        let added = match token {
-            Ok(token) => self.add(token),
-            Err(error) => Err(error),
+        let has_failed = match token {
+            Ok(token) => self.add(token).is_err(),
+            Err(_) => true,
         };
-        self.has_failed |= added.is_err();
+        self.has_failed |= has_failed;
     }
 }

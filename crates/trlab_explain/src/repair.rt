@@ -9,7 +9,7 @@ use std::alloc::{AllocError, Global};
 use trlab_jobs::{Subject, read_check, read_job, read_sweep};
 use trlab_lines::count_lines;
 use trlab_messages::{Change, Fault, Repair, Result, candidates_for};
-use trlab_texts::{Cause, TextFault};
+use trlab_texts::TextFault;
 
 /// The text with `removed` bytes from `at` on replaced by `inserted`.
 fn edited(alloc: Global, text: &[u8], at: usize, removed: usize, inserted: &[u8]) -> Result<Vec<u8>>
@@ -25,9 +25,9 @@ fn edited(alloc: Global, text: &[u8], at: usize, removed: usize, inserted: &[u8]
     Ok(changed)
 }
 
-/// The first fault of a text that is read as `subject`, if it has one: its line and its cause.
-fn first_fault(alloc: Global, subject: Subject, text: &[u8]) -> Result<Option<(u32, Cause)>>
-    ensures { IfOk result (λ fault. HasFirstFault subject text.now fault) }
+/// The line of the first fault of a text that is read as `subject`, if it has one.
+fn first_fault(alloc: Global, subject: Subject, text: &[u8]) -> Result<Option<u32>>
+    ensures { IfOk result (λ line. HasFirstFault subject text.now line) }
 {
     let fault = match subject {
         Subject::Job => read_job(alloc, text).err(),
@@ -36,32 +36,32 @@ fn first_fault(alloc: Global, subject: Subject, text: &[u8]) -> Result<Option<(u
     };
     match fault {
         None => Ok(None),
-        Some(TextFault::At { line, cause }) => Ok(Some((line, cause))),
+        Some(TextFault::At { line, .. }) => Ok(Some(line)),
         Some(TextFault::Memory) => Err(AllocError),
     }
 }
 
-/// Whether `changed` has no fault, or its first fault is after line `number` and has fewer lines after it than `text`
-/// has after that line.
-fn is_after(text: &[u8], number: u32, changed: &[u8], fault: Option<(u32, Cause)>) -> bool
-    ensures { result ≡ true → IsLaterOrNone (lines_of text.now) number (lines_of changed.now) fault }
+/// Whether `changed` has no fault, or its first fault, at `line`, is after line `number` and has fewer lines after it
+/// than `text` has after line `number`.
+fn is_after(text: &[u8], number: u32, changed: &[u8], line: Option<u32>) -> bool
+    ensures { result ≡ true → IsLaterOrNone (lines_of text.now) number (lines_of changed.now) line }
 {
-    match fault {
+    match line {
         None => true,
-        Some((line, _)) => {
+        Some(line) => {
             let left = count_lines(changed) as u128 + u128::from(number);
             number < line && left < count_lines(text) as u128 + u128::from(line)
         }
     }
 }
 
-/// Whether `changed`, read as `subject`, gets further than the text with this first fault.
+/// Whether `changed`, read as `subject`, gets further than the input whose first fault is `fault`.
 fn gets_further(alloc: Global, fault: Fault<'_>, subject: Subject, changed: &[u8]) -> Result<bool>
     ensures { IfOk result (λ is_so. is_so ≡ true
         → GetsFurther fault.entry.place.text.now fault.entry.place.number subject changed.now) }
 {
-    let found = first_fault(alloc, subject, changed)?;
-    Ok(is_after(fault.place.text, fault.place.number, changed, found))
+    let line = first_fault(alloc, subject, changed)?;
+    Ok(is_after(fault.place.text, fault.place.number, changed, line))
 }
 
 /// Whether a change lets an input get further than its first fault.

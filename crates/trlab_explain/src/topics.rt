@@ -5,7 +5,7 @@ ghost use Rattle.trlab_campaign.specs.Ending.{WroteAtEnd, LeavesWriter};
 ghost use Rattle.trlab_explain.specs.Explanations.{BeginsWith, IsNumberPage, topic_front};
 ghost use Rattle.trlab_explain.specs.Numbers.{is_known};
 
-use crate::explain::{plain_bytes, write_explanation};
+use crate::explain::{Output, plain_bytes, write_explanation};
 use crate::numbers::cause_numbered;
 use std::alloc::{AllocGlobal, Global};
 use trlab_campaign::{End, Sink};
@@ -13,7 +13,7 @@ use trlab_lines::Page;
 use trlab_messages::{Draft, Result, page_of, push_cause, push_reason};
 use trlab_notes::Reason;
 
-/// The kinds of numbers in the answers to rejected inputs.
+/// A kind of number in the answers to rejected inputs.
 #[derive(Clone, Copy)]
 pub enum Topic {
     /// The cause of a line `fault line N cause K`.
@@ -22,7 +22,7 @@ pub enum Topic {
     Reason,
 }
 
-/// Adds the words for a number, and returns whether it is unknown.
+/// Adds the meaning of a number, or a line that says that it is unknown. Returns whether it is unknown.
 fn push_number(text: &mut Draft, topic: Topic, number: u32) -> bool
     ensures { result ≡ not (is_known topic number) }
 {
@@ -56,16 +56,19 @@ fn push_topic(page: &mut Page, topic: Topic, number: u32) -> Result<()>
     page.say(": ")
 }
 
-/// Whether a number of this topic is unknown, and its page.
-fn number_page(alloc: Global, topic: Topic, number: u32) -> Result<(bool, Vec<u8>)>
-    ensures { IfOk result (λ page. IsNumberPage topic number page.0 page.1.items) }
+/// The page on a number, rejected if the number is unknown.
+fn number_page(alloc: Global, topic: Topic, number: u32) -> Result<Output>
+    ensures { IfOk result (λ page. IsNumberPage topic number page.is_rejected page.bytes.items) }
 {
     let mut words = Draft::new(alloc);
-    let is_none = push_number(&mut words, topic, number);
+    let is_rejected = push_number(&mut words, topic, number);
     let mut page = Page::new(alloc);
     push_topic(&mut page, topic, number)?;
     page.add(&page_of(alloc, words.text()?)?)?;
-    Ok((is_none, plain_bytes(alloc, &page)?))
+    Ok(Output {
+        is_rejected,
+        bytes: plain_bytes(alloc, &page)?,
+    })
 }
 
 /// Writes the meaning of the cause or reason with a number, and a hint if there is one. An unknown number is rejected.

@@ -14,7 +14,7 @@ use Rattle.trlab_texts.proofs.Fine.{Anything, Fine, InRange, line_other, key_oth
 use Rattle.trlab_jobs.specs.declared.rule_line.RuleLine.{RuleLine}
 use Rattle.trlab_jobs.specs.declared.rule_line.RuleLine.TheVariants.{Nasch, Vdr, Rickert, Own}
 use Rattle.trlab_jobs.specs.Job.{key_line, key_of, key_of_hex}
-use Rattle.trlab_jobs.specs.RuleLines.{rule_words, chance_of, rule_numbers, rule_line, later_words, step_of, admit_step, later_line}
+use Rattle.trlab_jobs.specs.RuleLines.{rule_words, probability_of, rule_with_probabilities, rule_line, later_words, step_of, admit_step, later_line}
 
 -- a line of fixed words
 pub fixed_fine : (words text : List ℕ) → Fine {A = Unit {0}} Anything (if bytes_eq text words then Ok tt else Err Line)
@@ -44,24 +44,24 @@ pub record InOrder (steps least : ℕ) (at : ℕ × RuleLine ℕ) : Type 0 where
   pub below : at.0 < steps
   pub chances : Chances at.1
 
-chance_fine : (word : List ℕ) → Fine (InRange 0 CERTAIN) (chance_of word)
+chance_fine : (word : List ℕ) → Fine (InRange 0 CERTAIN) (probability_of word)
 chance_fine word = within_fine 0 CERTAIN (number_of word)
 
 two_fine : (make : ℕ → ℕ → RuleLine ℕ) → ((p c : ℕ) → p ≤ CERTAIN → c ≤ CERTAIN → Chances (make p c)) → (first second : List ℕ)
-    → Fine Chances (chance_of first >>= λ p. chance_of second >>= λ c. Ok (make p c))
+    → Fine Chances (probability_of first >>= λ p. probability_of second >>= λ c. Ok (make p c))
 two_fine make fit first second =
-    bind_fine (InRange 0 CERTAIN) Chances (chance_of first) (λ p. chance_of second >>= λ c. Ok (make p c)) (chance_fine first) (λ p h.
-    bind_fine (InRange 0 CERTAIN) Chances (chance_of second) (λ c. Ok (make p c)) (chance_fine second) (λ c k. fit p c h.high k.high))
+    bind_fine (InRange 0 CERTAIN) Chances (probability_of first) (λ p. probability_of second >>= λ c. Ok (make p c)) (chance_fine first) (λ p h.
+    bind_fine (InRange 0 CERTAIN) Chances (probability_of second) (λ c. Ok (make p c)) (chance_fine second) (λ c k. fit p c h.high k.high))
 
-rule_numbers_fine : (words : RuleLine (List ℕ)) → Fine Chances (rule_numbers words)
-rule_numbers_fine (Nasch p) = bind_fine (InRange 0 CERTAIN) Chances (chance_of p) (λ p. Ok (Nasch p)) (chance_fine p) (λ p h. h.high)
+rule_numbers_fine : (words : RuleLine (List ℕ)) → Fine Chances (rule_with_probabilities words)
+rule_numbers_fine (Nasch p) = bind_fine (InRange 0 CERTAIN) Chances (probability_of p) (λ p. Ok (Nasch p)) (chance_fine p) (λ p h. h.high)
 rule_numbers_fine (Vdr p p0) = two_fine (λ p p0. Vdr p p0) (λ p p0 h k. (h, k)) p p0
 rule_numbers_fine (Rickert p c) = two_fine (λ p c. Rickert p c) (λ p c h k. (h, k)) p c
 rule_numbers_fine Own = tt
 
 pub rule_line_fine : (text : List ℕ) → Fine Chances (rule_line text)
 rule_line_fine text =
-    bind_fine Anything Chances (ok_or (rule_words text) Line) rule_numbers (found_fine (rule_words text)) (λ words any. rule_numbers_fine words)
+    bind_fine Anything Chances (ok_or (rule_words text) Line) rule_with_probabilities (found_fine (rule_words text)) (λ words any. rule_numbers_fine words)
 
 abbrev Admits : ℕ → ℕ → ℕ → Type 0
 Admits steps least step = (least ≤ step) × (step < steps)
@@ -81,6 +81,6 @@ pub later_line_fine : (room steps least : ℕ) (text : List ℕ) → Fine (InOrd
 later_line_fine room steps least text =
     bind_fine Anything (InOrder steps least) (ok_or (later_words text) Line) _ (found_fine (later_words text)) (λ words any.
     bind_fine (InRange 0 LONGEST_NUMBER) (InOrder steps least) (step_of words.0) _ (within_fine 0 LONGEST_NUMBER (number_of words.0)) (λ step any.
-    bind_fine Chances (InOrder steps least) (rule_numbers words.1) _ (rule_numbers_fine words.1) (λ rule fit.
+    bind_fine Chances (InOrder steps least) (rule_with_probabilities words.1) _ (rule_numbers_fine words.1) (λ rule fit.
     bind_fine (Admits steps least) (InOrder steps least) (admit_step room steps least step) _ (admit_step_fine room steps least step) (λ from in_order.
     record { rises = in_order.0; below = in_order.1; chances = fit }))))

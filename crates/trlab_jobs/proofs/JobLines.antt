@@ -7,7 +7,7 @@ use Rattle.trlab_step.specs.Run.{Sheet}
 use Rattle.trlab_texts.specs.declared.fault.TextFault.{TextFault}
 use Rattle.trlab_texts.specs.declared.fault.TextFault.TheVariants.{At, Memory}
 use Rattle.trlab_texts.specs.Lines.{Rest, all_lines}
-use Rattle.trlab_texts.specs.Reading.{Reading, ◌>>=◌, ◌>>◌, say, line, exactly, Reports}
+use Rattle.trlab_texts.specs.Reading.{Reading, ◌>>=◌, ◌>>◌, give, line, exactly, Reports}
 use Rattle.trlab_jobs.specs.Lanes.{lanes}
 use Rattle.trlab_jobs.specs.RuleParts.{rule}
 use Rattle.trlab_jobs.specs.Later.{later_rules}
@@ -16,7 +16,7 @@ use Rattle.trlab_texts.proofs.Readings.{goes_on}
 
 -- what is read after each line
 abbrev pub after_all : List ℕ → Cells → Programs → ℕ → Sheet → Reading Job
-after_all key road first steps later = say (record { key = key; road = road; first = first; later = later; steps = steps })
+after_all key road first steps later = give (record { key = key; road = road; first = first; later = later; steps = steps })
 
 abbrev pub after_steps : List ℕ → Cells → Programs → ℕ → Reading Job
 after_steps key road first steps = later_rules (length road.lanes) steps >>= after_all key road first steps

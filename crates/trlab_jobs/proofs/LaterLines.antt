@@ -7,7 +7,7 @@ use Rattle.trlab_step.specs.Run.{Sheet}
 use Rattle.trlab_texts.specs.declared.fault.TextFault.{TextFault}
 use Rattle.trlab_texts.specs.declared.fault.TextFault.TheVariants.{At, Memory}
 use Rattle.trlab_texts.specs.Lines.{Rest}
-use Rattle.trlab_texts.specs.Reading.{Reading, say, ◌>>=◌, Reports}
+use Rattle.trlab_texts.specs.Reading.{Reading, give, ◌>>=◌, Reports}
 use Rattle.trlab_jobs.specs.Later.{later_rule, to_the_end, later_rules_from, later_rules}
 use Rattle.trlab_jobs.specs.Stored.{AreLaterRules}
 use Rattle.trlab_texts.proofs.Readings.{goes_on, stops}
@@ -29,7 +29,7 @@ behind_more later entry (Err fault) = refl
 
 -- a reading and what is said before what follows
 said_before : (reading : Reading Sheet) (entry : ℕ × Programs) (place : Rest) (out : Result (Sheet × Rest) TextFault)
-    → Reports (reading place) out → Reports ((reading >>= λ later. say (entry ∷ later)) place) (behind (entry ∷ []) out)
+    → Reports (reading place) out → Reports ((reading >>= λ later. give (entry ∷ later)) place) (behind (entry ∷ []) out)
 said_before reading entry place (Ok found) told = (Ok found, (told, refl))
 said_before reading entry place (Err (At line cause)) told = (Err (record { line = line; cause = cause }), (told, refl))
 said_before reading entry place (Err Memory) told = tt
@@ -43,7 +43,7 @@ open_line reading place (text ∷ left) out some told = told
 -- what is read of a later rule and of those after it
 abbrev one_and_more : ℕ → ℕ → ℕ → ℕ → Reading Sheet
 one_and_more room lanes steps least = later_rule (suc room) lanes steps least >>= λ entry.
-    later_rules_from room lanes steps (entry.0 + 1) >>= λ later. say (entry ∷ later)
+    later_rules_from room lanes steps (entry.0 + 1) >>= λ later. give (entry ∷ later)
 
 -- a later rule was read, and others may follow
 line_more : (lanes steps room least : ℕ) (place after : Rest) (entry : ℕ × Programs) (out : Result (Sheet × Rest) TextFault) → place.left ≢ []
@@ -52,7 +52,7 @@ line_more : (lanes steps room least : ℕ) (place after : Rest) (entry : ℕ × 
 unfolding later_rules_from
 line_more lanes steps room least place after entry out some one told =
     open_line (one_and_more room lanes steps least) place place.left (behind (entry ∷ []) out) some
-    (goes_on (later_rule (suc room) lanes steps least) (λ entry. later_rules_from room lanes steps (entry.0 + 1) >>= λ later. say (entry ∷ later)) place after entry (behind (entry ∷ []) out) one
+    (goes_on (later_rule (suc room) lanes steps least) (λ entry. later_rules_from room lanes steps (entry.0 + 1) >>= λ later. give (entry ∷ later)) place after entry (behind (entry ∷ []) out) one
     (said_before (later_rules_from room lanes steps (entry.0 + 1)) entry after out told))
 
 -- a later rule has a fault
@@ -61,11 +61,11 @@ line_fault : (lanes steps room least : ℕ) (place : Rest) (fault : TextFault) �
     → Reports {A = Sheet × Rest} (later_rules_from room lanes steps least place) (Err fault)
 unfolding later_rules_from
 line_fault lanes steps zero least place fault some told =
-    open_line (later_rule 0 lanes steps least >>= λ entry. say (entry ∷ [])) place place.left (Err fault) some
-    (stops (later_rule 0 lanes steps least) (λ entry. say (entry ∷ [])) place fault told)
+    open_line (later_rule 0 lanes steps least >>= λ entry. give (entry ∷ [])) place place.left (Err fault) some
+    (stops (later_rule 0 lanes steps least) (λ entry. give (entry ∷ [])) place fault told)
 line_fault lanes steps (suc room) least place fault some told =
     open_line (one_and_more room lanes steps least) place place.left (Err fault) some
-    (stops (later_rule (suc room) lanes steps least) (λ entry. later_rules_from room lanes steps (entry.0 + 1) >>= λ later. say (entry ∷ later)) place fault told)
+    (stops (later_rule (suc room) lanes steps least) (λ entry. later_rules_from room lanes steps (entry.0 + 1) >>= λ later. give (entry ∷ later)) place fault told)
 
 no_line : (reading : Reading Sheet) (place : Rest) (left : List (List ℕ)) → left ≡ [] → to_the_end left reading place (Ok ([], place))
 no_line reading place [] none = refl
@@ -74,7 +74,7 @@ no_line reading place (text ∷ left) none = absurd (cc none)
 -- no line is left
 line_none : (lanes steps room least : ℕ) (place : Rest) → place.left ≡ [] → later_rules_from room lanes steps least place (Ok ([], place))
 unfolding later_rules_from
-line_none lanes steps zero least place none = no_line (later_rule 0 lanes steps least >>= λ entry. say (entry ∷ [])) place place.left none
+line_none lanes steps zero least place none = no_line (later_rule 0 lanes steps least >>= λ entry. give (entry ∷ [])) place place.left none
 line_none lanes steps (suc room) least place none = no_line (one_and_more room lanes steps least) place place.left none
 
 -- one more was read

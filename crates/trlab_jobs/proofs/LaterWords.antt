@@ -3,7 +3,7 @@ use Rattle.std.proofs.Common.{◌≡◌, List, ℕ, Bool, true, false, ap, refl,
 use Rattle.std.specs.Prelude.{Option, None, Some, Ok, codes, option_map, option_and_then, if◌then◌else◌}
 use Rattle.trlab_texts.specs.Words.{is_word}
 use Rattle.trlab_lines.specs.Cutting.{without_prefix, cut}
-use Rattle.trlab_jobs.specs.RuleLines.{rule_words, rule_numbers, step_and_rule, step_of, admit_step, later_words, later_line}
+use Rattle.trlab_jobs.specs.RuleLines.{rule_words, rule_with_probabilities, step_and_rule, step_of, admit_step, later_words, later_line}
 use Rattle.trlab_jobs.specs.declared.rule_line.RuleLine.{RuleLine}
 
 -- the words of a rule after a step
@@ -38,5 +38,5 @@ step_said text rest step words rule p q w r =
 
 -- the words of a later line, its numbers, and its step, which is let in
 pub later_said : (room steps least : ℕ) (text : List ℕ) (words : List ℕ × RuleLine (List ℕ)) (step from : ℕ) (rule : RuleLine ℕ) → Some words ≡ later_words text → Ok step ≡ step_of words.0
-    → Ok rule ≡ rule_numbers words.1 → Ok from ≡ admit_step room steps least step → Ok (from, rule) ≡ later_line room steps least text
+    → Ok rule ≡ rule_with_probabilities words.1 → Ok from ≡ admit_step room steps least step → Ok (from, rule) ≡ later_line room steps least text
 later_said room steps least text words step from rule p q r s = rw (← p, ← q, ← r, ← s) refl

@@ -22,7 +22,7 @@ use Rattle.trlab_texts.specs.declared.fault.Cause.{Cause}
 use Rattle.trlab_texts.specs.declared.fault.Cause.TheVariants.{OneLane}
 use Rattle.trlab_texts.specs.Causes.{IsNotStandardRefused}
 use Rattle.trlab_texts.specs.Words.{word_after}
-use Rattle.trlab_texts.specs.Reading.{Reading, line, exactly, say, ◌>>=◌}
+use Rattle.trlab_texts.specs.Reading.{Reading, line, exactly, give, ◌>>=◌}
 use Rattle.trlab_texts.specs.Programs.{EndSplit, part, split_at_end, heading_line}
 use Rattle.trlab_texts.proofs.Fine.{Anything, Fine, IsOtherFault, line_other, one_lane_other, hex_other, word_fine}
 use Rattle.trlab_texts.proofs.OneAnswer.{OneLine, OneReading, exact, exact_line, then_one, said_one, perhaps_one, of_line_one, part_with}
@@ -30,7 +30,7 @@ use Rattle.trlab_texts.proofs.OneProgram.{checked_one, part_one}
 use Rattle.trlab_jobs.specs.declared.rule_line.RuleLine.{RuleLine}
 use Rattle.trlab_jobs.specs.declared.rule_line.RuleLine.TheVariants.{Nasch, Vdr, Rickert, Own}
 use Rattle.trlab_jobs.specs.RuleLines.{rule_line, later_line}
-use Rattle.trlab_jobs.specs.RuleParts.{VerifiesAs, IsMotionRule, IsTwoProgramRule, IsTwoLaneRule, digits_misplacement, code_misplacement, block_misplacement, part_misplacement, misplacement, change_by, next_is_change, change_part, own_rule, rule_from, rule}
+use Rattle.trlab_jobs.specs.RuleParts.{VerifiesAs, IsMotionRule, IsTwoProgramRule, IsTwoLaneRule, digits_misplacement, code_misplacement, block_misplacement, part_misplacement, misplacement, change_if_two_lanes, next_is_change, change_part, own_rule, rule_from, rule}
 use Rattle.trlab_jobs.specs.Later.{later_rule, to_the_end, later_rules_from, later_rules}
 use Rattle.trlab_jobs.specs.Stored.{AreLaterRules}
 use Rattle.trlab_jobs.proofs.FineLines.{Chances, rule_line_fine, later_line_fine}
@@ -139,13 +139,13 @@ pub record FewLanes (lanes : ℕ) : Type 0 where
 not_one : (lanes : ℕ) → FewLanes lanes → nat_eq lanes 1 ≡ false → lanes ≡ 2
 not_one lanes few other = let apart : lanes ≢ 1 = eqb-false lanes 1 other in omega arith
 
-change_by_one : (one_lane : Bool) (lanes : ℕ) → (one_lane ≡ false → lanes ≡ 2) → OneReading (Changes lanes) (change_by one_lane)
-change_by_one true lanes two place = record { one = exact (Err (misplacement place.number place.left)) (misplaced place.number place.left) }
-change_by_one false lanes two place = part_with (λ checked is. (is, two refl)) (part_one Change place)
+change_if_two_lanes_one : (one_lane : Bool) (lanes : ℕ) → (one_lane ≡ false → lanes ≡ 2) → OneReading (Changes lanes) (change_if_two_lanes one_lane)
+change_if_two_lanes_one true lanes two place = record { one = exact (Err (misplacement place.number place.left)) (misplaced place.number place.left) }
+change_if_two_lanes_one false lanes two place = part_with (λ checked is. (is, two refl)) (part_one Change place)
 
 change_part_one : (lanes : ℕ) → FewLanes lanes → OneReading (λ (o : Option CheckedProgram). IfSome o (Changes lanes)) (change_part lanes)
 change_part_one lanes few place =
-    perhaps_one (next_is_change place.left) (change_by (nat_eq lanes 1)) (change_by_one (nat_eq lanes 1) lanes (not_one lanes few)) place
+    perhaps_one (next_is_change place.left) (change_if_two_lanes (nat_eq lanes 1)) (change_if_two_lanes_one (nat_eq lanes 1) lanes (not_one lanes few)) place
 
 own_suits : (lanes : ℕ) (motion : CheckedProgram) (change : Option CheckedProgram) → IsChecked Motion motion → IfSome change (Changes lanes)
     → IsRuleFor lanes (record { motion = motion; change = change })
@@ -191,13 +191,13 @@ to_the_end_one (text ∷ left) reading none one = one
 later_from_one : (room lanes steps least : ℕ) → FewLanes lanes → OneReading (AreLaterRules lanes steps least) (later_rules_from room lanes steps least)
 unfolding later_rules_from
 later_from_one zero lanes steps least few place =
-    to_the_end_one place.left (later_rule 0 lanes steps least >>= λ entry. say (entry ∷ [])) tt
-    (then_one (later_rule 0 lanes steps least) (λ entry. say (entry ∷ [])) (later_rule_one 0 lanes steps least few)
+    to_the_end_one place.left (later_rule 0 lanes steps least >>= λ entry. give (entry ∷ [])) tt
+    (then_one (later_rule 0 lanes steps least) (λ entry. give (entry ∷ [])) (later_rule_one 0 lanes steps least few)
     (λ entry is. said_one (entry ∷ []) (is.0, (is.1.0, (is.1.1, tt))))) place
 later_from_one (suc room) lanes steps least few place =
-    to_the_end_one place.left (later_rule (suc room) lanes steps least >>= λ entry. later_rules_from room lanes steps (entry.0 + 1) >>= λ later. say (entry ∷ later)) tt
-    (then_one (later_rule (suc room) lanes steps least) (λ entry. later_rules_from room lanes steps (entry.0 + 1) >>= λ later. say (entry ∷ later)) (later_rule_one (suc room) lanes steps least few) (λ entry is.
-    then_one (later_rules_from room lanes steps (entry.0 + 1)) (λ later. say (entry ∷ later)) (later_from_one room lanes steps (entry.0 + 1) few) (λ later more.
+    to_the_end_one place.left (later_rule (suc room) lanes steps least >>= λ entry. later_rules_from room lanes steps (entry.0 + 1) >>= λ later. give (entry ∷ later)) tt
+    (then_one (later_rule (suc room) lanes steps least) (λ entry. later_rules_from room lanes steps (entry.0 + 1) >>= λ later. give (entry ∷ later)) (later_rule_one (suc room) lanes steps least few) (λ entry is.
+    then_one (later_rules_from room lanes steps (entry.0 + 1)) (λ later. give (entry ∷ later)) (later_from_one room lanes steps (entry.0 + 1) few) (λ later more.
     said_one (entry ∷ later) (is.0, (is.1.0, (is.1.1, more)))))) place
 
 pub later_rules_one : (lanes steps : ℕ) → FewLanes lanes → OneReading (AreLaterRules lanes steps 0) (later_rules lanes steps)

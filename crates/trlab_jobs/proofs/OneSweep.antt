@@ -28,7 +28,7 @@ use Rattle.trlab_jobs.proofs.OneText.{key_one, limit_one}
 -- roads may have this shape
 record IsShape (roads : Shape) : Type 0 where
   pub limit : LimitFits roads.limit
-  pub cells : LengthFits roads.cells
+  pub cells : LengthFits roads.length
   pub lanes : LanesFit roads.lanes
 
 -- points may have this in common
@@ -42,7 +42,7 @@ shape_one =
     then_one (line (exactly limit_line)) after_limit limit_one (λ limit low.
     then_one (line (exactly length_line)) (after_cells limit) (exact_line length_line (λ text. numbered (codes "length ") text 1 MAX_LENGTH)) (λ cells long.
     then_one (line (exactly lanes_line)) _ (exact_line lanes_line (λ text. numbered (codes "lanes ") text 1 MAX_LANES)) (λ lanes few.
-    said_one (record { limit = limit; cells = cells; lanes = lanes }) (record {
+    said_one (record { limit = limit; length = cells; lanes = lanes }) (record {
       limit = record { some_limit = low.low; low_limit = low.high };
       cells = record { some_cell = long.low; few_cells = long.high };
       lanes = record { some_lane = few.low; few_lanes = few.high };

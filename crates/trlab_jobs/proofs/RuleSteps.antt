@@ -10,15 +10,15 @@ use Rattle.trlab_texts.specs.declared.fault.LineFault.TheVariants.{Wrong, Memory
 use Rattle.trlab_texts.specs.declared.fault.TextFault.{TextFault}
 use Rattle.trlab_jobs.specs.declared.rule_line.RuleLine.{RuleLine}
 use Rattle.trlab_texts.specs.Lines.{Rest}
-use Rattle.trlab_texts.specs.Reading.{Fault, Reading, line, exactly, say, ◌>>=◌, of_line, read_if, text_fault, Reports, ReportsLine}
+use Rattle.trlab_texts.specs.Reading.{Fault, Reading, line, exactly, give, ◌>>=◌, result_of_line, read_if, text_fault, Reports, ReportsLine}
 use Rattle.trlab_jobs.specs.RuleLines.{later_line, rule_line}
-use Rattle.trlab_jobs.specs.RuleParts.{change_by, next_is_change, change_part, rule, rule_from}
+use Rattle.trlab_jobs.specs.RuleParts.{change_if_two_lanes, next_is_change, change_part, rule, rule_from}
 use Rattle.trlab_jobs.specs.Later.{later_rule}
 use Rattle.trlab_texts.proofs.Readings.{goes_on, stops}
 
 -- what a line says is told, of the line before a place
 pub line_told : (Says : Result Programs Cause → Type 0) (number : ℕ) (place : Rest) (found : Result Programs LineFault) (out : Result (Programs × Rest) TextFault)
-    → ReportsLine Says found → MatchResult found (λ rule. out ≡ Ok (rule, place)) (λ fault. out ≡ Err (text_fault number fault)) → Reports (of_line number Says place) out
+    → ReportsLine Says found → MatchResult found (λ rule. out ≡ Ok (rule, place)) (λ fault. out ≡ Err (text_fault number fault)) → Reports (result_of_line number Says place) out
 line_told Says number place (Ok rule) out told is = rw is (Ok rule, (told, refl))
 line_told Says number place (Err (Wrong cause)) out told is = rw is (Err cause, (told, refl))
 line_told Says number place (Err NoMemory) out told is = rw is tt
@@ -37,7 +37,7 @@ behind_rule_line lanes number place after at out here one told =
 
 -- what is read after the line of a later rule
 abbrev after_line : ℕ → ℕ → ℕ × RuleLine ℕ → Reading (ℕ × Programs)
-after_line lanes number at = rule_from lanes number at.1 >>= λ rule. say (at.0, rule)
+after_line lanes number at = rule_from lanes number at.1 >>= λ rule. give (at.0, rule)
 
 -- the line of a later rule has a fault
 pub later_line_fails : (room lanes steps least : ℕ) (place : Rest) (fault : TextFault)
@@ -53,7 +53,7 @@ pub later_programs_fail : (room lanes steps least number : ℕ) (place after : R
     → Reports {A = (ℕ × Programs) × Rest} (later_rule room lanes steps least place) (Err fault)
 later_programs_fail room lanes steps least number place after at fault here one told =
     goes_on (line (exactly (later_line room steps least))) (after_line lanes place.number) place after at (Err fault) one
-    (stops (rule_from lanes place.number at.1) (λ rule. say (at.0, rule)) after fault
+    (stops (rule_from lanes place.number at.1) (λ rule. give (at.0, rule)) after fault
     (subst (λ n. Reports {A = Programs × Rest} (rule_from lanes n at.1 after) (Err fault)) here told))
 
 -- a later rule was read
@@ -64,7 +64,7 @@ later_says room lanes steps least number place after behind at rule here one two
     (Ok (at, after), (one, (Ok (rule, behind), (rw here at two, refl))))
 
 -- where a change part was read, the road has two lanes
-change_on_two : (one_lane : Bool) (lanes : ℕ) (place after : Rest) (change : CheckedProgram) → (one_lane ≡ false → lanes ≡ 2) → change_by one_lane place (Ok (change, after)) → lanes ≡ 2
+change_on_two : (one_lane : Bool) (lanes : ℕ) (place after : Rest) (change : CheckedProgram) → (one_lane ≡ false → lanes ≡ 2) → change_if_two_lanes one_lane place (Ok (change, after)) → lanes ≡ 2
 change_on_two true lanes place after change two says = absurd cc
 change_on_two false lanes place after change two says = two refl
 
@@ -75,7 +75,7 @@ read_of (Err fault) = None
 
 -- a change part was read, if there is one
 perhaps_on_two : (next one_lane : Bool) (lanes : ℕ) (place after : Rest) (change : Option CheckedProgram) → (one_lane ≡ false → lanes ≡ 2)
-    → read_if next (change_by one_lane) place (Ok (change, after)) → IsSome change → lanes ≡ 2
+    → read_if next (change_if_two_lanes one_lane) place (Ok (change, after)) → IsSome change → lanes ≡ 2
 perhaps_on_two next one_lane lanes place after None two says some = absurd (cc some)
 perhaps_on_two true one_lane lanes place after (Some change) two (Ok (found, behind), (one, is)) some = change_on_two one_lane lanes place behind found two one
 perhaps_on_two true one_lane lanes place after (Some change) two (Err fault, (one, is)) some = absurd (cc is)

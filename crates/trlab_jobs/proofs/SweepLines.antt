@@ -4,7 +4,7 @@ use Rattle.std.specs.Prelude.{Result, Ok, Err}
 use Rattle.trlab_rules.specs.Rules.{Programs}
 use Rattle.trlab_texts.specs.declared.fault.TextFault.{TextFault}
 use Rattle.trlab_texts.specs.Lines.{Rest}
-use Rattle.trlab_texts.specs.Reading.{Reading, ◌>>=◌, say, line, exactly, Reports}
+use Rattle.trlab_texts.specs.Reading.{Reading, ◌>>=◌, give, line, exactly, Reports}
 use Rattle.trlab_jobs.specs.declared.sweep.Shape.{Shape}
 use Rattle.trlab_jobs.specs.declared.sweep.Span.{Span}
 use Rattle.trlab_jobs.specs.Job.{key_line, limit_line}
@@ -15,7 +15,7 @@ use Rattle.trlab_texts.proofs.Readings.{goes_on, stops}
 
 -- what is read after each line of the roads
 abbrev pub after_cells : ℕ → ℕ → Reading Shape
-after_cells limit cells = line (exactly lanes_line) >>= λ lanes. say (record { limit = limit; cells = cells; lanes = lanes })
+after_cells limit cells = line (exactly lanes_line) >>= λ lanes. give (record { limit = limit; length = cells; lanes = lanes })
 
 abbrev pub after_limit : ℕ → Reading Shape
 after_limit limit = line (exactly length_line) >>= after_cells limit
@@ -34,15 +34,15 @@ pub lanes_fail : (limit cells : ℕ) (at after behind : Rest) (fault : TextFault
 lanes_fail limit cells at after behind fault one two told =
     goes_on (line (exactly limit_line)) after_limit at after limit (Err fault) one
     (goes_on (line (exactly length_line)) (after_cells limit) after behind cells (Err fault) two
-    (stops (line (exactly lanes_line)) (λ lanes. say (record { limit = limit; cells = cells; lanes = lanes })) behind fault told))
+    (stops (line (exactly lanes_line)) (λ lanes. give (record { limit = limit; length = cells; lanes = lanes })) behind fault told))
 
 pub shape_said : (limit cells lanes : ℕ) (at after behind end : Rest) → line (exactly limit_line) at (Ok (limit, after)) → line (exactly length_line) after (Ok (cells, behind))
-    → line (exactly lanes_line) behind (Ok (lanes, end)) → shape at (Ok (record { limit = limit; cells = cells; lanes = lanes }, end))
+    → line (exactly lanes_line) behind (Ok (lanes, end)) → shape at (Ok (record { limit = limit; length = cells; lanes = lanes }, end))
 shape_said limit cells lanes at after behind end one two three = (Ok (limit, after), (one, (Ok (cells, behind), (two, (Ok (lanes, end), (three, refl))))))
 
 -- what is read after the first line of the steps
 abbrev pub after_warm : ℕ → Reading Span
-after_warm warm = line (exactly measure_line) >>= λ measure. say (record { warm = warm; measure = measure })
+after_warm warm = line (exactly measure_line) >>= λ measure. give (record { warm = warm; measure = measure })
 
 pub warm_fails : (at : Rest) (fault : TextFault) → Reports {A = ℕ × Rest} (line (exactly warm_line) at) (Err fault) → Reports {A = Span × Rest} (span at) (Err fault)
 warm_fails at fault told = stops (line (exactly warm_line)) after_warm at fault told
@@ -51,7 +51,7 @@ pub measure_fails : (warm : ℕ) (at after : Rest) (fault : TextFault) → line 
     → Reports {A = ℕ × Rest} (line (exactly measure_line) after) (Err fault) → Reports {A = Span × Rest} (span at) (Err fault)
 measure_fails warm at after fault one told =
     goes_on (line (exactly warm_line)) after_warm at after warm (Err fault) one
-    (stops (line (exactly measure_line)) (λ measure. say (record { warm = warm; measure = measure })) after fault told)
+    (stops (line (exactly measure_line)) (λ measure. give (record { warm = warm; measure = measure })) after fault told)
 
 pub span_said : (warm measure : ℕ) (at after end : Rest) → line (exactly warm_line) at (Ok (warm, after)) → line (exactly measure_line) after (Ok (measure, end))
     → span at (Ok (record { warm = warm; measure = measure }, end))
@@ -65,7 +65,7 @@ key_told at after out one told = goes_on (line (exactly sweep_line)) (λ _. line
 
 -- what is read after the key, the roads and the rule
 abbrev pub after_rule : List ℕ → Shape → Programs → Reading Setup
-after_rule key roads first = span >>= λ steps. say (record { key = key; shape = roads; rule = first; span = steps })
+after_rule key roads first = span >>= λ steps. give (record { key = key; shape = roads; rule = first; span = steps })
 
 abbrev pub after_shape : List ℕ → Shape → Reading Setup
 after_shape key roads = rule roads.lanes >>= after_rule key roads
@@ -96,7 +96,7 @@ span_fails key roads first at after behind last fault one two three told =
     goes_on sweep_heading after_key at after key (Err fault) one
     (goes_on shape (after_shape key) after behind roads (Err fault) two
     (goes_on (rule roads.lanes) (after_rule key roads) behind last first (Err fault) three
-    (stops span (λ steps. say (record { key = key; shape = roads; rule = first; span = steps })) last fault told)))
+    (stops span (λ steps. give (record { key = key; shape = roads; rule = first; span = steps })) last fault told)))
 
 pub setup_said : (key : List ℕ) (roads : Shape) (first : Programs) (steps : Span) (at after behind last end : Rest) → sweep_heading at (Ok (key, after)) → shape after (Ok (roads, behind))
     → rule roads.lanes behind (Ok (first, last)) → span last (Ok (steps, end)) → setup at (Ok (record { key = key; shape = roads; rule = first; span = steps }, end))

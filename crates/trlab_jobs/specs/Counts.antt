@@ -24,8 +24,8 @@ abbrev pub cars_line : ℕ → ℕ → ℕ → List ℕ → Result ℕ Cause
 cars_line cells steps point text =
     number_within 0 MAX_CARS (word_after (codes "cars ") text) >>= admit_cars cells steps point
 
--- the numbers of cars of the points from the point `point` on, one on each line that is left, or the first
--- fault; the next line has the number `number`
+-- the numbers of cars on the lines that are left, or their first fault: the lines are those of the points
+-- `point`, `point + 1` and so on, and have the numbers `number`, `number + 1` and so on in the text
 unfoldable pub counts_from : ℕ → ℕ → ℕ → ℕ → List (List ℕ) → Result (List ℕ) Fault
 counts_from cells steps point number [] = Ok []
 counts_from cells steps point number (text ∷ left) =

@@ -12,12 +12,13 @@ use Rattle.trlab_texts.specs.declared.fault.Cause.TheVariants.{Line, Key}
 use Rattle.trlab_bounds.specs.declared.runs.TheConstants.{MAX_STEPS}
 use Rattle.trlab_texts.specs.Lines.{all_lines, Rest}
 use Rattle.trlab_texts.specs.Words.{word_after, number_within}
-use Rattle.trlab_texts.specs.Reading.{Fault, Reading, say, ◌>>=◌, ◌>>◌, line, exactly, TextParsesTo}
+use Rattle.trlab_texts.specs.Reading.{Fault, Reading, give, ◌>>=◌, ◌>>◌, line, exactly, TextParsesTo}
 use Rattle.trlab_jobs.specs.Lanes.{lanes}
 use Rattle.trlab_jobs.specs.RuleParts.{rule}
 use Rattle.trlab_jobs.specs.Later.{later_rules}
 
--- a job: its key, its road, the rule from step 0 on, the rules of later steps, and the number of steps
+-- a job: the 32 bytes of the random seed, the initial road, the rule from step 0 on, the later rules with
+-- their steps, and the number of steps
 pub record Job : Type 0 where
   pub key : List ℕ
   pub road : Cells
@@ -29,22 +30,22 @@ pub record Job : Type 0 where
 abbrev pub road_line : List ℕ → Result (Unit {0}) Cause
 road_line text = if bytes_eq text (codes "road 1") then Ok tt else Err Line
 
--- the key that decoded hexadecimal digits give; the cause `Key` if they are invalid
+-- the key, 32 bytes, that was decoded from hexadecimal digits; the cause `Key` if the digits are invalid
 abbrev pub key_of_hex : Result (List ℕ) FromHexError → Result (List ℕ) Cause
 key_of_hex (Ok key) = Ok key
 key_of_hex (Err fault) = Err Key
 
--- the key that a word writes, in 64 hexadecimal digits of either case; otherwise the cause `Key`, or if there
--- is no word, the cause of that
+-- the key that a word spells in 64 hexadecimal digits of either case; the cause `Key` for any other word,
+-- and the cause that is given instead of a word if there is none
 abbrev pub key_of : Result (List ℕ) Cause → Result (List ℕ) Cause
 key_of (Ok word) = key_of_hex (decode_sized word 32)
 key_of (Err cause) = Err cause
 
--- the key on the line `key H`
+-- the key on the line `key H`, where H is 64 hexadecimal digits; the cause `Line` or `Key` for any other line
 abbrev pub key_line : List ℕ → Result (List ℕ) Cause
 key_line text = key_of (word_after (codes "key ") text)
 
--- the limit on the line `limit n`, from 1 to MAX_LIMIT
+-- the limit, the maximum speed of a car in cells per step, on the line `limit n`, from 1 to MAX_LIMIT
 abbrev pub limit_line : List ℕ → Result ℕ Cause
 limit_line text = number_within 1 MAX_LIMIT (word_after (codes "limit ") text)
 
@@ -59,7 +60,7 @@ job_after key road = do
   first ← rule (length road.lanes)
   steps ← line (exactly steps_line)
   later ← later_rules (length road.lanes) steps
-  say (record { key = key; road = road; first = first; later = later; steps = steps })
+  give (record { key = key; road = road; first = first; later = later; steps = steps })
 
 -- reads a job, line by line: `road 1`, the key, the limit, the lanes, a rule, the number of steps, and rules
 -- of later steps
@@ -71,7 +72,7 @@ job = do
   road ← lanes limit
   job_after key road
 
--- the result of `reading` from `place` on: its value, with any rest after it, or its fault
+-- `reading` has this result from `place` on: its value, whatever rest comes after it, or its fault
 abbrev pub ReadingHasResult : {A : Type 0} → Reading A → Rest → Result A Fault → Type 0
 ReadingHasResult reading place (Ok x) = (rest : Rest) × reading place (Ok (x, rest))
 ReadingHasResult reading place (Err fault) = reading place (Err fault)
@@ -84,7 +85,7 @@ JobLinesParseTo text = ReadingHasResult job (all_lines text)
 abbrev pub ParsesAsJob : List ℕ → Result Job Fault → Type 0
 ParsesAsJob text result = TextParsesTo JobLinesParseTo text result
 
--- the start of a job's run: its road and key, as road 0, with tallies counted from step 0 on
+-- the seed of a job's run: its road and key, with the road number 0, and tallies counted from step 0 on
 abbrev pub seed_of : Job → Seed
 seed_of job = record { road = job.road; key = job.key; number = 0; warm = 0 }
 

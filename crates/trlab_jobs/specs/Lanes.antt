@@ -19,7 +19,7 @@ lane_word text = word_after (codes "lane ") text
 abbrev pub second_lane : Reading (Option (List ℕ))
 second_lane rest out = read_if (next_word_is (codes "lane") rest.left) (line (exactly lane_word)) rest out
 
--- the number of the last lane's line: that of the first lane's line, or one more if there is a second lane
+-- the number of the line of the last lane: `first`, or `first + 1` if there is a second lane
 abbrev pub line_of_last_lane : ℕ → Option (List ℕ) → ℕ
 line_of_last_lane first None = first
 line_of_last_lane first (Some second) = first + 1

@@ -33,33 +33,35 @@ abbrev pub nasch_words : Option (List ℕ) → Option (RuleLine (List ℕ)) → 
 nasch_words None others = others
 nasch_words (Some after) others = option_map Nasch (as_word after)
 
--- the rule that a line states, with words for its chances: `nasch`, `vdr`, `rickert` or `own`; none for any
--- other line. For example, `rule vdr 5 x` is `vdr` with the words `5` and `x`
+-- the rule that a line states, with words for its probabilities: `nasch`, `vdr`, `rickert` or `own`; none for
+-- any other line. For example, `rule vdr 5 x` is `vdr` with the words `5` and `x`
 abbrev pub rule_words : List ℕ → Option (RuleLine (List ℕ))
 rule_words text =
     nasch_words (without_prefix (codes "rule nasch ") text)
     (vdr_words (without_prefix (codes "rule vdr ") text)
     (rickert_words (without_prefix (codes "rule rickert ") text) (own_words text)))
 
--- the chance that a word writes, a probability times 2^31: a number from 0 to CERTAIN, or else the cause
--- `Number`
-abbrev pub chance_of : List ℕ → Result ℕ Cause
-chance_of word = within 0 CERTAIN (number_of word)
+-- the probability, times 2^31, that a word states: a number from 0 to CERTAIN, or else the cause `Number`
+abbrev pub probability_of : List ℕ → Result ℕ Cause
+probability_of word = within 0 CERTAIN (number_of word)
 
--- the rule with the chances that its words write; the cause `Number` if a word does not write a chance
-abbrev pub rule_numbers : RuleLine (List ℕ) → Result (RuleLine ℕ) Cause
-rule_numbers (Nasch p) = chance_of p >>= λ p. Ok (Nasch p)
-rule_numbers (Vdr p p0) = chance_of p >>= λ p. chance_of p0 >>= λ p0. Ok (Vdr p p0)
-rule_numbers (Rickert p c) = chance_of p >>= λ p. chance_of c >>= λ c. Ok (Rickert p c)
-rule_numbers Own = Ok Own
+-- the rule whose words are read as probabilities; the cause `Number` if a word is not a number from 0 to
+-- CERTAIN
+abbrev pub rule_with_probabilities : RuleLine (List ℕ) → Result (RuleLine ℕ) Cause
+rule_with_probabilities (Nasch word) = probability_of word >>= λ p. Ok (Nasch p)
+rule_with_probabilities (Vdr word word0) =
+    probability_of word >>= λ p. probability_of word0 >>= λ p0. Ok (Vdr p p0)
+rule_with_probabilities (Rickert word word1) =
+    probability_of word >>= λ p. probability_of word1 >>= λ c. Ok (Rickert p c)
+rule_with_probabilities Own = Ok Own
 
--- the rule that a line states, with its chances: the cause `Line` for wrong words, and then the cause
--- `Number` for wrong numbers
+-- the rule that a line states, with its probabilities times 2^31; the cause `Line` if its words are not those
+-- of a rule, and otherwise `Number` if a word is not a number from 0 to CERTAIN
 abbrev pub rule_line : List ℕ → Result (RuleLine ℕ) Cause
-rule_line text = ok_or (rule_words text) Line >>= rule_numbers
+rule_line text = ok_or (rule_words text) Line >>= rule_with_probabilities
 
--- the word of a step and the words of a rule, from the two parts of a line after `at `; none if either is
--- wrong
+-- the word of a step and the words of a rule, from the two parts of a line after `at `; none if the first
+-- part is not one word or the second part does not state a rule
 abbrev pub step_and_rule : List ℕ × List ℕ → Option (List ℕ × RuleLine (List ℕ))
 step_and_rule parts =
     if is_word parts.0 then option_map (λ rule. (parts.0, rule)) (rule_words parts.1) else None
@@ -88,6 +90,6 @@ abbrev pub later_line : ℕ → ℕ → ℕ → List ℕ → Result (ℕ × Rule
 later_line room steps least text =
     ok_or (later_words text) Line >>= λ words.
     step_of words.0 >>= λ step.
-    rule_numbers words.1 >>= λ rule.
+    rule_with_probabilities words.1 >>= λ rule.
     admit_step room steps least step >>= λ from.
     Ok (from, rule)

@@ -15,7 +15,7 @@ use Rattle.trlab_texts.specs.declared.fault.Cause.TheVariants.{Line, Hex, OneLan
 use Rattle.trlab_jobs.specs.declared.rule_line.RuleLine.{RuleLine}
 use Rattle.trlab_jobs.specs.declared.rule_line.RuleLine.TheVariants.{Nasch, Vdr, Rickert, Own}
 use Rattle.trlab_texts.specs.Words.{word_after, next_word_is}
-use Rattle.trlab_texts.specs.Reading.{Fault, Reading, say, ◌>>=◌, line, exactly, read_if, of_line}
+use Rattle.trlab_texts.specs.Reading.{Fault, Reading, give, ◌>>=◌, line, exactly, read_if, result_of_line}
 use Rattle.trlab_texts.specs.Programs.{EndSplit, part, split_at_end, heading_line}
 use Rattle.trlab_jobs.specs.RuleLines.{rule_line}
 
@@ -49,8 +49,8 @@ abbrev pub digits_misplacement : Result (List ℕ) FromHexError → Cause
 digits_misplacement (Ok bytes) = OneLane
 digits_misplacement (Err fault) = Hex
 
--- the cause for the line `code X` of a change program on a road with one lane, from its word X: the cause if
--- the line has no such word, and otherwise that of the hexadecimal digits X
+-- the cause for the line `code X` of a change program on a road with one lane, from its word X: the cause for
+-- the hexadecimal digits X, or the cause that is given instead of a word if there is none
 abbrev pub code_misplacement : Result (List ℕ) Cause → Cause
 code_misplacement (Ok digits) = digits_misplacement (decode_of digits)
 code_misplacement (Err cause) = cause
@@ -62,7 +62,7 @@ block_misplacement first left None = record { line = first + 1 + length left; ca
 block_misplacement first left (Some parts) = record { line = first; cause = OneLane }
 
 -- the fault of a change part on a road with one lane, whose first line is `text`, with the number `first`:
--- that of a block if the line is a heading (`true`), and otherwise that of the line `code X`
+-- the fault of a block if the line is a heading (`true`), and otherwise the fault of the line `code X`
 abbrev pub part_misplacement : Bool → ℕ → List ℕ → List (List ℕ) → Fault
 part_misplacement true first text left = block_misplacement first left (split_at_end left)
 part_misplacement false first text left =
@@ -75,9 +75,9 @@ misplacement first [] = record { line = first; cause = Line }
 misplacement first (text ∷ left) = part_misplacement (bytes_eq text (heading_line Change)) first text left
 
 -- reads a change part; on a road with one lane (`true`) it is a fault
-abbrev pub change_by : Bool → Reading CheckedProgram
-change_by true rest out = out ≡ Err (misplacement rest.number rest.left)
-change_by false rest out = part Change rest out
+abbrev pub change_if_two_lanes : Bool → Reading CheckedProgram
+change_if_two_lanes true rest out = out ≡ Err (misplacement rest.number rest.left)
+change_if_two_lanes false rest out = part Change rest out
 
 -- whether the next line begins a change part: its first word is `change` or `code`
 abbrev pub next_is_change : List (List ℕ) → Bool
@@ -86,7 +86,7 @@ next_is_change left = next_word_is (codes "change") left || next_word_is (codes 
 -- reads a change part for a road with `lanes` lanes if the next line begins one; otherwise reads no line and
 -- gives none
 abbrev pub change_part : ℕ → Reading (Option CheckedProgram)
-change_part lanes rest out = read_if (next_is_change rest.left) (change_by (nat_eq lanes 1)) rest out
+change_part lanes rest out = read_if (next_is_change rest.left) (change_if_two_lanes (nat_eq lanes 1)) rest out
 
 -- reads the programs of `rule own` for a road with `lanes` lanes: a motion part, and a change part if one
 -- follows
@@ -94,15 +94,15 @@ abbrev pub own_rule : ℕ → Reading Programs
 own_rule lanes = do
   motion ← part Motion
   change ← change_part lanes
-  say (record { motion = motion; change = change })
+  give (record { motion = motion; change = change })
 
 -- reads the rest of a rule for a road with `lanes` lanes after its line, which has the number `number`: the
 -- programs of `rule own`, and no lines for any other rule
 abbrev pub rule_from : ℕ → ℕ → RuleLine ℕ → Reading Programs
-rule_from lanes number (Nasch p) = of_line number (IsMotionRule (nasch_program p))
-rule_from lanes number (Vdr p p0) = of_line number (IsMotionRule (vdr_program p p0))
+rule_from lanes number (Nasch p) = result_of_line number (IsMotionRule (nasch_program p))
+rule_from lanes number (Vdr p p0) = result_of_line number (IsMotionRule (vdr_program p p0))
 rule_from lanes number (Rickert p c) =
-    of_line number (IsTwoLaneRule (nat_eq lanes 1) (nasch_program p) (rickert_program c))
+    result_of_line number (IsTwoLaneRule (nat_eq lanes 1) (nasch_program p) (rickert_program c))
 rule_from lanes number Own = own_rule lanes
 
 -- reads a rule for a road with `lanes` lanes: a line `rule ..`, and after `rule own` its programs

@@ -4,7 +4,7 @@ use Rattle.trlab_bounds.specs.declared.roads.TheConstants.{MAX_LENGTH, MAX_LANES
 use Rattle.trlab_bounds.specs.declared.runs.TheConstants.{MAX_STEPS}
 use Rattle.trlab_texts.specs.declared.fault.Cause.{Cause}
 use Rattle.trlab_texts.specs.Words.{word_after, number_within}
-use Rattle.trlab_texts.specs.Reading.{Reading, say, ◌>>=◌, line, exactly}
+use Rattle.trlab_texts.specs.Reading.{Reading, give, ◌>>=◌, line, exactly}
 use Rattle.trlab_jobs.specs.declared.sweep.Shape.{Shape}
 use Rattle.trlab_jobs.specs.declared.sweep.Span.{Span}
 use Rattle.trlab_jobs.specs.Job.{limit_line}
@@ -29,20 +29,20 @@ measure_line text = number_within 1 MAX_STEPS (word_after (codes "measure ") tex
 abbrev pub shape : Reading Shape
 shape = do
   limit ← line (exactly limit_line)
-  cells ← line (exactly length_line)
+  length ← line (exactly length_line)
   lanes ← line (exactly lanes_line)
-  say (record { limit = limit; cells = cells; lanes = lanes })
+  give (record { limit = limit; length = length; lanes = lanes })
 
 -- reads the span of a sweep's points: the steps before counting begins, and the counted steps
 abbrev pub span : Reading Span
 span = do
   warm ← line (exactly warm_line)
   measure ← line (exactly measure_line)
-  say (record { warm = warm; measure = measure })
+  give (record { warm = warm; measure = measure })
 
 -- the number of cells of a road of this shape, on all its lanes
 abbrev pub cell_count : Shape → ℕ
-cell_count shape = shape.lanes * shape.cells
+cell_count shape = shape.lanes * shape.length
 
 -- the number of steps of a point: those before counting begins, and the counted ones
 abbrev pub all_steps : Span → ℕ

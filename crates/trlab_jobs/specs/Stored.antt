@@ -27,7 +27,7 @@ pub record IsStoredJob (job : Job) : Type 0 where
 -- `count` cars can be spread evenly over a road of this shape: it has a cell for each, and a valid size and
 -- limit
 abbrev pub CanSpreadOn : Shape → ℕ → Type 0
-CanSpreadOn shape count = CanSpread shape.lanes shape.cells shape.limit count
+CanSpreadOn shape count = CanSpread shape.lanes shape.length shape.limit count
 
 -- a sweep as the code keeps it: a rule for its number of lanes, cars that can be spread evenly at each point,
 -- at most MAX_POINTS points, at least one counted step, and at most MAX_WORK steps per point

@@ -5,7 +5,7 @@ use Rattle.trlab_rules.specs.Rules.{Programs}
 use Rattle.trlab_texts.specs.declared.fault.Cause.{Cause}
 use Rattle.trlab_texts.specs.declared.fault.Cause.TheVariants.{Line}
 use Rattle.trlab_texts.specs.Lines.{all_lines, Rest}
-use Rattle.trlab_texts.specs.Reading.{Fault, Reading, say, ◌>>=◌, ◌>>◌, line, exactly, TextParsesTo}
+use Rattle.trlab_texts.specs.Reading.{Fault, Reading, give, ◌>>=◌, ◌>>◌, line, exactly, TextParsesTo}
 use Rattle.trlab_asm.specs.Results.{map_ok}
 use Rattle.trlab_jobs.specs.declared.sweep.Shape.{Shape}
 use Rattle.trlab_jobs.specs.declared.sweep.Span.{Span}
@@ -14,25 +14,19 @@ use Rattle.trlab_jobs.specs.RuleParts.{rule}
 use Rattle.trlab_jobs.specs.Shapes.{shape, span, cell_count, all_steps}
 use Rattle.trlab_jobs.specs.Counts.{counts}
 
--- the common part of a sweep's points: the key, the shape of the roads, the rule, and the span of steps
+-- the common part of a sweep's points: the 32 bytes of the random seed, the shape of the roads (the limit,
+-- the cells per lane and the lanes), the rule, and the span (the steps before counting begins and the counted
+-- steps)
 pub record Setup : Type 0 where
   pub key : List ℕ
   pub shape : Shape
   pub rule : Programs
   pub span : Span
 
--- a sweep: the common part of its points, and the number of cars of each point
+-- a sweep: the common part of its points, and the number of cars of each point, in the order of the text
 pub record Sweep : Type 0 where
   pub setup : Setup
   pub cars : List ℕ
-
--- the sweep with these parts: the key; the limit, the cells per lane and the lanes of its roads; the rule;
--- the steps before counting begins and the counted steps; and the number of cars of each point
-abbrev pub sweep_of : List ℕ → ℕ → ℕ → ℕ → Programs → ℕ → ℕ → List ℕ → Sweep
-sweep_of key limit cells lanes rule warm measure cars =
-    let shape : Shape = record { limit = limit; cells = cells; lanes = lanes } in
-    let span : Span = record { warm = warm; measure = measure } in
-    record { setup = record { key = key; shape = shape; rule = rule; span = span }; cars = cars }
 
 -- the first line of a sweep text, `sweep 1`; the cause `Line` for any other line
 abbrev pub sweep_line : List ℕ → Result (Unit {0}) Cause
@@ -49,10 +43,10 @@ setup = do
   roads ← shape
   rule ← rule roads.lanes
   steps ← span
-  say (record { key = key; shape = roads; rule = rule; span = steps })
+  give (record { key = key; shape = roads; rule = rule; span = steps })
 
--- the result for a sweep, from that for its common part: a fault stays, and otherwise the lines that are left
--- have the number of cars of each point, or the first fault
+-- the result for a sweep, from the result for its common part: a fault stays, and otherwise the lines that
+-- are left give the number of cars of each point, or the first fault
 abbrev pub with_counts : Result (Setup × Rest) Fault → Result Sweep Fault
 with_counts (Err fault) = Err fault
 with_counts (Ok found) =

@@ -71,8 +71,8 @@ fn headings() -> LineNames {
         .with(LineName::Change)
 }
 
-/// The program of the line `code X`, which must be the last line.
-fn code_alone<'a>(alloc: Global, line: &'a [u8], rest: &[u8]) -> Result<Code, Refusal<'a>>
+/// The program of the line `code X`, which must be the only line of the text.
+fn lone_code<'a>(alloc: Global, line: &'a [u8], rest: &[u8]) -> Result<Code, Refusal<'a>>
     ensures { Reports (LoneCodeParsesTo line.now (lines_of rest.now)) result }
 {
     match parse_code(alloc, line) {
@@ -94,11 +94,11 @@ fn read_program<'a>(alloc: Global, line: &'a [u8], rest: &'a [u8]) -> Result<Cod
 {
     match heading_kind(line) {
         Some(kind) => program_after(alloc, kind, 1, rest),
-        None => code_alone(alloc, line, rest),
+        None => lone_code(alloc, line, rest),
     }
 }
 
-/// Reads the lines of a text that is not too long.
+/// Reads the lines of a check text of at most `TEXT_LIMIT` bytes.
 fn read_lines(alloc: Global, text: &[u8]) -> Result<Check, Refusal<'_>>
     requires { length text.now ≤ TEXT_LIMIT }
     ensures { Reports (CheckLinesParseTo (lines_of text.now)) result }
@@ -107,10 +107,8 @@ fn read_lines(alloc: Global, text: &[u8]) -> Result<Check, Refusal<'_>>
         return Err(Refusal::no_line(1, headings()));
     };
     let (question, line) = question_of(first);
-    match read_program(alloc, line, rest) {
-        Ok(code) => Ok(Check { question, code }),
-        Err(fault) => Err(fault),
-    }
+    let code = read_program(alloc, line, rest)?;
+    Ok(Check { question, code })
 }
 
 /// Reads a check text. A refusal includes the input that was wanted at the fault.

@@ -58,7 +58,7 @@ impl Model for Job {
     }) };
 }
 
-/// The line `road 1`.
+/// Reads the line `road 1`.
 pub fn road_line(line: &[u8]) -> Result<(), Objection<'_>>
     ensures { result ≡ road_line line.now }
 {
@@ -69,7 +69,7 @@ pub fn road_line(line: &[u8]) -> Result<(), Objection<'_>>
     }
 }
 
-/// The line `key H`, where H is 64 hexadecimal digits of either case.
+/// Reads the line `key H`, where H is 64 hexadecimal digits of either case.
 pub fn key_line(line: &[u8]) -> Result<[u8; 32], Objection<'_>>
     ensures { result ≡ key_line line.now }
 {
@@ -80,14 +80,14 @@ pub fn key_line(line: &[u8]) -> Result<[u8; 32], Objection<'_>>
     }
 }
 
-/// The line `limit n`, where n is the maximum speed, 1 to `MAX_LIMIT` cells per step.
+/// Reads the line `limit n`, where n is the maximum speed, 1 to `MAX_LIMIT` cells per step.
 pub fn limit_line(line: &[u8]) -> Result<u32, Objection<'_>>
     ensures { result ≡ limit_line line.now }
 {
     Excerpt::number_after(LineName::Limit, 1, MAX_LIMIT, Quantity::Other, line)
 }
 
-/// The line `steps n`, where n is 0 to `MAX_STEPS`.
+/// Reads the line `steps n`, where n is 0 to `MAX_STEPS`.
 pub fn steps_line(line: &[u8]) -> Result<u32, Objection<'_>>
     ensures { result ≡ steps_line line.now }
 {
@@ -100,9 +100,10 @@ fn read_rules(alloc: Global, key: [u8; 32], road: Road, rest: Rest<'_>) -> Resul
     ensures told { Reports (ReadingHasResult (job_after key road) rest.entry) result }
     ensures stored { IfOk result IsStoredJob }
 {
-    let count = road.lanes();
-    let line = rest.line_before();
-    let lanes = rule::Lanes { count, line };
+    let lanes = rule::Lanes {
+        count: road.lanes(),
+        line: rest.line_before(),
+    };
     let (first, rest) = rule::rule(alloc, lanes, rest)?;
     let (steps, rest) = rest.read_line(LineName::Steps, steps_line)?;
     let (later, _) = rule::later_rules(alloc, lanes, steps, rest)?;
@@ -115,7 +116,7 @@ fn read_rules(alloc: Global, key: [u8; 32], road: Road, rest: Rest<'_>) -> Resul
     })
 }
 
-/// Reads the lines of a text that is not too long.
+/// Reads the lines of a job text of at most `TEXT_LIMIT` bytes.
 fn read_lines(alloc: Global, text: &[u8]) -> Result<Job, Refusal<'_>>
     requires { length text.now ≤ TEXT_LIMIT }
     ensures told { Reports (JobLinesParseTo text.now) result }

@@ -13,7 +13,7 @@ use trlab_bounds::roads::MAX_LENGTH;
 use trlab_road::{Road, RoadFault};
 use trlab_texts::{Cause, Excerpt, LineName, Objection, Refusal, Rest, TextFault, Wanted};
 
-/// The picture of the line `lane P`.
+/// Reads the line `lane P`, where P is the picture of a lane.
 fn lane_word(line: &[u8]) -> Result<Excerpt<'_>, Objection<'_>>
     ensures { result ≡ lane_word line.now }
 {
@@ -40,7 +40,8 @@ fn second_lane(rest: Rest<'_>) -> Result<(Option<Excerpt<'_>>, Rest<'_>), Refusa
     }
 }
 
-/// The line of a fault: that of its lane for a fault of a character or a speed, and `last` for any other fault.
+/// The number of the line with a fault: its lane's line for a wrong character or a speed above the limit, and `last`
+/// for any other fault.
 fn line_of_fault(first: u32, last: u32, fault: RoadFault) -> u32
     ensures { result ≡ line_of_fault first last fault }
 {
@@ -57,7 +58,7 @@ fn line_of_fault(first: u32, last: u32, fault: RoadFault) -> u32
 }
 
 /// The input that is wanted instead of lanes with this fault; the first lane has `cells` cells.
-fn wanted_by(limit: u32, cells: usize, fault: RoadFault) -> Wanted
+fn wanted_lanes(limit: u32, cells: usize, fault: RoadFault) -> Wanted
     ensures { IsWantedIn [] (Cause.Road fault) result }
 {
     match fault {
@@ -87,15 +88,15 @@ fn lanes_refusal<'a>(
 ) -> Refusal<'a>
     ensures { result ≡ TextFault.At (line_of_fault first last fault) (Cause.Road fault) }
 {
-    let told = TextFault::At {
+    let text_fault = TextFault::At {
         line: line_of_fault(first, last, fault),
         cause: Cause::Road(fault),
     };
-    Refusal::new(told, b"", wanted_by(limit, cells, fault))
+    Refusal::new(text_fault, b"", wanted_lanes(limit, cells, fault))
 }
 
 /// The road that pictures on the lines from `first` to `last` show; the first picture has `cells` cells.
-fn shown<'a>(
+fn parse_pictures<'a>(
     alloc: Global,
     first: u32,
     last: u32,
@@ -113,7 +114,7 @@ fn shown<'a>(
     }
 }
 
-/// The road that one or two pictures show: one on the line `first`, and the second, if any, on the line `after`.
+/// The road that one or two pictures show: the first on the line `first`, and the second, if any, on the line `after`.
 fn road_of<'a>(
     alloc: Global,
     first: u32,
@@ -130,10 +131,10 @@ fn road_of<'a>(
     let picture = picture.bytes();
     let cells = picture.len();
     match second {
-        None => shown(alloc, first, first, limit, cells, &[picture]),
+        None => parse_pictures(alloc, first, first, limit, cells, &[picture]),
         Some(second) => {
             let pictures = [picture, second.bytes()];
-            shown(alloc, first, after, limit, cells, &pictures)
+            parse_pictures(alloc, first, after, limit, cells, &pictures)
         }
     }
 }

@@ -1,6 +1,7 @@
 //! Rules in texts: the rule from step 0 on, and rules of later steps.
 
 ghost use Rattle.std.specs.Prelude.{◌≡◌, ◌≢◌, ◌≤◌, ℕ, IfOk, IfSome, IsSome, MatchResult, nat_eq, codes, ◌+◌, ◌<◌, OnOk};
+ghost use Rattle.trlab_bounds.specs.declared.roads.TheConstants.{MAX_LANES};
 ghost use Rattle.trlab_code.specs.declared.program.Kind.TheVariants.{Motion as OfMotion, Change as OfChange};
 ghost use Rattle.trlab_rules.specs.Standard.{nasch_program, vdr_program, rickert_program};
 ghost use Rattle.trlab_step.specs.Laws.{IsRuleFor};
@@ -8,7 +9,7 @@ ghost use Rattle.trlab_verify.specs.CheckedProgram.{IsChecked};
 ghost use Rattle.trlab_texts.specs.Reading.{Reports, ReportsLine, ReportsCause, ReportsFault, line, exactly, text_fault};
 ghost use Rattle.trlab_texts.specs.Words.{word_after};
 ghost use Rattle.trlab_jobs.specs.RuleLines.{rule_line, later_line};
-ghost use Rattle.trlab_jobs.specs.RuleParts.{IsMotionRule, IsTwoLaneRule, code_misplacement, misplacement, next_is_change, change_by, change_part, own_rule, rule_from, rule};
+ghost use Rattle.trlab_jobs.specs.RuleParts.{IsMotionRule, IsTwoLaneRule, code_misplacement, misplacement, next_is_change, change_if_two_lanes, change_part, own_rule, rule_from, rule};
 ghost use Rattle.std.specs.Result.{result_map_both};
 ghost use Rattle.trlab_jobs.specs.Later.{later_rule, later_rules};
 ghost use Rattle.trlab_jobs.specs.Stored.{AreLaterRules};
@@ -18,7 +19,7 @@ use hex::FromHexError;
 use std::alloc::Global;
 use trlab_bounds::runs::MAX_LATER;
 use trlab_code::Kind;
-use trlab_rules::{Rule, nasch, rickert, vdr};
+use trlab_rules::{Rule, StandardFault, nasch, rickert, vdr};
 use trlab_texts::{
     Cause, LineFault, LineName, LineNames, LineRefusal, Objection, Refusal, Rest, TextFault,
     Wanted, program,
@@ -29,7 +30,9 @@ use trlab_words::Chance;
 /// The number of lanes of a road, and the line that states it.
 #[derive(Clone, Copy)]
 pub struct Lanes {
+    /// 1 or 2.
     pub count: u32,
+    /// The number of the line: the last line `lane P` of a job, or the line `lanes n` of a sweep.
     pub line: u32,
 }
 
@@ -50,7 +53,8 @@ fn nasch_rule<'a>(alloc: Global, brake: Chance) -> Result<Rule, LineRefusal<'a>>
 {
     match nasch(alloc, brake) {
         Ok(rule) => Ok(rule),
-        Err(_) => Err(LineRefusal::memory()),
+        Err(StandardFault::Memory) => Err(LineRefusal::memory()),
+        Err(StandardFault::Refused) => unreachable!(),
     }
 }
 
@@ -61,7 +65,8 @@ fn vdr_rule<'a>(alloc: Global, moving: Chance, stopped: Chance) -> Result<Rule, 
 {
     match vdr(alloc, moving, stopped) {
         Ok(rule) => Ok(rule),
-        Err(_) => Err(LineRefusal::memory()),
+        Err(StandardFault::Memory) => Err(LineRefusal::memory()),
+        Err(StandardFault::Refused) => unreachable!(),
     }
 }
 
@@ -73,7 +78,7 @@ fn rickert_rule<'a>(
     crossing: Chance,
 ) -> Result<Rule, LineRefusal<'a>>
     requires some { 1 ≤ lanes.count }
-    requires few { lanes.count ≤ 2 }
+    requires few { lanes.count ≤ MAX_LANES }
     ensures told { ReportsLine
         (IsTwoLaneRule (nat_eq lanes.count 1) (nasch_program brake) (rickert_program crossing)) result }
     ensures suits { IfOk result (λ rule. IsRuleFor lanes.count rule) }
@@ -83,7 +88,8 @@ fn rickert_rule<'a>(
     }
     match rickert(alloc, brake, crossing) {
         Ok(rule) => Ok(rule),
-        Err(_) => Err(LineRefusal::memory()),
+        Err(StandardFault::Memory) => Err(LineRefusal::memory()),
+        Err(StandardFault::Refused) => unreachable!(),
     }
 }
 
@@ -122,8 +128,12 @@ fn misplacement(alloc: Global, lanes: Lanes, rest: Rest<'_>) -> Refusal<'_>
 }
 
 /// Reads a change program, which is a fault on a road with one lane.
-fn change_by(alloc: Global, lanes: Lanes, rest: Rest<'_>) -> Result<(Change, Rest<'_>), Refusal<'_>>
-    ensures { Reports (change_by (nat_eq lanes.count 1) rest.entry) result }
+fn change_if_two_lanes(
+    alloc: Global,
+    lanes: Lanes,
+    rest: Rest<'_>,
+) -> Result<(Change, Rest<'_>), Refusal<'_>>
+    ensures { Reports (change_if_two_lanes (nat_eq lanes.count 1) rest.entry) result }
 {
     if lanes.count == 1 {
         Err(misplacement(alloc, lanes, rest))
@@ -148,7 +158,7 @@ fn change_part(
     ensures { Reports (change_part lanes.count rest.entry) result }
 {
     if next_is_change(&rest) {
-        let (change, rest) = change_by(alloc, lanes, rest)?;
+        let (change, rest) = change_if_two_lanes(alloc, lanes, rest)?;
         Ok((Some(change), rest))
     } else if lanes.count == 1 {
         Ok((None, rest))
@@ -160,7 +170,7 @@ fn change_part(
 /// Reads the programs of `rule own`: a motion program, and optionally a change program.
 fn own_rule(alloc: Global, lanes: Lanes, rest: Rest<'_>) -> Result<(Rule, Rest<'_>), Refusal<'_>>
     requires some { 1 ≤ lanes.count }
-    requires few { lanes.count ≤ 2 }
+    requires few { lanes.count ≤ MAX_LANES }
     ensures told { Reports (own_rule lanes.count rest.entry) result }
     ensures suits { IfOk result (λ found. IsRuleFor lanes.count found.0) }
 {
@@ -169,17 +179,17 @@ fn own_rule(alloc: Global, lanes: Lanes, rest: Rest<'_>) -> Result<(Rule, Rest<'
     Ok((Rule::new(motion, change), rest))
 }
 
-/// Returns the rule of the line `number`, which has been read, with the rest after it. A refusal gets this line number.
-fn of_line<'a>(
+/// Returns the rule of the line `number` with the rest after this line. A refusal gets the line number.
+fn rule_with_rest<'a>(
     number: u32,
-    say: Result<Rule, LineRefusal<'a>>,
+    rule: Result<Rule, LineRefusal<'a>>,
     rest: Rest<'a>,
 ) -> Result<(Rule, Rest<'a>), Refusal<'a>>
-    ensures { MatchResult say.entry
+    ensures { MatchResult rule.entry
         (λ rule. result ≡ Ok (rule, rest.entry))
         (λ fault. result ≡ Err (text_fault number fault)) }
 {
-    match say {
+    match rule {
         Ok(rule) => Ok((rule, rest)),
         Err(refusal) => Err(refusal.at(number, LineNames::none())),
     }
@@ -194,17 +204,17 @@ pub fn rule_from(
     rest: Rest<'_>,
 ) -> Result<(Rule, Rest<'_>), Refusal<'_>>
     requires some { 1 ≤ lanes.count }
-    requires few { lanes.count ≤ 2 }
+    requires few { lanes.count ≤ MAX_LANES }
     ensures told { Reports (rule_from lanes.count number line rest.entry) result }
     ensures suits { IfOk result (λ found. IsRuleFor lanes.count found.0) }
 {
     match line {
-        RuleLine::Nasch { brake } => of_line(number, nasch_rule(alloc, brake), rest),
+        RuleLine::Nasch { brake } => rule_with_rest(number, nasch_rule(alloc, brake), rest),
         RuleLine::Vdr { moving, stopped } => {
-            of_line(number, vdr_rule(alloc, moving, stopped), rest)
+            rule_with_rest(number, vdr_rule(alloc, moving, stopped), rest)
         }
         RuleLine::Rickert { brake, crossing } => {
-            of_line(number, rickert_rule(alloc, lanes, brake, crossing), rest)
+            rule_with_rest(number, rickert_rule(alloc, lanes, brake, crossing), rest)
         }
         RuleLine::Own => own_rule(alloc, lanes, rest),
     }
@@ -213,7 +223,7 @@ pub fn rule_from(
 /// Reads a rule: a line `rule ..`, and its programs if it is `rule own`.
 pub fn rule(alloc: Global, lanes: Lanes, rest: Rest<'_>) -> Result<(Rule, Rest<'_>), Refusal<'_>>
     requires some { 1 ≤ lanes.count }
-    requires few { lanes.count ≤ 2 }
+    requires few { lanes.count ≤ MAX_LANES }
     ensures told { Reports (rule lanes.count rest.entry) result }
     ensures suits { IfOk result (λ found. IsRuleFor lanes.count found.0) }
 {
@@ -222,7 +232,8 @@ pub fn rule(alloc: Global, lanes: Lanes, rest: Rest<'_>) -> Result<(Rule, Rest<'
     rule_from(alloc, lanes, number, line, rest)
 }
 
-/// Reads the line `at s rule ..`.
+/// Reads the next line, `at s rule ..`. `room` is the number of later rules that may still come, including this one;
+/// the step must be at least `least` and below `steps`.
 fn read_later_line(
     room: u32,
     steps: u32,
@@ -237,7 +248,7 @@ fn read_later_line(
     rest.read_line(LineName::At, |text| later_line(room, steps, least, text))
 }
 
-/// Reads a rule of a later step. Returns the step from which it applies, the rule and the rest.
+/// Reads a later rule. Returns the step from which it applies, the rule and the rest.
 fn later_rule(
     alloc: Global,
     room: u32,
@@ -247,7 +258,7 @@ fn later_rule(
     rest: Rest<'_>,
 ) -> Result<((u32, Rule), Rest<'_>), Refusal<'_>>
     requires some { 1 ≤ lanes.count }
-    requires few { lanes.count ≤ 2 }
+    requires few { lanes.count ≤ MAX_LANES }
     ensures told { Reports (later_rule room lanes.count steps least rest.entry) result }
     ensures room { OnOk result (0 < room) }
     ensures rises { IfOk result (λ found. least ≤ found.0.0) }
@@ -260,7 +271,7 @@ fn later_rule(
     Ok(((from, rule), rest))
 }
 
-/// Reads the rules of later steps, up to the end of the text.
+/// Reads the later rules, up to the end of the text. Their steps increase and are below `steps`.
 pub fn later_rules(
     alloc: Global,
     lanes: Lanes,
@@ -268,7 +279,7 @@ pub fn later_rules(
     mut rest: Rest<'_>,
 ) -> Result<(Vec<(u32, Rule)>, Rest<'_>), Refusal<'_>>
     requires some { 1 ≤ lanes.count }
-    requires few { lanes.count ≤ 2 }
+    requires few { lanes.count ≤ MAX_LANES }
     ensures told { Reports (later_rules lanes.count steps rest.entry)
         (result_map_both (λ found. (found.0.items, found.1)) (λ fault. fault) result) }
     ensures later { IfOk result (λ found. AreLaterRules lanes.count steps 0 found.0.items) }

@@ -1,7 +1,7 @@
 //! Lines that state rules. All words are checked before the numbers, which are checked from left to right.
 
 ghost use Rattle.std.specs.Prelude.{◌≡◌, ◌<◌, ◌≤◌, IfOk, OnOk, option_map};
-ghost use Rattle.trlab_jobs.specs.RuleLines.{rule_words, chance_of, rule_numbers, rule_line, later_words, admit_step, later_line};
+ghost use Rattle.trlab_jobs.specs.RuleLines.{rule_words, probability_of, rule_with_probabilities, rule_line, later_words, admit_step, later_line};
 
 use trlab_texts::{Cause, Excerpt, Objection, Quantity, Wanted};
 use trlab_words::{CERTAIN, Chance};
@@ -49,8 +49,8 @@ fn rule_words<'a>(line: &Excerpt<'a>) -> Option<RuleLine<Excerpt<'a>>>
 }
 
 /// The probability, times 2^31, that a word writes.
-fn chance_of(word: Excerpt<'_>) -> Result<Chance, Objection<'_>>
-    ensures { result ≡ chance_of word.entry }
+fn probability_of(word: Excerpt<'_>) -> Result<Chance, Objection<'_>>
+    ensures { result ≡ probability_of word.entry }
 {
     match Chance::new(word.number(0, CERTAIN, Quantity::Probability)?) {
         Some(chance) => Ok(chance),
@@ -59,21 +59,23 @@ fn chance_of(word: Excerpt<'_>) -> Result<Chance, Objection<'_>>
 }
 
 /// The numbers of a line `rule ..`, from left to right.
-fn rule_numbers<'a>(words: RuleLine<Excerpt<'a>>) -> Result<RuleLine<Chance>, Objection<'a>>
-    ensures { result ≡ rule_numbers words.entry }
+fn rule_with_probabilities<'a>(
+    words: RuleLine<Excerpt<'a>>,
+) -> Result<RuleLine<Chance>, Objection<'a>>
+    ensures { result ≡ rule_with_probabilities words.entry }
 {
     match words {
         RuleLine::Nasch { brake } => Ok(RuleLine::Nasch {
-            brake: chance_of(brake)?,
+            brake: probability_of(brake)?,
         }),
         RuleLine::Vdr { moving, stopped } => {
-            let moving = chance_of(moving)?;
-            let stopped = chance_of(stopped)?;
+            let moving = probability_of(moving)?;
+            let stopped = probability_of(stopped)?;
             Ok(RuleLine::Vdr { moving, stopped })
         }
         RuleLine::Rickert { brake, crossing } => {
-            let brake = chance_of(brake)?;
-            let crossing = chance_of(crossing)?;
+            let brake = probability_of(brake)?;
+            let crossing = probability_of(crossing)?;
             Ok(RuleLine::Rickert { brake, crossing })
         }
         RuleLine::Own => Ok(RuleLine::Own),
@@ -85,7 +87,7 @@ pub fn rule_line(line: &[u8]) -> Result<RuleLine<Chance>, Objection<'_>>
     ensures { result ≡ rule_line line.now }
 {
     match rule_words(&Excerpt::of(line)) {
-        Some(words) => rule_numbers(words),
+        Some(words) => rule_with_probabilities(words),
         None => Err(Objection::no_line()),
     }
 }
@@ -137,7 +139,7 @@ pub fn later_line(
         return Err(Objection::no_line());
     };
     let step = step.long_number()?;
-    let rule = rule_numbers(rule)?;
+    let rule = rule_with_probabilities(rule)?;
     let from = admit_step(room, steps, least, step)?;
     Ok((from, rule))
 }

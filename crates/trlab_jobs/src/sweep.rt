@@ -68,18 +68,33 @@ impl Drop for Sweep {
 }
 
 impl Model for Sweep {
-    ghost use Rattle.trlab_jobs.specs.Sweep.{Sweep as AbstractSweep, sweep_of};
+    ghost use Rattle.trlab_jobs.specs.Sweep.{Sweep as AbstractSweep};
     ghost use Rattle.trlab_jobs.specs.Stored.{IsStoredSweep};
 
     ghost Value = { AbstractSweep };
 
-    ghost view = { λ s. sweep_of s.key.0 s.limit s.length s.lanes s.rule s.warm s.measure s.cars.items };
+    ghost view = { λ sweep. record {
+      setup = record {
+        key = sweep.key.0;
+        shape = record { limit = sweep.limit; length = sweep.length; lanes = sweep.lanes };
+        rule = sweep.rule;
+        span = record { warm = sweep.warm; measure = sweep.measure };
+      };
+      cars = sweep.cars.items;
+    } };
 
-    ghost invariant = { λ s. IsStoredSweep
-        (sweep_of s.key.0 s.limit s.length s.lanes s.rule s.warm s.measure s.cars.items) };
+    ghost invariant = { λ sweep. IsStoredSweep (record {
+      setup = record {
+        key = sweep.key.0;
+        shape = record { limit = sweep.limit; length = sweep.length; lanes = sweep.lanes };
+        rule = sweep.rule;
+        span = record { warm = sweep.warm; measure = sweep.measure };
+      };
+      cars = sweep.cars.items;
+    }) };
 }
 
-/// The lines of a sweep text before its points.
+/// The common part of a sweep's points.
 #[derive(Drop)]
 struct Setup {
     key: [u8; 32],
@@ -89,9 +104,9 @@ struct Setup {
 }
 
 impl Model for Setup {
-    ghost use Rattle.trlab_jobs.specs.Sweep.{Setup as Common};
+    ghost use Rattle.trlab_jobs.specs.Sweep.{Setup as AbstractSetup};
 
-    ghost Value = { Common };
+    ghost Value = { AbstractSetup };
 
     ghost view = { λ setup. record {
       key = setup.key;
@@ -107,7 +122,7 @@ pub struct Shape {
     /// The maximum speed, 1 to `MAX_LIMIT` cells per step.
     pub limit: u32,
     /// The cells per lane, 1 to `MAX_LENGTH`.
-    pub cells: u32,
+    pub length: u32,
     /// The number of lanes, 1 or 2.
     pub lanes: u32,
 }
@@ -121,7 +136,7 @@ pub struct Span {
     pub measure: u32,
 }
 
-/// The number from `low` to `high` of a line with this name.
+/// Reads a line with this name and a number from `low` to `high`.
 fn number_line(name: LineName, low: u32, high: u32, line: &[u8]) -> Result<u32, Objection<'_>>
     ensures value { result ≡ number_within low high (word_after (name_and_space name) line.now) }
     ensures low { IfOk result (λ n. low ≤ n) }
@@ -148,17 +163,17 @@ fn number(
 /// Reads the lines `limit n`, `length n` and `lanes n`.
 pub fn read_shape(rest: Rest<'_>) -> Result<(Shape, Rest<'_>), Refusal<'_>>
     ensures told { Reports (shape rest.entry) result }
-    ensures cells { IfOk result (λ found. found.0.cells ≤ MAX_LENGTH) }
+    ensures cells { IfOk result (λ found. found.0.length ≤ MAX_LENGTH) }
     ensures some { IfOk result (λ found. 1 ≤ found.0.lanes) }
     ensures few { IfOk result (λ found. found.0.lanes ≤ MAX_LANES) }
 {
     let (limit, rest) = number(LineName::Limit, 1, MAX_LIMIT, rest)?;
-    let (cells, rest) = number(LineName::Length, 1, MAX_LENGTH, rest)?;
+    let (length, rest) = number(LineName::Length, 1, MAX_LENGTH, rest)?;
     let (lanes, rest) = number(LineName::Lanes, 1, MAX_LANES, rest)?;
     Ok((
         Shape {
             limit,
-            cells,
+            length,
             lanes,
         },
         rest,
@@ -198,7 +213,7 @@ fn admit_cars<'a>(cells: u32, steps: u32, point: u32, count: u32) -> Result<u32,
     Ok(count)
 }
 
-/// The line `cars n` of this point.
+/// Reads the line `cars n` of the point with the number `point`, counted from 1. A road has `cells` cells.
 fn cars_line(cells: u32, steps: u32, point: u32, line: &[u8]) -> Result<u32, Objection<'_>>
     ensures value { result ≡ cars_line cells steps point line.now }
     ensures room { OnOk result (point ≤ MAX_POINTS) }
@@ -207,8 +222,13 @@ fn cars_line(cells: u32, steps: u32, point: u32, line: &[u8]) -> Result<u32, Obj
     admit_cars(cells, steps, point, count)
 }
 
-/// Reads the number of cars of this point.
-fn count(cells: u32, steps: u32, point: u32, rest: Rest<'_>) -> Result<(u32, Rest<'_>), Refusal<'_>>
+/// Reads the next line, `cars n`, as the number of cars of the point with the number `point`.
+fn next_count(
+    cells: u32,
+    steps: u32,
+    point: u32,
+    rest: Rest<'_>,
+) -> Result<(u32, Rest<'_>), Refusal<'_>>
     ensures told { Reports (line (exactly (cars_line cells steps point)) rest.entry) result }
     ensures room { OnOk result (point ≤ MAX_POINTS) }
 {
@@ -228,7 +248,7 @@ fn counts_to_end(
     let mut counts = Vec::new(alloc);
     let mut point = 1;
     while !rest.is_end() {
-        let (count, after) = count(cells, steps, point, rest)?;
+        let (count, after) = next_count(cells, steps, point, rest)?;
         if counts.push(count).is_err() {
             return Err(Refusal::memory());
         }
@@ -255,7 +275,7 @@ pub fn counts(
     counts_to_end(alloc, cells, steps, rest)
 }
 
-/// The line `sweep 1`.
+/// Reads the line `sweep 1`.
 fn sweep_line(line: &[u8]) -> Result<(), Objection<'_>>
     ensures { result ≡ sweep_line line.now }
 {
@@ -274,19 +294,20 @@ fn heading(rest: Rest<'_>) -> Result<([u8; 32], Rest<'_>), Refusal<'_>>
     rest.read_line(LineName::Key, key_line)
 }
 
-/// Reads the lines before the points.
+/// Reads the lines before the points: `sweep 1`, the key, the shape, the rule and the span.
 fn read_setup(alloc: Global, rest: Rest<'_>) -> Result<(Setup, Rest<'_>), Refusal<'_>>
     ensures told { Reports (setup rest.entry) result }
-    ensures cells { IfOk result (λ found. found.0.shape.cells ≤ MAX_LENGTH) }
+    ensures cells { IfOk result (λ found. found.0.shape.length ≤ MAX_LENGTH) }
     ensures few { IfOk result (λ found. found.0.shape.lanes ≤ MAX_LANES) }
     ensures warm { IfOk result (λ found. found.0.span.warm ≤ MAX_STEPS) }
     ensures measure { IfOk result (λ found. found.0.span.measure ≤ MAX_STEPS) }
 {
     let (key, rest) = heading(rest)?;
     let (shape, rest) = read_shape(rest)?;
-    let count = shape.lanes;
-    let line = rest.line_before();
-    let lanes = rule::Lanes { count, line };
+    let lanes = rule::Lanes {
+        count: shape.lanes,
+        line: rest.line_before(),
+    };
     let (rule, rest) = rule::rule(alloc, lanes, rest)?;
     let (span, rest) = read_span(rest)?;
     Ok((
@@ -300,7 +321,7 @@ fn read_setup(alloc: Global, rest: Rest<'_>) -> Result<(Setup, Rest<'_>), Refusa
     ))
 }
 
-/// Reads the lines of a text that is not too long.
+/// Reads the lines of a sweep text of at most `TEXT_LIMIT` bytes.
 fn read_lines(alloc: Global, text: &[u8]) -> Result<Sweep, Refusal<'_>>
     requires { length text.now ≤ TEXT_LIMIT }
     ensures told { Reports (SweepLinesParseTo text.now) result }
@@ -313,12 +334,12 @@ fn read_lines(alloc: Global, text: &[u8]) -> Result<Sweep, Refusal<'_>>
         rule,
         span,
     } = setup;
-    let cells = shape.lanes * shape.cells;
+    let cells = shape.lanes * shape.length;
     let cars = counts(alloc, cells, span.warm + span.measure, rest)?;
     Ok(Sweep {
         key: Key(key),
         limit: shape.limit,
-        length: shape.cells,
+        length: shape.length,
         lanes: shape.lanes,
         rule,
         warm: span.warm,

@@ -2,6 +2,7 @@
 //! one worker is held.
 
 ghost use Rattle.std.specs.Prelude.{◌<◌};
+ghost use Rattle.trlab_bounds.specs.declared.runs.TheConstants.{MAX_WORKERS};
 
 use crate::traffic::{Traffic, spread};
 use crate::workers::{pool_as_one, sparing_pool_as_one};
@@ -9,28 +10,33 @@ use std::hint;
 use std::sync::Wait;
 use std::sync::atomic::{AtomicBool, AtomicU64, Ordering};
 use std::thread::Threads;
+use trlab_bounds::runs::MAX_WORKERS;
 use trlab_segments::{Gate, step_shared};
 use trlab_words::Key;
 
-/// Takes a step of road 9 through a gate, with `cars` cars and a crew of `others` + 1 workers.
+/// The number of the road whose steps are taken.
+const ROAD: u32 = 9;
+
+/// Takes step 0 through a gate, with `cars` cars and a crew of `others` + 1 workers. Returns whether it succeeded.
 fn go_through<G: Gate + Sync>(
     rt: &(impl AllocGlobal + Threads + Sync),
     cars: u32,
     others: u32,
     gate: &G,
 ) -> bool
-    requires { others < 16 }
+    requires { others < MAX_WORKERS }
 {
-    let (alloc, key) = (rt.alloc(), Key([0; 32]));
+    let (alloc, key, step) = (rt.alloc(), Key([0; 32]), 0);
     match spread(alloc, 100, cars) {
         Some(Traffic { road, rule }) => {
-            step_shared(rt, alloc, &road, &rule, &key, 9, 0, others + 1, gate).is_ok()
+            step_shared(rt, alloc, &road, &rule, &key, ROAD, step, others + 1, gate).is_ok()
         }
         None => false,
     }
 }
 
-/// Records which segments of road 9 are begun in the lane change and in the motion, and how often the gate is passed.
+/// A gate that records how often it is passed and, as bits, which segments of `ROAD` are begun in the lane change and
+/// in the motion.
 #[derive(Drop)]
 struct Notes {
     calls: AtomicU64,
@@ -48,8 +54,8 @@ impl Notes {
         }
     }
 
-    /// Whether the gate was passed `calls` times, and these segments were begun in each phase.
-    fn are(&self, calls: u64, begun: u64) -> bool {
+    /// Whether the gate was passed `calls` times, and the segments of the set bits of `begun` were begun in each phase.
+    fn has(&self, calls: u64, begun: u64) -> bool {
         self.calls.load(Ordering::SeqCst) == calls
             && self.crossed.load(Ordering::SeqCst) == begun
             && self.moved.load(Ordering::SeqCst) == begun
@@ -58,7 +64,7 @@ impl Notes {
 
 impl Gate for Notes {
     fn pass(&self, number: u32, worker: u32, phase: u32, segment: u32) {
-        if number != 9 || worker >= 16 || phase > 1 || segment >= 64 {
+        if number != ROAD || worker >= MAX_WORKERS || phase > 1 || segment >= 64 {
             return;
         }
         let begun = if phase == 0 {
@@ -71,48 +77,56 @@ impl Gate for Notes {
     }
 }
 
-/// Whether 16 workers pass the gate `calls` times in a step, and begin these segments in each phase.
-fn begin(rt: &(impl AllocGlobal + Threads + Sync), cars: u32, calls: u64, begun: u64) -> bool {
+/// Whether 16 workers pass the gate `calls` times in a step, and begin the segments of the set bits of `begun` in each
+/// phase.
+fn crew_begins(
+    rt: &(impl AllocGlobal + Threads + Sync),
+    cars: u32,
+    calls: u64,
+    begun: u64,
+) -> bool {
     let notes = Notes::new();
-    go_through(rt, cars, 15, &notes) && notes.are(calls, begun)
+    go_through(rt, cars, 15, &notes) && notes.has(calls, begun)
 }
 
 #[test]
 fn sixteen_workers_begin_each_segment_once(rt: HostRuntime) {
-    assert!(rt; begin(&rt, 0, 0, 0) && begin(&rt, 1, 2, 1) && begin(&rt, 3, 6, 0b111));
+    for (cars, calls, begun) in [(0, 0, 0), (1, 2, 0b1), (3, 6, 0b111)] {
+        assert!(rt; crew_begins(&rt, cars, calls, begun), "{cars} cars");
+    }
 }
 
-/// Whether a pool of `others` + 1 workers passes the gate `calls` times in three steps with 60 cars, and begins these
-/// segments in each phase.
+/// Whether a pool of `others` + 1 workers passes the gate `calls` times in three steps with 60 cars, and begins the
+/// segments of the set bits of `begun` in each phase.
 fn pool_begins(
     rt: &(impl AllocGlobal + Threads + Wait + Sync),
     others: u32,
     calls: u64,
     begun: u64,
 ) -> bool
-    requires { others < 16 }
+    requires { others < MAX_WORKERS }
 {
     let notes = Notes::new();
-    pool_as_one(rt, others, &notes, 3) && notes.are(calls, begun)
+    pool_as_one(rt, others, &notes, 3) && notes.has(calls, begun)
 }
 
-/// Whether a sparing pool passes no gate if it has too few cars for a second worker.
+/// Whether a pool with workers for 60 cars, too few for a second worker, never passes the gate.
 fn spares_workers(rt: &(impl AllocGlobal + Threads + Wait + Sync)) -> bool {
     let notes = Notes::new();
-    sparing_pool_as_one(rt, 60, &notes) && notes.are(0, 0)
+    sparing_pool_as_one(rt, 60, &notes) && notes.has(0, 0)
 }
 
-// A pool of one worker passes no gate.
+// A pool of one worker does not pass the gate.
 #[test]
 fn a_pool_begins_each_segment_once(rt: HostRuntime) {
     let all = pool_begins(&rt, 15, 360, (1 << 60) - 1);
     assert!(rt; all && pool_begins(&rt, 0, 0, 0) && spares_workers(&rt));
 }
 
-/// The maximum number of turns for which a worker is held.
+/// The number of times that a held worker checks for the others before it gives up.
 const TURNS: u32 = 100_000_000;
 
-/// Holds the first worker that comes in a phase, until the phase's seven other segments have come.
+/// A gate that holds the first of a phase's eight segments until the other seven have come.
 #[derive(Drop)]
 struct HoldsFirst {
     came: AtomicU64,
@@ -120,7 +134,7 @@ struct HoldsFirst {
 }
 
 impl HoldsFirst {
-    /// A gate to which no worker has come.
+    /// A gate to which no segment has come.
     fn new() -> HoldsFirst {
         HoldsFirst {
             came: AtomicU64::new(0),
@@ -128,8 +142,8 @@ impl HoldsFirst {
         }
     }
 
-    /// Waits until `wanted` workers have come, and returns whether they were in time.
-    fn waits(&self, wanted: u64) -> bool {
+    /// Waits until `wanted` segments have come. Returns whether they came in time.
+    fn waits_for(&self, wanted: u64) -> bool {
         for _ in 0..TURNS {
             if self.came.load(Ordering::SeqCst) >= wanted {
                 return true;
@@ -139,7 +153,7 @@ impl HoldsFirst {
         false
     }
 
-    /// Whether `came` workers have come, and none gave up waiting.
+    /// Whether `came` segments have come, and no worker gave up waiting.
     fn saw(&self, came: u64) -> bool {
         self.came.load(Ordering::SeqCst) == came && !self.gave_up.load(Ordering::SeqCst)
     }
@@ -148,7 +162,7 @@ impl HoldsFirst {
 impl Gate for HoldsFirst {
     fn pass(&self, _number: u32, _worker: u32, _phase: u32, _segment: u32) {
         let before = self.came.fetch_add(1, Ordering::SeqCst);
-        if before % 8 == 0 && !self.waits(before.saturating_add(8)) {
+        if before % 8 == 0 && !self.waits_for(before.saturating_add(8)) {
             self.gave_up.store(true, Ordering::SeqCst);
         }
     }
@@ -160,7 +174,7 @@ fn goes_on(rt: &(impl AllocGlobal + Threads + Sync)) -> bool {
     go_through(rt, 8, 1, &gate) && gate.saw(16)
 }
 
-/// `goes_on` for a pool's two workers, in ten steps.
+/// `goes_on` for a pool of two workers, in ten steps.
 fn pool_goes_on(rt: &(impl AllocGlobal + Threads + Wait + Sync)) -> bool {
     let gate = HoldsFirst::new();
     pool_as_one(rt, 1, &gate, 10) && gate.saw(160)

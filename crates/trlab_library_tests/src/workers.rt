@@ -1,18 +1,26 @@
 //! Steps by a crew or a pool give the same road and tally as a step by one thread, whichever threads help.
 
 ghost use Rattle.std.specs.Prelude.{◌<◌};
+ghost use Rattle.trlab_bounds.specs.declared.runs.TheConstants.{MAX_WORKERS};
 
 use crate::traffic::{Traffic, led_to, spread};
 use std::alloc::Global;
 use std::sync::Wait;
 use std::thread::Threads;
+use trlab_bounds::runs::MAX_WORKERS;
 use trlab_machine::Dice;
 use trlab_road::Road;
 use trlab_segments::{Gate, OpenGate, Pool, step_shared};
 use trlab_step::{Caller, StepTally, step_road, step_road_by};
 use trlab_words::Key;
 
-/// Whether step 5 of road 3 leads to this road and this tally with each number of workers, 1 to 16.
+/// The number of the road on which crews step.
+const ROAD: u32 = 3;
+
+/// The step that crews take.
+const STEP: u32 = 5;
+
+/// Whether step `STEP` of road `ROAD` leads to this road and this tally with each number of workers.
 fn lead_to(
     rt: &(impl AllocGlobal + Threads + Sync),
     traffic: &Traffic,
@@ -21,15 +29,15 @@ fn lead_to(
 ) -> bool {
     let Traffic { road, rule } = traffic;
     let key = Key([7; 32]);
-    for others in 0..16 {
+    for others in 0..MAX_WORKERS {
         let stepped = step_shared(
             rt,
             rt.alloc(),
             road,
             rule,
             &key,
-            3,
-            5,
+            ROAD,
+            STEP,
             others + 1,
             &OpenGate,
         );
@@ -40,16 +48,16 @@ fn lead_to(
     true
 }
 
-/// Whether crews of each size step as one thread does.
+/// Whether crews of each size take a step as one thread does.
 fn crews_as_one(rt: &(impl AllocGlobal + Threads + Sync), traffic: &Traffic) -> bool {
     let Traffic { road, rule } = traffic;
-    match step_road(rt.alloc(), road, rule, &Key([7; 32]), 3, 5) {
+    match step_road(rt.alloc(), road, rule, &Key([7; 32]), ROAD, STEP) {
         Ok((by_one, tally)) => lead_to(rt, traffic, &by_one, tally),
         Err(_) => false,
     }
 }
 
-/// Whether crews of each size step as one thread does, for cars spread evenly over two lanes.
+/// Whether crews of each size step as one thread does, for cars evenly spaced on two lanes.
 fn spread_as_one(rt: &(impl AllocGlobal + Threads + Sync), cars: u32) -> bool {
     match spread(rt.alloc(), 100, cars) {
         Some(traffic) => crews_as_one(rt, &traffic),
@@ -84,7 +92,7 @@ fn leads_as_one<R: Wait, G: Gate>(
     true
 }
 
-/// Whether a pool in a run steps as one thread does, for cars spread evenly over two lanes.
+/// Whether a pool in a run steps as one thread does, for cars evenly spaced on two lanes.
 fn runs_as_one<R: Threads + Wait + Sync, G: Gate + Sync>(
     pool: &Pool<R, G>,
     alloc: Global,
@@ -105,15 +113,16 @@ pub fn pool_as_one<G: Gate + Sync>(
     gate: &G,
     steps: u32,
 ) -> bool
-    requires { others < 16 }
+    requires { others < MAX_WORKERS }
 {
     let pool = Pool::new(rt, others + 1, gate);
-    runs_as_one(&pool, rt.alloc(), 100, 60, steps)
+    let (cells, cars) = (100, 60);
+    runs_as_one(&pool, rt.alloc(), cells, cars, steps)
 }
 
 #[test]
 fn pools_of_each_size_step_as_one_thread(rt: HostRuntime) {
-    for others in 0..16 {
+    for others in 0..MAX_WORKERS {
         assert!(rt; pool_as_one(&rt, others, &OpenGate, 10), "{others} helpers");
     }
 }
@@ -124,8 +133,9 @@ pub fn sparing_pool_as_one<G: Gate + Sync>(
     cars: u32,
     gate: &G,
 ) -> bool {
-    let pool = Pool::new(rt, 4, gate).sparing(cars, true);
-    runs_as_one(&pool, rt.alloc(), 4000, cars, 20)
+    let (workers, cells, steps, draws) = (4, 4000, 20, true);
+    let pool = Pool::new(rt, workers, gate).with_workers_for(cars, draws);
+    runs_as_one(&pool, rt.alloc(), cells, cars, steps)
 }
 
 // Helpers are awake for some of the forty phases and asleep for others. The cars are enough for four workers.

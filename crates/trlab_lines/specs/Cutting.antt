@@ -18,7 +18,7 @@ abbrev pub without_prefix : List ℕ → List ℕ → Option (List ℕ)
 without_prefix prefix text =
     if bytes_eq (take (length prefix) text) prefix then Some (drop (length prefix) text) else None
 
--- is this byte a space or a tab?
+-- is this byte a space (32) or a tab (9)?
 abbrev pub is_blank : ℕ → Bool
 is_blank b = b == 32 || b == 9
 
@@ -58,7 +58,7 @@ abbrev pub front_or_all : List ℕ → Option (List ℕ × List ℕ) → List �
 front_or_all line None = line
 front_or_all line (Some parts) = parts.0
 
--- a line without its comment, which begins at the first `;`; the whole line if it has no `;`
+-- a line without its comment, which begins at the first `;` (59); the whole line if it has no `;`
 abbrev pub without_comment : List ℕ → List ℕ
 without_comment line = front_or_all line (cut 59 line)
 
@@ -67,8 +67,8 @@ abbrev pub split_label : List ℕ → Option (List ℕ × List ℕ) → Option (
 split_label text None = (None, text)
 split_label text (Some parts) = (Some parts.0, parts.1)
 
--- the label of a line, which is all bytes before its first `:`, and the bytes after the `:`; no label and the
--- whole line if it has no `:`. For example, `a: go r0` gives `a` and ` go r0`
+-- the label of a line, which is all bytes before its first `:` (58), and the bytes after the `:`; no label and
+-- the whole line if it has no `:`. For example, `a: go r0` gives `a` and ` go r0`
 abbrev pub label_and_rest : List ℕ → Option (List ℕ) × List ℕ
 label_and_rest line = split_label line (cut 58 line)
 

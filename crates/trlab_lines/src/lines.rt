@@ -28,13 +28,14 @@ pub fn next_line(text: &[u8]) -> Option<(&[u8], &[u8])>
     }
 }
 
-/// Whether a byte separates words.
+/// Whether a byte separates words: a space or a tab.
 fn is_blank(byte: u8) -> bool
     ensures { result ≡ is_blank byte }
 {
     byte == b' ' || byte == b'\t'
 }
 
+/// The index of the first occurrence of a byte.
 fn position_of(text: &[u8], byte: u8) -> Option<usize>
     ensures value { result ≡ position (λ b. b == byte) text.now }
     ensures inside { IfSome result (λ i. i < length text.now) }
@@ -42,6 +43,7 @@ fn position_of(text: &[u8], byte: u8) -> Option<usize>
     text.iter().position(|b| *b == byte)
 }
 
+/// The index of the first space or tab.
 fn first_blank(text: &[u8]) -> Option<usize>
     ensures value { result ≡ position (λ b. is_blank b) text.now }
     ensures inside { IfSome result (λ i. i < length text.now) }
@@ -49,6 +51,7 @@ fn first_blank(text: &[u8]) -> Option<usize>
     text.iter().position(|b| is_blank(*b))
 }
 
+/// The index of the first byte that is neither a space nor a tab.
 fn first_of_word(text: &[u8]) -> Option<usize>
     ensures value { result ≡ position (λ b. not (is_blank b)) text.now }
     ensures inside { IfSome result (λ i. i < length text.now) }
@@ -60,14 +63,10 @@ fn first_of_word(text: &[u8]) -> Option<usize>
 pub fn cut(text: &[u8], byte: u8) -> Option<(&[u8], &[u8])>
     ensures { option_map (λ parts. (parts.0.now, parts.1.now)) result ≡ cut byte text.now }
 {
-    match position_of(text, byte) {
-        None => None,
-        Some(i) => {
-            let (before, _) = text.split_at(i);
-            let (_, after) = text.split_at(i + 1);
-            Some((before, after))
-        }
-    }
+    let i = position_of(text, byte)?;
+    let (before, _) = text.split_at(i);
+    let (_, after) = text.split_at(i + 1);
+    Some((before, after))
 }
 
 /// The text without leading blanks (spaces and tabs).
@@ -134,6 +133,7 @@ pub fn name_and_operands(line: &[u8]) -> (&[u8], &[u8])
     up_to_blank(without_indent(body))
 }
 
+/// Whether all bytes are decimal digits; true for an empty text.
 fn all_digits(text: &[u8]) -> bool
     ensures { result ≡ all_digits text.now }
 {

@@ -55,6 +55,7 @@ fn hex_digit(value: u8) -> u8
 }
 
 impl Page {
+    /// An empty page.
     pub fn new(alloc: Global) -> Page
         ensures { result ≡ [] }
     {
@@ -166,9 +167,7 @@ impl Page {
         if line.len() > MAX_QUOTED {
             let (start, _) = line.split_at(MAX_QUOTED);
             self.show_all(start)?;
-            self.push(b' ')?;
-            self.push(b'.')?;
-            self.push(b'.')
+            self.say(" ..")
         } else {
             self.show_all(line)
         }
@@ -185,6 +184,7 @@ impl Page {
         self.put(page.text())
     }
 
+    /// The bytes of the page, each of which is printable ASCII or an LF.
     pub fn text(&self) -> &[u8]
         ensures value { result.now ≡ self.now }
         ensures plain { All IsPlain result.now }

@@ -1,6 +1,6 @@
 //! Places in a text: its lines, by their numbers.
 
-ghost use Rattle.std.specs.Prelude.{◌≡◌, length, option_map};
+ghost use Rattle.std.specs.Prelude.{◌≡◌, drop, length, option_map, take};
 ghost use Rattle.trlab_lines.specs.Lines.{line_at, lines_of};
 
 use crate::lines::next_line;
@@ -23,11 +23,11 @@ pub fn count_lines(text: &[u8]) -> usize
 pub struct Place<'a> {
     /// The whole text.
     pub text: &'a [u8],
-    /// The number of the line, counted from 1; 0 for the start.
+    /// The number of the line, counted from 1; 0 for the start of the text.
     pub number: u32,
-    /// The number of bytes before it.
+    /// The number of bytes before this place.
     pub start: usize,
-    /// The line; `None` at the start and at the end.
+    /// The line, without its LF; `None` at the start and at the end of the text.
     pub line: Option<&'a [u8]>,
 }
 
@@ -58,26 +58,38 @@ impl<'a> Place<'a> {
         }
     }
 
-    /// The lines above it.
-    pub fn above(&self) -> &'a [u8] {
-        let (above, _) = self.text.split_at(self.start.min(self.text.len()));
+    /// The lines above this place, each with its LF.
+    pub fn above(&self) -> &'a [u8]
+        ensures { result.now ≡ take self.now.start self.now.text.now }
+    {
+        let (above, _) = split(self.text, self.start);
         above
     }
 
-    /// The lines below it.
+    /// The lines below this place: all lines if it is the start of the text, and none if it is the end.
     pub fn below(&self) -> &'a [u8] {
-        let end = self
-            .start
-            .saturating_add(self.line.unwrap_or(b"").len())
-            .saturating_add(1);
-        let (_, below) = self.text.split_at(end.min(self.text.len()));
+        let end = match self.line {
+            Some(line) => self.start.saturating_add(line.len()).saturating_add(1),
+            None => self.start,
+        };
+        let (_, below) = split(self.text, end);
         below
     }
 }
 
+/// Splits a text after its first `at` bytes, or at its end if it has fewer.
+fn split(text: &[u8], at: usize) -> (&[u8], &[u8])
+    ensures front { result.0.now ≡ take at text.now }
+    ensures back { result.1.now ≡ drop at text.now }
+{
+    text.split_at(at.min(text.len()))
+}
+
 /// The `count` bytes of a text after its first `at` bytes, or fewer if the text ends before.
-pub fn bytes_at(text: &[u8], at: usize, count: usize) -> &[u8] {
-    let (_, after) = text.split_at(at.min(text.len()));
-    let (bytes, _) = after.split_at(count.min(after.len()));
+pub fn bytes_at(text: &[u8], at: usize, count: usize) -> &[u8]
+    ensures { result.now ≡ take count (drop at text.now) }
+{
+    let (_, after) = split(text, at);
+    let (bytes, _) = split(after, count);
     bytes
 }

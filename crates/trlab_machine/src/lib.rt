@@ -21,7 +21,7 @@ mod views;
 mod waiting;
 
 pub use change::{Chosen, run_change, run_changes};
-pub use columns::{BLOCK_CARS, Column, Flags, REGISTERS, RegisterColumns, SMALL_BLOCK_CARS};
+pub use columns::{BLOCK_CARS, Column, Flags, REGISTER_COUNT, RegisterColumns, SMALL_BLOCK_CARS};
 pub use dice::Dice;
 pub use motion::{Moved, run_few_motions, run_motion, run_motions};
 pub use views::Views;

@@ -9,13 +9,13 @@ ghost use Rattle.trlab_code.specs.Views.{IsViewInRange};
 ghost use Rattle.trlab_machine.specs.Stored.{answer_of, number_in, result_number};
 ghost use Rattle.trlab_words.specs.Chances.{happens_on};
 
-use crate::columns::REGISTERS;
+use crate::columns::REGISTER_COUNT;
 use crate::role::{Role, role_of};
 use crate::views::seen;
 use trlab_code::{Instr, Kind, MAX_INSTRUCTIONS, Register, View, WORDS};
 
 /// The number in each register; any number before the program writes one.
-type Registers = [u32; REGISTERS];
+type Registers = [u32; REGISTER_COUNT];
 
 /// How a program ended, and after how many instructions.
 #[derive(Clone, Copy)]
@@ -42,7 +42,7 @@ pub fn run(
         (answer_of kind result.answer) result.steps }
     ensures within { result.steps ≤ budget }
 {
-    let mut registers = [0; REGISTERS];
+    let mut registers = [0; REGISTER_COUNT];
     let mut pc = 0;
     let mut steps = 0;
     'run: loop {
@@ -72,7 +72,7 @@ fn value(registers: &Registers, register: Register) -> u32
     registers[register.number()]
 }
 
-/// Does an event of probability `parts` / 2^31 happen on a random word?
+/// Whether an event of probability `parts` / 2^31 happens on a random word.
 fn happens(word: u32, parts: u32) -> bool
     ensures { result ≡ happens_on parts word }
 {

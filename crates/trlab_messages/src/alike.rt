@@ -38,7 +38,7 @@ pub struct NearestName<'a> {
     /// The fewest edits so far; at first, one more than the maximum for the word.
     edits: usize,
     /// How many more names are compared.
-    left: u32,
+    remaining: u32,
     /// The name, if no other is as near.
     pub found: Option<&'a [u8]>,
 }
@@ -48,24 +48,24 @@ impl<'a> NearestName<'a> {
     pub fn to(word: &[u8]) -> NearestName<'a> {
         NearestName {
             edits: word.len().max(1).min(MAX_EDITS + 1),
-            left: MAX_NAMES,
+            remaining: MAX_NAMES,
             found: None,
         }
     }
 
     /// Forgets the names so far.
     pub fn restart(&mut self, word: &[u8]) {
-        let left = self.left;
+        let remaining = self.remaining;
         *self = NearestName::to(word);
-        self.left = left;
+        self.remaining = remaining;
     }
 
     /// Compares one more name.
     pub fn compare(&mut self, alloc: Global, word: &[u8], name: &'a [u8]) -> Result<()> {
-        if self.left == 0 {
+        if self.remaining == 0 {
             return Ok(());
         }
-        self.left -= 1;
+        self.remaining -= 1;
         if let Some(edits) = edits_within(alloc, word, name, self.edits)? {
             self.found = (edits < self.edits).then_some(name);
             self.edits = edits;
@@ -81,8 +81,8 @@ pub fn nearest_word(
     all: &[&'static [u8]],
 ) -> Result<Option<&'static [u8]>> {
     let mut best = NearestName::to(word);
-    for one in all {
-        best.compare(alloc, word, *one)?;
+    for name in all {
+        best.compare(alloc, word, *name)?;
     }
     Ok(best.found)
 }
@@ -94,8 +94,8 @@ pub fn nearest_name<T: HasText>(
     all: &[T],
 ) -> Result<Option<&'static [u8]>> {
     let mut best = NearestName::to(word);
-    for one in all {
-        best.compare(alloc, word, one.text())?;
+    for named in all {
+        best.compare(alloc, word, named.text())?;
     }
     Ok(best.found)
 }

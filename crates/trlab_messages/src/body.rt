@@ -2,6 +2,7 @@
 
 use crate::Result;
 use crate::amount::Amount;
+use crate::fault::ByteSpan;
 use crate::repairs::RepairInWords;
 use crate::sentence::Draft;
 use std::alloc::{AllocError, Global};
@@ -18,13 +19,20 @@ pub struct Number {
     pub after: &'static str,
 }
 
-/// A whole number with the phrases around it.
-pub fn count(key: &'static str, front: &'static str, count: u64, after: &'static str) -> Number {
-    Number {
-        key,
-        front,
-        amount: Amount::of(count, 1, 0),
-        after,
+impl Number {
+    /// A whole number with the phrases around it.
+    pub fn whole(
+        key: &'static str,
+        front: &'static str,
+        value: u64,
+        after: &'static str,
+    ) -> Number {
+        Number {
+            key,
+            front,
+            amount: Amount::of(value, 1, 0),
+            after,
+        }
     }
 }
 
@@ -32,12 +40,11 @@ pub fn count(key: &'static str, front: &'static str, count: u64, after: &'static
 #[derive(Drop)]
 pub struct Problem {
     pub cause: Cause,
-    /// The number of the line.
-    pub line: u32,
+    pub line_number: u32,
     /// The line, as the text form quotes it; `None` at the end of the input.
     pub text: Option<Draft>,
-    /// The bytes at fault: how many come before them in the line, and their number. `None` means the whole line.
-    pub span: Option<(usize, usize)>,
+    /// The bytes at fault in the line. `None` means the whole line.
+    pub span: Option<ByteSpan>,
     /// The forms that would be valid, one per line.
     pub expected: Draft,
     /// The problem in words; empty if the meaning of the cause is enough.
@@ -50,9 +57,9 @@ pub struct Problem {
 #[derive(Drop)]
 pub struct Rejection {
     /// The instruction, counted from 0.
-    pub at: u32,
+    pub pc: u32,
     /// The number of its line; 1 for a program in bytes.
-    pub line: u32,
+    pub line_number: u32,
     /// The instruction as it is written.
     pub text: Draft,
     /// The instruction after the number of its line, as in the text form.
@@ -66,7 +73,7 @@ pub struct Rejection {
 #[derive(Drop)]
 pub struct Known {
     /// The number of its line; 0 for a program in bytes.
-    pub line: u32,
+    pub line_number: u32,
     pub instruction: Draft,
     pub facts: Draft,
 }
@@ -115,17 +122,18 @@ impl Body {
     }
 
     /// Returns the value, or remembers that its allocation failed.
-    pub fn value<T>(&mut self, value: Result<T>) -> Option<T> {
+    pub fn ok_or_fail<T>(&mut self, value: Result<T>) -> Option<T> {
         self.has_failed |= value.is_err();
         value.ok()
     }
 
+    /// Adds numbers of a valid input.
     pub fn add_numbers(&mut self, numbers: &[Number]) {
         self.has_failed |= self.numbers.extend_from_slice(numbers).is_err();
     }
 
-    /// Adds a row to the table.
-    pub fn add_row(&mut self, known: Known) {
+    /// Adds an instruction of an accepted program.
+    pub fn add_known(&mut self, known: Known) {
         self.has_failed |= self.table.push(known).is_err();
     }
 

@@ -54,7 +54,7 @@ pub struct Candidates {
 
 impl Candidates {
     /// Returns the value, or remembers that its allocation failed.
-    pub fn value<T>(&mut self, value: Result<T>) -> Option<T> {
+    pub fn ok_or_fail<T>(&mut self, value: Result<T>) -> Option<T> {
         self.has_failed |= value.is_err();
         value.ok()
     }
@@ -69,7 +69,7 @@ impl Candidates {
 
     /// Adds a candidate that replaces `removed` bytes of the input, from position `at` on.
     pub fn edit(&mut self, mistake: &'static str, at: usize, removed: usize, put: Result<Vec<u8>>) {
-        if let Some(inserted) = self.value(put) {
+        if let Some(inserted) = self.ok_or_fail(put) {
             let edit = Edit {
                 at,
                 removed,
@@ -91,30 +91,30 @@ impl Candidates {
     }
 
     /// Adds a candidate that replaces bytes of the line at fault.
-    pub fn in_line(&mut self, mistake: &'static str, at: usize, removed: usize, put: &[u8]) {
+    pub fn edit_in_line(&mut self, mistake: &'static str, at: usize, removed: usize, put: &[u8]) {
         let put = put.to_vec(self.alloc);
         self.rewrite(mistake, at, removed, put);
     }
 
     /// Adds a candidate that inserts a line above the one at fault, or at the end of the input.
-    pub fn above(&mut self, fault: &Fault<'_>, mistake: &'static str, line: LineName) {
+    pub fn insert_above(&mut self, fault: &Fault<'_>, mistake: &'static str, line: LineName) {
         let inserted = line_after(fault.place.above(), line);
-        self.in_line(mistake, 0, 0, inserted);
+        self.edit_in_line(mistake, 0, 0, inserted);
     }
 
     /// Adds a candidate that deletes the line at fault.
-    pub fn without_line(&mut self, fault: &Fault<'_>, mistake: &'static str) {
+    pub fn delete_line(&mut self, fault: &Fault<'_>, mistake: &'static str) {
         let left = fault.place.text.len().saturating_sub(self.start);
         let removed = fault.line.len().saturating_add(1).min(left);
-        self.in_line(mistake, 0, removed, b"");
+        self.edit_in_line(mistake, 0, removed, b"");
     }
 
     /// Adds a candidate that replaces a word of the line at fault by the name that was meant, if there is one.
-    pub fn misspelled(&mut self, at: usize, word: &[u8], meant: Result<Option<&[u8]>>) {
-        if let Some(Some(meant)) = self.value(meant)
+    pub fn fix_spelling(&mut self, at: usize, word: &[u8], meant: Result<Option<&[u8]>>) {
+        if let Some(Some(meant)) = self.ok_or_fail(meant)
             && meant != word
         {
-            self.in_line(MISSPELLED, at, word.len(), meant);
+            self.edit_in_line(MISSPELLED, at, word.len(), meant);
         }
     }
 }
@@ -122,7 +122,7 @@ impl Candidates {
 /// Adds the candidates for a fault.
 fn add_candidates(list: &mut Candidates, fault: &Fault<'_>) {
     if let Some(front) = fault.line.strip_suffix(b"\r") {
-        list.in_line(WINDOWS, front.len(), 1, b"");
+        list.edit_in_line(WINDOWS, front.len(), 1, b"");
     }
     match fault.cause {
         Cause::Line => line_candidates(list, fault),

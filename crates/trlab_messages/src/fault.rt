@@ -3,8 +3,8 @@
 use crate::body::{Body, Problem};
 use crate::causes::cause_hint;
 use crate::forms::{EXPECTED_OF_CHECK, INSTRUCTIONS, form_of_instruction, form_of_line};
-use crate::found::{push_found, span_of};
-use crate::names::named;
+use crate::names::line_named;
+use crate::problem::{describe_problem, span_of};
 use crate::program::add_rejected_part;
 use crate::repairs::{Repair, RepairInWords};
 use crate::sentence::{Draft, Quoted};
@@ -13,6 +13,14 @@ use trlab_jobs::Subject;
 use trlab_lines::{Place, name_and_operands};
 use trlab_texts::word::head_word;
 use trlab_texts::{Cause, LineName, Wanted};
+
+/// Some bytes of a line.
+#[derive(Clone, Copy)]
+pub struct ByteSpan {
+    /// The number of bytes before them.
+    pub start: usize,
+    pub length: usize,
+}
 
 /// The first fault of an input.
 #[derive(Clone, Copy)]
@@ -36,19 +44,21 @@ impl<'a> Fault<'a> {
         matches!(self.wanted, Wanted::Lines(names) if names.has(name))
     }
 
-    /// The word at fault, if its reader names one: the number of bytes before it, and its length.
-    pub fn word(&self) -> Option<(usize, usize)> {
+    /// The word at fault, if the reader names one.
+    pub fn word(&self) -> Option<ByteSpan> {
+        let (at, length) = match self.wanted {
+            Wanted::Number { at, length, .. } => (*at, *length),
+            Wanted::Digits { at } => (*at, self.within.len().saturating_sub(*at)),
+            _ => return None,
+        };
         let before = self.line.len().saturating_sub(self.within.len());
-        match self.wanted {
-            Wanted::Number { at, length, .. } => Some((before.saturating_add(*at), *length)),
-            Wanted::Digits { at } => Some((
-                before.saturating_add(*at),
-                self.within.len().saturating_sub(*at),
-            )),
-            _ => None,
-        }
+        Some(ByteSpan {
+            start: before.saturating_add(at),
+            length,
+        })
     }
 }
+
 /// The first line of the explanation of an error.
 fn intro_of(subject: Subject) -> &'static str {
     match subject {
@@ -60,7 +70,7 @@ fn intro_of(subject: Subject) -> &'static str {
 
 /// Adds the forms of the lines of a job or sweep that would be valid at a fault.
 fn push_line_forms(forms: &mut Draft, fault: &Fault<'_>) {
-    let own_name = named(head_word(fault.line));
+    let own_name = line_named(head_word(fault.line));
     for name in &LineName::ALL {
         let is_valid = match fault.wanted {
             Wanted::Lines(names) => names.has(*name),
@@ -68,7 +78,7 @@ fn push_line_forms(forms: &mut Draft, fault: &Fault<'_>) {
             _ => own_name == Some(*name),
         };
         if is_valid {
-            forms.line(form_of_line(*name));
+            forms.push_line(form_of_line(*name));
         }
     }
 }
@@ -77,14 +87,14 @@ fn push_line_forms(forms: &mut Draft, fault: &Fault<'_>) {
 fn push_forms(forms: &mut Draft, fault: &Fault<'_>) {
     match fault.cause {
         Cause::Line | Cause::Number | Cause::Key | Cause::Order => match fault.subject {
-            Subject::Check => forms.line(EXPECTED_OF_CHECK),
+            Subject::Check => forms.push_line(EXPECTED_OF_CHECK),
             Subject::Job | Subject::Sweep => push_line_forms(forms, fault),
         },
-        Cause::Program(Why::Word) => forms.line(INSTRUCTIONS),
+        Cause::Program(Why::Word) => forms.push_line(INSTRUCTIONS),
         Cause::Program(Why::Operand | Why::Number) => {
             if let Some(name) = mnemonic_named(name_and_operands(fault.line).0) {
-                forms.line(form_of_instruction(name));
-                forms.line("Registers are r0 to r7.");
+                forms.push_line(form_of_instruction(name));
+                forms.push_line("Registers are r0 to r7.");
             }
         }
         _ => {}
@@ -104,7 +114,7 @@ fn hint_of(fault: &Fault<'_>) -> &'static str {
 /// The problem at a fault. Set the body's repair first: a problem with neither words nor a repair gets a hint.
 fn problem_at(body: &Body, fault: &Fault<'_>) -> Problem {
     let mut found = Draft::new(body.alloc);
-    push_found(&mut found, fault);
+    describe_problem(&mut found, fault);
     let mut expected = Draft::new(body.alloc);
     push_forms(&mut expected, fault);
     let mut text = Draft::new(body.alloc);
@@ -112,7 +122,7 @@ fn problem_at(body: &Body, fault: &Fault<'_>) -> Problem {
     let is_clear = body.repair.is_some() || !found.is_empty();
     Problem {
         cause: fault.cause,
-        line: fault.place.number,
+        line_number: fault.place.number,
         text: if fault.place.line.is_some() {
             Some(text)
         } else {

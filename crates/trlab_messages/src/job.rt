@@ -1,7 +1,7 @@
 //! The work of a valid job.
 
 use crate::amount::Amount;
-use crate::body::{Body, Number, count};
+use crate::body::{Body, Number};
 use crate::rules::{count_digits, megabytes, push_rules};
 use trlab_bounds::runs::MAX_LATER;
 use trlab_jobs::Job;
@@ -32,16 +32,16 @@ fn road_numbers(road: &Road) -> [Number; 5] {
     let (cars, limit) = (u64::from(road.cars()), u64::from(road.limit()));
     let cells = lanes.saturating_mul(length);
     [
-        count("lanes", "Lanes: ", lanes, "."),
-        count("cells", "Cells per lane: ", length, "."),
-        count("cars", "Cars: ", cars, "."),
+        Number::whole("lanes", "Lanes: ", lanes, "."),
+        Number::whole("cells", "Cells per lane: ", length, "."),
+        Number::whole("cars", "Cars: ", cars, "."),
         Number {
             key: "density",
             front: "Density: ",
             amount: Amount::of(cars, cells, 4),
             after: " cars per cell.",
         },
-        count("limit", "Maximum speed: ", limit, " cells per step."),
+        Number::whole("limit", "Maximum speed: ", limit, " cells per step."),
     ]
 }
 
@@ -52,10 +52,10 @@ fn run_numbers(text: &[u8], job: &Job) -> [Number; 4] {
     let memory = megabytes(memory_bytes(text, cars));
     let measured = " MB with one worker (measured, not proved).";
     [
-        count("steps", "Steps: ", steps, "."),
-        count("work", "Work: ", cars.saturating_mul(steps), " car-steps."),
-        count("output_bytes", "Output: ", output, " bytes."),
-        count("memory_mb", "Memory: about ", memory, measured),
+        Number::whole("steps", "Steps: ", steps, "."),
+        Number::whole("work", "Work: ", cars.saturating_mul(steps), " car-steps."),
+        Number::whole("output_bytes", "Output: ", output, " bytes."),
+        Number::whole("memory_mb", "Memory: about ", memory, measured),
     ]
 }
 

@@ -2,6 +2,7 @@
 
 use crate::body::{Body, Known, Number, Problem, Rejection};
 use crate::causes::cause_meaning;
+use crate::fault::ByteSpan;
 use crate::object_writer::{
     ObjectWriter, add_amount, add_count, add_lines, add_string, add_words, begin_member,
 };
@@ -14,12 +15,12 @@ use trlab_texts::Cause;
 /// The version of the format.
 const FORMAT: u64 = 1;
 
-/// Adds the first and the last byte of a span of a line, counted from 1.
-fn add_span<W: ObjectWriter>(out: &mut W, span: Option<(usize, usize)>) {
+/// Adds the first and the last byte of a span, counted from 1.
+fn add_span<W: ObjectWriter>(out: &mut W, span: Option<ByteSpan>) {
     match span {
-        Some((before, count)) => {
-            add_count(out, "first", (before as u64).saturating_add(1));
-            add_count(out, "last", before.saturating_add(count) as u64);
+        Some(ByteSpan { start, length }) => {
+            add_count(out, "first", (start as u64).saturating_add(1));
+            add_count(out, "last", start.saturating_add(length) as u64);
         }
         None => {
             begin_member(out, "first", Token::Null);
@@ -33,7 +34,7 @@ fn add_problem<W: ObjectWriter>(out: &mut W, problem: &Problem, rejection: Optio
     add_words(out, "kind", Ok("cause"));
     add_count(out, "number", problem.cause.number());
     add_words(out, "meaning", Ok(cause_meaning(problem.cause)));
-    add_count(out, "line", u64::from(problem.line));
+    add_count(out, "line", u64::from(problem.line_number));
     match &problem.text {
         Some(line) => add_string(out, "text", line.text()),
         None => begin_member(out, "text", Token::Null),
@@ -41,7 +42,7 @@ fn add_problem<W: ObjectWriter>(out: &mut W, problem: &Problem, rejection: Optio
     add_span(out, problem.span);
     let advice = match rejection {
         Some(rejection) => {
-            add_count(out, "pc", u64::from(rejection.at));
+            add_count(out, "pc", u64::from(rejection.pc));
             begin_member(out, "reason", Token::BeginObject);
             add_count(out, "number", u64::from(rejection.reason));
             add_words(out, "meaning", Ok(rejection.meaning));
@@ -70,10 +71,10 @@ fn add_rejection<W: ObjectWriter>(out: &mut W, rejection: &Rejection) {
     add_words(out, "kind", Ok("reason"));
     add_count(out, "number", u64::from(rejection.reason));
     add_words(out, "meaning", Ok(rejection.meaning));
-    add_count(out, "line", u64::from(rejection.line));
+    add_count(out, "line", u64::from(rejection.line_number));
     add_words(out, "text", rejection.text.text());
     add_span(out, None);
-    add_count(out, "pc", u64::from(rejection.at));
+    add_count(out, "pc", u64::from(rejection.pc));
     begin_member(out, "reason", Token::Null);
     begin_member(out, "found", Token::Null);
     add_lines(out, "expected", &[]);
@@ -85,7 +86,7 @@ fn add_table<W: ObjectWriter>(out: &mut W, table: &[Known]) {
     begin_member(out, "known", Token::BeginArray);
     for known in table {
         out.token(Ok(Token::BeginObject));
-        add_count(out, "line", u64::from(known.line));
+        add_count(out, "line", u64::from(known.line_number));
         add_words(out, "instruction", known.instruction.text());
         add_lines(out, "facts", &[&known.facts]);
         out.token(Ok(Token::EndObject));
@@ -106,8 +107,12 @@ fn add_repair<W: ObjectWriter>(out: &mut W, found: &RepairInWords) {
             begin_member(out, "command", Token::Null);
             begin_member(out, "edits", Token::BeginArray);
             out.token(Ok(Token::BeginObject));
-            add_count(out, "line", u64::from(found.line));
-            add_span(out, Some((found.before, edit.removed)));
+            add_count(out, "line", u64::from(found.line_number));
+            let removed = ByteSpan {
+                start: found.before,
+                length: edit.removed,
+            };
+            add_span(out, Some(removed));
             let mut replacement = Draft::new(out.alloc());
             write!(replacement, "{}", Shown(&edit.inserted));
             add_string(out, "replacement", replacement.text());

@@ -8,13 +8,13 @@ use trlab_texts::LineName;
 pub const CHECK_NAMES: [&[u8]; 4] = [b"motion", b"change", b"code", b"notes"];
 
 /// The line that begins with this word, if it is not `end`.
-pub fn named(word: &[u8]) -> Option<LineName> {
+pub fn line_named(word: &[u8]) -> Option<LineName> {
     let mut names = LineName::ALL.iter().copied();
     names.find(|name| name.word() == word && *name != LineName::End)
 }
 
 /// Whether lines of this name belong in an input of this kind.
-pub fn is_of(name: LineName, subject: Subject) -> bool {
+pub fn belongs_in(name: LineName, subject: Subject) -> bool {
     match subject {
         Subject::Job => !matches!(
             name,

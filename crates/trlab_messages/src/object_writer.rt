@@ -8,6 +8,7 @@ use std::alloc::Global;
 
 /// A writer of a JSON object.
 pub trait ObjectWriter {
+    /// The allocator of the members.
     fn alloc(&self) -> Global;
 
     /// Adds a token, or remembers that an allocation failed.
@@ -23,10 +24,7 @@ pub fn begin_member<W: ObjectWriter>(out: &mut W, name: &str, token: Token<'_>) 
 /// Adds a member whose value is a string.
 pub fn add_string<W: ObjectWriter>(out: &mut W, name: &str, text: Result<&str>) {
     out.token(Ok(Token::Key(name)));
-    out.token(match text {
-        Ok(text) => Ok(Token::String(text)),
-        Err(error) => Err(error),
-    });
+    out.token(text.map(Token::String));
 }
 
 /// Adds a member whose value is a string, or null if the string is empty.
@@ -42,10 +40,7 @@ pub fn add_amount<W: ObjectWriter>(out: &mut W, name: &str, number: Amount) {
     let mut digits = Draft::new(out.alloc());
     write!(digits, "{number}");
     out.token(Ok(Token::Key(name)));
-    out.token(match digits.text() {
-        Ok(digits) => Ok(Token::Number(digits)),
-        Err(error) => Err(error),
-    });
+    out.token(digits.text().map(Token::Number));
 }
 
 /// Adds a member whose value is a whole number.

@@ -125,15 +125,16 @@ pub struct RepairInWords {
     /// How to make it, in one line.
     pub how: Draft,
     /// The number of the line that is edited.
-    pub line: u32,
+    pub line_number: u32,
     /// The number of bytes of this line before the edit.
     pub before: usize,
 }
 
 impl RepairInWords {
+    /// Puts a repair of the error at a place into words.
     pub fn new(alloc: Global, error: &Place<'_>, repair: Repair) -> RepairInWords {
         let mut how = Draft::new(alloc);
-        let (line, before) = match &repair.change {
+        let (line_number, before) = match &repair.change {
             Change::Edited(edit) => {
                 let place = place_of(error, edit.at);
                 let before = edit.at.saturating_sub(place.start);
@@ -148,7 +149,7 @@ impl RepairInWords {
         RepairInWords {
             repair,
             how,
-            line,
+            line_number,
             before,
         }
     }

@@ -8,7 +8,7 @@ use trlab_lines::{cut, next_line};
 use trlab_texts::word::{head_word, number_from};
 
 /// A rule has at most this many probabilities.
-const MAX_CHANCES: u32 = 2;
+const MAX_PROBABILITIES: u32 = 2;
 
 /// A probability above 0 and at most this many parts of 2^31 (one in a million) is probably a mistake.
 const SMALL: u32 = 2147;
@@ -28,7 +28,7 @@ fn push_probability(facts: &mut Draft, parts: u32) {
 fn push_rule(facts: &mut Draft, number: u32, line: &[u8]) {
     writeln!(facts, "line {number}: {}", Quoted(line));
     let mut left = after_rule(line).unwrap_or(b"");
-    for _ in 0..MAX_CHANCES {
+    for _ in 0..MAX_PROBABILITIES {
         let Some((_, rest)) = cut(left, b' ') else {
             break;
         };
@@ -41,7 +41,7 @@ fn push_rule(facts: &mut Draft, number: u32, line: &[u8]) {
 
 /// Adds a heading, and the first `most` lines of the input that begin with the word `name`, as rules.
 pub fn push_rules(facts: &mut Draft, heading: &str, text: &[u8], name: &[u8], most: u32) {
-    facts.line(heading);
+    facts.push_line(heading);
     let mut left = text;
     let mut number = 1u32;
     let mut found = 0u32;

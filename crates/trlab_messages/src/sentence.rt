@@ -48,15 +48,15 @@ impl Draft {
         }
     }
 
-    /// Adds words.
-    pub fn say(&mut self, words: &str) {
+    /// Appends a string.
+    pub fn push_str(&mut self, words: &str) {
         self.has_failed |= self.text.push_str(words).is_err();
     }
 
-    /// Adds words, and ends the line.
-    pub fn line(&mut self, words: &str) {
-        self.say(words);
-        self.say("\n");
+    /// Appends a string, and ends the line.
+    pub fn push_line(&mut self, words: &str) {
+        self.push_str(words);
+        self.push_str("\n");
     }
 
     /// `write!` and `writeln!` call this.
@@ -64,13 +64,13 @@ impl Draft {
         self.has_failed |= self.text.write_fmt(words).is_err();
     }
 
-    /// Adds the lines of another draft, with `first` before the first one and `later` before the others.
+    /// Appends the lines of another draft, with `first` before the first one and `later` before the others.
     pub fn push_lines<'x>(&mut self, first: &'x str, later: &'x str, lines: &Draft) {
         self.has_failed |= lines.has_failed;
         let mut is_first = true;
         for line in lines.text.split_terminator('\n') {
-            self.say(if is_first { first } else { later });
-            self.line(line);
+            self.push_str(if is_first { first } else { later });
+            self.push_line(line);
             is_first = false;
         }
     }

@@ -1,20 +1,33 @@
 //! The work of a valid sweep.
 
-use crate::body::{Body, count};
+use crate::body::{Body, Number};
 use crate::rules::{count_digits, megabytes, push_rules};
 use trlab_jobs::Sweep;
+use trlab_jobs::limits::MAX_CARS_IN_MEMORY;
 
-/// The minimum and the maximum number of cars of a point, and their sum over all points.
-fn car_counts(cars: &[u32]) -> (u32, u32, u64) {
-    let mut fewest = u32::MAX;
-    let mut most = 0;
-    let mut all = 0u64;
-    for count in cars {
-        fewest = fewest.min(*count);
-        most = most.max(*count);
-        all = all.saturating_add(u64::from(*count));
+/// The numbers of cars of the points of a sweep.
+#[derive(Clone, Copy)]
+struct CarCounts {
+    fewest: u32,
+    most: u32,
+    /// The sum over all points.
+    total: u64,
+}
+
+impl CarCounts {
+    fn of(cars: &[u32]) -> CarCounts {
+        let mut counts = CarCounts {
+            fewest: u32::MAX,
+            most: 0,
+            total: 0,
+        };
+        for count in cars {
+            counts.fewest = counts.fewest.min(*count);
+            counts.most = counts.most.max(*count);
+            counts.total = counts.total.saturating_add(u64::from(*count));
+        }
+        counts
     }
-    (fewest, most, all)
 }
 
 /// How many of these cars start on lane 0 of two lanes: the cars are spread evenly over the cells, and the cells
@@ -34,12 +47,12 @@ fn cars_of_first_lane(cells: u64, cars: u32) -> u64 {
 fn add_start(body: &mut Body, key: &'static str, cells: u64, cars: u32) {
     let first = cars_of_first_lane(cells, cars);
     body.add_numbers(&[
-        count("", "With ", u64::from(cars), " cars, "),
-        count(key, "", first, " start on lane 0."),
+        Number::whole("", "With ", u64::from(cars), " cars, "),
+        Number::whole(key, "", first, " start on lane 0."),
     ]);
 }
 
-/// The bytes of the heading of a table.
+/// An upper bound on the bytes of the heading of a table, which are 47.
 const HEADING_BYTES: u64 = 49;
 
 /// The bytes of a row besides its whole numbers: the commas, the end and the longest flow.
@@ -62,16 +75,16 @@ fn output_bytes(sweep: &Sweep) -> u64 {
     bytes
 }
 
-/// The maximum number of cars of the roads that a sweep keeps at once.
-const MAX_AT_ONCE: u64 = 6_400_000;
-
-/// An estimate of the bytes of memory of a sweep with one runner, fitted to measurements: by the size of its file, the
-/// cars of all points and of the largest one, and the steps.
-fn memory_bytes(text: &[u8], all: u64, most: u32, steps: u64) -> u64 {
+/// An estimate of the memory, in bytes, that a sweep with one runner uses, fitted to measurements.
+fn memory_bytes(text: &[u8], cars: &CarCounts, steps: u64) -> u64 {
+    let most = u64::from(cars.most);
+    let kept_cars = cars
+        .total
+        .min(u64::from(MAX_CARS_IN_MEMORY))
+        .saturating_add(most);
     (text.len() as u64)
         .saturating_mul(9)
-        .saturating_add(all.min(MAX_AT_ONCE).saturating_mul(26))
-        .saturating_add(u64::from(most).saturating_mul(26))
+        .saturating_add(kept_cars.saturating_mul(26))
         .saturating_add(steps.saturating_mul(64))
         .saturating_add(4_000_000)
 }
@@ -81,14 +94,14 @@ fn add_roads(body: &mut Body, sweep: &Sweep) {
     let (lanes, length) = (u64::from(sweep.lanes), u64::from(sweep.length));
     let cells = lanes.saturating_mul(length);
     let limit = u64::from(sweep.limit);
-    let (fewest, most, _) = car_counts(&sweep.cars);
+    let CarCounts { fewest, most, .. } = CarCounts::of(&sweep.cars);
     body.add_numbers(&[
-        count("lanes", "Lanes: ", lanes, "."),
-        count("cells", "Cells per lane: ", length, "."),
-        count("limit", "Maximum speed: ", limit, " cells per step."),
-        count("road_cells", "Cells per road: ", cells, "."),
-        count("fewest_cars", "Fewest cars: ", u64::from(fewest), "."),
-        count("most_cars", "Most cars: ", u64::from(most), "."),
+        Number::whole("lanes", "Lanes: ", lanes, "."),
+        Number::whole("cells", "Cells per lane: ", length, "."),
+        Number::whole("limit", "Maximum speed: ", limit, " cells per step."),
+        Number::whole("road_cells", "Cells per road: ", cells, "."),
+        Number::whole("fewest_cars", "Fewest cars: ", u64::from(fewest), "."),
+        Number::whole("most_cars", "Most cars: ", u64::from(most), "."),
     ]);
     if sweep.lanes == 2 {
         add_start(body, "fewest_on_lane_0", cells, fewest);
@@ -100,28 +113,28 @@ fn add_roads(body: &mut Body, sweep: &Sweep) {
 
 /// Adds the points of a sweep, and their work.
 fn add_points(body: &mut Body, text: &[u8], sweep: &Sweep) {
-    let (_, most, all) = car_counts(&sweep.cars);
+    let cars = CarCounts::of(&sweep.cars);
     let points = sweep.cars.len() as u64;
     let (warm, measure) = (u64::from(sweep.warm), u64::from(sweep.measure));
     let steps = warm.saturating_add(measure);
     let total = points.saturating_mul(steps);
-    let work = all.saturating_mul(steps);
-    let memory = megabytes(memory_bytes(text, all, most, total));
+    let work = cars.total.saturating_mul(steps);
+    let memory = megabytes(memory_bytes(text, &cars, total));
     let maximum = " steps in total (maximum 500000).";
     let measured = " MB with one runner (measured, not proved).";
     body.add_numbers(&[
-        count("points", "Points: ", points, ", one row of the table each."),
-        count("warm", "Warm-up steps per point: ", warm, "."),
-        count("measure", "Measured steps per point: ", measure, "."),
-        count("steps", "Work: ", total, maximum),
-        count("work", "Work: ", work, " car-steps."),
-        count(
+        Number::whole("points", "Points: ", points, ", one row of the table each."),
+        Number::whole("warm", "Warm-up steps per point: ", warm, "."),
+        Number::whole("measure", "Measured steps per point: ", measure, "."),
+        Number::whole("steps", "Work: ", total, maximum),
+        Number::whole("work", "Work: ", work, " car-steps."),
+        Number::whole(
             "output_bytes",
             "Output: at most ",
             output_bytes(sweep),
             " bytes.",
         ),
-        count("memory_mb", "Memory: about ", memory, measured),
+        Number::whole("memory_mb", "Memory: about ", memory, measured),
     ]);
 }
 

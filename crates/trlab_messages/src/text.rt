@@ -31,25 +31,25 @@ fn push_problem(text: &mut Draft, problem: &Problem) {
 fn push_numbers(text: &mut Draft, numbers: &[Number]) {
     for number in numbers {
         write!(text, "{}{}", number.front, number.amount);
-        text.say(number.after);
+        text.push_str(number.after);
         if !number.key.is_empty() {
-            text.say("\n");
+            text.push_str("\n");
         }
     }
 }
 
 fn push_facts(text: &mut Draft, body: &Body) {
     if !body.known.is_empty() {
-        text.line("Known before it:");
+        text.push_line("Known before it:");
     }
     text.push_lines("", "", &body.known);
     text.push_lines("", "", &body.facts);
     if !body.table.is_empty() {
-        text.line("What the verifier knows before each instruction:");
+        text.push_line("What the verifier knows before each instruction:");
     }
     for known in &body.table {
         // An empty line, because at the target of a jump the facts do not follow from the instruction above.
-        text.say("\n");
+        text.push_str("\n");
         text.push_lines("    ", "    ", &known.facts);
         text.push_lines("", "", &known.instruction);
     }
@@ -75,7 +75,7 @@ fn push_help(text: &mut Draft, body: &Body) {
 /// Adds a body as text.
 pub fn push_text(text: &mut Draft, body: &Body) {
     if !body.intro.is_empty() {
-        text.line(body.intro);
+        text.push_line(body.intro);
     }
     if let Some(problem) = &body.problem {
         push_problem(text, problem);

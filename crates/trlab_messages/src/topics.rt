@@ -28,7 +28,7 @@ fn push_advice(text: &mut Draft, reason: Reason) {
 
 /// Adds the page of a cause, after its number.
 pub fn push_cause(text: &mut Draft, cause: Cause) {
-    text.line(cause_meaning(cause));
+    text.push_line(cause_meaning(cause));
     if let Cause::Verdict(number) = cause
         && let Some(reason) = Reason::from_number(number)
     {
@@ -44,7 +44,7 @@ pub fn push_cause(text: &mut Draft, cause: Cause) {
 
 /// Adds the page of a reason, after its number.
 pub fn push_reason(text: &mut Draft, reason: Reason) {
-    text.line(reason_meaning(reason));
+    text.push_line(reason_meaning(reason));
     push_advice(text, reason);
     push_end(text, "reasons");
 }

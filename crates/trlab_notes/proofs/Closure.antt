@@ -23,13 +23,13 @@ use Rattle.trlab_notes.proofs.Tables.{note_same, level_same, known_twice, both_k
 
 pub known_settled : (m : Note) (x y : Variable) → known_level (closure m) x y ≡ known_level m x y
 unfolding known_level closure
-known_settled m x y = known_twice (m.said x) (m.said y) (same_variable x y) (m.level x y)
+known_settled m x y = known_twice (m.values x) (m.values y) (same_variable x y) (m.level x y)
 
 pub told_settled : (m : Note) (x : Variable) → value_with_side (closure m) x ≡ value_with_side m x
 unfolding value_with_side closure
 told_settled m x = refl
 
-pub said_same : (m : Note) → (closure m).said ≡ m.said
+pub said_same : (m : Note) → (closure m).values ≡ m.values
 unfolding closure
 said_same m = refl
 
@@ -37,7 +37,7 @@ pub side_same : (m : Note) → (closure m).side ≡ m.side
 unfolding closure
 side_same m = refl
 
-settled_same : (m n : Note) → m.said ≡ n.said → ((x y : Variable) → known_level m x y ≡ known_level n x y) → m.side ≡ n.side → closure m ≡ closure n
+settled_same : (m n : Note) → m.values ≡ n.values → ((x y : Variable) → known_level m x y ≡ known_level n x y) → m.side ≡ n.side → closure m ≡ closure n
 unfolding closure
 settled_same m n s h e = note_same _ _ s (level_same _ _ h) e
 
@@ -47,14 +47,14 @@ settled_twice m = settled_same (closure m) m (said_same m) (known_settled m) (si
 -- it is no stronger, nor is the note
 pub settled_less : (m : Note) → IsNoStronger (closure m) m
 settled_less m = let f = same_note m in record {
-  said = λ x. subst (λ s. IsNoMorePrecise s (value_with_side m x)) (sym (told_settled m x)) (f.said x);
+  values = λ x. subst (λ s. IsNoMorePrecise s (value_with_side m x)) (sym (told_settled m x)) (f.values x);
   order = λ x y. let e = known_settled m x y in omega (arith, e);
   beside = λ h. sym (side_same m) ∙ h;
 }
 
 pub settled_more : (m : Note) → IsNoStronger m (closure m)
 settled_more m = let f = same_note m in record {
-  said = λ x. subst (λ s. IsNoMorePrecise (value_with_side m x) s) (sym (told_settled m x)) (f.said x);
+  values = λ x. subst (λ s. IsNoMorePrecise (value_with_side m x) s) (sym (told_settled m x)) (f.values x);
   order = λ x y. let e = known_settled m x y in omega (arith, e);
   beside = λ h. side_same m ∙ h;
 }
@@ -74,7 +74,7 @@ settled_joins m n =
 pub join_is_settled : (m n : Note) → closure (join m n) ≡ join m n
 unfolding join closure value_with_side known_level
 join_is_settled m n =
-    note_same _ _ refl (level_same _ _ (λ x y. (both_known (m.said x) (n.said x) (m.said y) (n.said y) m.side n.side (same_variable x y) (level_between (m.said x) (m.said y) (same_variable x y) (m.level x y)) (level_between (n.said x) (n.said y) (same_variable x y) (n.level x y)) (known_twice (m.said x) (m.said y) (same_variable x y) (m.level x y)) (known_twice (n.said x) (n.said y) (same_variable x y) (n.level x y))))) refl
+    note_same _ _ refl (level_same _ _ (λ x y. (both_known (m.values x) (n.values x) (m.values y) (n.values y) m.side n.side (same_variable x y) (level_between (m.values x) (m.values y) (same_variable x y) (m.level x y)) (level_between (n.values x) (n.values y) (same_variable x y) (n.level x y)) (known_twice (m.values x) (m.values y) (same_variable x y) (m.level x y)) (known_twice (n.values x) (n.values y) (same_variable x y) (n.level x y))))) refl
 
 -- the same instruction makes of both what is the same once it is settled
 module _ (m : Note) where
@@ -82,14 +82,14 @@ module _ (m : Note) where
       ((x : Variable) → from x ≡ above x) → closure (assign (closure m) d s to from) ≡ closure (assign m d t below above)
   unfolding assign closure known_level update
   written_settled d s t to below from above es et ef =
-      note_same _ _ (λ i x. cond (same_variable x (variable.Register d)) (es i) (m.said x)) (level_same _ _ (λ x y. (at x y (same_variable x (variable.Register d)) (same_variable y (variable.Register d))))) refl
+      note_same _ _ (λ i x. cond (same_variable x (variable.Register d)) (es i) (m.values x)) (level_same _ _ (λ x y. (at x y (same_variable x (variable.Register d)) (same_variable y (variable.Register d))))) refl
     where
       at : (x y : Variable) → (b c : Bool) →
-          level_between (cond b s (m.said x)) (cond c s (m.said y)) (same_variable x y) (cond b (to y) (cond c (from x) (level_between (m.said x) (m.said y) (same_variable x y) (m.level x y))))
-          ≡ level_between (cond b t (m.said x)) (cond c t (m.said y)) (same_variable x y) (cond b (below y) (cond c (above x) (m.level x y)))
-      at x y true c = λ i. level_between (es i) (cond c (es i) (m.said y)) (same_variable x y) (et y i)
-      at x y false true = λ i. level_between (m.said x) (es i) (same_variable x y) (ef x i)
-      at x y false false = known_twice (m.said x) (m.said y) (same_variable x y) (m.level x y)
+          level_between (cond b s (m.values x)) (cond c s (m.values y)) (same_variable x y) (cond b (to y) (cond c (from x) (level_between (m.values x) (m.values y) (same_variable x y) (m.level x y))))
+          ≡ level_between (cond b t (m.values x)) (cond c t (m.values y)) (same_variable x y) (cond b (below y) (cond c (above x) (m.level x y)))
+      at x y true c = λ i. level_between (es i) (cond c (es i) (m.values y)) (same_variable x y) (et y i)
+      at x y false true = λ i. level_between (m.values x) (es i) (same_variable x y) (ef x i)
+      at x y false false = known_twice (m.values x) (m.values y) (same_variable x y) (m.level x y)
 
   known_more : (s t : AbstractValue) (same : Bool) (l c : ℕ) → level_between s t same (max (level_between s t same l) c) ≡ level_between s t same (max l c)
   known_more (Between a b) (Between u v) true l c = refl
@@ -105,23 +105,23 @@ module _ (m : Note) where
       settled_same (refine_order (closure m) p q k) (refine_order m p q k) (said_same m) (λ x y. known_unfolds (refine_order (closure m) p q k) x y ∙ (at x y) ∙ sym (known_unfolds (refine_order m p q k) x y)) (side_same m)
     where
       at : (x y : Variable) →
-          level_between (m.said x) (m.said y) (same_variable x y) (max (known_level m x y) (chain (known_level (closure m) x p) k (known_level (closure m) q y)))
-          ≡ level_between (m.said x) (m.said y) (same_variable x y) (max (m.level x y) (chain (known_level m x p) k (known_level m q y)))
+          level_between (m.values x) (m.values y) (same_variable x y) (max (known_level m x y) (chain (known_level (closure m) x p) k (known_level (closure m) q y)))
+          ≡ level_between (m.values x) (m.values y) (same_variable x y) (max (m.level x y) (chain (known_level m x p) k (known_level m q y)))
       at x y =
-          ap (λ l. level_between (m.said x) (m.said y) (same_variable x y) (max l (chain (known_level (closure m) x p) k (known_level (closure m) q y)))) (known_unfolds m x y)
-          ∙ known_more (m.said x) (m.said y) (same_variable x y) (m.level x y) _
-          ∙ (λ i. level_between (m.said x) (m.said y) (same_variable x y) (max (m.level x y) (chain (known_settled m x p i) k (known_settled m q y i))))
+          ap (λ l. level_between (m.values x) (m.values y) (same_variable x y) (max l (chain (known_level (closure m) x p) k (known_level (closure m) q y)))) (known_unfolds m x y)
+          ∙ known_more (m.values x) (m.values y) (same_variable x y) (m.level x y) _
+          ∙ (λ i. level_between (m.values x) (m.values y) (same_variable x y) (max (m.level x y) (chain (known_settled m x p i) k (known_settled m q y i))))
 
   trusted_settled : (a : Register) → closure (refine_flag (closure m) a) ≡ closure (refine_flag m a)
   unfolding refine_flag closure known_level
-  trusted_settled a = note_same _ _ refl (level_same _ _ (λ x y. (known_twice (m.said x) (m.said y) (same_variable x y) (m.level x y)))) refl
+  trusted_settled a = note_same _ _ refl (level_same _ _ (λ x y. (known_twice (m.values x) (m.values y) (same_variable x y) (m.level x y)))) refl
 
   same : (x y : Variable) → known_level (closure m) x y ≡ known_level m x y
   same = known_settled m
 
   said_of_result : (i : Instr) → result_value (closure m) i ≡ result_value m i
   unfolding closure value_with_side
-  said_of_result (Sub d a b) = λ z. Between (max (low (m.said (variable.Register a)) - high (m.said (variable.Register b))) (least_difference (same (variable.Register b) (variable.Register a) z))) (high (m.said (variable.Register a)) - low (m.said (variable.Register b)))
+  said_of_result (Sub d a b) = λ z. Between (max (low (m.values (variable.Register a)) - high (m.values (variable.Register b))) (least_difference (same (variable.Register b) (variable.Register a) z))) (high (m.values (variable.Register a)) - low (m.values (variable.Register b)))
   said_of_result i = refl
 
   from_result : (i : Instr) (y : Variable) → result_to (closure m) i y ≡ result_to m i y
@@ -129,8 +129,8 @@ module _ (m : Note) where
   from_result (Get d k) y = same (variable.Input k) y
   from_result (Copy d a) y = same (variable.Register a) y
   from_result (Div d a n) y = same (variable.Register a) y
-  from_result (Add d a b) y = λ z. max (slacken (same (variable.Register a) y z) (high (m.said (variable.Register b)))) (slacken (same (variable.Register b) y z) (high (m.said (variable.Register a))))
-  from_result (Sub d a b) y = λ z. sharpen (same (variable.Register a) y z) (low (m.said (variable.Register b)))
+  from_result (Add d a b) y = λ z. max (slacken (same (variable.Register a) y z) (high (m.values (variable.Register b)))) (slacken (same (variable.Register b) y z) (high (m.values (variable.Register a))))
+  from_result (Sub d a b) y = λ z. sharpen (same (variable.Register a) y z) (low (m.values (variable.Register b)))
   from_result (Min d a b) y = λ z. max (same (variable.Register a) y z) (same (variable.Register b) y z)
   from_result (Max d a b) y = λ z. min (same (variable.Register a) y z) (same (variable.Register b) y z)
   from_result i y = refl
@@ -139,7 +139,7 @@ module _ (m : Note) where
   unfolding closure
   into_result (Get d k) y = same y (variable.Input k)
   into_result (Copy d a) y = same y (variable.Register a)
-  into_result (Add d a b) y = λ z. max (sharpen (same y (variable.Register a) z) (low (m.said (variable.Register b)))) (sharpen (same y (variable.Register b) z) (low (m.said (variable.Register a))))
+  into_result (Add d a b) y = λ z. max (sharpen (same y (variable.Register a) z) (low (m.values (variable.Register b)))) (sharpen (same y (variable.Register b) z) (low (m.values (variable.Register a))))
   into_result (Min d a b) y = λ z. min (same y (variable.Register a) z) (same y (variable.Register b) z)
   into_result (Max d a b) y = λ z. max (same y (variable.Register a) z) (same y (variable.Register b) z)
   into_result i y = refl

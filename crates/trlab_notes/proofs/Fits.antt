@@ -27,7 +27,7 @@ FitsSaid side (Implies imp) Unset = ⊥
 
 -- the note fits the values: each of them, the order of each two numbers, and what is beside the car
 pub record Fits (side : Bool) (note : Note) (s : Store) : Type 0 where
-  pub each : (x : Variable) → FitsSaid side (note.said x) (s x)
+  pub each : (x : Variable) → FitsSaid side (note.values x) (s x)
   pub order : (x y : Variable) (m n : ℕ) → s x ≡ Number m → s y ≡ Number n → Ahead (known_level note x y) m n
   pub beside : IsTrue note.side → IsTrue side
 
@@ -93,19 +93,19 @@ module _ (side : Bool) (note : Note) (s : Store) (fits : Fits side note s) (d : 
 
   written_order : (x y : Variable) (m n : ℕ) (bx by : Bool) → same_variable x (variable.Register d) ≡ bx → same_variable y (variable.Register d) ≡ by → cond bx v (s x) ≡ Number m →
       cond by v (s y) ≡ Number n →
-      Ahead (level_between (cond bx sd (note.said x)) (cond by sd (note.said y)) (same_variable x y) (cond bx (below y) (cond by (above x) (note.level x y)))) m n
+      Ahead (level_between (cond bx sd (note.values x)) (cond by sd (note.values y)) (same_variable x y) (cond bx (below y) (cond by (above x) (note.level x y)))) m n
   unfolding known_level
   written_order x y m n true true ex ey vx vy =
       let same : same_variable x y ≡ true = both_equal (variable_number x) (variable_number y) (variable_number (variable.Register d)) ex ey in
       let e : m ≡ n = number_is m n (sym vx ∙ vy) in
       rw same (known_same sd sd (below y) m n e)
   written_order x y m n true false ex ey vx vy =
-      known_fits side sd (note.said y) (same_variable x y) (below y) m n (at_value sd vx fd) (at_value (note.said y) vy (fits.each y)) (to y m n vx vy) (λ e. absurd (one_equal (variable_number x) (variable_number y) (variable_number (variable.Register d)) ex ey e))
+      known_fits side sd (note.values y) (same_variable x y) (below y) m n (at_value sd vx fd) (at_value (note.values y) vy (fits.each y)) (to y m n vx vy) (λ e. absurd (one_equal (variable_number x) (variable_number y) (variable_number (variable.Register d)) ex ey e))
   written_order x y m n false true ex ey vx vy =
-      known_fits side (note.said x) sd (same_variable x y) (above x) m n (at_value (note.said x) vx (fits.each x)) (at_value sd vy fd) (from x n m vy vx) (λ e. absurd (other_equal (variable_number x) (variable_number y) (variable_number (variable.Register d)) ex ey e))
+      known_fits side (note.values x) sd (same_variable x y) (above x) m n (at_value (note.values x) vx (fits.each x)) (at_value sd vy fd) (from x n m vy vx) (λ e. absurd (other_equal (variable_number x) (variable_number y) (variable_number (variable.Register d)) ex ey e))
   written_order x y m n false false ex ey vx vy = fits.order x y m n vx vy
 
-  written_each : (x : Variable) (b : Bool) → FitsSaid side (cond b sd (note.said x)) (cond b v (s x))
+  written_each : (x : Variable) (b : Bool) → FitsSaid side (cond b sd (note.values x)) (cond b v (s x))
   written_each x true = fd
   written_each x false = fits.each x
 
@@ -132,7 +132,7 @@ with_side_fits side k (Implies false) (Flag b) h f = λ p q. h p
 
 pub told_fits : (side : Bool) (note : Note) (s : Store) → Fits side note s → (x : Variable) → FitsSaid side (value_with_side note x) (s x)
 unfolding value_with_side
-told_fits side note s fits x = with_side_fits side note.side (note.said x) (s x) fits.beside (fits.each x)
+told_fits side note s fits x = with_side_fits side note.side (note.values x) (s x) fits.beside (fits.each x)
 
 pub both_left : (side : Bool) (a b : AbstractValue) (v : Value) → FitsSaid side a v → FitsSaid side (join_values a b) v
 both_left side (Between a b) (Between c d) Unset f = f
@@ -168,13 +168,13 @@ one_number : (s : Store) (x y : Variable) (m n : ℕ) → s x ≡ Number m → s
 one_number s x y m n ex ey e = let q : x ≡ y = same_is x y e in number_is m n (sym ex ∙ ap s q ∙ ey)
 
 -- a note fits where what it says and its levels are right
-pub fits_from : (side : Bool) (note : Note) (s : Store) → ((x : Variable) → FitsSaid side (note.said x) (s x)) →
+pub fits_from : (side : Bool) (note : Note) (s : Store) → ((x : Variable) → FitsSaid side (note.values x) (s x)) →
     ((x y : Variable) (m n : ℕ) → s x ≡ Number m → s y ≡ Number n → Ahead (note.level x y) m n) → (IsTrue note.side → IsTrue side) →
     Fits side note s
 unfolding known_level
 fits_from side note s each level beside = record {
   each = each;
-  order = λ x y m n ex ey. known_fits side (note.said x) (note.said y) (same_variable x y) (note.level x y) m n (at_said side (note.said x) ex (each x)) (at_said side (note.said y) ey (each y)) (level x y m n ex ey) (one_number s x y m n ex ey);
+  order = λ x y m n ex ey. known_fits side (note.values x) (note.values y) (same_variable x y) (note.level x y) m n (at_said side (note.values x) ex (each x)) (at_said side (note.values y) ey (each y)) (level x y m n ex ey) (one_number s x y m n ex ey);
   beside = beside;
 }
 
@@ -213,7 +213,7 @@ pub learnt_fits : (side : Bool) (note : Note) (s : Store) (p q : Variable) (k a 
 unfolding refine_order known_level
 learnt_fits side note s p q k a b fits ep eq k1 h = record {
   each = fits.each;
-  order = λ x y m n ex ey. known_max (note.said x) (note.said y) (same_variable x y) (note.level x y) (chain (known_level note x p) k (known_level note q y)) m n (fits.order x y m n ex ey) (chained_right (known_level note x p) k (known_level note q y) m a b n (fits.order x p m a ex ep) h k1 (fits.order q y b n eq ey));
+  order = λ x y m n ex ey. known_max (note.values x) (note.values y) (same_variable x y) (note.level x y) (chain (known_level note x p) k (known_level note q y)) m n (fits.order x y m n ex ey) (chained_right (known_level note x p) k (known_level note q y) m a b n (fits.order x p m a ex ep) h k1 (fits.order q y b n eq ey));
   beside = fits.beside;
 }
 
@@ -232,5 +232,5 @@ unfolding refine_flag known_level
 trusted_fits side note s a fits e = record {
   each = fits.each;
   order = fits.order;
-  beside = either_true side note.side (implies (note.said (variable.Register a))) fits.beside (imp_true side (note.said (variable.Register a)) (at_said side (note.said (variable.Register a)) e (fits.each (variable.Register a))));
+  beside = either_true side note.side (implies (note.values (variable.Register a))) fits.beside (imp_true side (note.values (variable.Register a)) (at_said side (note.values (variable.Register a)) e (fits.each (variable.Register a))));
 }

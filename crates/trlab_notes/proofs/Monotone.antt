@@ -29,21 +29,21 @@ module _ (V : Variable → Type 0) (closed : Closed V) where
       On V (assign m d s to from) (assign n d t to' from')
   unfolding assign update value_with_side known_level
   written_up m n d s t to to' from from' f h below above = record {
-    said = λ x lx. said_at x lx (same_variable x (variable.Register d));
+    values = λ x lx. value_at x lx (same_variable x (variable.Register d));
     order = λ x y lx ly. (level_at x y lx ly (same_variable x (variable.Register d)) (same_variable y (variable.Register d)));
     beside = f.beside;
   }
     where
-      said_at : (x : Variable) → V x → (b : Bool) → IsNoMorePrecise (with_side m.side (cond b s (m.said x))) (with_side n.side (cond b t (n.said x)))
-      said_at x lx true = h
-      said_at x lx false = f.said x lx
+      value_at : (x : Variable) → V x → (b : Bool) → IsNoMorePrecise (with_side m.side (cond b s (m.values x))) (with_side n.side (cond b t (n.values x)))
+      value_at x lx true = h
+      value_at x lx false = f.values x lx
 
-      wide : (x : Variable) → V x → (b : Bool) → Wider (cond b s (m.said x)) (cond b t (n.said x))
-      wide x lx b = wider m.side n.side _ _ (said_at x lx b)
+      wide : (x : Variable) → V x → (b : Bool) → Wider (cond b s (m.values x)) (cond b t (n.values x))
+      wide x lx b = wider m.side n.side _ _ (value_at x lx b)
 
       level_at : (x y : Variable) → V x → V y → (b c : Bool) →
-          level_between (cond b s (m.said x)) (cond c s (m.said y)) (same_variable x y) (cond b (to y) (cond c (from x) (m.level x y)))
-          ≤ level_between (cond b t (n.said x)) (cond c t (n.said y)) (same_variable x y) (cond b (to' y) (cond c (from' x) (n.level x y)))
+          level_between (cond b s (m.values x)) (cond c s (m.values y)) (same_variable x y) (cond b (to y) (cond c (from x) (m.level x y)))
+          ≤ level_between (cond b t (n.values x)) (cond c t (n.values y)) (same_variable x y) (cond b (to' y) (cond c (from' x) (n.level x y)))
       level_at x y lx ly true c = known_up _ _ _ _ (same_variable x y) _ _ (wide x lx true) (wide y ly c) (below y ly)
       level_at x y lx ly false true = known_up _ _ _ _ (same_variable x y) _ _ (wide x lx false) (wide y ly true) (above x lx)
       level_at x y lx ly false false = f.order x y lx ly
@@ -51,9 +51,9 @@ module _ (V : Variable → Type 0) (closed : Closed V) where
   pub learnt_up : (m n : Note) (p q : Variable) (k : ℕ) → V p → V q → On V m n → On V (refine_order m p q k) (refine_order n p q k)
   unfolding refine_order value_with_side known_level
   learnt_up m n p q k lp lq f = record {
-    said = f.said;
-    order = λ x y lx ly. (learnt_level (m.said x) (m.said y) (n.said x) (n.said y) (same_variable x y) (m.level x y) (n.level x y) _ _
-        (wider m.side n.side _ _ (f.said x lx)) (wider m.side n.side _ _ (f.said y ly)) (f.order x y lx ly)
+    values = f.values;
+    order = λ x y lx ly. (learnt_level (m.values x) (m.values y) (n.values x) (n.values y) (same_variable x y) (m.level x y) (n.level x y) _ _
+        (wider m.side n.side _ _ (f.values x lx)) (wider m.side n.side _ _ (f.values y ly)) (f.order x y lx ly)
         (chained_up _ _ k _ _ (f.order x p lx lp) (f.order q y lq ly)));
     beside = f.beside;
   }
@@ -64,7 +64,7 @@ module _ (V : Variable → Type 0) (closed : Closed V) where
   pub trusted_up : (m n : Note) (a : Register) → On V m n → On V (refine_flag m a) (refine_flag n a)
   unfolding refine_flag value_with_side known_level
   trusted_up m n a f = record {
-    said = λ x lx. more_side m.side n.side _ _ (m.said x) (n.said x) grows (or_left n.side (implies (n.said (variable.Register a)))) (f.said x lx);
+    values = λ x lx. more_side m.side n.side _ _ (m.values x) (n.values x) grows (or_left n.side (implies (n.values (variable.Register a)))) (f.values x lx);
     order = f.order;
     beside = grows;
   }
@@ -73,8 +73,8 @@ module _ (V : Variable → Type 0) (closed : Closed V) where
       or_left true q e = refl
       or_left false q e = absurd (cc e)
 
-      grows : IsTrue (m.side || implies (m.said (variable.Register a))) → IsTrue (n.side || implies (n.said (variable.Register a)))
-      grows = trust_side m.side n.side (m.said (variable.Register a)) (n.said (variable.Register a)) f.beside (f.said (variable.Register a) (at_reg a))
+      grows : IsTrue (m.side || implies (m.values (variable.Register a))) → IsTrue (n.side || implies (n.values (variable.Register a)))
+      grows = trust_side m.side n.side (m.values (variable.Register a)) (n.values (variable.Register a)) f.beside (f.values (variable.Register a) (at_reg a))
 
   -- the inputs that an instruction reads
   abbrev pub Reaches : Instr → Type 0
@@ -97,16 +97,16 @@ module _ (V : Variable → Type 0) (closed : Closed V) where
       none_true _ _ _ c.allowed (none_true _ _ _ c.set (none_true _ _ _ c.kinds (none_true _ _ _ c.forward (none_true _ _ _ c.within (none_true _ _ _ c.follows (none_true _ _ _ c.fits (none_true _ _ _ c.positive (none_true _ _ _ c.gap (none_true _ _ _ c.limit (none_true _ _ _ c.beside refl))))))))))
 
   module _ (m n : Note) (f : On V m n) where
-    wide_at : (x : Variable) → V x → Wider (m.said x) (n.said x)
+    wide_at : (x : Variable) → V x → Wider (m.values x) (n.values x)
     unfolding value_with_side
-    wide_at x h = wider m.side n.side (m.said x) (n.said x) (f.said x h)
+    wide_at x h = wider m.side n.side (m.values x) (n.values x) (f.values x h)
 
     -- a number that an instruction reads
     record Reads (a : Register) : Type 0 where
-      lo : low (m.said (variable.Register a)) ≤ low (n.said (variable.Register a))
-      hi : high (n.said (variable.Register a)) ≤ high (m.said (variable.Register a))
+      lo : low (m.values (variable.Register a)) ≤ low (n.values (variable.Register a))
+      hi : high (n.values (variable.Register a)) ≤ high (m.values (variable.Register a))
 
-    reads : (r : Register) → is_nothing (m.said (variable.Register r)) ≡ false → is_flag (m.said (variable.Register r)) ≡ false → Reads r
+    reads : (r : Register) → is_nothing (m.values (variable.Register r)) ≡ false → is_flag (m.values (variable.Register r)) ≡ false → Reads r
     reads r p q = record { lo = low_up _ _ (wide_at (variable.Register r) (at_reg r)); hi = high_down _ _ p q (wide_at (variable.Register r) (at_reg r)) }
 
     two_numbers : (a b : Register) (rest : Bool) → (any_register is_nothing m (a ∷ b ∷ []) || rest) ≡ false →
@@ -122,17 +122,17 @@ module _ (V : Variable → Type 0) (closed : Closed V) where
 
     flag_up : (a : Register) → IsTrue (implies (value_with_side m (variable.Register a))) → IsTrue (implies (value_with_side n (variable.Register a)))
     unfolding value_with_side
-    flag_up a = implies_up m.side n.side (m.said (variable.Register a)) (n.said (variable.Register a)) (f.said (variable.Register a) (at_reg a))
+    flag_up a = implies_up m.side n.side (m.values (variable.Register a)) (n.values (variable.Register a)) (f.values (variable.Register a) (at_reg a))
 
     -- what is said of a result
     said_up : (i : Instr) → Reaches i → some_unset m i ≡ false → some_of_wrong_type m i ≡ false →
         IsNoMorePrecise (with_side m.side (result_value m i)) (with_side n.side (result_value n i))
     unfolding value_with_side
     said_up (Num d v) w h k = (omega arith, omega arith)
-    said_up (Get d j) w h k = told_twice m.side n.side _ _ (f.said (variable.Input j) w)
+    said_up (Get d j) w h k = told_twice m.side n.side _ _ (f.values (variable.Input j) w)
     said_up (Side d) w h k = λ e. refl
     said_up (Draw d j t) w h k = f.beside
-    said_up (Copy d a) w h k = told_twice m.side n.side _ _ (f.said (variable.Register a) (at_reg a))
+    said_up (Copy d a) w h k = told_twice m.side n.side _ _ (f.values (variable.Register a) (at_reg a))
     said_up (Add d a b) w h k = let o = two_numbers a b _ h k in (omega (arith, o.0.lo, o.1.lo), omega (arith, o.0.hi, o.1.hi))
     said_up (Sub d a b) w h k =
         let o = two_numbers a b _ h k in
@@ -201,7 +201,7 @@ module _ (V : Variable → Type 0) (closed : Closed V) where
     sets : (xs : List Register) → any_register is_nothing m xs ≡ false → any_register is_nothing n xs ≡ false
     unfolding value_with_side
     sets [] h = refl
-    sets (x ∷ xs) h = let e = or_parts _ _ h in both_false _ _ (still_set m.side n.side _ _ (f.said (variable.Register x) (at_reg x)) e.0) (sets xs e.1)
+    sets (x ∷ xs) h = let e = or_parts _ _ h in both_false _ _ (still_set m.side n.side _ _ (f.values (variable.Register x) (at_reg x)) e.0) (sets xs e.1)
 
     ranges_stay : (xs : List Register) → any_register is_nothing m xs ≡ false → any_register is_flag m xs ≡ false → any_register is_flag n xs ≡ false
     unfolding value_with_side
@@ -209,7 +209,7 @@ module _ (V : Variable → Type 0) (closed : Closed V) where
     ranges_stay (x ∷ xs) h g =
         let e = or_parts _ _ h in
         let d = or_parts _ _ g in
-        both_false _ _ (still_range m.side n.side _ _ (f.said (variable.Register x) (at_reg x)) e.0 d.0) (ranges_stay xs e.1 d.1)
+        both_false _ _ (still_range m.side n.side _ _ (f.values (variable.Register x) (at_reg x)) e.0 d.0) (ranges_stay xs e.1 d.1)
 
     flags_stay : (xs : List Register) → any_register is_nothing m xs ≡ false → any_register is_range m xs ≡ false → any_register is_range n xs ≡ false
     unfolding value_with_side
@@ -217,7 +217,7 @@ module _ (V : Variable → Type 0) (closed : Closed V) where
     flags_stay (x ∷ xs) h g =
         let e = or_parts _ _ h in
         let d = or_parts _ _ g in
-        both_false _ _ (still_flag m.side n.side _ _ (f.said (variable.Register x) (at_reg x)) e.0 d.0) (flags_stay xs e.1 d.1)
+        both_false _ _ (still_flag m.side n.side _ _ (f.values (variable.Register x) (at_reg x)) e.0 d.0) (flags_stay xs e.1 d.1)
 
     set_up : (i : Instr) → some_unset m i ≡ false → some_unset n i ≡ false
     set_up i h =
@@ -282,10 +282,10 @@ reaches_all (Get d j) = tt
 reaches_all i = tt
 
 pub on_all : (m n : Note) → IsNoStronger m n → On All_variables m n
-on_all m n f = record { said = λ x h. f.said x; order = λ x y h k. f.order x y; beside = f.beside }
+on_all m n f = record { values = λ x h. f.values x; order = λ x y h k. f.order x y; beside = f.beside }
 
 pub all_on : (m n : Note) → On All_variables m n → IsNoStronger m n
-all_on m n f = record { said = λ x. f.said x tt; order = λ x y. f.order x y tt tt; beside = f.beside }
+all_on m n f = record { values = λ x. f.values x tt; order = λ x y. f.order x y tt tt; beside = f.beside }
 
 pub both_all : (o p : Option Note) → BothOn All_variables all_closed o p → AreNoStronger o p
 both_all None None h = tt

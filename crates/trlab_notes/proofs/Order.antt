@@ -71,11 +71,11 @@ no_more_twice (Implies i) Nothing t p q = absurd p
 no_more_twice (Implies i) (Between c d) t p q = absurd p
 
 pub same_note : (m : Note) → IsNoStronger m m
-same_note m = record { said = λ x. no_more_same (value_with_side m x); order = λ x y. omega arith; beside = λ h. h }
+same_note m = record { values = λ x. no_more_same (value_with_side m x); order = λ x y. omega arith; beside = λ h. h }
 
 pub through : (l m n : Note) → IsNoStronger l m → IsNoStronger m n → IsNoStronger l n
 through l m n f g = record {
-  said = λ x. no_more_twice (value_with_side l x) (value_with_side m x) (value_with_side n x) (f.said x) (g.said x);
+  values = λ x. no_more_twice (value_with_side l x) (value_with_side m x) (value_with_side n x) (f.values x) (g.values x);
   order = λ x y. omega (arith, f.order x y, g.order x y);
   beside = λ h. g.beside (f.beside h);
 }
@@ -130,10 +130,10 @@ and_both false q h k = h
 pub join_first : (m n : Note) → IsNoStronger (join m n) m
 unfolding join value_with_side known_level
 join_first m n = record {
-  said = λ x. both_first m.side n.side (m.said x) (n.said x);
-  order = λ x y. (known_from (join_values (with_side m.side (m.said x)) (with_side n.side (n.said x))) (join_values (with_side m.side (m.said y)) (with_side n.side (n.said y))) (m.said x) (m.said y) (same_variable x y) _ (m.level x y)
-      (wider (m.side && n.side) m.side _ (m.said x) (both_first m.side n.side (m.said x) (n.said x)))
-      (wider (m.side && n.side) m.side _ (m.said y) (both_first m.side n.side (m.said y) (n.said y)))
+  values = λ x. both_first m.side n.side (m.values x) (n.values x);
+  order = λ x y. (known_from (join_values (with_side m.side (m.values x)) (with_side n.side (n.values x))) (join_values (with_side m.side (m.values y)) (with_side n.side (n.values y))) (m.values x) (m.values y) (same_variable x y) _ (m.level x y)
+      (wider (m.side && n.side) m.side _ (m.values x) (both_first m.side n.side (m.values x) (n.values x)))
+      (wider (m.side && n.side) m.side _ (m.values y) (both_first m.side n.side (m.values y) (n.values y)))
       (omega arith));
   beside = λ h. and_left m.side n.side h;
 }
@@ -141,10 +141,10 @@ join_first m n = record {
 pub join_second : (m n : Note) → IsNoStronger (join m n) n
 unfolding join value_with_side known_level
 join_second m n = record {
-  said = λ x. both_second m.side n.side (m.said x) (n.said x);
-  order = λ x y. (known_from (join_values (with_side m.side (m.said x)) (with_side n.side (n.said x))) (join_values (with_side m.side (m.said y)) (with_side n.side (n.said y))) (n.said x) (n.said y) (same_variable x y) _ (n.level x y)
-      (wider (m.side && n.side) n.side _ (n.said x) (both_second m.side n.side (m.said x) (n.said x)))
-      (wider (m.side && n.side) n.side _ (n.said y) (both_second m.side n.side (m.said y) (n.said y)))
+  values = λ x. both_second m.side n.side (m.values x) (n.values x);
+  order = λ x y. (known_from (join_values (with_side m.side (m.values x)) (with_side n.side (n.values x))) (join_values (with_side m.side (m.values y)) (with_side n.side (n.values y))) (n.values x) (n.values y) (same_variable x y) _ (n.level x y)
+      (wider (m.side && n.side) n.side _ (n.values x) (both_second m.side n.side (m.values x) (n.values x)))
+      (wider (m.side && n.side) n.side _ (n.values y) (both_second m.side n.side (m.values y) (n.values y)))
       (omega arith));
   beside = λ h. and_right m.side n.side h;
 }
@@ -166,10 +166,10 @@ level_known (Implies i) sy tx ty same j k p q l = omega arith
 pub join_most : (l m n : Note) → IsNoStronger l m → IsNoStronger l n → IsNoStronger l (join m n)
 unfolding join value_with_side known_level
 join_most l m n f g = record {
-  said = λ x. both_most l.side m.side n.side (l.said x) (m.said x) (n.said x) f.beside g.beside (f.said x) (g.said x);
-  order = λ x y. (level_known (l.said x) (l.said y) (join_values (with_side m.side (m.said x)) (with_side n.side (n.said x))) (join_values (with_side m.side (m.said y)) (with_side n.side (n.said y))) (same_variable x y) (l.level x y) _
-      (wider l.side (m.side && n.side) (l.said x) _ (both_most l.side m.side n.side (l.said x) (m.said x) (n.said x) f.beside g.beside (f.said x) (g.said x)))
-      (wider l.side (m.side && n.side) (l.said y) _ (both_most l.side m.side n.side (l.said y) (m.said y) (n.said y) f.beside g.beside (f.said y) (g.said y)))
+  values = λ x. both_most l.side m.side n.side (l.values x) (m.values x) (n.values x) f.beside g.beside (f.values x) (g.values x);
+  order = λ x y. (level_known (l.values x) (l.values y) (join_values (with_side m.side (m.values x)) (with_side n.side (n.values x))) (join_values (with_side m.side (m.values y)) (with_side n.side (n.values y))) (same_variable x y) (l.level x y) _
+      (wider l.side (m.side && n.side) (l.values x) _ (both_most l.side m.side n.side (l.values x) (m.values x) (n.values x) f.beside g.beside (f.values x) (g.values x)))
+      (wider l.side (m.side && n.side) (l.values y) _ (both_most l.side m.side n.side (l.values y) (m.values y) (n.values y) f.beside g.beside (f.values y) (g.values y)))
       (omega (arith, f.order x y, g.order x y)));
   beside = λ h. and_both m.side n.side (f.beside h) (g.beside h);
 }
@@ -182,14 +182,14 @@ pub record Closed (V : Variable → Type 0) : Type 0 where
 
 -- no stronger, as far as these variables go
 pub record On (V : Variable → Type 0) (m n : Note) : Type 0 where
-  pub said : (x : Variable) → V x → IsNoMorePrecise (value_with_side m x) (value_with_side n x)
+  pub values : (x : Variable) → V x → IsNoMorePrecise (value_with_side m x) (value_with_side n x)
   pub order : (x y : Variable) → V x → V y → known_level m x y ≤ known_level n x y
   pub beside : IsTrue m.side → IsTrue n.side
 
 module _ (V : Variable → Type 0) (closed : Closed V) where
   pub through_on : (l m n : Note) → On V l m → On V m n → On V l n
   through_on l m n f g = record {
-    said = λ x h. no_more_twice (value_with_side l x) (value_with_side m x) (value_with_side n x) (f.said x h) (g.said x h);
+    values = λ x h. no_more_twice (value_with_side l x) (value_with_side m x) (value_with_side n x) (f.values x h) (g.values x h);
     order = λ x y h k. omega (arith, f.order x y h k, g.order x y h k);
     beside = λ h. g.beside (f.beside h);
   }
@@ -197,15 +197,15 @@ module _ (V : Variable → Type 0) (closed : Closed V) where
   pub join_most_on : (l m n : Note) → On V l m → On V l n → On V l (join m n)
   unfolding join value_with_side known_level
   join_most_on l m n f g = record {
-    said = λ x h. both_most l.side m.side n.side (l.said x) (m.said x) (n.said x) f.beside g.beside (f.said x h) (g.said x h);
-    order = λ x y h k. (level_known (l.said x) (l.said y) (join_values (with_side m.side (m.said x)) (with_side n.side (n.said x))) (join_values (with_side m.side (m.said y)) (with_side n.side (n.said y))) (same_variable x y) (l.level x y) _
-        (wider l.side (m.side && n.side) (l.said x) _ (both_most l.side m.side n.side (l.said x) (m.said x) (n.said x) f.beside g.beside (f.said x h) (g.said x h)))
-        (wider l.side (m.side && n.side) (l.said y) _ (both_most l.side m.side n.side (l.said y) (m.said y) (n.said y) f.beside g.beside (f.said y k) (g.said y k)))
+    values = λ x h. both_most l.side m.side n.side (l.values x) (m.values x) (n.values x) f.beside g.beside (f.values x h) (g.values x h);
+    order = λ x y h k. (level_known (l.values x) (l.values y) (join_values (with_side m.side (m.values x)) (with_side n.side (n.values x))) (join_values (with_side m.side (m.values y)) (with_side n.side (n.values y))) (same_variable x y) (l.level x y) _
+        (wider l.side (m.side && n.side) (l.values x) _ (both_most l.side m.side n.side (l.values x) (m.values x) (n.values x) f.beside g.beside (f.values x h) (g.values x h)))
+        (wider l.side (m.side && n.side) (l.values y) _ (both_most l.side m.side n.side (l.values y) (m.values y) (n.values y) f.beside g.beside (f.values y k) (g.values y k)))
         (omega (arith, f.order x y h k, g.order x y h k)));
     beside = λ h. and_both m.side n.side (f.beside h) (g.beside h);
   }
 
 -- a note that says nothing is no stronger than any
-pub blank_least : (n : Note) → IsNoStronger (record { said = λ x. Nothing; level = λ x y. 0; side = false }) n
+pub blank_least : (n : Note) → IsNoStronger (record { values = λ x. Nothing; level = λ x y. 0; side = false }) n
 unfolding value_with_side known_level
-blank_least n = record { said = λ x. tt; order = λ x y. omega arith; beside = λ h. absurd (cc h) }
+blank_least n = record { values = λ x. tt; order = λ x y. omega arith; beside = λ h. absurd (cc h) }

@@ -74,8 +74,8 @@ clear kind own len pc m i h =
 pub record Operand (m : Note) (s : Store) (a : Variable) : Type 0 where
   pub n : ℕ
   pub value : s a ≡ Number n
-  pub least : low (m.said a) ≤ n
-  pub most : n ≤ high (m.said a)
+  pub least : low (m.values a) ≤ n
+  pub most : n ≤ high (m.values a)
 
 number_there : (side : Bool) (t : AbstractValue) (v : Value) → is_nothing t ≡ false → is_flag t ≡ false → FitsSaid side t v →
     (n : ℕ) × (v ≡ Number n) × (low t ≤ n) × (n ≤ high t)
@@ -154,8 +154,8 @@ kind_allows kind own i h = and_first (allows kind i) _ h
     and_first false q e = e
 
 module _ (side : Bool) (m : Note) (s : Store) (fits : Fits side m s) where
-  one : (a : Variable) → is_nothing (m.said a) ≡ false → is_flag (m.said a) ≡ false → Operand m s a
-  one a p q = let h = number_there side (m.said a) (s a) p q (fits.each a) in record { n = h.0; value = h.1; least = h.2; most = h.3 }
+  one : (a : Variable) → is_nothing (m.values a) ≡ false → is_flag (m.values a) ≡ false → Operand m s a
+  one a p q = let h = number_there side (m.values a) (s a) p q (fits.each a) in record { n = h.0; value = h.1; least = h.2; most = h.3 }
 
   writes_number : (d : Register) (r lo hi : ℕ) (below above : Variable → ℕ) → lo ≤ r → r ≤ hi →
       ((y : Variable) (n : ℕ) → s y ≡ Number n → Ahead (below y) r n) → ((y : Variable) (n : ℕ) → s y ≡ Number n → Ahead (above y) n r) →
@@ -177,14 +177,14 @@ module _ (side : Bool) (m : Note) (s : Store) (fits : Fits side m s) where
   leads_num d n = writes_number d n n n none none (omega arith) (omega arith) (λ y k e p. omega arith) (λ y k e p. omega arith)
 
   leads_add : (d : Register) (a b : Variable) (p : Operand m s a) (q : Operand m s b) →
-      Fits side (assign m d (Between (min (low (m.said a) + low (m.said b)) MAX_NUMBER) (high (m.said a) + high (m.said b))) (λ y. max (slacken (known_level m a y) (high (m.said b))) (slacken (known_level m b y) (high (m.said a)))) (λ y. max (sharpen (known_level m y a) (low (m.said b))) (sharpen (known_level m y b) (low (m.said a))))) (update s (variable.Register d) (Number (p.n + q.n)))
+      Fits side (assign m d (Between (min (low (m.values a) + low (m.values b)) MAX_NUMBER) (high (m.values a) + high (m.values b))) (λ y. max (slacken (known_level m a y) (high (m.values b))) (slacken (known_level m b y) (high (m.values a)))) (λ y. max (sharpen (known_level m y a) (low (m.values b))) (sharpen (known_level m y b) (low (m.values a))))) (update s (variable.Register d) (Number (p.n + q.n)))
   leads_add d a b p q =
       writes_number d (p.n + q.n) _ _ _ _ (omega (arith, p.least, q.least)) (omega (arith, p.most, q.most))
-      (λ y n ey. ahead_max (slacken (known_level m a y) (high (m.said b))) (slacken (known_level m b y) (high (m.said a))) (p.n + q.n) n (just_right (known_level m a y) (high (m.said b)) p.n n q.n (fits.order a y p.n n p.value ey) q.most) (subst (λ z. Ahead (slacken (known_level m b y) (high (m.said a))) z n) (omega arith) (just_right (known_level m b y) (high (m.said a)) q.n n p.n (fits.order b y q.n n q.value ey) p.most)))
-      (λ y n ey. ahead_max (sharpen (known_level m y a) (low (m.said b))) (sharpen (known_level m y b) (low (m.said a))) n (p.n + q.n) (sharper_right (known_level m y a) (low (m.said b)) n p.n q.n (fits.order y a n p.n ey p.value) q.least) (subst (λ z. Ahead (sharpen (known_level m y b) (low (m.said a))) n z) (omega arith) (sharper_right (known_level m y b) (low (m.said a)) n q.n p.n (fits.order y b n q.n ey q.value) p.least)))
+      (λ y n ey. ahead_max (slacken (known_level m a y) (high (m.values b))) (slacken (known_level m b y) (high (m.values a))) (p.n + q.n) n (just_right (known_level m a y) (high (m.values b)) p.n n q.n (fits.order a y p.n n p.value ey) q.most) (subst (λ z. Ahead (slacken (known_level m b y) (high (m.values a))) z n) (omega arith) (just_right (known_level m b y) (high (m.values a)) q.n n p.n (fits.order b y q.n n q.value ey) p.most)))
+      (λ y n ey. ahead_max (sharpen (known_level m y a) (low (m.values b))) (sharpen (known_level m y b) (low (m.values a))) n (p.n + q.n) (sharper_right (known_level m y a) (low (m.values b)) n p.n q.n (fits.order y a n p.n ey p.value) q.least) (subst (λ z. Ahead (sharpen (known_level m y b) (low (m.values a))) n z) (omega arith) (sharper_right (known_level m y b) (low (m.values a)) n q.n p.n (fits.order y b n q.n ey q.value) p.least)))
 
   leads_min : (d : Register) (a b : Variable) (p : Operand m s a) (q : Operand m s b) →
-      Fits side (assign m d (Between (min (low (m.said a)) (low (m.said b))) (min (high (m.said a)) (high (m.said b)))) (λ y. max (known_level m a y) (known_level m b y)) (λ y. min (known_level m y a) (known_level m y b))) (update s (variable.Register d) (Number (min p.n q.n)))
+      Fits side (assign m d (Between (min (low (m.values a)) (low (m.values b))) (min (high (m.values a)) (high (m.values b)))) (λ y. max (known_level m a y) (known_level m b y)) (λ y. min (known_level m y a) (known_level m y b))) (update s (variable.Register d) (Number (min p.n q.n)))
   leads_min d a b p q =
       writes_number d (min p.n q.n) _ _ _ _ (omega (arith, p.least, q.least)) (omega (arith, p.most, q.most))
       (λ y n ey. min_below (known_level m a y) (known_level m b y) p.n q.n n (fits.order a y p.n n p.value ey) (fits.order b y q.n n q.value ey))
@@ -197,7 +197,7 @@ module _ (side : Bool) (m : Note) (s : Store) (fits : Fits side m s) where
       below_min j k p q n f g = λ h. grind arith
 
   leads_max : (d : Register) (a b : Variable) (p : Operand m s a) (q : Operand m s b) →
-      Fits side (assign m d (Between (max (low (m.said a)) (low (m.said b))) (max (high (m.said a)) (high (m.said b)))) (λ y. min (known_level m a y) (known_level m b y)) (λ y. max (known_level m y a) (known_level m y b))) (update s (variable.Register d) (Number (max p.n q.n)))
+      Fits side (assign m d (Between (max (low (m.values a)) (low (m.values b))) (max (high (m.values a)) (high (m.values b)))) (λ y. min (known_level m a y) (known_level m b y)) (λ y. max (known_level m y a) (known_level m y b))) (update s (variable.Register d) (Number (max p.n q.n)))
   leads_max d a b p q =
       writes_number d (max p.n q.n) _ _ _ _ (omega (arith, p.least, q.least)) (omega (arith, p.most, q.most))
       (λ y n ey. max_below (known_level m a y) (known_level m b y) p.n q.n n (fits.order a y p.n n p.value ey) (fits.order b y q.n n q.value ey))
@@ -214,11 +214,11 @@ module _ (side : Bool) (m : Note) (s : Store) (fits : Fits side m s) where
   positive_known (suc k) h = omega arith
 
   leads_sub : (d : Register) (a b : Variable) (p : Operand m s a) (q : Operand m s b) → q.n ≤ p.n →
-      Fits side (assign m d (Between (max (low (m.said a) - high (m.said b)) (least_difference (known_level m b a))) (high (m.said a) - low (m.said b))) (λ y. sharpen (known_level m a y) (low (m.said b))) none) (update s (variable.Register d) (Number (p.n - q.n)))
+      Fits side (assign m d (Between (max (low (m.values a) - high (m.values b)) (least_difference (known_level m b a))) (high (m.values a) - low (m.values b))) (λ y. sharpen (known_level m a y) (low (m.values b))) none) (update s (variable.Register d) (Number (p.n - q.n)))
   leads_sub d a b p q h =
       let k : Ahead (known_level m b a) q.n p.n = fits.order b a q.n p.n q.value p.value in
-      writes_number d (p.n - q.n) _ _ _ _ (least p.n q.n (low (m.said a)) (high (m.said b)) (known_level m b a) k p.least q.most) (omega (arith, p.most, q.least))
-      (λ y n ey. sharper_less (known_level m a y) (low (m.said b)) p.n n q.n (fits.order a y p.n n p.value ey) q.least h)
+      writes_number d (p.n - q.n) _ _ _ _ (least p.n q.n (low (m.values a)) (high (m.values b)) (known_level m b a) k p.least q.most) (omega (arith, p.most, q.least))
+      (λ y n ey. sharper_less (known_level m a y) (low (m.values b)) p.n n q.n (fits.order a y p.n n p.value ey) q.least h)
       (λ y n ey e. omega arith)
     where
       least : (p q la hb k : ℕ) → Ahead k q p → la ≤ p → q ≤ hb → max (la - hb) (least_difference k) ≤ p - q
@@ -226,12 +226,12 @@ module _ (side : Bool) (m : Note) (s : Store) (fits : Fits side m s) where
       least p q la hb (suc k) f g h = let r : q + suc k ≤ suc p = f (omega arith) in grind arith
 
   leads_mul : (d : Register) (a : Variable) (n : ℕ) (p : Operand m s a) →
-      Fits side (assign m d (Between (min (low (m.said a) * n) MAX_NUMBER) (high (m.said a) * n)) none none) (update s (variable.Register d) (Number (p.n * n)))
+      Fits side (assign m d (Between (min (low (m.values a) * n) MAX_NUMBER) (high (m.values a) * n)) none none) (update s (variable.Register d) (Number (p.n * n)))
   leads_mul d a n p =
       writes_number d (p.n * n) _ _ _ _ (omega (arith, mul-le-mul_right n p.least)) (mul-le-mul_right n p.most) (λ y k e h. omega arith) (λ y k e h. omega arith)
 
   leads_div : (d : Register) (a : Variable) (n : ℕ) (p : Operand m s a) →
-      Fits side (assign m d (Between (low (m.said a) / n) (high (m.said a) / n)) (known_level m a) none) (update s (variable.Register d) (Number (p.n / n)))
+      Fits side (assign m d (Between (low (m.values a) / n) (high (m.values a) / n)) (known_level m a) none) (update s (variable.Register d) (Number (p.n / n)))
   leads_div d a n p =
       writes_number d (p.n / n) _ _ _ _ (div_mono _ _ n p.least) (div_mono _ _ n p.most)
       (λ y k e h. let f : p.n + known_level m a y ≤ suc k = fits.order a y p.n k p.value e h in omega (arith, div-le_self p.n n))
@@ -254,9 +254,9 @@ module _ (side : Bool) (m : Note) (s : Store) (fits : Fits side m s) where
       (any_register is_flag m (a ∷ []) || false) ≡ false → Operand m s (variable.Register a)
   one_number a rest h k = one (variable.Register a) (or_parts _ _ (or_parts _ _ h).0).0 (or_parts _ _ (or_parts _ _ k).0).0
 
-  flag_at : (a : Register) → is_nothing (m.said (variable.Register a)) ≡ false → is_range (m.said (variable.Register a)) ≡ false →
+  flag_at : (a : Register) → is_nothing (m.values (variable.Register a)) ≡ false → is_range (m.values (variable.Register a)) ≡ false →
       (b : Bool) × (s (variable.Register a) ≡ Flag b)
-  flag_at a h k = flag_there side (m.said (variable.Register a)) (s (variable.Register a)) h k (fits.each (variable.Register a))
+  flag_at a h k = flag_there side (m.values (variable.Register a)) (s (variable.Register a)) h k (fits.each (variable.Register a))
 
   one_flag : (a : Register) (rest : Bool) → (any_register is_nothing m (a ∷ []) || rest) ≡ false → any_register is_range m (a ∷ []) ≡ false →
       (b : Bool) × (s (variable.Register a) ≡ Flag b)
@@ -295,12 +295,12 @@ module _ (kind own : Kind) (view : View) (words : List ℕ) (len pc : ℕ) (m : 
   leads (Get d k) c =
       on_any_at (Leads view.side m (Get d k) s) (s (variable.Input k)) (λ v. Writes d v) (λ e. input_set kind view k (kind_allows kind own (Get d k) (not_false _ c.allowed)) (sym (sees k) ∙ e)) (_, refl, writes_copy view.side m s fits d (variable.Input k))
   leads (Copy d a) c =
-      on_any_at (Leads view.side m (Copy d a) s) (s (variable.Register a)) (λ v. Writes d v) (value_there view.side (m.said (variable.Register a)) (s (variable.Register a)) (or_parts _ _ c.set).0 (fits.each (variable.Register a))) (_, refl, writes_copy view.side m s fits d (variable.Register a))
+      on_any_at (Leads view.side m (Copy d a) s) (s (variable.Register a)) (λ v. Writes d v) (value_there view.side (m.values (variable.Register a)) (s (variable.Register a)) (or_parts _ _ c.set).0 (fits.each (variable.Register a))) (_, refl, writes_copy view.side m s fits d (variable.Register a))
   leads (Side d) c = (_, refl, writes_flag view.side m s fits d view.side true (λ p q. q))
   leads (Draw d k t) c = (_, refl, writes_flag view.side m s fits d _ false (λ p q. absurd (cc p)))
   leads (Add d a b) c =
       let o = two_numbers view.side m s fits a b _ c.set c.kinds in
-      read_two (Leads view.side m (Add d a b) s) (variable.Register a) (variable.Register b) (λ j k. write_u32 d (j + k)) o.0 o.1 (write_sized_at (Leads view.side m (Add d a b) s) d (o.0.n + o.1.n) (let l : high (m.said (variable.Register a)) + high (m.said (variable.Register b)) ≤ MAX_NUMBER = grind (arith, c.fits) in omega (arith, l, o.0.most, o.1.most)) (_, refl, leads_add view.side m s fits d (variable.Register a) (variable.Register b) o.0 o.1))
+      read_two (Leads view.side m (Add d a b) s) (variable.Register a) (variable.Register b) (λ j k. write_u32 d (j + k)) o.0 o.1 (write_sized_at (Leads view.side m (Add d a b) s) d (o.0.n + o.1.n) (let l : high (m.values (variable.Register a)) + high (m.values (variable.Register b)) ≤ MAX_NUMBER = grind (arith, c.fits) in omega (arith, l, o.0.most, o.1.most)) (_, refl, leads_add view.side m s fits d (variable.Register a) (variable.Register b) o.0 o.1))
   leads (Sub d a b) c =
       let o = two_numbers view.side m s fits a b _ c.set c.kinds in
       let k : 1 ≤ known_level m (variable.Register b) (variable.Register a) = positive_known view.side m s fits _ c.positive in
@@ -309,7 +309,7 @@ module _ (kind own : Kind) (view : View) (words : List ℕ) (len pc : ℕ) (m : 
       read_two (Leads view.side m (Sub d a b) s) (variable.Register a) (variable.Register b) (λ j k. cond (nat_le k j) (Writes d (Number (j - k))) Sticks) o.0 o.1 (if_at (Leads view.side m (Sub d a b) s) (nat_le o.1.n o.0.n) (Writes d (Number (o.0.n - o.1.n))) Sticks (le-leb o.1.n o.0.n le) (_, refl, leads_sub view.side m s fits d (variable.Register a) (variable.Register b) o.0 o.1 le))
   leads (Mul d a n) c =
       let o = one_number view.side m s fits a _ c.set c.kinds in
-      on_number_at (Leads view.side m (Mul d a n) s) (s (variable.Register a)) o.n (λ j. write_u32 d (j * n)) o.value (write_sized_at (Leads view.side m (Mul d a n) s) d (o.n * n) (let l : high (m.said (variable.Register a)) * n ≤ MAX_NUMBER = grind (arith, c.fits) in omega (arith, l, mul-le-mul_right n o.most)) (_, refl, leads_mul view.side m s fits d (variable.Register a) n o))
+      on_number_at (Leads view.side m (Mul d a n) s) (s (variable.Register a)) o.n (λ j. write_u32 d (j * n)) o.value (write_sized_at (Leads view.side m (Mul d a n) s) d (o.n * n) (let l : high (m.values (variable.Register a)) * n ≤ MAX_NUMBER = grind (arith, c.fits) in omega (arith, l, mul-le-mul_right n o.most)) (_, refl, leads_mul view.side m s fits d (variable.Register a) n o))
   leads (Div d a n) c =
       let o = one_number view.side m s fits a _ c.set c.kinds in
       on_number_at (Leads view.side m (Div d a n) s) (s (variable.Register a)) o.n (λ j. Writes d (Number (j / n))) o.value (_, refl, leads_div view.side m s fits d (variable.Register a) n o)

@@ -7,9 +7,9 @@ use Rattle.trlab_notes.proofs.Variables.{below as below_variables, at_numbers}
 use Rattle.std.proofs.lemmas.Bool.{eqb-true, eqb-false}
 use Rattle.trlab_notes.specs.declared.note.AbstractValue.{AbstractValue}
 use Rattle.trlab_notes.specs.declared.note.AbstractValue.TheVariants.{Nothing, Between, Implies}
-use Rattle.trlab_notes.specs.declared.rows.Stored.{Stored}
+use Rattle.trlab_notes.specs.declared.rows.StoredNote.{StoredNote}
 use Rattle.trlab_notes.specs.declared.rows.LevelRow.{LevelRow}
-use Rattle.trlab_notes.specs.Notes.{Note, same_variable, with_side, value_with_side, level_between, known_level, range_level, implies, closure, entry, entry_said, entry_level}
+use Rattle.trlab_notes.specs.Notes.{Note, same_variable, with_side, value_with_side, level_between, known_level, range_level, implies, closure, entry, entry_values, entry_level}
 use Rattle.trlab_notes.specs.Transfer.{assign, chain, refine_order, refine_flag}
 use Rattle.trlab_notes.specs.Order.{IsNoMorePrecise, IsNoStronger, join, join_values}
 use Rattle.trlab_notes.specs.Rows.{level_of, level_at, known_level_from, AreValidLevels, IncludesRanges, IsTransposed}
@@ -21,8 +21,8 @@ use Rattle.trlab_code.specs.declared.instruction.Variable.{Variable}
 use Rattle.trlab_code.specs.declared.instruction.Variable.TheVariants as variable
 use Rattle.trlab_code.specs.Machine.{variable_number, update}
 
-pub note_same : (m n : Note) → m.said ≡ n.said → m.level ≡ n.level → m.side ≡ n.side → m ≡ n
-note_same m n p q r = λ i. record { said = p i; level = q i; side = r i }
+pub note_same : (m n : Note) → m.values ≡ n.values → m.level ≡ n.level → m.side ≡ n.side → m ≡ n
+note_same m n p q r = λ i. record { values = p i; level = q i; side = r i }
 
 said_set : (l : List AbstractValue) (d : ℕ) (v : AbstractValue) → d < length l → (x : ℕ) (b : Bool) → nat_eq x d ≡ b →
     get_or (set l d v) x Nothing ≡ cond b v (get_or l x Nothing)
@@ -31,8 +31,8 @@ said_set l d v h x false e = get_or-set_other l d x v Nothing (eqb-false x d e)
 
 -- a note that is stored so
 abbrev pub made : List AbstractValue → List LevelRow → Bool → Note
-made said rows side = record {
-  said = λ x. get_or said (variable_number x) Nothing;
+made values rows side = record {
+  values = λ x. get_or values (variable_number x) Nothing;
   level = λ x y. level_of rows (variable_number x) (variable_number y);
   side = side;
 }
@@ -40,25 +40,25 @@ made said rows side = record {
 pub level_same : (f g : Variable → Variable → ℕ) → ((x y : Variable) → f x y ≡ g x y) → f ≡ g
 level_same f g h = fun_ext (λ x. fun_ext (h x))
 
-pub known_unfolds : (m : Note) (x y : Variable) → known_level m x y ≡ level_between (m.said x) (m.said y) (same_variable x y) (m.level x y)
+pub known_unfolds : (m : Note) (x y : Variable) → known_level m x y ≡ level_between (m.values x) (m.values y) (same_variable x y) (m.level x y)
 unfolding known_level
 known_unfolds m x y = refl
 
 -- the rows of a stored note have all that it knows
-pub known_is : (said : List AbstractValue) (rows : List LevelRow) (side : Bool) → IncludesRanges said rows → (x y : Variable) →
-    known_level (made said rows side) x y ≡ level_of rows (variable_number x) (variable_number y)
+pub known_is : (values : List AbstractValue) (rows : List LevelRow) (side : Bool) → IncludesRanges values rows → (x y : Variable) →
+    known_level (made values rows side) x y ≡ level_of rows (variable_number x) (variable_number y)
 unfolding known_level
-known_is said rows side h x y = h (variable_number x) (variable_number y) (below_variables x) (below_variables y)
+known_is values rows side h x y = h (variable_number x) (variable_number y) (below_variables x) (below_variables y)
 
 -- a note is stored where the same is said, and the rows have what it knows
-pub closure_is : (said : List AbstractValue) (rows : List LevelRow) (side : Bool) (m : Note) → ((x : Variable) → get_or said (variable_number x) Nothing ≡ m.said x) →
-    ((x y : Variable) → level_of rows (variable_number x) (variable_number y) ≡ known_level m x y) → side ≡ m.side → made said rows side ≡ closure m
+pub closure_is : (values : List AbstractValue) (rows : List LevelRow) (side : Bool) (m : Note) → ((x : Variable) → get_or values (variable_number x) Nothing ≡ m.values x) →
+    ((x y : Variable) → level_of rows (variable_number x) (variable_number y) ≡ known_level m x y) → side ≡ m.side → made values rows side ≡ closure m
 unfolding closure
-closure_is said rows side m hs hl e = note_same _ _ (fun_ext hs) (level_same _ _ hl) e
+closure_is values rows side m hs hl e = note_same _ _ (fun_ext hs) (level_same _ _ hl) e
 
 -- a stored note is its closure
-pub stored_is_closed : (said : List AbstractValue) (rows : List LevelRow) (side : Bool) → IncludesRanges said rows → made said rows side ≡ closure (made said rows side)
-stored_is_closed said rows side h = closure_is said rows side (made said rows side) (λ x. refl) (λ x y. sym (known_is said rows side h x y)) refl
+pub stored_is_closed : (values : List AbstractValue) (rows : List LevelRow) (side : Bool) → IncludesRanges values rows → made values rows side ≡ closure (made values rows side)
+stored_is_closed values rows side h = closure_is values rows side (made values rows side) (λ x. refl) (λ x y. sym (known_is values rows side h x y)) refl
 
 -- no stored level is above 2
 pub level_two : (rows : List LevelRow) (x y : ℕ) → level_of rows x y ≤ 2
@@ -68,16 +68,16 @@ level_two rows x y =
     let k = bit_at-lt row.below y in
     omega (arith, h, k)
 
-pub stored_two : (a : Stored) (x y : Variable) → known_level (note_of a) x y ≤ 2
-stored_two a x y = let e = known_is a.said a.rows a.side a.ranges x y in let h = level_two a.rows (variable_number x) (variable_number y) in omega (arith, e, h)
+pub stored_two : (a : StoredNote) (x y : Variable) → known_level (note_of a) x y ≤ 2
+stored_two a x y = let e = known_is a.values a.rows a.side a.ranges x y in let h = level_two a.rows (variable_number x) (variable_number y) in omega (arith, e, h)
 
-pub stored_same : (a : Stored) → note_of a ≡ closure (note_of a)
-stored_same a = stored_is_closed a.said a.rows a.side a.ranges
+pub stored_same : (a : StoredNote) → note_of a ≡ closure (note_of a)
+stored_same a = stored_is_closed a.values a.rows a.side a.ranges
 
-pub trust_is : (a : Stored) (r : Register) (side : Bool) → side ≡ (a.side || implies (get_or a.said (variable_number (variable.Register r)) Nothing)) →
-    made a.said a.rows side ≡ closure (refine_flag (note_of a) r)
+pub trust_is : (a : StoredNote) (r : Register) (side : Bool) → side ≡ (a.side || implies (get_or a.values (variable_number (variable.Register r)) Nothing)) →
+    made a.values a.rows side ≡ closure (refine_flag (note_of a) r)
 unfolding refine_flag known_level
-trust_is a r side e = closure_is a.said a.rows side _ (λ x. refl) (λ x y. sym (a.ranges (variable_number x) (variable_number y) (below_variables x) (below_variables y))) e
+trust_is a r side e = closure_is a.values a.rows side _ (λ x. refl) (λ x y. sym (a.ranges (variable_number x) (variable_number y) (below_variables x) (below_variables y))) e
 
 max_twice : (l r : ℕ) → max (max l r) r ≡ max l r
 max_twice l r = omega arith
@@ -92,20 +92,20 @@ known_twice Nothing t same level = refl
 known_twice (Implies i) t same level = refl
 
 -- rows of what is known tell the ranges
-pub rows_tell : (said : List AbstractValue) (rows : List LevelRow) (level : ℕ → ℕ → ℕ) →
-    ((x y : ℕ) → x < VARIABLES → y < VARIABLES → level_of rows x y ≡ level_between (get_or said x Nothing) (get_or said y Nothing) (nat_eq x y) (level x y)) →
-    IncludesRanges said rows
-rows_tell said rows level h x y lx ly =
+pub rows_tell : (values : List AbstractValue) (rows : List LevelRow) (level : ℕ → ℕ → ℕ) →
+    ((x y : ℕ) → x < VARIABLES → y < VARIABLES → level_of rows x y ≡ level_between (get_or values x Nothing) (get_or values y Nothing) (nat_eq x y) (level x y)) →
+    IncludesRanges values rows
+rows_tell values rows level h x y lx ly =
     let e = h x y lx ly in
-    ap (level_between (get_or said x Nothing) (get_or said y Nothing) (nat_eq x y)) e ∙ known_twice (get_or said x Nothing) (get_or said y Nothing) (nat_eq x y) (level x y) ∙ sym e
+    ap (level_between (get_or values x Nothing) (get_or values y Nothing) (nat_eq x y)) e ∙ known_twice (get_or values x Nothing) (get_or values y Nothing) (nat_eq x y) (level x y) ∙ sym e
 
 -- the note that says this and has these levels
-pub new_is : (said : List AbstractValue) (rows : List LevelRow) (levels : ℕ → ℕ → ℕ) (side : Bool) →
-    ((x y : ℕ) → x < VARIABLES → y < VARIABLES → level_of rows x y ≡ level_between (get_or said x Nothing) (get_or said y Nothing) (nat_eq x y) (levels x y)) →
-    made said rows side ≡ closure (record { said = λ x. get_or said (variable_number x) Nothing; level = λ x y. levels (variable_number x) (variable_number y); side = side })
+pub new_is : (values : List AbstractValue) (rows : List LevelRow) (levels : ℕ → ℕ → ℕ) (side : Bool) →
+    ((x y : ℕ) → x < VARIABLES → y < VARIABLES → level_of rows x y ≡ level_between (get_or values x Nothing) (get_or values y Nothing) (nat_eq x y) (levels x y)) →
+    made values rows side ≡ closure (record { values = λ x. get_or values (variable_number x) Nothing; level = λ x y. levels (variable_number x) (variable_number y); side = side })
 unfolding known_level
-new_is said rows levels side h =
-    closure_is said rows side _ (λ x. refl) (λ x y. h (variable_number x) (variable_number y) (below_variables x) (below_variables y)) refl
+new_is values rows levels side h =
+    closure_is values rows side _ (λ x. refl) (λ x y. h (variable_number x) (variable_number y) (below_variables x) (below_variables y)) refl
 
 -- a wider range tells less
 range_less : (hi most lo least : ℕ) → hi ≤ most → least ≤ lo → range_level most least ≤ range_level hi lo
@@ -133,28 +133,28 @@ both_known (Implies i) (Between e f) t v p q same j k x y = omega (arith, x)
 both_known (Implies i) (Implies l) t v p q same j k x y = omega (arith, x)
 
 -- the variables of a join are those of both notes
-abbrev SaidByBoth : Stored → Stored → List AbstractValue → Type 0
-SaidByBoth a b said = (x : ℕ) → x < VARIABLES → get_or said x Nothing ≡ join_values (with_side a.side (get_or a.said x Nothing)) (with_side b.side (get_or b.said x Nothing))
+abbrev SaidByBoth : StoredNote → StoredNote → List AbstractValue → Type 0
+SaidByBoth a b values = (x : ℕ) → x < VARIABLES → get_or values x Nothing ≡ join_values (with_side a.side (get_or a.values x Nothing)) (with_side b.side (get_or b.values x Nothing))
 
 -- and its levels are the lesser ones
-abbrev LevelsOfBoth : Stored → Stored → List LevelRow → Type 0
+abbrev LevelsOfBoth : StoredNote → StoredNote → List LevelRow → Type 0
 LevelsOfBoth a b rows = (x y : ℕ) → x < VARIABLES → y < VARIABLES → level_of rows x y ≡ min (level_of a.rows x y) (level_of b.rows x y)
 
-pub join_is : (a b : Stored) (said : List AbstractValue) (rows : List LevelRow) (side : Bool) → SaidByBoth a b said → LevelsOfBoth a b rows →
-    side ≡ (a.side && b.side) → made said rows side ≡ join (note_of a) (note_of b)
+pub join_is : (a b : StoredNote) (values : List AbstractValue) (rows : List LevelRow) (side : Bool) → SaidByBoth a b values → LevelsOfBoth a b rows →
+    side ≡ (a.side && b.side) → made values rows side ≡ join (note_of a) (note_of b)
 unfolding join value_with_side
-join_is a b said rows side hs hl e =
-    note_same _ _ (fun_ext (λ x. hs (variable_number x) (below_variables x))) (level_same _ _ (λ x y. hl (variable_number x) (variable_number y) (below_variables x) (below_variables y) ∙ least_same (known_is a.said a.rows a.side a.ranges x y) (known_is b.said b.rows b.side b.ranges x y))) e
+join_is a b values rows side hs hl e =
+    note_same _ _ (fun_ext (λ x. hs (variable_number x) (below_variables x))) (level_same _ _ (λ x y. hl (variable_number x) (variable_number y) (below_variables x) (below_variables y) ∙ least_same (known_is a.values a.rows a.side a.ranges x y) (known_is b.values b.rows b.side b.ranges x y))) e
   where
     least_same : {i j k l : ℕ} → i ≡ j → k ≡ l → min j l ≡ min i k
     least_same p q = λ z. min (sym p z) (sym q z)
 
-pub join_tells : (a b : Stored) (said : List AbstractValue) (rows : List LevelRow) → SaidByBoth a b said → LevelsOfBoth a b rows → IncludesRanges said rows
-join_tells a b said rows hs hl x y lx ly =
-    rw (hs x lx, hs y ly, hl x y lx ly) (both_known (get_or a.said x Nothing) (get_or b.said x Nothing) (get_or a.said y Nothing) (get_or b.said y Nothing) a.side b.side (nat_eq x y) (level_of a.rows x y) (level_of b.rows x y) (a.ranges x y lx ly) (b.ranges x y lx ly))
+pub join_tells : (a b : StoredNote) (values : List AbstractValue) (rows : List LevelRow) → SaidByBoth a b values → LevelsOfBoth a b rows → IncludesRanges values rows
+join_tells a b values rows hs hl x y lx ly =
+    rw (hs x lx, hs y ly, hl x y lx ly) (both_known (get_or a.values x Nothing) (get_or b.values x Nothing) (get_or a.values y Nothing) (get_or b.values y Nothing) a.side b.side (nat_eq x y) (level_of a.rows x y) (level_of b.rows x y) (a.ranges x y lx ly) (b.ranges x y lx ly))
 
 -- columns whose levels are the lesser ones are those of rows whose levels are
-pub join_back : (a b : Stored) (rows columns : List LevelRow) →
+pub join_back : (a b : StoredNote) (rows columns : List LevelRow) →
     ((x y : ℕ) → x < VARIABLES → y < VARIABLES → level_of rows x y ≡ min (level_of a.rows x y) (level_of b.rows x y)) →
     ((x y : ℕ) → x < VARIABLES → y < VARIABLES → level_of columns x y ≡ min (level_of a.columns x y) (level_of b.columns x y)) →
     IsTransposed rows columns
@@ -171,22 +171,22 @@ twice false = refl
 least : (k : ℕ) → k ≡ min k k
 least k = omega arith
 
-pub join_itself_is : (a : Stored) (said : List AbstractValue) → SaidByBoth a a said → made said a.rows a.side ≡ join (note_of a) (note_of a)
-join_itself_is a said h = join_is a a said a.rows a.side h (λ x y lx ly. least (level_of a.rows x y)) (twice a.side)
+pub join_itself_is : (a : StoredNote) (values : List AbstractValue) → SaidByBoth a a values → made values a.rows a.side ≡ join (note_of a) (note_of a)
+join_itself_is a values h = join_is a a values a.rows a.side h (λ x y lx ly. least (level_of a.rows x y)) (twice a.side)
 
-pub join_itself_tells : (a : Stored) (said : List AbstractValue) → SaidByBoth a a said → IncludesRanges said a.rows
-join_itself_tells a said h = join_tells a a said a.rows h (λ x y lx ly. least (level_of a.rows x y))
+pub join_itself_tells : (a : StoredNote) (values : List AbstractValue) → SaidByBoth a a values → IncludesRanges values a.rows
+join_itself_tells a values h = join_tells a a values a.rows h (λ x y lx ly. least (level_of a.rows x y))
 
 -- the rows after a write
-module _ (a : Stored) (d : ℕ) (s : AbstractValue) (to from : ℕ → ℕ) (rows : List LevelRow) (row column : ℕ → ℕ) (inside : d < VARIABLES) (variables : length a.said ≡ VARIABLES) (hr : (y : ℕ) → y < VARIABLES → row y ≡ level_between (get_or (set a.said d s) d Nothing) (get_or (set a.said d s) y Nothing) (nat_eq d y) (to y)) (hc : (x : ℕ) → x < VARIABLES → column x ≡ level_between (get_or (set a.said d s) x Nothing) (get_or (set a.said d s) d Nothing) (nat_eq x d) (from x)) (h : (x y : ℕ) → x < VARIABLES → y < VARIABLES → level_of rows x y ≡ cond (nat_eq x d) (row y) (cond (nat_eq y d) (column x) (level_of a.rows x y))) where
+module _ (a : StoredNote) (d : ℕ) (s : AbstractValue) (to from : ℕ → ℕ) (rows : List LevelRow) (row column : ℕ → ℕ) (inside : d < VARIABLES) (variables : length a.values ≡ VARIABLES) (hr : (y : ℕ) → y < VARIABLES → row y ≡ level_between (get_or (set a.values d s) d Nothing) (get_or (set a.values d s) y Nothing) (nat_eq d y) (to y)) (hc : (x : ℕ) → x < VARIABLES → column x ≡ level_between (get_or (set a.values d s) x Nothing) (get_or (set a.values d s) d Nothing) (nat_eq x d) (from x)) (h : (x y : ℕ) → x < VARIABLES → y < VARIABLES → level_of rows x y ≡ cond (nat_eq x d) (row y) (cond (nat_eq y d) (column x) (level_of a.rows x y))) where
   abbrev level : ℕ → ℕ → ℕ
   level x y = cond (nat_eq x d) (to y) (cond (nat_eq y d) (from x) (level_of a.rows x y))
 
   abbrev now : ℕ → AbstractValue
-  now x = get_or (set a.said d s) x Nothing
+  now x = get_or (set a.values d s) x Nothing
 
-  other : (x : ℕ) → nat_eq x d ≡ false → now x ≡ get_or a.said x Nothing
-  other x e = said_set a.said d s (omega (arith, inside, variables)) x false e
+  other : (x : ℕ) → nat_eq x d ≡ false → now x ≡ get_or a.values x Nothing
+  other x e = said_set a.values d s (omega (arith, inside, variables)) x false e
 
   after_level : (x y : ℕ) → x < VARIABLES → y < VARIABLES → (b c : Bool) → nat_eq x d ≡ b → nat_eq y d ≡ c →
       cond b (row y) (cond c (column x) (level_of a.rows x y)) ≡ level_between (now x) (now y) (nat_eq x y) (cond b (to y) (cond c (from x) (level_of a.rows x y)))
@@ -197,19 +197,19 @@ module _ (a : Stored) (d : ℕ) (s : AbstractValue) (to from : ℕ → ℕ) (row
   after_known : (x y : ℕ) → x < VARIABLES → y < VARIABLES → level_of rows x y ≡ level_between (now x) (now y) (nat_eq x y) (level x y)
   after_known x y lx ly = h x y lx ly ∙ after_level x y lx ly (nat_eq x d) (nat_eq y d) refl refl
 
-  pub after_tells : IncludesRanges (set a.said d s) rows
-  after_tells = rows_tell (set a.said d s) rows level after_known
+  pub after_tells : IncludesRanges (set a.values d s) rows
+  after_tells = rows_tell (set a.values d s) rows level after_known
 
   pub after_is : (r : Register) (below above : Variable → ℕ) → d ≡ variable_number (variable.Register r) → ((y : Variable) → to (variable_number y) ≡ below y) →
-      ((x : Variable) → from (variable_number x) ≡ above x) → made (set a.said d s) rows a.side ≡ closure (assign (note_of a) r s below above)
+      ((x : Variable) → from (variable_number x) ≡ above x) → made (set a.values d s) rows a.side ≡ closure (assign (note_of a) r s below above)
   unfolding assign update known_level
-  after_is r below above ed eto efrom = closure_is (set a.said d s) rows a.side _ said_now (λ x y. after_known (variable_number x) (variable_number y) (is_below x) (is_below y) ∙ at x y) refl
+  after_is r below above ed eto efrom = closure_is (set a.values d s) rows a.side _ said_now (λ x y. after_known (variable_number x) (variable_number y) (is_below x) (is_below y) ∙ at x y) refl
     where
       is_below : (x : Variable) → variable_number x < VARIABLES
       is_below = below_variables
 
-      said_now : (x : Variable) → now (variable_number x) ≡ cond (nat_eq (variable_number x) (variable_number (variable.Register r))) s (get_or a.said (variable_number x) Nothing)
-      said_now x = said_set a.said d s (omega (arith, inside, variables)) (variable_number x) (nat_eq (variable_number x) d) refl ∙ ap (λ k. cond (nat_eq (variable_number x) k) s (get_or a.said (variable_number x) Nothing)) ed
+      said_now : (x : Variable) → now (variable_number x) ≡ cond (nat_eq (variable_number x) (variable_number (variable.Register r))) s (get_or a.values (variable_number x) Nothing)
+      said_now x = said_set a.values d s (omega (arith, inside, variables)) (variable_number x) (nat_eq (variable_number x) d) refl ∙ ap (λ k. cond (nat_eq (variable_number x) k) s (get_or a.values (variable_number x) Nothing)) ed
 
       at : (x y : Variable) → level_between (now (variable_number x)) (now (variable_number y)) (nat_eq (variable_number x) (variable_number y)) (level (variable_number x) (variable_number y))
           ≡ known_level (assign (note_of a) r s below above) x y
@@ -226,7 +226,7 @@ corner s d j k = at s (nat_eq d d) (grind arith)
     at (Between a c) false e = absurd (cc e)
 
 -- the columns after a write are its rows the other way round
-pub after_back : (a : Stored) (d : ℕ) (rows columns : List LevelRow) (row column : ℕ → ℕ) → row d ≡ column d →
+pub after_back : (a : StoredNote) (d : ℕ) (rows columns : List LevelRow) (row column : ℕ → ℕ) → row d ≡ column d →
     ((x y : ℕ) → x < VARIABLES → y < VARIABLES → level_of rows x y ≡ cond (nat_eq x d) (row y) (cond (nat_eq y d) (column x) (level_of a.rows x y))) →
     ((x y : ℕ) → x < VARIABLES → y < VARIABLES → level_of columns x y ≡ cond (nat_eq x d) (column y) (cond (nat_eq y d) (row x) (level_of a.columns x y))) →
     IsTransposed rows columns
@@ -283,36 +283,36 @@ swap l x y c false true e f = absurd (eqb-false y x e (sym (eqb-true x y f)))
 swap l x y c false false e f = refl
 
 -- the rows once something is learnt
-module _ (a : Stored) (p q k : ℕ) (rows : List LevelRow) (lp : p < VARIABLES) (lq : q < VARIABLES) (h : (x y : ℕ) → x < VARIABLES → y < VARIABLES → level_of rows x y ≡ cond (nat_eq y x) (level_of a.rows x x) (max (level_of a.rows x y) (chain (level_of a.columns p x) k (level_of a.rows q y)))) where
+module _ (a : StoredNote) (p q k : ℕ) (rows : List LevelRow) (lp : p < VARIABLES) (lq : q < VARIABLES) (h : (x y : ℕ) → x < VARIABLES → y < VARIABLES → level_of rows x y ≡ cond (nat_eq y x) (level_of a.rows x x) (max (level_of a.rows x y) (chain (level_of a.columns p x) k (level_of a.rows q y)))) where
   abbrev more : ℕ → ℕ → ℕ
   more x y = max (level_of a.rows x y) (chain (level_of a.columns p x) k (level_of a.rows q y))
 
-  learn_known : (x y : ℕ) → x < VARIABLES → y < VARIABLES → level_of rows x y ≡ level_between (get_or a.said x Nothing) (get_or a.said y Nothing) (nat_eq x y) (more x y)
+  learn_known : (x y : ℕ) → x < VARIABLES → y < VARIABLES → level_of rows x y ≡ level_between (get_or a.values x Nothing) (get_or a.values y Nothing) (nat_eq x y) (more x y)
   learn_known x y lx ly =
       h x y lx ly ∙ swap (level_of a.rows) x y _ (nat_eq y x) (nat_eq x y) refl refl
-      ∙ learn_level (get_or a.said x Nothing) (get_or a.said y Nothing) (get_or a.said p Nothing) (get_or a.said q Nothing) (nat_eq x y) (nat_eq x p) (nat_eq q y) (level_of a.rows x y) (level_of a.columns p x) (level_of a.rows q y) k (level_of a.rows x p) (level_of a.rows q y) (a.ranges x y lx ly) (a.transposed x p lx lp ∙ sym (a.ranges x p lx lp)) (sym (a.ranges q y lq ly))
+      ∙ learn_level (get_or a.values x Nothing) (get_or a.values y Nothing) (get_or a.values p Nothing) (get_or a.values q Nothing) (nat_eq x y) (nat_eq x p) (nat_eq q y) (level_of a.rows x y) (level_of a.columns p x) (level_of a.rows q y) k (level_of a.rows x p) (level_of a.rows q y) (a.ranges x y lx ly) (a.transposed x p lx lp ∙ sym (a.ranges x p lx lp)) (sym (a.ranges q y lq ly))
 
-  pub learn_tells : IncludesRanges a.said rows
-  learn_tells = rows_tell a.said rows more learn_known
+  pub learn_tells : IncludesRanges a.values rows
+  learn_tells = rows_tell a.values rows more learn_known
 
   module _ (u v : Variable) (eu : p ≡ variable_number u) (ev : q ≡ variable_number v) where
-    known_refined : (x y : Variable) → known_level (refine_order (note_of a) u v k) x y ≡ level_between (get_or a.said (variable_number x) Nothing) (get_or a.said (variable_number y) Nothing) (same_variable x y) (more (variable_number x) (variable_number y))
+    known_refined : (x y : Variable) → known_level (refine_order (note_of a) u v k) x y ≡ level_between (get_or a.values (variable_number x) Nothing) (get_or a.values (variable_number y) Nothing) (same_variable x y) (more (variable_number x) (variable_number y))
     unfolding refine_order
     known_refined x y =
         known_unfolds (refine_order (note_of a) u v k) x y
-        ∙ alike (get_or a.said (variable_number x) Nothing) (get_or a.said (variable_number y) Nothing) (same_variable x y) (level_of a.rows (variable_number x) (variable_number y))
-        (known_is a.said a.rows a.side a.ranges x u ∙ sym (ap (level_of a.rows (variable_number x)) eu) ∙ sym (a.transposed (variable_number x) p (below_variables x) lp))
-        (known_is a.said a.rows a.side a.ranges v y ∙ sym (ap (λ z. level_of a.rows z (variable_number y)) ev))
+        ∙ alike (get_or a.values (variable_number x) Nothing) (get_or a.values (variable_number y) Nothing) (same_variable x y) (level_of a.rows (variable_number x) (variable_number y))
+        (known_is a.values a.rows a.side a.ranges x u ∙ sym (ap (level_of a.rows (variable_number x)) eu) ∙ sym (a.transposed (variable_number x) p (below_variables x) lp))
+        (known_is a.values a.rows a.side a.ranges v y ∙ sym (ap (λ z. level_of a.rows z (variable_number y)) ev))
       where
         alike : (s t : AbstractValue) (same : Bool) (l : ℕ) {i j m n : ℕ} → i ≡ j → m ≡ n → level_between s t same (max l (chain i k m)) ≡ level_between s t same (max l (chain j k n))
         alike s t same l e f = λ z. level_between s t same (max l (chain (e z) k (f z)))
 
-    pub learn_is : made a.said rows a.side ≡ closure (refine_order (note_of a) u v k)
+    pub learn_is : made a.values rows a.side ≡ closure (refine_order (note_of a) u v k)
     unfolding refine_order
-    learn_is = closure_is a.said rows a.side _ (λ x. refl) (λ x y. learn_known (variable_number x) (variable_number y) (below_variables x) (below_variables y) ∙ sym (known_refined x y)) refl
+    learn_is = closure_is a.values rows a.side _ (λ x. refl) (λ x y. learn_known (variable_number x) (variable_number y) (below_variables x) (below_variables y) ∙ sym (known_refined x y)) refl
 
 -- the columns once something is learnt are its rows the other way round
-pub learn_back : (a : Stored) (p q k : ℕ) (rows columns : List LevelRow) →
+pub learn_back : (a : StoredNote) (p q k : ℕ) (rows columns : List LevelRow) →
     ((x y : ℕ) → x < VARIABLES → y < VARIABLES → level_of rows x y ≡ cond (nat_eq y x) (level_of a.rows x x) (max (level_of a.rows x y) (chain (level_of a.columns p x) k (level_of a.rows q y)))) →
     ((x y : ℕ) → x < VARIABLES → y < VARIABLES → level_of columns x y ≡ cond (nat_eq y x) (level_of a.columns x x) (max (level_of a.columns x y) (chain (level_of a.rows q x) k (level_of a.columns p y)))) →
     IsTransposed rows columns
@@ -334,11 +334,11 @@ learn_back a p q k rows columns h g x y lx ly =
 abbrev AreEntryLevels : List (List ℕ) → Type 0
 AreEntryLevels levels = (x y : Variable) → get_or (get_or levels (variable_number x) []) (variable_number y) 0 ≡ entry_level x y
 
-pub entry_is : (kind : Kind) (said : List AbstractValue) (levels : List (List ℕ)) → ((x : Variable) → get_or said (variable_number x) Nothing ≡ entry_said kind x) →
+pub entry_is : (kind : Kind) (values : List AbstractValue) (levels : List (List ℕ)) → ((x : Variable) → get_or values (variable_number x) Nothing ≡ entry_values kind x) →
     AreEntryLevels levels →
-    closure (record { said = λ x. get_or said (variable_number x) Nothing; level = λ x y. get_or (get_or levels (variable_number x) []) (variable_number y) 0; side = false }) ≡ closure (entry kind)
+    closure (record { values = λ x. get_or values (variable_number x) Nothing; level = λ x y. get_or (get_or levels (variable_number x) []) (variable_number y) 0; side = false }) ≡ closure (entry kind)
 unfolding entry
-entry_is kind said levels h k = ap closure (note_same _ _ (fun_ext h) (level_same _ _ k) refl)
+entry_is kind values levels h k = ap closure (note_same _ _ (fun_ext h) (level_same _ _ k) refl)
 
 entry_small : (s t : AbstractValue) (same : Bool) (l : ℕ) → l ≤ 1 → level_between s t same l ≤ 2
 entry_small (Between a b) (Between c d) true l h = omega arith
@@ -353,33 +353,33 @@ entry_one (variable.Input Speed) (variable.Input Limit) = omega arith
 entry_one (variable.Input Headspeed) (variable.Input Limit) = omega arith
 entry_one x y = omega arith
 
-pub entry_fits : (said : List AbstractValue) (levels : List (List ℕ)) → AreEntryLevels levels → AreValidLevels said levels
-entry_fits said levels h x y lx ly =
-    at_numbers (λ j. known_level_from said j y (level_at levels j y) ≤ 2)
-    (λ u. at_numbers (λ k. known_level_from said (variable_number u) k (level_at levels (variable_number u) k) ≤ 2)
-    (λ v. subst (λ z. known_level_from said (variable_number u) (variable_number v) z ≤ 2) (sym (h u v)) (entry_small _ _ _ (entry_level u v) (entry_one u v))) y ly)
+pub entry_fits : (values : List AbstractValue) (levels : List (List ℕ)) → AreEntryLevels levels → AreValidLevels values levels
+entry_fits values levels h x y lx ly =
+    at_numbers (λ j. known_level_from values j y (level_at levels j y) ≤ 2)
+    (λ u. at_numbers (λ k. known_level_from values (variable_number u) k (level_at levels (variable_number u) k) ≤ 2)
+    (λ v. subst (λ z. known_level_from values (variable_number u) (variable_number v) z ≤ 2) (sym (h u v)) (entry_small _ _ _ (entry_level u v) (entry_one u v))) y ly)
     x lx
 
 -- one note is no stronger than another where the tables say no more
-pub no_stronger : (m n : Stored) →
-    ((x : ℕ) → x < VARIABLES → IsNoMorePrecise (with_side m.side (get_or m.said x Nothing)) (with_side n.side (get_or n.said x Nothing))) →
+pub no_stronger : (m n : StoredNote) →
+    ((x : ℕ) → x < VARIABLES → IsNoMorePrecise (with_side m.side (get_or m.values x Nothing)) (with_side n.side (get_or n.values x Nothing))) →
     ((x y : ℕ) → x < VARIABLES → y < VARIABLES → level_of m.rows x y ≤ level_of n.rows x y) → (IsTrue m.side → IsTrue n.side) →
     IsNoStronger (note_of m) (note_of n)
 unfolding value_with_side
 no_stronger m n f g h = record {
-  said = λ x. f (variable_number x) (below_variables x);
-  order = λ x y. let l = g (variable_number x) (variable_number y) (below_variables x) (below_variables y) in omega (arith, l, known_is m.said m.rows m.side m.ranges x y, known_is n.said n.rows n.side n.ranges x y);
+  values = λ x. f (variable_number x) (below_variables x);
+  order = λ x y. let l = g (variable_number x) (variable_number y) (below_variables x) (below_variables y) in omega (arith, l, known_is m.values m.rows m.side m.ranges x y, known_is n.values n.rows n.side n.ranges x y);
   beside = h;
 }
 
-pub no_stronger_said : (m n : Stored) → IsNoStronger (note_of m) (note_of n) → (x : ℕ) → x < VARIABLES →
-    IsNoMorePrecise (with_side m.side (get_or m.said x Nothing)) (with_side n.side (get_or n.said x Nothing))
+pub no_stronger_said : (m n : StoredNote) → IsNoStronger (note_of m) (note_of n) → (x : ℕ) → x < VARIABLES →
+    IsNoMorePrecise (with_side m.side (get_or m.values x Nothing)) (with_side n.side (get_or n.values x Nothing))
 unfolding value_with_side
-no_stronger_said m n h = at_numbers (λ x. IsNoMorePrecise (with_side m.side (get_or m.said x Nothing)) (with_side n.side (get_or n.said x Nothing))) h.said
+no_stronger_said m n h = at_numbers (λ x. IsNoMorePrecise (with_side m.side (get_or m.values x Nothing)) (with_side n.side (get_or n.values x Nothing))) h.values
 
-pub no_stronger_levels : (m n : Stored) → IsNoStronger (note_of m) (note_of n) → (x y : ℕ) → x < VARIABLES → y < VARIABLES → level_of m.rows x y ≤ level_of n.rows x y
+pub no_stronger_levels : (m n : StoredNote) → IsNoStronger (note_of m) (note_of n) → (x y : ℕ) → x < VARIABLES → y < VARIABLES → level_of m.rows x y ≤ level_of n.rows x y
 no_stronger_levels m n h x y lx ly =
     at_numbers (λ j. level_of m.rows j y ≤ level_of n.rows j y)
     (λ u. at_numbers (λ k. level_of m.rows (variable_number u) k ≤ level_of n.rows (variable_number u) k)
-    (λ v. omega (arith, h.order u v, known_is m.said m.rows m.side m.ranges u v, known_is n.said n.rows n.side n.ranges u v)) y ly)
+    (λ v. omega (arith, h.order u v, known_is m.values m.rows m.side m.ranges u v, known_is n.values n.rows n.side n.ranges u v)) y ly)
     x lx

@@ -7,14 +7,15 @@ use Rattle.trlab_code.specs.declared.instruction.Variable.{Variable}
 use Rattle.trlab_code.specs.declared.instruction.Variable.TheVariants as variable
 use Rattle.trlab_bounds.specs.declared.roads.TheConstants.{MAX_LIMIT, MAX_GAP}
 use Rattle.trlab_code.specs.Machine.{variable_number, allows_input}
+use Rattle.trlab_notes.specs.declared.note.TheConstants.{AT_MOST, BELOW}
 use Rattle.trlab_notes.specs.declared.note.AbstractValue.{AbstractValue}
 use Rattle.trlab_notes.specs.declared.note.AbstractValue.TheVariants.{Nothing, Between, Implies}
 
--- an abstract state: the abstract value of each variable, the level of each variable to each, and whether the
--- side cell is known to be empty. The level of x to y is 2 if x is known to be below y, 1 if it is known to
--- be at most y, and 0 otherwise
+-- a note, which is an abstract state: the abstract value of each variable, the level of each variable to each,
+-- and whether the side cell is known to be empty. The level of x to y is BELOW = 2 if x is known to be below
+-- y, AT_MOST = 1 if x is known to be at most y, and otherwise 0
 pub record Note : Type 0 where
-  pub said : Variable → AbstractValue
+  pub values : Variable → AbstractValue
   pub level : Variable → Variable → ℕ
   pub side : Bool
 
@@ -31,7 +32,7 @@ with_side side (Implies implied) = Implies (implied || side)
 
 -- the abstract value of variable x in a note, refined by the note's knowledge of the side cell
 unfoldable pub value_with_side : Note → Variable → AbstractValue
-value_with_side note x = with_side note.side (note.said x)
+value_with_side note x = with_side note.side (note.values x)
 
 -- the smallest number of a range; 0 for other abstract values
 abbrev pub low : AbstractValue → ℕ
@@ -49,23 +50,23 @@ abbrev pub implies : AbstractValue → Bool
 implies (Implies implied) = implied
 implies _ = false
 
--- the level that follows from ranges, of a number of at most hi to a number of at least lo: 2 if hi is below
--- lo, 1 if they are equal, otherwise 0
+-- the level that follows from ranges, of a number of at most hi to a number of at least lo: BELOW if hi is
+-- below lo, AT_MOST if they are equal, otherwise 0
 abbrev pub range_level : ℕ → ℕ → ℕ
-range_level hi lo = if nat_lt hi lo then 2 else (if nat_le hi lo then 1 else 0)
+range_level hi lo = if nat_lt hi lo then BELOW else (if nat_le hi lo then AT_MOST else 0)
 
 -- the known level of one variable to another, from their abstract values, whether they are the same variable,
--- and their level in a note: 1 if they are the same, otherwise this level or the level of their ranges,
--- whichever is larger; 0 if one of them is not a number
+-- and the level of the first to the second in a note: AT_MOST if they are the same, otherwise this level
+-- or the level of their ranges, whichever is larger; 0 if one of them is not a number
 abbrev pub level_between : AbstractValue → AbstractValue → Bool → ℕ → ℕ
-level_between (Between x_lo x_hi) (Between y_lo y_hi) true level = 1
+level_between (Between x_lo x_hi) (Between y_lo y_hi) true level = AT_MOST
 level_between (Between x_lo x_hi) (Between y_lo y_hi) false level = max level (range_level x_hi y_lo)
 level_between _ _ same level = 0
 
--- the known level of x to y: 1 if they are the same variable, otherwise their level in the note or the level
--- of their ranges, whichever is larger; 0 if one of them is not a number
+-- the known level of x to y in a note: `level_between` of their abstract values and of their level in the
+-- note. For example, it is BELOW if x has the range 0 to 3 and y the range 5 to 9
 unfoldable pub known_level : Note → Variable → Variable → ℕ
-known_level note x y = level_between (note.said x) (note.said y) (same_variable x y) (note.level x y)
+known_level note x y = level_between (note.values x) (note.values y) (same_variable x y) (note.level x y)
 
 -- the closure of a note under its ranges: each level is the known level, so that the order of two variables
 -- that follows from their ranges is a level too. Levels are not chained through a third variable
@@ -77,7 +78,7 @@ abbrev pub maybe_closure : Option Note → Option Note
 maybe_closure None = None
 maybe_closure (Some note) = Some (closure note)
 
--- the range of an input: the smallest and the largest number that it is on any legal road
+-- the range of an input over all legal roads: its minimum and its maximum
 abbrev pub input_range : Input → AbstractValue
 input_range Speed = Between 0 MAX_LIMIT
 input_range Limit = Between 1 MAX_LIMIT
@@ -87,19 +88,19 @@ input_range SideBack = Between 0 MAX_GAP
 input_range Lane = Between 0 1
 input_range Headspeed = Between 0 MAX_LIMIT
 
--- the abstract value of a variable at the start of a program of this kind: inputs that the kind may read have
--- their ranges, and nothing is known of registers and other inputs
-abbrev pub entry_said : Kind → Variable → AbstractValue
-entry_said kind (variable.Register r) = Nothing
-entry_said kind (variable.Input k) = if allows_input kind k then input_range k else Nothing
+-- the abstract value of a variable at the start of a program of kind `kind`: inputs that the program may read
+-- have their ranges, and nothing is known of registers and other inputs
+abbrev pub entry_values : Kind → Variable → AbstractValue
+entry_values kind (variable.Register r) = Nothing
+entry_values kind (variable.Input k) = if allows_input kind k then input_range k else Nothing
 
 -- the level of one variable to another at the start of a program: speed and headspeed are at most the limit,
 -- and nothing else is known
 abbrev pub entry_level : Variable → Variable → ℕ
-entry_level (variable.Input Speed) (variable.Input Limit) = 1
-entry_level (variable.Input Headspeed) (variable.Input Limit) = 1
+entry_level (variable.Input Speed) (variable.Input Limit) = AT_MOST
+entry_level (variable.Input Headspeed) (variable.Input Limit) = AT_MOST
 entry_level _ _ = 0
 
--- the entry note: the knowledge at the start of each program of this kind
+-- the entry note: the knowledge at the start of every program of kind `kind`
 unfoldable pub entry : Kind → Note
-entry kind = record { said = entry_said kind; level = entry_level; side = false }
+entry kind = record { values = entry_values kind; level = entry_level; side = false }

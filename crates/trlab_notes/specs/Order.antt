@@ -16,7 +16,7 @@ IsNoMorePrecise _ _ = ⊥
 
 -- note m is no stronger than note n: it knows no more of the values, of the order and of the side cell
 pub record IsNoStronger (m n : Note) : Type 0 where
-  pub said : (x : Variable) → IsNoMorePrecise (value_with_side m x) (value_with_side n x)
+  pub values : (x : Variable) → IsNoMorePrecise (value_with_side m x) (value_with_side n x)
   pub order : (x y : Variable) → known_level m x y ≤ known_level n x y
   pub beside : IsTrue m.side → IsTrue n.side
 
@@ -39,7 +39,7 @@ join_values _ _ = Nothing
 -- the values, the order and the side cell
 unfoldable pub join : Note → Note → Note
 join m n = record {
-  said = λ x. join_values (value_with_side m x) (value_with_side n x);
+  values = λ x. join_values (value_with_side m x) (value_with_side n x);
   level = λ x y. min (known_level m x y) (known_level n x y);
   side = m.side && n.side;
 }

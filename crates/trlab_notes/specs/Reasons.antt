@@ -20,15 +20,6 @@ use Rattle.trlab_notes.specs.declared.reasons.Reason.TheVariants as why
 use Rattle.trlab_notes.specs.Notes.{Note, known_level}
 use Rattle.trlab_notes.specs.Transfer.{register_value, most, register_level}
 
--- the number of a reason against the result or the answer of an instruction, 8 to 12; 0 for other reasons
-abbrev pub range_reason_number : Reason → ℕ
-range_reason_number why.MaybeTooLarge = 8
-range_reason_number why.MaybeBelowZero = 9
-range_reason_number why.MaybeAboveGap = 10
-range_reason_number why.MaybeAboveLimit = 11
-range_reason_number why.MaybeOccupied = 12
-range_reason_number _ = 0
-
 -- the number of a reason, 1 to 12, in the order in which reasons are tested
 abbrev pub reason_number : Reason → ℕ
 reason_number why.Unreachable = 1
@@ -38,7 +29,11 @@ reason_number why.WrongValue = 4
 reason_number why.JumpsBack = 5
 reason_number why.JumpsOut = 6
 reason_number why.FallsOut = 7
-reason_number reason = range_reason_number reason
+reason_number why.MaybeTooLarge = 8
+reason_number why.MaybeBelowZero = 9
+reason_number why.MaybeAboveGap = 10
+reason_number why.MaybeAboveLimit = 11
+reason_number why.MaybeOccupied = 12
 
 -- is the instruction allowed both in programs of `kind` and in programs of `own`, the program's own kind?
 abbrev pub is_of_kind : Kind → Kind → Instr → Bool

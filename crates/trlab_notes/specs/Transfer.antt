@@ -9,13 +9,14 @@ use Rattle.trlab_code.specs.declared.instruction.Instr.TheVariants.{Num, Get, Si
 use Rattle.trlab_bounds.specs.declared.programs.TheConstants.{MAX_NUMBER}
 use Rattle.trlab_code.specs.Machine.{update}
 use Rattle.trlab_code.specs.Flow.{destination}
+use Rattle.trlab_notes.specs.declared.note.TheConstants.{AT_MOST, BELOW}
 use Rattle.trlab_notes.specs.declared.note.AbstractValue.{AbstractValue}
 use Rattle.trlab_notes.specs.declared.note.AbstractValue.TheVariants.{Nothing, Between, Implies}
 use Rattle.trlab_notes.specs.Notes.{Note, same_variable, value_with_side, low, high, implies, known_level}
 
 -- the abstract value of register a in a note
 abbrev pub register_value : Note → Register → AbstractValue
-register_value note a = note.said (variable.Register a)
+register_value note a = note.values (variable.Register a)
 
 -- the smallest number that register a may hold, by the note; 0 if it is not known to hold a number
 abbrev pub least : Note → Register → ℕ
@@ -42,21 +43,21 @@ register_to note a y = known_level note (variable.Register a) y
 abbrev pub to_register : Note → Variable → Register → ℕ
 to_register note y a = known_level note y (variable.Register a)
 
--- the level k of x to y as the level of x to y + z, or of x - z to y, for z of at least lo: at least 2 if k
--- and lo are above 0, otherwise k. For example, if x is at most y (1), it is below y + 3 (2)
+-- the level of x to y + z, or of x - z to y, that follows from the level k of x to y, if z is at least lo: at
+-- least BELOW if k and lo are above 0, otherwise k. For example, if x is at most y, it is below y + 3
 abbrev pub sharpen : ℕ → ℕ → ℕ
 sharpen zero lo = 0
 sharpen (suc k) zero = suc k
-sharpen (suc k) (suc lo) = max (suc k) 2
+sharpen (suc k) (suc lo) = max (suc k) BELOW
 
--- the level k of x to y as the level of x + z to y, for z of at most hi: 1 if k is at least 2 and hi at most
--- 1, otherwise 0. For example, if x is below y (2), x + 1 is at most y (1)
+-- the level of x + z to y that follows from the level k of x to y, if z is at most hi: AT_MOST if k is at
+-- least BELOW and hi at most 1, otherwise 0. For example, if x is below y, x + 1 is at most y
 abbrev pub slacken : ℕ → ℕ → ℕ
-slacken k hi = if nat_le 2 k && nat_le hi 1 then 1 else 0
+slacken k hi = if nat_le BELOW k && nat_le hi 1 then AT_MOST else 0
 
 -- the smallest difference a - b, if k is the level of b to a: 1 if b is known to be below a, otherwise 0
 abbrev pub least_difference : ℕ → ℕ
-least_difference k = if nat_le 2 k then 1 else 0
+least_difference k = if nat_le BELOW k then 1 else 0
 
 -- the abstract value of the result of an instruction, from the note before it; `Nothing` if it has no result
 abbrev pub result_value : Note → Instr → AbstractValue
@@ -110,11 +111,11 @@ to_result note (Min d a b) y = min (to_register note y a) (to_register note y b)
 to_result note (Max d a b) y = max (to_register note y a) (to_register note y b)
 to_result note _ y = 0
 
--- the note after register d gets a new value: `said` is its abstract value, `to` has its levels to the other
--- variables, and `from` has their levels to it; all other knowledge stays
+-- the note after register d gets a new value: `value` is its abstract value, `to` has its levels to all
+-- variables, and `from` has the levels of all variables to it; all other knowledge stays
 unfoldable pub assign : Note → Register → AbstractValue → (Variable → ℕ) → (Variable → ℕ) → Note
-assign note d said to from = record {
-  said = update note.said (variable.Register d) said;
+assign note d value to from = record {
+  values = update note.values (variable.Register d) value;
   level = λ x y.
       if same_variable x (variable.Register d) then to y
       else (if same_variable y (variable.Register d) then from x else note.level x y);
@@ -126,16 +127,16 @@ abbrev pub assign_result : Note → Register → Instr → Note
 assign_result note d instr =
     assign note d (result_value note instr) (result_to note instr) (to_result note instr)
 
--- the level of x to y that follows from the levels i of x to p, k of p to q, and j of q to y, for k of 1 or
--- 2: 0 if i or j is 0, otherwise the largest of the three. For example, x at most p (1), p below q (2) and q
--- at most y (1) give x below y (2)
+-- the level of x to y that follows from the levels i of x to p, k of p to q, and j of q to y, for k of AT_MOST
+-- or BELOW: 0 if i or j is 0, otherwise the largest of the three. For example, x at most p, p below q and q at
+-- most y give x below y
 abbrev pub chain : ℕ → ℕ → ℕ → ℕ
 chain zero k j = 0
 chain (suc i) k zero = 0
 chain (suc i) k (suc j) = max (suc i) (max k (suc j))
 
--- the note refined by a comparison, with its consequences for all variables: p is at most q if k is 1, and
--- below q if k is 2
+-- the note refined by a comparison, with its consequences for all variables: p is at most q if k is AT_MOST,
+-- and below q if k is BELOW
 unfoldable pub refine_order : Note → Variable → Variable → ℕ → Note
 refine_order note p q k = record note {
   level = λ x y. max (note.level x y) (chain (known_level note x p) k (known_level note q y));
@@ -156,8 +157,8 @@ assign_destination note instr (Some d) = Some (assign_result note d instr)
 -- by its false condition, and other instructions write their result; `None` if control does not continue
 -- there
 abbrev pub next_note : Note → Instr → Option Note
-next_note note (JumpLess a b t) = Some (refine_order note (variable.Register b) (variable.Register a) 1)
-next_note note (JumpAtMost a b t) = Some (refine_order note (variable.Register b) (variable.Register a) 2)
+next_note note (JumpLess a b t) = Some (refine_order note (variable.Register b) (variable.Register a) AT_MOST)
+next_note note (JumpAtMost a b t) = Some (refine_order note (variable.Register b) (variable.Register a) BELOW)
 next_note note (JumpTrue a t) = Some note
 next_note note (JumpFalse a t) = Some (refine_flag note a)
 next_note note instr = assign_destination note instr (destination instr)
@@ -165,7 +166,7 @@ next_note note instr = assign_destination note instr (destination instr)
 -- the note that a jump sends to its target, from the note before it: a conditional jump refines it by its
 -- true condition
 abbrev pub jump_note : Note → Instr → Note
-jump_note note (JumpLess a b t) = refine_order note (variable.Register a) (variable.Register b) 2
-jump_note note (JumpAtMost a b t) = refine_order note (variable.Register a) (variable.Register b) 1
+jump_note note (JumpLess a b t) = refine_order note (variable.Register a) (variable.Register b) BELOW
+jump_note note (JumpAtMost a b t) = refine_order note (variable.Register a) (variable.Register b) AT_MOST
 jump_note note (JumpTrue a t) = refine_flag note a
 jump_note note _ = note

@@ -4,7 +4,8 @@
 //!
 //! ```text
 //! let (slow, fast) = (AbstractValue::Between(0, 2), AbstractValue::Between(3, 5));
-//! let level = level_between(slow, fast, false, 0); // 2: the slow value is below the fast one
+//! let (is_same, known_level) = (false, 0);
+//! let level = level_between(slow, fast, is_same, known_level); // 2: the slow value is below the fast one
 //! ```
 #![tactic(auto)]
 
@@ -17,8 +18,8 @@ mod rows;
 mod strength;
 mod transfer;
 
-pub use note::{AbstractValue, entry_levels, entry_said, level_between};
+pub use note::{AT_MOST, AbstractValue, BELOW, entry_levels, entry_values, level_between};
 pub use reasons::{Operands, Reason, reason_against};
-pub use rows::Stored;
+pub use rows::StoredNote;
 pub use strength::{is_no_stronger, join, join_itself};
 pub use transfer::{jump_note, next_note};

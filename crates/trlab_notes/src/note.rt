@@ -2,10 +2,11 @@
 
 ghost use Rattle.std.specs.Prelude.{◌≡◌};
 ghost use Rattle.trlab_code.specs.declared.instruction.Variable.{Variable as AVariable};
-ghost use Rattle.trlab_notes.specs.Notes.{low, high, implies, level_between, range_level, entry_said, entry_level};
+ghost use Rattle.trlab_notes.specs.Notes.{low, high, implies, level_between, range_level, entry_values, entry_level};
 ghost use Rattle.trlab_notes.specs.Rows.{levels_in, value_in};
 
-use trlab_code::{Input, Kind, MAX_GAP, MAX_LIMIT, VARIABLES, Variable};
+use trlab_bounds::roads::{MAX_GAP, MAX_LIMIT};
+use trlab_code::{Kind, VARIABLES};
 
 /// The level of a variable that is known to be at most another.
 pub const AT_MOST: u8 = 1;
@@ -20,7 +21,7 @@ pub enum AbstractValue {
     Nothing,
     /// It is a number from the first to the second, both included.
     Between(u32, u32),
-    /// It is a flag. `true`: if the flag is true, the side cell is empty.
+    /// It is a flag. With `true`, the side cell is empty if the flag is true.
     Implies(bool),
 }
 
@@ -56,7 +57,7 @@ impl AbstractValue {
     }
 }
 
-/// The level of a number of at most `high` to one of at least `low`.
+/// The level of a number of at most `high` to a number of at least `low`: `BELOW`, `AT_MOST` or 0.
 fn range_level(high: u32, low: u32) -> u8
     ensures { result ≡ range_level high low }
 {
@@ -69,8 +70,8 @@ fn range_level(high: u32, low: u32) -> u8
     }
 }
 
-/// The known level of a variable with the abstract value `s` to one with `t`: 1 if they are the same variable, else
-/// the larger of `level` and the level of their ranges; 0 if one of them is not a number.
+/// The known level of a variable with the abstract value `s` to one with `t`: `AT_MOST` if they are the same variable,
+/// else the larger of `level` and the level of their ranges; 0 if one of them is not a number.
 pub fn level_between(s: AbstractValue, t: AbstractValue, is_same: bool, level: u8) -> u8
     ensures { result ≡ level_between s t is_same level }
 {
@@ -84,8 +85,8 @@ pub fn level_between(s: AbstractValue, t: AbstractValue, is_same: bool, level: u
 }
 
 /// The abstract values of the variables at the start of a program, in the order of their numbers.
-pub fn entry_said(kind: Kind) -> [AbstractValue; VARIABLES]
-    ensures { (x : AVariable) → value_in result x ≡ entry_said kind x }
+pub fn entry_values(kind: Kind) -> [AbstractValue; VARIABLES]
+    ensures { (x : AVariable) → value_in result x ≡ entry_values kind x }
 {
     let unset = AbstractValue::Nothing;
     let speed = AbstractValue::Between(0, MAX_LIMIT);
@@ -95,6 +96,7 @@ pub fn entry_said(kind: Kind) -> [AbstractValue; VARIABLES]
         Kind::Motion => (unset, unset),
         Kind::Change => (gap, AbstractValue::Between(0, 1)),
     };
+    // r0 to r7, and then speed, limit, gap, sidegap, sideback, lane and headspeed.
     [
         unset, unset, unset, unset, unset, unset, unset, unset, speed, limit, gap, side_gap,
         side_gap, lane, speed,
@@ -106,6 +108,7 @@ pub fn entry_levels() -> [[u8; VARIABLES]; VARIABLES]
     ensures { (x y : AVariable) → levels_in result x y ≡ entry_level x y }
 {
     let none = [0; VARIABLES];
+    // Index 9 is the limit.
     let within_limit = [0, 0, 0, 0, 0, 0, 0, 0, 0, AT_MOST, 0, 0, 0, 0, 0];
     let (speed, headspeed) = (within_limit, within_limit);
     [

@@ -8,7 +8,7 @@ ghost use Rattle.trlab_notes.specs.Stored.{note_of};
 ghost use Rattle.trlab_notes.specs.Transfer.{register_value};
 
 use crate::note::AbstractValue;
-use crate::rows::Stored;
+use crate::rows::StoredNote;
 use trlab_bounds::programs::MAX_NUMBER;
 use trlab_code::{Input, Instr, Kind, Register, Variable};
 
@@ -96,6 +96,7 @@ pub enum Operands {
 impl Operands {
     ghost use Rattle.trlab_notes.specs.Reasons.{operands_of};
 
+    /// The registers that the instruction reads.
     pub fn of(instr: Instr) -> Operands
         ensures { result ≡ operands_of instr }
     {
@@ -115,7 +116,7 @@ impl Operands {
     }
 }
 
-/// Whether a program of this kind may read the input.
+/// Whether programs of kind `kind` may read the input.
 fn is_allowed_input(kind: Kind, input: Input) -> bool
     ensures { result ≡ allows_input kind input }
 {
@@ -125,7 +126,7 @@ fn is_allowed_input(kind: Kind, input: Input) -> bool
     }
 }
 
-/// Whether a program of this kind may have the instruction.
+/// Whether programs of kind `kind` may have the instruction.
 fn is_allowed(kind: Kind, instr: Instr) -> bool
     ensures { result ≡ allows kind instr }
 {
@@ -137,7 +138,7 @@ fn is_allowed(kind: Kind, instr: Instr) -> bool
     }
 }
 
-/// Whether the instruction is allowed both in programs of `kind` and in those of `own`.
+/// Whether the instruction is allowed in programs of both kinds, `kind` and `own`.
 fn is_of_kind(kind: Kind, own: Kind, instr: Instr) -> bool
     ensures { result ≡ is_of_kind kind own instr }
 {
@@ -145,28 +146,28 @@ fn is_of_kind(kind: Kind, own: Kind, instr: Instr) -> bool
 }
 
 /// Whether a register may be unset.
-fn is_unset(note: &Stored, register: Register) -> bool
+fn is_unset(note: &StoredNote, register: Register) -> bool
     ensures { result ≡ is_nothing (register_value (note_of note.now) register) }
 {
     matches!(note.register_value(register), AbstractValue::Nothing)
 }
 
 /// Whether a register holds a number.
-fn has_number(note: &Stored, register: Register) -> bool
+fn has_number(note: &StoredNote, register: Register) -> bool
     ensures { result ≡ is_range (register_value (note_of note.now) register) }
 {
     matches!(note.register_value(register), AbstractValue::Between(..))
 }
 
 /// Whether a register holds a flag.
-fn has_flag(note: &Stored, register: Register) -> bool
+fn has_flag(note: &StoredNote, register: Register) -> bool
     ensures { result ≡ is_flag (register_value (note_of note.now) register) }
 {
     matches!(note.register_value(register), AbstractValue::Implies(_))
 }
 
 /// Whether an operand may be unset.
-fn has_unset(note: &Stored, instr: Instr) -> bool
+fn has_unset(note: &StoredNote, instr: Instr) -> bool
     ensures { result ≡ some_unset (note_of note.now) instr }
 {
     match Operands::of(instr) {
@@ -177,7 +178,7 @@ fn has_unset(note: &Stored, instr: Instr) -> bool
 }
 
 /// Whether an operand is a flag instead of a number, or a number instead of a flag.
-fn has_other_kind(note: &Stored, instr: Instr) -> bool
+fn has_wrong_type(note: &StoredNote, instr: Instr) -> bool
     ensures { result ≡ some_of_wrong_type (note_of note.now) instr }
 {
     match Operands::of(instr) {
@@ -190,7 +191,7 @@ fn has_other_kind(note: &Stored, instr: Instr) -> bool
 }
 
 /// Whether the result may be too large for a register.
-fn may_be_too_large(note: &Stored, instr: Instr) -> bool
+fn may_be_too_large(note: &StoredNote, instr: Instr) -> bool
     ensures { result ≡ may_be_too_large (note_of note.now) instr }
 {
     match instr {
@@ -205,8 +206,8 @@ fn may_be_too_large(note: &Stored, instr: Instr) -> bool
     }
 }
 
-/// Whether a difference may be below zero.
-fn may_be_below_zero(note: &Stored, instr: Instr) -> bool
+/// Whether the result of a subtraction may be below zero.
+fn may_be_below_zero(note: &StoredNote, instr: Instr) -> bool
     ensures { result ≡ may_be_below_zero (note_of note.now) instr }
 {
     match instr {
@@ -215,8 +216,8 @@ fn may_be_below_zero(note: &Stored, instr: Instr) -> bool
     }
 }
 
-/// Whether a new speed may be above an input.
-fn may_be_above(input: Input, note: &Stored, instr: Instr) -> bool
+/// Whether the speed of `Go` may be above an input, the gap or the limit.
+fn may_be_above(input: Input, note: &StoredNote, instr: Instr) -> bool
     ensures { result ≡ may_be_above input (note_of note.now) instr }
 {
     match instr {
@@ -225,8 +226,8 @@ fn may_be_above(input: Input, note: &Stored, instr: Instr) -> bool
     }
 }
 
-/// Whether a car may cross to an occupied cell.
-fn may_be_occupied(note: &Stored, instr: Instr) -> bool
+/// Whether the side cell may be occupied at a `Cross`.
+fn may_be_occupied(note: &StoredNote, instr: Instr) -> bool
     ensures { result ≡ may_be_occupied (note_of note.now) instr }
 {
     matches!(instr, Instr::Cross) && !note.side
@@ -261,7 +262,7 @@ fn falls_out(len: usize, pc: usize, instr: Instr) -> bool
 }
 
 /// The first of the reasons 8 to 12 that holds. They are about the instruction's result or answer.
-fn range_reason(note: &Stored, instr: Instr) -> Option<Reason>
+fn range_reason(note: &StoredNote, instr: Instr) -> Option<Reason>
     ensures { result ≡ first_reason (range_checks (note_of note.now) instr) }
 {
     if may_be_too_large(note, instr) {
@@ -286,7 +287,7 @@ pub fn reason_against(
     own: Kind,
     len: usize,
     pc: usize,
-    note: &Stored,
+    note: &StoredNote,
     instr: Instr,
 ) -> Option<Reason>
     requires { pc < len }
@@ -296,7 +297,7 @@ pub fn reason_against(
         Some(Reason::WrongProgram)
     } else if has_unset(note, instr) {
         Some(Reason::MaybeUnset)
-    } else if has_other_kind(note, instr) {
+    } else if has_wrong_type(note, instr) {
         Some(Reason::WrongValue)
     } else if jumps_back(pc, instr) {
         Some(Reason::JumpsBack)

@@ -13,10 +13,10 @@ ghost use Rattle.trlab_notes.specs.Stored.{note_of};
 ghost use Rattle.trlab_notes.specs.Transfer.{assign_result, flag_implies, least_difference, register_level, register_value, result_value, result_to, to_result};
 
 use crate::note::{AbstractValue, BELOW, level_between};
-use crate::rows::{LevelRow, Stored, with_variable};
+use crate::rows::{LevelRow, StoredNote, with_variable};
 use trlab_code::{Instr, Register, VARIABLES, Variable};
 
-/// The range of a sum.
+/// The range of the sum of two numbers.
 fn sum(p: AbstractValue, q: AbstractValue) -> AbstractValue
     requires { high p + high q ≤ MAX_NUMBER }
     ensures { result ≡ Between (min (low p + low q) MAX_NUMBER) (high p + high q) }
@@ -24,7 +24,7 @@ fn sum(p: AbstractValue, q: AbstractValue) -> AbstractValue
     AbstractValue::Between(p.low().saturating_add(q.low()), p.high() + q.high())
 }
 
-/// The range of a difference, which is at least `least`.
+/// The range of the difference of two numbers, which is at least `least`.
 fn difference(p: AbstractValue, q: AbstractValue, least: u32) -> AbstractValue
     ensures { result ≡ Between (max (low p - high q) least) (high p - low q) }
 {
@@ -34,7 +34,7 @@ fn difference(p: AbstractValue, q: AbstractValue, least: u32) -> AbstractValue
     )
 }
 
-/// The range of a product.
+/// The range of a number times n.
 fn product(p: AbstractValue, n: u32) -> AbstractValue
     requires { high p * n ≤ MAX_NUMBER }
     ensures { result ≡ Between (min (low p * n) MAX_NUMBER) (high p * n) }
@@ -42,7 +42,7 @@ fn product(p: AbstractValue, n: u32) -> AbstractValue
     AbstractValue::Between(p.low().saturating_mul(n), p.high() * n)
 }
 
-/// The range of a quotient.
+/// The range of a number divided by n, rounded down.
 fn quotient(p: AbstractValue, n: u32) -> AbstractValue
     requires { 1 ≤ n }
     ensures { result ≡ Between (low p / n) (high p / n) }
@@ -71,39 +71,39 @@ fn least_difference(level: u8) -> u32
     if level >= BELOW { 1 } else { 0 }
 }
 
-/// The known levels of a variable to all variables and of all variables to it, from the levels `to` and `from` and the
+/// The known levels of a variable to all variables and of all variables to it, from its levels `to` and `from` and the
 /// ranges.
-fn known_ways(
-    said: &[AbstractValue; VARIABLES],
+fn known_row_and_column(
+    values: &[AbstractValue; VARIABLES],
     variable: usize,
     to: LevelRow,
     from: LevelRow,
 ) -> (LevelRow, LevelRow)
     requires { variable < VARIABLES }
-    ensures to { (y : ℕ) → y < VARIABLES → level_in result.0 y ≡ known_level_from said.now variable y (level_in to y) }
+    ensures to { (y : ℕ) → y < VARIABLES → level_in result.0 y ≡ known_level_from values.now variable y (level_in to y) }
     ensures from { (x : ℕ) → x < VARIABLES
-        → level_in result.1 x ≡ known_level_from said.now x variable (level_in from x) }
+        → level_in result.1 x ≡ known_level_from values.now x variable (level_in from x) }
 {
     let (mut row, mut column) = (to, from);
     for x in 0..VARIABLES {
         row = row.with(
             x,
-            level_between(said[variable], said[x], variable == x, to.level(x)),
+            level_between(values[variable], values[x], variable == x, to.level(x)),
         );
         column = column.with(
             x,
-            level_between(said[x], said[variable], x == variable, from.level(x)),
+            level_between(values[x], values[variable], x == variable, from.level(x)),
         );
     }
     (row, column)
 }
 
-impl Stored {
+impl StoredNote {
     /// The abstract value of a register.
     pub(crate) fn register_value(&self, register: Register) -> AbstractValue
         ensures { result ≡ register_value (note_of self.now) register }
     {
-        self.said[Variable::Register(register).number()]
+        self.values[Variable::Register(register).number()]
     }
 
     /// Whether the flag in a register implies that the side cell is empty.
@@ -165,18 +165,18 @@ impl Stored {
                 let by_b = self
                     .row(Variable::Register(b))
                     .slacken(self.register_value(a).high());
-                by_a.either(by_b)
+                by_a.max_levels(by_b)
             }
             Instr::Sub(_, a, b) => self
                 .row(Variable::Register(a))
                 .sharpen(self.register_value(b).low()),
             Instr::Min(_, a, b) => {
                 self.row(Variable::Register(a))
-                    .either(self.row(Variable::Register(b)))
+                    .max_levels(self.row(Variable::Register(b)))
             }
             Instr::Max(_, a, b) => self
                 .row(Variable::Register(a))
-                .both(self.row(Variable::Register(b))),
+                .min_levels(self.row(Variable::Register(b))),
             _ => LevelRow::empty(),
         }
     }
@@ -195,37 +195,37 @@ impl Stored {
                 let by_b = self
                     .column(Variable::Register(b))
                     .sharpen(self.register_value(a).low());
-                by_a.either(by_b)
+                by_a.max_levels(by_b)
             }
             Instr::Min(_, a, b) => {
                 self.column(Variable::Register(a))
-                    .both(self.column(Variable::Register(b)))
+                    .min_levels(self.column(Variable::Register(b)))
             }
             Instr::Max(_, a, b) => {
                 self.column(Variable::Register(a))
-                    .either(self.column(Variable::Register(b)))
+                    .max_levels(self.column(Variable::Register(b)))
             }
             _ => LevelRow::empty(),
         }
     }
 
-    /// The note once an instruction has written its result to `dest`.
-    pub(crate) fn assign_result(&self, dest: Register, instr: Instr) -> Stored
+    /// The note after an instruction has written its result to `dest`.
+    pub(crate) fn assign_result(&self, dest: Register, instr: Instr) -> StoredNote
         requires in_range { IsInRange instr }
         requires fits { may_be_too_large (note_of self.now) instr ≡ false }
         ensures { note_of result ≡ closure (assign_result (note_of self.now) dest instr) }
     {
         let variable = Variable::Register(dest).number();
-        let mut said = self.said;
-        said[variable] = self.result_value(instr);
-        let (row, column) = known_ways(
-            &said,
+        let mut values = self.values;
+        values[variable] = self.result_value(instr);
+        let (row, column) = known_row_and_column(
+            &values,
             variable,
             self.result_to(instr),
             self.to_result(instr),
         );
-        Stored {
-            said,
+        StoredNote {
+            values,
             rows: with_variable(&self.rows, variable, row, column),
             columns: with_variable(&self.columns, variable, column, row),
             side: self.side,

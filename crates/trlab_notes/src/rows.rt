@@ -4,12 +4,14 @@
 ghost use Rattle.std.specs.Prelude.{◌≡◌, ◌↔◌, ℕ, ◌*◌, ◌<◌, ◌≤◌, IsTrue, min, max, nat_eq, if◌then◌else◌, slice_index};
 ghost use Rattle.std.specs.Int.{bit_at};
 ghost use Rattle.trlab_notes.specs.Transfer.{chain, slacken, sharpen};
+ghost use Rattle.trlab_notes.specs.declared.note.TheConstants.{AT_MOST, BELOW};
 ghost use Rattle.trlab_notes.specs.Rows.{IsTransposed, IncludesRanges, level_in, level_of};
 
 use crate::note::{AT_MOST, AbstractValue, BELOW};
 use trlab_code::VARIABLES;
 
-/// The levels of one variable to all: bit y of `at_most` and `below` is for the variable with the number y.
+/// The levels of one variable to all variables, as bits: its level to the variable with the number y is `BELOW` if
+/// bit y of `below` is set, `AT_MOST` if only bit y of `at_most` is, and otherwise 0.
 #[derive(Clone, Copy)]
 pub struct LevelRow {
     at_most: u16,
@@ -30,7 +32,7 @@ fn with_bit(bits: u16, variable: usize, is_on: bool) -> u16
 }
 
 impl LevelRow {
-    /// Nothing is known.
+    /// The row in which nothing is known: all levels are 0.
     pub fn empty() -> LevelRow
         ensures { (y : ℕ) → level_in result y ≡ 0 }
     {
@@ -40,7 +42,7 @@ impl LevelRow {
         }
     }
 
-    /// The level to a variable.
+    /// The level to the variable with the number y.
     pub fn level(self, y: usize) -> u8
         requires { y < VARIABLES }
         ensures { result ≡ level_in self y }
@@ -63,25 +65,25 @@ impl LevelRow {
         levels
     }
 
-    /// A bit for each variable whose level is not 0.
-    fn ahead(self) -> u16
+    /// The bits of the variables whose levels are not 0.
+    fn known_bits(self) -> u16
         ensures { (y : ℕ) → bit_at result y ≡ min (level_in self y) 1 }
     {
         self.at_most | self.below
     }
 
-    /// The smaller level at each variable.
-    pub fn both(self, other: LevelRow) -> LevelRow
+    /// The smaller of two levels for each variable.
+    pub fn min_levels(self, other: LevelRow) -> LevelRow
         ensures { (y : ℕ) → level_in result y ≡ min (level_in self y) (level_in other y) }
     {
         LevelRow {
-            at_most: self.ahead() & other.ahead(),
+            at_most: self.known_bits() & other.known_bits(),
             below: self.below & other.below,
         }
     }
 
-    /// The larger level at each variable.
-    pub fn either(self, other: LevelRow) -> LevelRow
+    /// The larger of two levels for each variable.
+    pub fn max_levels(self, other: LevelRow) -> LevelRow
         ensures { (y : ℕ) → level_in result y ≡ max (level_in self y) (level_in other y) }
     {
         LevelRow {
@@ -90,22 +92,22 @@ impl LevelRow {
         }
     }
 
-    /// Raises each level 1 to 2.
+    /// Raises each level `AT_MOST` to `BELOW`.
     fn strict(self) -> LevelRow
         ensures { (y : ℕ) → level_in result y ≡ 2 * min (level_in self y) 1 }
     {
         LevelRow {
             at_most: 0,
-            below: self.ahead(),
+            below: self.known_bits(),
         }
     }
 
     /// The levels of x that follow if x has the level `first` to p, p has the level `middle` to q, and this is the
     /// row of q.
     pub fn chain(self, first: u8, middle: u8) -> LevelRow
-        requires first_in { first ≤ 2 }
-        requires middle_from { 1 ≤ middle }
-        requires middle_to { middle ≤ 2 }
+        requires first_in { first ≤ BELOW }
+        requires middle_from { AT_MOST ≤ middle }
+        requires middle_to { middle ≤ BELOW }
         ensures { (y : ℕ) → level_in result y ≡ chain first middle (level_in self y) }
     {
         if first == 0 {
@@ -137,7 +139,7 @@ impl LevelRow {
     /// The row with this level to a variable.
     pub fn with(self, variable: usize, level: u8) -> LevelRow
         requires inside { variable < VARIABLES }
-        requires in_range { level ≤ 2 }
+        requires in_range { level ≤ BELOW }
         ensures { (y : ℕ) → y < VARIABLES →
             level_in result y ≡ (if nat_eq y variable then level else level_in self y) }
     {
@@ -183,16 +185,16 @@ pub fn with_variable(
     changed
 }
 
-/// The rows if p is known to have this level to q: `first` has the levels of all variables to p, and `last` those of q
-/// to all variables.
+/// The rows refined by a known level of p to q: `first` has the levels of all variables to p, and `last` the levels of
+/// q to all variables.
 pub fn refine_rows(
     rows: &[LevelRow; VARIABLES],
     first: LevelRow,
     level: u8,
     last: LevelRow,
 ) -> [LevelRow; VARIABLES]
-    requires level_from { 1 ≤ level }
-    requires level_to { level ≤ 2 }
+    requires level_from { AT_MOST ≤ level }
+    requires level_to { level ≤ BELOW }
     ensures { (x y : ℕ) → x < VARIABLES → y < VARIABLES → level_of result x y ≡
         (if nat_eq y x then level_of rows.now x x
         else max (level_of rows.now x y) (chain (level_in first x) level (level_in last y))) }
@@ -200,7 +202,7 @@ pub fn refine_rows(
     let mut refined = *rows;
     for x in 0..VARIABLES {
         let row = rows[x];
-        let more = row.either(last.chain(first.level(x), level));
+        let more = row.max_levels(last.chain(first.level(x), level));
         refined[x] = more.with(x, row.level(x));
     }
     refined
@@ -213,12 +215,12 @@ pub fn join_rows(a: &[LevelRow; VARIABLES], b: &[LevelRow; VARIABLES]) -> [Level
 {
     let mut common = *a;
     for x in 0..VARIABLES {
-        common[x] = a[x].both(b[x]);
+        common[x] = a[x].min_levels(b[x]);
     }
     common
 }
 
-/// The levels of each variable to y.
+/// The column of y: the levels of all variables to y.
 fn column(rows: &[LevelRow; VARIABLES], y: usize) -> LevelRow
     requires { y < VARIABLES }
     ensures { (x : ℕ) → x < VARIABLES → level_in result x ≡ level_of rows.now x y }
@@ -230,7 +232,7 @@ fn column(rows: &[LevelRow; VARIABLES], y: usize) -> LevelRow
     column
 }
 
-/// The same levels with the two variables exchanged.
+/// The transposed rows: the columns of all variables.
 pub fn columns(rows: &[LevelRow; VARIABLES]) -> [LevelRow; VARIABLES]
     ensures { (x y : ℕ) → x < VARIABLES → y < VARIABLES → level_of result y x ≡ level_of rows.now x y }
 {
@@ -241,16 +243,17 @@ pub fn columns(rows: &[LevelRow; VARIABLES]) -> [LevelRow; VARIABLES]
     columns
 }
 
-/// A stored note: the abstract value of each variable, and all that is known of their order.
+/// A note as it is stored: the abstract value of each variable, and the known levels of all variables to all.
 #[derive(Clone, Copy)]
-pub struct Stored {
-    pub said: [AbstractValue; VARIABLES],
+pub struct StoredNote {
+    /// The abstract values, in the order of the variables' numbers.
+    pub values: [AbstractValue; VARIABLES],
     /// The row of x has the levels of x to each variable.
     pub rows: [LevelRow; VARIABLES],
     /// The column of y has the levels of each variable to y.
     pub columns: [LevelRow; VARIABLES],
-    /// Is the side cell known to be empty?
+    /// Whether the side cell is known to be empty.
     pub side: bool,
-    pub ghost ranges: { IncludesRanges said rows },
+    pub ghost ranges: { IncludesRanges values rows },
     pub ghost transposed: { IsTransposed rows columns },
 }

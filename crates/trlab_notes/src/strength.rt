@@ -1,4 +1,4 @@
-//! The order of notes and their join, the common knowledge of two notes where two paths meet.
+//! The order of notes and their join, which is the common knowledge of two notes when two paths meet.
 
 ghost use Rattle.std.specs.Prelude.{◌≡◌, ◌↔◌, ℕ, ◌<◌, ◌≤◌, IsTrue, slice_index_or};
 ghost use Rattle.trlab_notes.specs.declared.note.AbstractValue.TheVariants.{Nothing};
@@ -8,11 +8,11 @@ ghost use Rattle.trlab_notes.specs.Rows.{level_of};
 ghost use Rattle.trlab_notes.specs.Stored.{note_of};
 
 use crate::note::AbstractValue;
-use crate::rows::{Stored, join_rows};
+use crate::rows::{StoredNote, join_rows};
 use trlab_code::VARIABLES;
 
-/// Whether `s` says no more than `t`.
-fn says_no_more(s: AbstractValue, t: AbstractValue) -> bool
+/// Whether the abstract value `s` is no more precise than `t`.
+fn is_no_more_precise(s: AbstractValue, t: AbstractValue) -> bool
     ensures { IsTrue result ↔ IsNoMorePrecise s t }
 {
     match (s, t) {
@@ -24,22 +24,22 @@ fn says_no_more(s: AbstractValue, t: AbstractValue) -> bool
     }
 }
 
-/// Whether `m` says no more than `n` about any variable.
-fn has_weaker_variables(m: &Stored, n: &Stored) -> bool
+/// Whether no abstract value of `m` is more precise than in `n`.
+fn has_weaker_variables(m: &StoredNote, n: &StoredNote) -> bool
     ensures { IsTrue result ↔ ((x : ℕ) → x < VARIABLES → IsNoMorePrecise
-        (with_side m.now.side (slice_index_or m.now.said x Nothing))
-        (with_side n.now.side (slice_index_or n.now.said x Nothing))) }
+        (with_side m.now.side (slice_index_or m.now.values x Nothing))
+        (with_side n.now.side (slice_index_or n.now.values x Nothing))) }
 {
     for x in 0..VARIABLES {
-        if !says_no_more(m.said_at(x), n.said_at(x)) {
+        if !is_no_more_precise(m.value_at(x), n.value_at(x)) {
             return false;
         }
     }
     true
 }
 
-/// Whether `m` says no more than `n` about the order of any two variables.
-fn has_smaller_levels(m: &Stored, n: &Stored) -> bool
+/// Whether no level of `m` is above the corresponding level of `n`.
+fn has_smaller_levels(m: &StoredNote, n: &StoredNote) -> bool
     ensures { IsTrue result ↔ ((x y : ℕ) → x < VARIABLES → y < VARIABLES →
         level_of m.now.rows x y ≤ level_of n.now.rows x y) }
 {
@@ -51,14 +51,14 @@ fn has_smaller_levels(m: &Stored, n: &Stored) -> bool
     true
 }
 
-/// Whether `m` is no stronger than `n`: it says no more about the variables, their order and the side cell.
-pub fn is_no_stronger(m: &Stored, n: &Stored) -> bool
+/// Whether `m` is no stronger than `n`: it knows no more of the values, the order and the side cell.
+pub fn is_no_stronger(m: &StoredNote, n: &StoredNote) -> bool
     ensures { IsTrue result ↔ IsNoStronger (note_of m.now) (note_of n.now) }
 {
     has_weaker_variables(m, n) && has_smaller_levels(m, n) && (!m.side || n.side)
 }
 
-/// The common knowledge of two abstract values.
+/// The common knowledge of two abstract values: for example, the smallest range that contains two ranges.
 fn join_values(a: AbstractValue, b: AbstractValue) -> AbstractValue
     ensures { result ≡ join_values a b }
 {
@@ -71,25 +71,25 @@ fn join_values(a: AbstractValue, b: AbstractValue) -> AbstractValue
     }
 }
 
-/// The common knowledge of two notes about each variable.
-fn join_variables(a: &Stored, b: &Stored) -> [AbstractValue; VARIABLES]
+/// The common knowledge of two notes about the value of each variable.
+fn join_variables(a: &StoredNote, b: &StoredNote) -> [AbstractValue; VARIABLES]
     ensures { (x : ℕ) → x < VARIABLES → slice_index_or result x Nothing ≡ join_values
-        (with_side a.now.side (slice_index_or a.now.said x Nothing))
-        (with_side b.now.side (slice_index_or b.now.said x Nothing)) }
+        (with_side a.now.side (slice_index_or a.now.values x Nothing))
+        (with_side b.now.side (slice_index_or b.now.values x Nothing)) }
 {
-    let mut said = [AbstractValue::Nothing; VARIABLES];
+    let mut values = [AbstractValue::Nothing; VARIABLES];
     for x in 0..VARIABLES {
-        said[x] = join_values(a.said_at(x), b.said_at(x));
+        values[x] = join_values(a.value_at(x), b.value_at(x));
     }
-    said
+    values
 }
 
 /// The strongest note that is no stronger than either of two.
-pub fn join(a: &Stored, b: &Stored) -> Stored
+pub fn join(a: &StoredNote, b: &StoredNote) -> StoredNote
     ensures { note_of result ≡ join (note_of a.now) (note_of b.now) }
 {
-    Stored {
-        said: join_variables(a, b),
+    StoredNote {
+        values: join_variables(a, b),
         rows: join_rows(&a.rows, &b.rows),
         columns: join_rows(&a.columns, &b.columns),
         side: a.side && b.side,
@@ -97,11 +97,11 @@ pub fn join(a: &Stored, b: &Stored) -> Stored
 }
 
 /// The join of a note with itself: if the side cell is known to be empty, each flag implies that it is.
-pub fn join_itself(note: &Stored) -> Stored
+pub fn join_itself(note: &StoredNote) -> StoredNote
     ensures { note_of result ≡ join (note_of note.now) (note_of note.now) }
 {
-    Stored {
-        said: join_variables(note, note),
+    StoredNote {
+        values: join_variables(note, note),
         rows: note.rows,
         columns: note.columns,
         side: note.side,

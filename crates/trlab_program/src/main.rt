@@ -14,17 +14,18 @@ use std::thread::Threads;
 use std::{env, io};
 use trlab_campaign::{End, Milestone, ProgressObserver, Sink, Source, Watched};
 use trlab_command_line::{
-    Explaining, REFUSED_ARGUMENTS, Request, execute, print_help_or_error, read_words, status_of_end,
+    ExplainRequest, REJECTED_ARGUMENTS, Request, execute, print_help_or_error, read_words,
+    status_of_end,
 };
 
-/// The maximum number of bytes of output that are gathered before they are written.
-const MAX_GATHERED: usize = 65536;
+/// The number of bytes of output that are gathered before they are written.
+const BUFFER_SIZE: usize = 65536;
 
 fn main(rt: HostRuntime) -> ExitCode {
     let status = match given_arguments(&rt) {
         Ok(arguments) => {
             let request = read_words(rt.alloc(), &arguments);
-            match gathered(rt.alloc(), rt.stdout(), is_live(&request)) {
+            match buffered(rt.alloc(), rt.stdout(), is_live(&request)) {
                 Ok(out) => {
                     let input = rt.stdin();
                     let is_typed = input.is_terminal();
@@ -38,7 +39,7 @@ fn main(rt: HostRuntime) -> ExitCode {
         Err(error) if error.kind() == io::ErrorKind::OutOfMemory => status_of_end(End::Memory),
         Err(_) => {
             let _ = eprintln!(rt; "error: a word of the command line is not UTF-8");
-            REFUSED_ARGUMENTS
+            REJECTED_ARGUMENTS
         }
     };
     ExitCode::from(status)
@@ -49,64 +50,64 @@ fn is_live(request: &Result<Request, Error>) -> bool {
     matches!(request, Ok(Request::Series { .. }))
 }
 
-/// A writer that gathers output before it is written. It gathers nothing if the output `is_live` or `out` is a
+/// A writer that gathers output before it is written to `out`. It gathers nothing if `is_live` or if `out` is a
 /// terminal, so that each step can be watched. Making it fails only if an allocation fails.
-fn gathered<W: Write + IsTerminal + Drop>(
+fn buffered<W: Write + IsTerminal + Drop>(
     alloc: Global,
     out: W,
     is_live: bool,
 ) -> io::Result<BufWriter<W>> {
-    let most = if is_live || out.is_terminal() {
+    let capacity = if is_live || out.is_terminal() {
         0
     } else {
-        MAX_GATHERED
+        BUFFER_SIZE
     };
-    BufWriter::with_capacity(alloc, most, out)
+    BufWriter::with_capacity(alloc, capacity, out)
 }
 
-/// Reports the progress of a command on standard error. `counted` is the unit, step or point; if it is `None`, nothing
-/// is reported. A line that cannot be written is ignored.
+/// Reports the progress of a command on standard error, in its unit, step or point; without a unit, nothing is
+/// reported. A line that cannot be written is ignored.
 #[derive(Drop)]
 struct ProgressPrinter<'a, R> {
     rt: &'a R,
-    counted: Option<&'static str>,
+    unit: Option<&'static str>,
 }
 
 impl<R: Eprint> ProgressObserver for ProgressPrinter<'_, R> {
     fn is_watching(&self) -> bool {
-        self.counted.is_some()
+        self.unit.is_some()
     }
 
     fn reached(&self, milestone: Milestone) {
         let Milestone {
-            hundredths,
+            percent,
             number,
             count,
         } = milestone;
-        if let Some(counted) = self.counted {
-            let _ = eprintln!(self.rt; "trlab: {hundredths} % ({counted} {number} of {count})");
+        if let Some(unit) = self.unit {
+            let _ = eprintln!(self.rt; "trlab: {percent} % ({unit} {number} of {count})");
         }
     }
 }
 
-/// The unit of a command's progress, if it is to be reported.
-fn counted(request: Request) -> Option<&'static str> {
-    match request {
-        Request::Run { progress: true, .. } | Request::Series { progress: true, .. } => Some(
-            "step",
-        ),
-        Request::Sweep { progress: true, .. } => Some("point"),
-        _ => None,
-    }
+/// The unit in which a command reports its progress; `None` if it does not report it.
+fn progress_unit(request: Request) -> Option<&'static str> {
+    let (unit, is_reported) = match request {
+        Request::Run { has_progress, .. } => ("step", has_progress),
+        Request::Series { has_progress, .. } => ("step", has_progress),
+        Request::Sweep { has_progress, .. } => ("point", has_progress),
+        Request::Check | Request::Explain(_) => return None,
+    };
+    if is_reported { Some(unit) } else { None }
 }
 
 /// Whether a command reads standard input.
 fn reads_input(request: Request) -> bool {
-    !matches!(request, Request::Explain(Explaining::Number(..)))
+    !matches!(request, Request::Explain(ExplainRequest::Number(..)))
 }
 
-/// Executes the request of the arguments, and returns the exit status. If the request reads input that `is_typed`, a
-/// line on standard error first explains how to end it.
+/// Executes the request of the arguments, or prints help or the error of `clap`. Returns the exit status. If the
+/// request reads input and it `is_typed`, a line on standard error first explains how to end the input.
 fn act<R: AllocGlobal + Threads + Wait + Sync + Eprint, S: Source, K: Sink>(
     rt: &R,
     arguments: &[String],
@@ -130,7 +131,7 @@ fn act<R: AllocGlobal + Threads + Wait + Sync + Eprint, S: Source, K: Sink>(
             }
             let progress = ProgressPrinter {
                 rt,
-                counted: counted(request),
+                unit: progress_unit(request),
             };
             status_of_end(execute(rt, request, reader, writer, &progress))
         }

@@ -5,7 +5,7 @@ use Rattle.std.proofs.Math.Nat.{mod-eq_of_lt, mod-eq-sub-mod}
 use Rattle.trlab_road.specs.LaneCars.{LaneCar}
 use Rattle.trlab_road.specs.Cells.{Cell, Lane, Cells, at, cell, lane_of}
 use Rattle.trlab_road.specs.Gaps.{ahead, gap, headspeed, next_place, speed_in}
-use Rattle.trlab_road.specs.Laws.{HeadspeedIsOfNextCar, HeadspeedOfLoneCar}
+use Rattle.trlab_road.specs.Laws.{HeadspeedIsSpeedOfNextCar, HeadspeedOfLoneCar}
 use Rattle.trlab_road.specs.Legal.{IsLegal}
 use Rattle.trlab_road.specs.Stored.{cells_of, no_car, place_of, IsSortedFrom}
 use Rattle.trlab_road.proofs.ListGaps.{clear_from, gap_next, gap_round}
@@ -17,7 +17,7 @@ use Rattle.trlab_road.proofs.Ring.{car_in, ends_before, inside, ring_cases}
 headspeed_there : (lane : Lane) (x y number speed : ℕ) → next_place lane x ≡ y → at lane y ≡ Some (number, speed) → headspeed lane x ≡ speed
 headspeed_there lane x y number speed reach there = ap (λ k. speed_in (at lane k)) reach ∙ ap speed_in there
 
-pub of_next_car : HeadspeedIsOfNextCar
+pub of_next_car : HeadspeedIsSpeedOfNextCar
 of_next_car lane x g number speed room clear there =
     let way : ℕ → ℕ = ahead (length lane) x in
     let run = ends_before lane way g room (clear_from lane way g clear.clear) (ap is_some there) in

@@ -1,7 +1,7 @@
 -- From answers in standing order to the lane change.
 use Rattle.std.proofs.Common.{◌≡◌, ℕ, Bool, false, List, get_or, sym, ◌∙◌, ap}
 use Rattle.trlab_road.specs.Cells.{Cells, cell, lane_of}
-use Rattle.trlab_road.specs.LaneChange.{other_lane, crosses_at, MayCross, ChangesLanes, CrossesToEmpty, IsCleanLaneChange}
+use Rattle.trlab_road.specs.LaneChange.{other_lane, crosses_at, AreSafeCrossings, ChangesLanes, CrossesToEmpty, IsCleanLaneChange}
 use Rattle.trlab_road.specs.Gaps.{side}
 use Rattle.trlab_road.specs.Legal.{IsLegal}
 use Rattle.trlab_road.specs.Motion.{in_order}
@@ -11,7 +11,7 @@ use Rattle.trlab_road.proofs.LaneChangeLaws.{crosses_by, lane_change_clean, lane
 use Rattle.trlab_road.proofs.StandingOrder.{in_order_at, rank_below_cars}
 
 -- answers that are allowed in standing order let cars cross to empty cells alone
-pub allowed_free : (road : Cells) (answers : List Bool) → MayCross road answers
+pub allowed_free : (road : Cells) (answers : List Bool) → AreSafeCrossings road answers
     → CrossesToEmpty (crosses_at road answers) road
 allowed_free road answers allowed = record {
   two_lanes = allowed.two_lanes;
@@ -29,10 +29,10 @@ crosses_in_order road new answers m crosses is =
     (λ car here. ap (λ (xs : List Bool). get_or xs (rank road car.lane car.place) false) is ∙ in_order_at crosses false road car.lane car.place car.number car.speed here) m
 
 -- where the answers are allowed, the road after the lane change is legal, and the lane change was clean
-pub cross_legal : (road new : Cells) (answers : List Bool) → IsLegal road → MayCross road answers
+pub cross_legal : (road new : Cells) (answers : List Bool) → IsLegal road → AreSafeCrossings road answers
     → ChangesLanes (crosses_at road answers) road new → IsLegal new
 cross_legal road new answers legal allowed m = lane_change_legal (crosses_at road answers) road new legal m (allowed_free road answers allowed)
 
-pub cross_clean : (road new : Cells) (answers : List Bool) → IsLegal road → MayCross road answers
+pub cross_clean : (road new : Cells) (answers : List Bool) → IsLegal road → AreSafeCrossings road answers
     → ChangesLanes (crosses_at road answers) road new → IsCleanLaneChange road new
 cross_clean road new answers legal allowed m = lane_change_clean (crosses_at road answers) road new legal m (allowed_free road answers allowed)

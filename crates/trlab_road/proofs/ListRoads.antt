@@ -9,7 +9,7 @@ use Rattle.trlab_road.specs.declared.car.Car.{Car}
 use Rattle.trlab_road.specs.LaneCars.{LaneCar}
 use Rattle.trlab_road.specs.Cells.{Lane, Cells, at, cell, cars, lane_car_count}
 use Rattle.trlab_road.specs.Standing.{standing, standing_from, rank}
-use Rattle.trlab_road.specs.Motion.{in_order, MayMove, LaneFits, LaneMoves, Moves}
+use Rattle.trlab_road.specs.Motion.{in_order, AreSafeSpeeds, LaneFits, LaneMoves, Moves}
 use Rattle.trlab_road.proofs.MotionInOrder.{answer_at, allowed_fits}
 use Rattle.trlab_road.proofs.RoadCars.{in_order_kth, cars_more, cars_within}
 use Rattle.trlab_road.specs.LaneChange.{LaneCrosses, ChangesLanes, crosses_at}
@@ -160,7 +160,7 @@ module _ (n : ℕ) (lists : List (Vec LaneCar Global)) (limit : ℕ) (kept : IsL
   pub below_counted : (k : ℕ) → k < sum_by lane_car_count (lanes_from n lists) → k < sum_by length (lists_of lists)
   below_counted k low = let a = counted n lists kept.sorted in omega (arith, a, low)
 
--- no car is faster than the greatest limit
+-- no car is faster than the largest limit
 pub slow_list : (n : ℕ) (lists : List (Vec LaneCar Global)) (limit : ℕ) → IsListedRoad n lists (record { limit = limit; lanes = lanes_from n lists })
     → (l : ℕ) → l < length lists → (k : ℕ) → k < length (list_at lists l) → (get_or (list_at lists l) k no_car).speed ≤ MAX_LIMIT
 slow_list n lists limit kept l on k low =
@@ -227,7 +227,7 @@ crosses_two n limit (v ∷ w ∷ []) a b answers two first second = record { sam
 crosses_two n limit (v ∷ w ∷ u ∷ lists) a b answers two first second = absurd (omega arith)
 
 -- from the lists to the road: the motion
-pub lists_fit : (n limit : ℕ) (lists : List (Vec LaneCar Global)) (answers : List ℕ) → MayMove (record { limit = limit; lanes = lanes_from n lists }) answers → ListsFit n lists answers
+pub lists_fit : (n limit : ℕ) (lists : List (Vec LaneCar Global)) (answers : List ℕ) → AreSafeSpeeds (record { limit = limit; lanes = lanes_from n lists }) answers → ListsFit n lists answers
 lists_fit n limit lists answers allowed = record {
   each_lane = λ l h. subst (λ (lane : Lane). LaneFits (lane_answer lane answers (sum_by lane_car_count (take l (lanes_from n lists)))) lane) (lane_from n lists l h)
       ((allowed_fits (record { limit = limit; lanes = lanes_from n lists }) answers allowed).each_lane l (on_lanes n lists l h));
@@ -243,7 +243,7 @@ lists_move n limit lists next answers m = record {
       (subst (λ (lane : Lane). LaneMoves (lane_answer lane answers (sum_by lane_car_count (take l (lanes_from n lists)))) lane (cells_of n (list_at next l))) (sym (lane_from n lists l on)) (m.each_lane l on));
 }
 
-pub allowed_count : (n limit : ℕ) (lists : List (Vec LaneCar Global)) (answers : List ℕ) → MayMove (record { limit = limit; lanes = lanes_from n lists }) answers → sum_by lane_car_count (lanes_from n lists) ≤ length answers
+pub allowed_count : (n limit : ℕ) (lists : List (Vec LaneCar Global)) (answers : List ℕ) → AreSafeSpeeds (record { limit = limit; lanes = lanes_from n lists }) answers → sum_by lane_car_count (lanes_from n lists) ≤ length answers
 allowed_count n limit lists answers allowed = let e = allowed.one_each in omega (arith, e)
 
 -- a sorted list is told by the cells that it makes

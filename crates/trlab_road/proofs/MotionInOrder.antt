@@ -4,7 +4,7 @@ use Rattle.std.specs.Prelude.{slice_index}
 use Rattle.trlab_road.specs.Cells.{Cells, lane_of, AgreeAtCars}
 use Rattle.trlab_road.specs.Gaps.{ahead, gap}
 use Rattle.trlab_road.specs.Legal.{IsLegal}
-use Rattle.trlab_road.specs.Motion.{in_order, MayMove, Fits, Moves, IsCleanMotion}
+use Rattle.trlab_road.specs.Motion.{in_order, AreSafeSpeeds, Fits, Moves, IsCleanMotion}
 use Rattle.trlab_road.specs.Standing.{rank}
 use Rattle.trlab_road.proofs.MotionLaws.{moved_legal, moves_clean}
 use Rattle.trlab_road.proofs.StandingOrder.{in_order_at, rank_below_cars}
@@ -15,7 +15,7 @@ abbrev pub answer_at : Cells → List ℕ → ℕ → ℕ → ℕ
 answer_at road answers l x = slice_index answers (rank road l x)
 
 -- answers that are allowed in standing order fit each car where it stands
-pub allowed_fits : (road : Cells) (answers : List ℕ) → MayMove road answers
+pub allowed_fits : (road : Cells) (answers : List ℕ) → AreSafeSpeeds road answers
     → Fits (answer_at road answers) road
 allowed_fits road answers allowed = record {
   each_lane = λ l h. record {
@@ -51,10 +51,10 @@ moves_in_order road new answers m answer is =
     (λ car here. ap (λ (xs : List ℕ). get_or xs (rank road car.lane car.place) 0) is ∙ in_order_at answer 0 road car.lane car.place car.number car.speed here) m
 
 -- where the answers are allowed, the road after the motion is legal, and the motion was clean
-pub allowed_legal : (road new : Cells) (answers : List ℕ) → IsLegal road → MayMove road answers
+pub allowed_legal : (road new : Cells) (answers : List ℕ) → IsLegal road → AreSafeSpeeds road answers
     → Moves (answer_at road answers) road new → IsLegal new
 allowed_legal road new answers legal allowed m = moved_legal (answer_at road answers) road new legal m (allowed_fits road answers allowed)
 
-pub allowed_clean : (road new : Cells) (answers : List ℕ) → IsLegal road → MayMove road answers
+pub allowed_clean : (road new : Cells) (answers : List ℕ) → IsLegal road → AreSafeSpeeds road answers
     → Moves (answer_at road answers) road new → IsCleanMotion road new
 allowed_clean road new answers legal allowed m = moves_clean (answer_at road answers) road new legal m (allowed_fits road answers allowed)

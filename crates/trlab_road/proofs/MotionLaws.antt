@@ -77,7 +77,7 @@ pub lane_clean : (answer : ℕ → ℕ) (old new : Lane) → LaneMoves answer ol
     → IsCleanLaneMotion old new
 lane_clean answer old new m within = record {
   same_count = lane_same_count answer old new m (apart_within_gaps answer old within);
-  none_lost = λ x number before h. (answer x, record { stands = m.arrives x number before h; over_empty = clear_within_gap old x (answer x) (within.gaps x number before h) });
+  none_lost = λ x number before h. (answer x, record { arrives = m.arrives x number before h; over_empty = clear_within_gap old x (answer x) (within.gaps x number before h) });
   none_made = λ y number speed h. let came = m.nothing_else y number speed h in (came.0, (came.1.0, came.1.1.was));
 }
 

@@ -6,7 +6,7 @@ use Rattle.std.proofs.Math.Nat.{mod-eq_of_lt, mod-eq-sub-mod}
 use Rattle.std.proofs.lemmas.Bool.{cases_lt, cases_order, cases_Bool, cases_eq, and_parts, and_left, and_right, cond-true, cond-false}
 use Rattle.std.proofs.lemmas.List.{get_or_past}
 use Rattle.trlab_road.specs.Cells.{Cell, Lane, at}
-use Rattle.trlab_road.specs.Gaps.{ahead, is_clear, greatest, clear_cells, gap}
+use Rattle.trlab_road.specs.Gaps.{ahead, is_clear, largest, clear_cells, gap}
 use Rattle.trlab_road.specs.Motion.{IsClearAhead, LaneFits}
 use Rattle.trlab_road.specs.declared.car.Car.{Car}
 
@@ -84,13 +84,13 @@ clear_at lane way (suc g) h j low high =
       | inr other ↦ clear_at lane way g parts.0 j low (omega arith)
     ]
 
--- the greatest number that passes does pass, and is no more than the bound
-pub greatest_passes : (test : ℕ → Bool) (n : ℕ) → test 0 ≡ true → test (greatest test n) ≡ true
+-- the largest number that passes does pass, and is no more than the bound
+pub greatest_passes : (test : ℕ → Bool) (n : ℕ) → test 0 ≡ true → test (largest test n) ≡ true
 greatest_passes test zero h = h
 greatest_passes test (suc n) h =
     elim (cases_Bool (test (suc n))) [
-      | inl passed ↦ rw (cond-true (test (suc n)) (suc n) (greatest test n) passed) passed
-      | inr failed ↦ rw (cond-false (test (suc n)) (suc n) (greatest test n) failed) (greatest_passes test n h)
+      | inl passed ↦ rw (cond-true (test (suc n)) (suc n) (largest test n) passed) passed
+      | inr failed ↦ rw (cond-false (test (suc n)) (suc n) (largest test n) failed) (greatest_passes test n h)
     ]
 
 -- an answer within the gap goes over empty cells alone
@@ -122,14 +122,14 @@ apart_within_gaps answer lane within = record {
       ];
 }
 
--- what passes, where nothing greater does, is the greatest
+-- a number that passes is the largest if no greater one passes
 pub greatest_is : (test : ℕ → Bool) (n g : ℕ) → g ≤ n → test g ≡ true
-    → ((m : ℕ) → g < m → m ≤ n → test m ≡ false) → greatest test n ≡ g
+    → ((m : ℕ) → g < m → m ≤ n → test m ≡ false) → largest test n ≡ g
 greatest_is test zero g low passes fails = let e : zero ≡ g = omega arith in e
 greatest_is test (suc n) g low passes fails =
     elim (cases_eq g (suc n)) [
-      | inl e ↦ let top : test (suc n) ≡ true = subst (λ k. test k ≡ true) e passes in cond-true (test (suc n)) (suc n) (greatest test n) top ∙ sym e
-      | inr other ↦ cond-false (test (suc n)) (suc n) (greatest test n) (fails (suc n) (omega arith) (omega arith)) ∙ greatest_is test n g (omega arith) passes (λ m above inside. fails m above (omega arith))
+      | inl e ↦ let top : test (suc n) ≡ true = subst (λ k. test k ≡ true) e passes in cond-true (test (suc n)) (suc n) (largest test n) top ∙ sym e
+      | inr other ↦ cond-false (test (suc n)) (suc n) (largest test n) (fails (suc n) (omega arith) (omega arith)) ∙ greatest_is test n g (omega arith) passes (λ m above inside. fails m above (omega arith))
     ]
 
 -- no run goes past an occupied cell

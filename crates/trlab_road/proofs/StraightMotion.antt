@@ -3,7 +3,7 @@ use Rattle.std.proofs.Common.{◌≡◌, ℕ, zero, suc, ◌+◌, ◌-◌, ◌<�
 use Rattle.std.proofs.lemmas.List.{length_push, take_at, take_more, take_all}
 use Rattle.trlab_road.specs.LaneCars.{LaneCar}
 use Rattle.trlab_road.specs.Motion.{LaneFits, LaneMoves}
-use Rattle.trlab_road.specs.GoneOn.{HaveMovedAhead, moved_ahead}
+use Rattle.trlab_road.specs.MovedAhead.{HaveMovedAhead, moved_ahead}
 use Rattle.trlab_road.specs.Stored.{cells_of, IsSortedFrom, no_car, place_of, lane_answer}
 use Rattle.trlab_road.proofs.Lists.{rises_high}
 use Rattle.trlab_road.proofs.ListMotion.{Moved, answer_kth, before_kth, before_next, last_kth, last_round, last_straight, moved_all, moved_none, moved_straight, reach_fits, size_whole}
@@ -70,7 +70,7 @@ module _ (n : ℕ) (cars before : List LaneCar) (last : LaneCar) (speeds : List 
         let s = size in
         let here : k < length now = (let e = all.same_count in omega (arith, low, e)) in
         let v = get_or speeds (from + k) 0 in
-        let is = all.gone k low ∙ ap (λ (c : LaneCar). moved_ahead c v) (first_cars k low) in
+        let is = all.moved k low ∙ ap (λ (c : LaneCar). moved_ahead c v) (first_cars k low) in
         let next = moved_straight n answer cars (take k now) k r fits (moved_first k (omega (arith, low))) (omega (arith, s, low)) (get_or now k no_car) v (speed_kth k low) (short_kth k low) is in
         subst (λ i. Moved n answer cars (take i now) i) (add-one k) (subst (λ (xs : List LaneCar). Moved n answer cars xs (k + 1)) (sym (take_more now k no_car here)) next)
 

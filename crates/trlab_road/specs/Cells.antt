@@ -32,7 +32,7 @@ cell road l x = at (lane_of road l) x
 abbrev pub lane_car_count : Lane → ℕ
 lane_car_count lane = count_by is_some lane
 
--- the number of cars on a lane at places smaller than x
+-- the number of cars on a lane at places smaller than x; for example, 2 on `1.0.3` for x = 4
 abbrev pub cars_before : Lane → ℕ → ℕ
 cars_before lane x = lane_car_count (take x lane)
 

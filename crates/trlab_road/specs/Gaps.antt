@@ -19,13 +19,13 @@ is_clear lane path zero = true
 is_clear lane path (suc g) = is_clear lane path g && is_none (at lane (path (suc g)))
 
 -- the largest number from 1 to n that passes the test; 0 if none does
-abbrev pub greatest : (ℕ → Bool) → ℕ → ℕ
-greatest test zero = zero
-greatest test (suc n) = cond (test (suc n)) (suc n) (greatest test n)
+abbrev pub largest : (ℕ → Bool) → ℕ → ℕ
+largest test zero = zero
+largest test (suc n) = cond (test (suc n)) (suc n) (largest test n)
 
 -- the number of empty cells at the beginning of a path, before its first car; at most all cells but one
 abbrev pub clear_cells : Lane → (ℕ → ℕ) → ℕ
-clear_cells lane path = greatest (is_clear lane path) (length lane - 1)
+clear_cells lane path = largest (is_clear lane path) (length lane - 1)
 
 -- the number of empty cells from place x to the next car ahead (Nagel and Schreckenberg 1992), or all other
 -- cells of the lane if it has no other car; for example, in `2..1.` the gap is 2 at place 0 and 1 at place 3

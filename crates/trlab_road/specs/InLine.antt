@@ -1,4 +1,4 @@
--- Lines of cars: successive cars of one lane in order of place, so the next car ahead comes next in the list.
+-- Lists of successive cars of one lane, in order of place: each car is followed by the next car ahead of it.
 use Rattle.std.specs.Prelude.{◌≡◌, ℕ, ◌+◌, ◌-◌, ◌<◌, slice_index, slice_index_or}
 use Rattle.std.specs.Prelude.{List, length, map, sum_by, take}
 use Rattle.trlab_road.specs.LaneCars.{LaneCar}
@@ -8,12 +8,12 @@ use Rattle.trlab_road.specs.Motion.{IsValueOnOwnLane, gaps}
 use Rattle.trlab_road.specs.Standing.{IsNthCar, standing_from}
 use Rattle.trlab_road.specs.Stored.{car_on, no_car}
 
--- `line` lists all cars of the lane, in order of place
+-- `line` lists all cars of a lane of the road, in order of place
 abbrev pub IsLineOf : Cells → ℕ → List LaneCar → Type 0
 IsLineOf road lane line = map (car_on lane) line ≡ standing_from lane 0 (lane_of road lane)
 
--- `line` lists the k-th car in standing order, which exists, and all cars after it on the same lane, in this
--- order
+-- `line` lists, in order of place, the k-th car in standing order and all cars after it on the same lane;
+-- there is a k-th car
 pub record IsLineFrom (road : Cells) (k : ℕ) (line : List LaneCar) : Type 0 where
   pub lane : ℕ
   pub some : 0 < length line
@@ -21,8 +21,9 @@ pub record IsLineFrom (road : Cells) (k : ℕ) (line : List LaneCar) : Type 0 wh
       → IsNthCar road (k + j) (car_on lane (slice_index_or line j no_car))
   pub whole : k + length line ≡ sum_by lane_car_count (take (lane + 1) road.lanes)
 
--- `car` is the k-th car in standing order, its gap ends right before `next.place`, a later place, and its
--- headspeed is `next.speed`: `next` serves as its next car ahead
+-- `car` is the k-th car in standing order, and `next` has the place and the speed of its next car ahead, at a
+-- later place of the lane: the number of cells between `car` and `next` is the gap of `car`, and the speed of
+-- `next` is the headspeed of `car`
 pub record IsFollowed (road : Cells) (k : ℕ) (car next : LaneCar) : Type 0 where
   pub lane : ℕ
   pub standing : IsNthCar road k (car_on lane car)

@@ -1,6 +1,6 @@
 -- The lane change, the first phase of a step on two lanes (Rickert, Nagel, Schreckenberg and Latour 1996):
--- all cars that change lanes do so at once. Answers are functions of a lane and a place: does the car there
--- change lanes?
+-- all cars that change lanes do so at once. A function of a lane and a place, `crosses`, or a
+-- list of answers in standing order states whether each car changes lanes.
 use Rattle.std.specs.Prelude.{◌≡◌, ℕ, ◌-◌, ◌<◌, Bool, true, false, cond, Some, None, List, length, map, slice_index_or}
 use Rattle.std.specs.List.{range_with_len}
 use Rattle.std.specs.Option.{option_or}
@@ -85,8 +85,8 @@ abbrev pub IsValueOnOtherLane : {X : Type 0} → (Lane → ℕ → X) → Cells 
 IsValueOnOtherLane look road k value = (car : Car) → IsNthCar road k car
     → value ≡ look (lane_of road (other_lane car.lane)) car.place
 
--- `gap` is the result of `look` for the other lane, at the place of the k-th car in standing order, and below
--- the lane length; `look` is `sidegap` or `sideback`
+-- `gap` is the result of `look`, such as `sidegap` or `sideback`, for the other lane, at the place of the
+-- k-th car in standing order (any number if there is no k-th car), and it is below the lane length
 pub record IsGapOnOtherLane (look : Lane → ℕ → ℕ) (road : Cells) (k gap : ℕ) : Type 0 where
   pub of_car : IsValueOnOtherLane look road k gap
   pub below : gap < length (lane_of road 0)
@@ -100,9 +100,9 @@ sides road = in_order (λ l x. side (lane_of road (other_lane l)) x) road
 abbrev pub crosses_at : Cells → List Bool → ℕ → ℕ → Bool
 crosses_at road answers l x = slice_index_or answers (rank road l x) false
 
--- the road has two lanes, `answers` has one answer per car in standing order, and it is `true` only for cars
--- whose side cell is empty
-pub record MayCross (road : Cells) (answers : List Bool) : Type 0 where
+-- `answers` lists, for each car of a road with two lanes in standing order, whether the car crosses; this is
+-- true only for cars whose side cell is empty
+pub record AreSafeCrossings (road : Cells) (answers : List Bool) : Type 0 where
   pub two_lanes : length road.lanes ≡ 2
   pub one_each : length answers ≡ cars road
   pub side_empty : (k : ℕ) → k < cars road

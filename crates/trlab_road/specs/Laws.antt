@@ -16,9 +16,9 @@ abbrev pub PicturesShowOneRoad : Type 0
 PicturesShowOneRoad = (limit : ℕ) (pictures : List (List ℕ)) (road other : Cells)
     → PicturesShow limit pictures road → PicturesShow limit pictures other → road ≡ other
 
--- every road that good pictures show is legal
-abbrev pub GoodPicturesShowLegalRoads : Type 0
-GoodPicturesShowLegalRoads = (limit : ℕ) (pictures : List (List ℕ)) (road : Cells)
+-- every road that valid pictures show is legal
+abbrev pub ValidPicturesShowLegalRoads : Type 0
+ValidPicturesShowLegalRoads = (limit : ℕ) (pictures : List (List ℕ)) (road : Cells)
     → AreValidPictures limit pictures → PicturesShow limit pictures road → IsLegal road
 
 -- a limit and pictures have at most one first fault, apart from `Memory` (a failed allocation)
@@ -27,9 +27,9 @@ OneFirstFault = (limit : ℕ) (pictures : List (List ℕ)) (fault other : RoadFa
     → IsFirstPictureFault limit pictures fault → IsFirstPictureFault limit pictures other
     → fault ≢ Memory → other ≢ Memory → fault ≡ other
 
--- a limit and good pictures have no fault, apart from `Memory` (a failed allocation)
-abbrev pub GoodPicturesHaveNoFault : Type 0
-GoodPicturesHaveNoFault = (limit : ℕ) (pictures : List (List ℕ)) (fault : RoadFault)
+-- a limit and valid pictures have no fault, apart from `Memory` (a failed allocation)
+abbrev pub ValidPicturesHaveNoFault : Type 0
+ValidPicturesHaveNoFault = (limit : ℕ) (pictures : List (List ℕ)) (fault : RoadFault)
     → AreValidPictures limit pictures → IsFirstPictureFault limit pictures fault → fault ≡ Memory
 
 -- the meaning of a limit and pictures: the legal road that they show, or their first fault; never `Memory`, a
@@ -48,7 +48,7 @@ abbrev pub PicturesHaveOneMeaning : Type 0
 PicturesHaveOneMeaning = (limit : ℕ) (pictures : List (List ℕ)) (meaning other : Result Cells RoadFault)
     → PicturesMean limit pictures meaning → PicturesMean limit pictures other → meaning ≡ other
 
--- the pictures of a legal road are good under its limit
+-- the pictures of a legal road are valid under its limit
 abbrev pub PicturesOfLegalRoads : Type 0
 PicturesOfLegalRoads = (road : Cells) → IsLegal road → AreValidPictures road.limit (map picture road.lanes)
 
@@ -60,9 +60,9 @@ PicturesMeanTheRoad = (road : Cells) (meaning : Result Cells RoadFault)
     → PicturesMean road.limit (map picture road.lanes) meaning ↔ (meaning ≡ Ok road)
 
 -- if the g cells ahead of place x are empty and the cell after them holds a car, the headspeed at x is the
--- speed of this car (which is the car at x itself if g is one less than the lane length)
-abbrev pub HeadspeedIsOfNextCar : Type 0
-HeadspeedIsOfNextCar = (lane : Lane) (x g number speed : ℕ) → g < length lane → IsClearAhead lane x g
+-- speed of this car, which is the car at x itself if g is the lane length minus 1
+abbrev pub HeadspeedIsSpeedOfNextCar : Type 0
+HeadspeedIsSpeedOfNextCar = (lane : Lane) (x g number speed : ℕ) → g < length lane → IsClearAhead lane x g
     → at lane (ahead (length lane) x (g + 1)) ≡ Some (number, speed) → headspeed lane x ≡ speed
 
 -- if the car at place x is the only car of its lane, the headspeed at x is its own speed
@@ -86,7 +86,8 @@ abbrev pub MotionDependsOnlyOnCars : Type 0
 MotionDependsOnlyOnCars = (answer other : ℕ → ℕ → ℕ) (old new : Cells)
     → AgreeAtCars answer other old → Moves answer old new → Moves other old new
 
--- the motion of a legal road is clean if the answer of each car is at most its gap and the limit
+-- in the motion of a legal road no car is lost or added, and each moves ahead over empty cells, if the answer
+-- of each car is at most its gap and the limit
 abbrev pub MotionIsClean : Type 0
 MotionIsClean = (answer : ℕ → ℕ → ℕ) (old new : Cells)
     → IsLegal old → Fits answer old → Moves answer old new → IsCleanMotion old new
@@ -118,7 +119,8 @@ abbrev pub LaneChangeDependsOnlyOnCars : Type 0
 LaneChangeDependsOnlyOnCars = (crosses others : ℕ → ℕ → Bool) (old new : Cells)
     → AgreeAtCars crosses others old → ChangesLanes crosses old new → ChangesLanes others old new
 
--- the lane change of a legal road with two lanes is clean if cars cross only to empty side cells
+-- in the lane change of a legal road with two lanes no car is lost or added, and each stays or crosses to an
+-- empty side cell, if cars cross only to empty side cells
 abbrev pub LaneChangeIsClean : Type 0
 LaneChangeIsClean = (crosses : ℕ → ℕ → Bool) (old new : Cells)
     → IsLegal old → CrossesToEmpty crosses old → ChangesLanes crosses old new → IsCleanLaneChange old new

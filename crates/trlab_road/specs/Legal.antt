@@ -1,4 +1,4 @@
--- Legal roads: rules run only on these.
+-- Legal roads, the only ones on which rules run.
 use Rattle.std.specs.Prelude.{◌≡◌, ℕ, ◌<◌, ◌≤◌, length}
 use Rattle.trlab_bounds.specs.declared.roads.TheConstants.{MAX_LIMIT, MAX_LENGTH, MAX_LANES}
 use Rattle.trlab_road.specs.declared.car.Car.{Car}
@@ -19,15 +19,15 @@ pub record LimitFits (limit : ℕ) : Type 0 where
   pub some_limit : 1 ≤ limit
   pub low_limit : limit ≤ MAX_LIMIT
 
--- all lanes of a road have the same length, and the number of lanes, their length and the limit are in range
+-- a road has 1 to MAX_LANES lanes of the same length, 1 to MAX_LENGTH cells, and a limit from 1 to MAX_LIMIT
 pub record HasValidShape (road : Cells) : Type 0 where
   pub lanes : LanesFit (length road.lanes)
   pub cells : LengthFits (length (lane_of road 0))
   pub equal : (l : ℕ) → l < length road.lanes → length (lane_of road l) ≡ length (lane_of road 0)
   pub limit : LimitFits road.limit
 
--- a legal road: lanes and limit are in range, no car is faster than the limit, each car number is below the
--- number of cars, and no two cars have the same number. So n cars have the numbers 0 to n - 1
+-- a legal road: it has 1 to MAX_LANES lanes of one length, 1 to MAX_LENGTH cells, and a limit from 1 to
+-- MAX_LIMIT; no car is faster than the limit; and its n cars have the numbers 0 to n - 1, each once
 pub record IsLegal (road : Cells) : Type 0 where
   pub shape : HasValidShape road
   pub within_limit : (car : Car) → IsAt road car → car.speed ≤ road.limit

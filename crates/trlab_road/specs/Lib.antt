@@ -9,5 +9,5 @@ pub mod LaneChange
 pub mod Spreading
 pub mod Laws
 pub mod Stored
-pub mod GoneOn
+pub mod MovedAhead
 pub mod InLine

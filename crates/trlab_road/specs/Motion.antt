@@ -1,5 +1,5 @@
--- The motion, the second phase of a step (Nagel and Schreckenberg 1992): all cars move at once. Answers are
--- functions of a lane and a place: how many cells does the car there move?
+-- The motion, the second phase of a step (Nagel and Schreckenberg 1992): all cars move at once. A function
+-- of a lane and a place, `answer`, or a list in standing order gives the number of cells that each car moves.
 use Rattle.std.specs.Prelude.{◌≡◌, ℕ, ◌<◌, ◌≤◌, Some, None, List, length, map, slice_index}
 use Rattle.trlab_road.specs.declared.car.Car.{Car}
 use Rattle.trlab_road.specs.Cells.{Lane, Cells, IsAt, at, lane_of, cars, lane_car_count}
@@ -48,7 +48,7 @@ pub record IsClearAhead (lane : Lane) (x g : ℕ) : Type 0 where
 -- the car from place x of lane `old` is `speed` cells ahead on lane `new`, with this number and speed, and it
 -- has moved over cells that were empty
 pub record GoesAhead (old new : Lane) (x number speed : ℕ) : Type 0 where
-  pub stands : at new (ahead (length old) x speed) ≡ Some (number, speed)
+  pub arrives : at new (ahead (length old) x speed) ≡ Some (number, speed)
   pub over_empty : IsClearAhead old x speed
 
 -- the motion of a lane from `old` to `new` is clean: no car is lost or added, and each has moved ahead over
@@ -67,7 +67,8 @@ pub record IsCleanMotion (old new : Cells) : Type 0 where
   pub same_lanes : length new.lanes ≡ length old.lanes
   pub each_lane : (l : ℕ) → l < length old.lanes → IsCleanLaneMotion (lane_of old l) (lane_of new l)
 
--- the list of the answers of a road's cars in standing order, from `answer`, a function of a lane and a place
+-- the list of the values of `answer`, a function of a lane and a place, at the cars of a road in standing
+-- order
 abbrev pub in_order : {X : Type 0} → (ℕ → ℕ → X) → Cells → List X
 in_order answer road = map (λ (car : Car). answer car.lane car.place) (standing road)
 
@@ -81,8 +82,8 @@ IsValueOnOwnLane look road k value = (car : Car) → IsNthCar road k car
 abbrev pub gaps : Cells → List ℕ
 gaps road = in_order (λ l x. gap (lane_of road l) x) road
 
--- `answers` has one answer per car in standing order, at most the car's gap and the limit
-pub record MayMove (road : Cells) (answers : List ℕ) : Type 0 where
+-- `answers` lists a number of cells for each car in standing order, at most the car's gap and the limit
+pub record AreSafeSpeeds (road : Cells) (answers : List ℕ) : Type 0 where
   pub one_each : length answers ≡ cars road
   pub within_gaps : (k : ℕ) → k < cars road → slice_index answers k ≤ slice_index (gaps road) k
   pub within_limit : (k : ℕ) → k < cars road → slice_index answers k ≤ road.limit

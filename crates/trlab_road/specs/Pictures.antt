@@ -40,7 +40,7 @@ pub record PicturesShow (limit : ℕ) (pictures : List (List ℕ)) (road : Cells
   pub drawn : map picture road.lanes ≡ pictures
   pub numbered : AreNumberedInOrder road
 
--- the pictures behind a list of references
+-- the pictures to which a list of references refers
 abbrev pub pictures_of : List (Bor (List ℕ)) → List (List ℕ)
 pictures_of references = map (λ picture. picture.now) references
 
@@ -58,7 +58,8 @@ pub record HaveEqualLengths (pictures : List (List ℕ)) : Type 0 where
   pub equal : (l : ℕ) → l < length pictures
       → length (picture_at pictures l) ≡ length (picture_at pictures 0)
 
--- the limit, the number of pictures and their common length are in range
+-- the limit is 1 to MAX_LIMIT, and there are 1 to MAX_LANES pictures of the same length, 1 to MAX_LENGTH
+-- cells
 pub record HaveValidShape (limit : ℕ) (pictures : List (List ℕ)) : Type 0 where
   pub lanes : LanesFit (length pictures)
   pub lengths : HaveEqualLengths pictures
@@ -74,8 +75,8 @@ pub record ShowsSpeed (most character : ℕ) : Type 0 where
 abbrev pub ShowsCell : ℕ → ℕ → Type 0
 ShowsCell limit character = (character ≡ dot) ⊎ ShowsSpeed limit character
 
--- the limit, the number of pictures and their common length are in range, and each character shows a cell:
--- these are the pictures of some legal road
+-- the limit is 1 to MAX_LIMIT, there are 1 to MAX_LANES pictures of the same length, 1 to MAX_LENGTH cells,
+-- and each character shows a cell: `.`, or the character of a speed of at most the limit
 pub record AreValidPictures (limit : ℕ) (pictures : List (List ℕ)) : Type 0 where
   pub shape : HaveValidShape limit pictures
   pub cells : (l x : ℕ) → l < length pictures → x < length (picture_at pictures l)
@@ -90,8 +91,8 @@ pub record IsFirstBadCharacter (limit : ℕ) (pictures : List (List ℕ)) (l x :
       → ShowsCell limit (character_at pictures m y)
   pub earlier_places : (y : ℕ) → y < x → ShowsCell limit (character_at pictures l y)
 
--- the limit and the number and length of the pictures are in range, and the first character that shows no
--- cell is that of lane l at place x
+-- the limit is 1 to MAX_LIMIT, there are 1 to MAX_LANES pictures of the same length, 1 to MAX_LENGTH cells,
+-- and the first character that shows no cell is in lane l at place x
 abbrev pub IsFaultAt : ℕ → List (List ℕ) → ℕ → ℕ → Type 0
 IsFaultAt limit pictures l x = HaveValidShape limit pictures × IsFirstBadCharacter limit pictures l x
 

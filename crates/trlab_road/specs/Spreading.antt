@@ -41,7 +41,8 @@ pub record IsEvenlySpaced (lanes cells limit n : ℕ) (road : Cells) : Type 0 wh
   pub same_lanes : length road.lanes ≡ lanes
   pub each_lane : (l : ℕ) → l < lanes → IsEvenlySpacedLane lanes cells n l (lane_of road l)
 
--- the lanes, their length and the limit are in range, and there is a cell for each of n cars
+-- there are 1 to MAX_LANES lanes of 1 to MAX_LENGTH cells, the limit is 1 to MAX_LIMIT, and n is at most the
+-- number of cells of all lanes
 pub record CanSpread (lanes cells limit n : ℕ) : Type 0 where
   pub lanes_fit : LanesFit lanes
   pub length_fits : LengthFits cells

@@ -23,7 +23,7 @@ standing road = standing_from_lane 0 road.lanes
 abbrev pub IsNthCar : Cells → ℕ → Car → Type 0
 IsNthCar road k car = slice_get (standing road) k ≡ Some car
 
--- the number of cars before place x of lane l in standing order; if a car is there, it is the car of this
--- index, counted from 0
+-- the number of cars before place x of lane l in standing order; if a car is there, this is its index
+-- in standing order, counted from 0. For example, on the lanes `0.1.` and `.2..` place 1 of lane 1 has rank 2
 abbrev pub rank : Cells → ℕ → ℕ → ℕ
 rank road l x = sum_by lane_car_count (take l road.lanes) + lane_car_count (take x (lane_of road l))

@@ -3,10 +3,10 @@ use Rattle.std.specs.Prelude.{◌≡◌, ℕ, suc, ◌+◌, ◌<◌, ◌≤◌, 
 use Rattle.std.specs.Global.{Global}
 use Rattle.std.specs.List.{range_with_len}
 use Rattle.trlab_road.specs.declared.car.Car.{Car}
-use Rattle.trlab_road.specs.declared.gaps.Beside.{Beside}
+use Rattle.trlab_road.specs.declared.gaps.SideGaps.{SideGaps}
 use Rattle.trlab_road.specs.LaneCars.{LaneCar}
 use Rattle.trlab_road.specs.Cells.{Cell, Lane, Cells, at, lane_car_count}
-use Rattle.trlab_road.specs.Gaps.{greatest, side, sideback, sidegap}
+use Rattle.trlab_road.specs.Gaps.{largest, side, sideback, sidegap}
 use Rattle.trlab_road.specs.Legal.{IsLegal}
 use Rattle.trlab_road.specs.Motion.{LaneFits, LaneMoves}
 use Rattle.trlab_road.specs.Pictures.{dot, speed_character}
@@ -16,7 +16,8 @@ abbrev pub cell_at : List LaneCar → ℕ → Cell
 cell_at [] x = None
 cell_at (car ∷ cars) x = cond (nat_eq car.place x) (Some (car.number, car.speed)) (cell_at cars x)
 
--- the lane of n cells with the listed cars, all other cells empty
+-- the lane of n cells with the listed cars, all other cells empty; for example, a lane of 4 cells with only a
+-- car of speed 2 at place 1 is `.2..`
 abbrev pub cells_of : ℕ → List LaneCar → Lane
 cells_of n cars = map (cell_at cars) (range_with_len 0 n)
 
@@ -25,7 +26,7 @@ abbrev pub IsSortedFrom : ℕ → ℕ → List LaneCar → Type 0
 IsSortedFrom x n [] = Unit {0}
 IsSortedFrom x n (car ∷ cars) = (x ≤ car.place) × (car.place < n) × IsSortedFrom (suc car.place) n cars
 
--- the places of the listed cars strictly increase; so they are below some n
+-- the places of the listed cars strictly increase (n is a number above all of them)
 abbrev pub IsRising : List LaneCar → Type 0
 IsRising cars = (n : ℕ) × IsSortedFrom 0 n cars
 
@@ -82,14 +83,14 @@ pub record IsFirstFrom (cars : List LaneCar) (x index : ℕ) : Type 0 where
 
 -- `beside` describes the cell at place x of a lane with n cells and these cars, the side cell of a car on the
 -- other lane: is it empty, and how many cells are empty ahead of it and behind it?
-pub record DescribesSideCell (n : ℕ) (cars : List LaneCar) (x : ℕ) (beside : Beside) : Type 0 where
+pub record DescribesSideCell (n : ℕ) (cars : List LaneCar) (x : ℕ) (beside : SideGaps) : Type 0 where
   pub empty : beside.is_empty ≡ side (cells_of n cars) x
   pub ahead : beside.ahead ≡ sidegap (cells_of n cars) x
   pub behind : beside.behind ≡ sideback (cells_of n cars) x
   pub ahead_within : beside.ahead < n
   pub behind_within : beside.behind < n
 
--- lane `leaving` has the cars of lane `old` that cross, at their places, and no others
+-- lane `leaving` has the cars of lane `old` that cross, each in its cell, and no others
 pub record HasLeavingCars (crosses : ℕ → Bool) (old leaving : Lane) : Type 0 where
   pub same_length : length leaving ≡ length old
   pub each_cell : (x : ℕ) → x < length old → at leaving x ≡ cond (crosses x) (at old x) None
@@ -126,7 +127,7 @@ pub record ListsMove (n : ℕ) (lists next : List (Vec LaneCar Global)) (answers
 -- the speed that a character shows, for example 7 for `7` and 12 for `c`; 0 if it shows no speed
 abbrev pub speed_of_character : ℕ → ℕ
 speed_of_character character =
-    greatest (λ speed. nat_eq (speed_character speed) character) character
+    largest (λ speed. nat_eq (speed_character speed) character) character
 
 -- the lane that a picture shows, with its cars numbered from n on; for example, `2.0` with n = 5 shows car 5
 -- of speed 2, an empty cell, and car 6 of speed 0

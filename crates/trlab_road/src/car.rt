@@ -1,4 +1,4 @@
-//! Cars: as a road reports them, and as a lane's list keeps them, without the lane.
+//! Cars: as a road reports them, and as the list of a lane keeps them.
 
 ghost use Rattle.std.specs.Prelude.{◌≡◌, ◌<◌, ◌≤◌, ◌&&◌, ◌↔◌, length, nat_eq, slice_index_or};
 ghost use Rattle.trlab_bounds.specs.declared.roads.TheConstants.{MAX_LENGTH, MAX_LIMIT};
@@ -6,8 +6,8 @@ ghost use Rattle.trlab_road.specs.Stored.{no_car, place_of};
 
 use std::marker::Model;
 
-/// A car: its number, which it keeps; its lane, 0 or 1; its place, which is the number of its cell along the lane, from
-/// 0; and its speed, which is the number of cells that it moved in the last step.
+/// A car: its number, which it keeps; its lane, 0 or 1; its place, which is the number of its cell along the lane,
+/// counted from 0; and its speed in cells per step, which after a step is the number of cells that it moved.
 #[derive(Clone, Copy, Debug, PartialEq, Eq)]
 pub struct Car {
     pub number: u32,
@@ -16,8 +16,8 @@ pub struct Car {
     pub speed: u32,
 }
 
-/// A car of a lane: its number, its place and its speed. They are kept in eight bytes, because all workers read every
-/// car in each phase of a step.
+/// A car in the list of its lane: its number, place and speed, in eight bytes, because all workers read every car in
+/// each phase of a step.
 #[derive(Clone, Copy)]
 pub struct LaneCar {
     number: u32,
@@ -82,7 +82,7 @@ impl LaneCar {
         self.number
     }
 
-    /// The number of its cell along the lane, from 0.
+    /// The number of the car's cell along the lane, counted from 0.
     #[inline(always)]
     pub fn place(self) -> u32
         ensures { result ≡ self.place }
@@ -90,7 +90,7 @@ impl LaneCar {
         self.place_and_speed / 64
     }
 
-    /// Its speed, in cells per step.
+    /// The speed of the car, in cells per step.
     #[inline(always)]
     pub fn speed(self) -> u32
         ensures { result ≡ self.speed }

@@ -1,4 +1,4 @@
-//! Why pictures or evenly spaced cars do not make a road.
+//! The reasons why pictures or evenly spaced cars do not make a road.
 
 ghost use Rattle.std.specs.Prelude.{◌≡◌};
 ghost use Rattle.trlab_road.specs.declared.fault.RoadFault.TheVariants.{Memory};
@@ -10,25 +10,25 @@ use thiserror::Error;
 /// characters one by one, or the number of cars.
 #[derive(Clone, Copy, Debug, PartialEq, Eq, Error)]
 pub enum RoadFault {
-    /// Neither one nor two lanes.
+    /// The number of lanes is not 1 or 2.
     #[error("a road has one or two lanes")]
     Lanes,
-    /// A lane with no cell or too many, or lanes of unequal length.
+    /// The lanes do not have 1 to 100,000 cells, or not all the same number.
     #[error("the lanes have no cell, too many or unequal lengths")]
     Length,
-    /// A speed limit of 0, or above the maximum.
+    /// The speed limit is not 1 to 35.
     #[error("the speed limit is out of range")]
     Limit,
-    /// The character at a lane and a place is neither a dot nor that of a speed.
+    /// A character is neither a dot nor a digit or letter for a speed.
     #[error("invalid character in lane {lane}, cell {place}")]
     Character { lane: u32, place: u32 },
-    /// The speed at a lane and a place is above the limit.
+    /// A speed is above the limit.
     #[error("the speed in lane {lane}, cell {place} is above the limit")]
     SpeedAboveLimit { lane: u32, place: u32 },
     /// An allocation failed.
     #[error("out of memory")]
     Memory,
-    /// More cars than cells.
+    /// There are more cars than cells.
     #[error("more cars than cells")]
     TooManyCars,
 }

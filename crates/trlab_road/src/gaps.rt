@@ -11,9 +11,9 @@ ghost use Rattle.trlab_road.specs.Cells.{cars_before};
 
 use crate::car::{LaneCar, place_at, speed_at};
 
-/// The gap ahead of a car on its own lane, and the speed of its leader.
+/// The leader of a car, which is the next car ahead on its own lane: the gap up to it, and its speed.
 #[derive(Clone, Copy)]
-pub struct Ahead {
+pub struct Leader {
     /// The number of empty cells ahead of the car.
     pub gap: u32,
     /// The speed of the next car in cells per step; the car's own speed if there is no other.
@@ -21,7 +21,7 @@ pub struct Ahead {
 }
 
 /// The gap and the leader of the car at an index of a lane's list. The leader of the last car is the first.
-pub fn look_ahead(cars: &[LaneCar], cells: usize, index: usize) -> Ahead
+pub fn look_ahead(cars: &[LaneCar], cells: usize, index: usize) -> Leader
     requires small { cells ≤ MAX_LENGTH }
     requires sorted { IsSortedFrom 0 cells cars.now }
     requires here { index < length cars.now }
@@ -32,19 +32,19 @@ pub fn look_ahead(cars: &[LaneCar], cells: usize, index: usize) -> Ahead
     let place = place_at(cars, index);
     let next = index + 1;
     if next < cars.len() {
-        Ahead {
+        Leader {
             gap: place_at(cars, next) - place - 1,
             headspeed: speed_at(cars, next),
         }
     } else {
-        Ahead {
+        Leader {
             gap: cells as u32 - 1 - place + place_at(cars, 0),
             headspeed: speed_at(cars, 0),
         }
     }
 }
 
-/// The number of empty cells ahead of a place; the cars from index `next` on are those past the place.
+/// The number of empty cells ahead of a place. `next` is the index of the first car past the place.
 fn gap_ahead(cars: &[LaneCar], cells: usize, place: usize, next: usize) -> usize
     requires small { cells ≤ MAX_LENGTH }
     requires inside { place < cells }
@@ -62,7 +62,7 @@ fn gap_ahead(cars: &[LaneCar], cells: usize, place: usize, next: usize) -> usize
     }
 }
 
-/// The number of empty cells behind an empty place; the cars from index `next` on are those past the place.
+/// The number of empty cells behind an empty place. `next` is the index of the first car past the place.
 fn gap_behind(cars: &[LaneCar], cells: usize, place: usize, next: usize) -> usize
     requires small { cells ≤ MAX_LENGTH }
     requires inside { place < cells }
@@ -94,10 +94,10 @@ fn first_from(cars: &[LaneCar], place: u32) -> usize
     )
 }
 
-/// The surroundings of a car on the other lane.
+/// The surroundings of a car on the other lane. Its side cell is the cell at its place on that lane.
 #[derive(Clone, Copy)]
-pub struct Beside {
-    /// Is the side cell empty?
+pub struct SideGaps {
+    /// Whether the side cell is empty.
     pub is_empty: bool,
     /// The number of empty cells ahead of the side cell, 0 if the side cell is taken.
     pub ahead: u32,
@@ -107,13 +107,13 @@ pub struct Beside {
     pub next: usize,
 }
 
-/// The number of cars that are checked together, before the search goes on car by car.
+/// The number of cars that are checked together before the search continues car by car.
 const SEARCHED_TOGETHER: usize = 4;
 
-/// Passes those of the next four cars that are before a place; returns `near` if fewer than four are left. The result
-/// is a sum, so that no branch depends on the places.
+/// Returns the index after those of the four cars from index `near` on that are before a place, and `near` itself if
+/// fewer than four cars are left. The index is computed as a sum, so that no branch depends on the places.
 #[inline(always)]
-fn past_four(cars: &[LaneCar], place: u32, near: usize) -> usize
+fn pass_four(cars: &[LaneCar], place: u32, near: usize) -> usize
     requires within { near ≤ length cars.now }
     requires sorted { IsRising cars.now }
     requires before { (k : ℕ) → k < near → k < length cars.now → place_of cars.now k < place }
@@ -138,7 +138,7 @@ fn first_near(cars: &[LaneCar], place: u32, near: usize) -> usize
     if near == 0 || near > cars.len() || place_at(cars, near - 1) >= place {
         return first_from(cars, place);
     }
-    let near = past_four(cars, place, near);
+    let near = pass_four(cars, place, near);
     for next in near..cars.len() {
         if place_at(cars, next) >= place {
             return next;
@@ -148,7 +148,7 @@ fn first_near(cars: &[LaneCar], place: u32, near: usize) -> usize
 }
 
 /// The index of the first car from a place on, if the car before index `near` is before the place and the first car is
-/// among the five from `near` on. At the end of the list it may be missed.
+/// among the five from `near` on. Near the end of the list the result may be `None` even so.
 #[inline(always)]
 fn first_of_five(cars: &[LaneCar], place: u32, near: usize) -> Option<usize>
     requires sorted { IsRising cars.now }
@@ -159,7 +159,7 @@ fn first_of_five(cars: &[LaneCar], place: u32, near: usize) -> Option<usize>
     if near == 0 || near > cars.len() || place_at(cars, near - 1) >= place {
         return None;
     }
-    let next = past_four(cars, place, near);
+    let next = pass_four(cars, place, near);
     if next < cars.len() && place_at(cars, next) >= place {
         Some(next)
     } else {
@@ -175,10 +175,10 @@ fn only_if(test: bool, number: u32) -> u32
     if test { number } else { 0 }
 }
 
-/// The surroundings of a place that is past one car and not past the next. They are computed as differences, so that no
-/// branch depends on whether the side cell is taken. Only the proof reads the number of cells.
+/// The surroundings of a place between two cars of the list, or at the second of them. They are computed as
+/// differences, so that no branch depends on whether the side cell is taken. Only the proof reads the number of cells.
 #[inline(always)]
-fn look_between(cars: &[LaneCar], cells: usize, place: u32, next: usize) -> Beside
+fn look_between(cars: &[LaneCar], cells: usize, place: u32, next: usize) -> SideGaps
     requires inside { place < cells }
     requires sorted { IsSortedFrom 0 cells cars.now }
     requires found { IsFirstFrom cars.now place next }
@@ -189,7 +189,7 @@ fn look_between(cars: &[LaneCar], cells: usize, place: u32, next: usize) -> Besi
 {
     let to_next = place_at(cars, next) - place;
     let is_empty = to_next != 0;
-    Beside {
+    SideGaps {
         is_empty,
         ahead: to_next.saturating_sub(1),
         behind: only_if(is_empty, place - place_at(cars, next - 1) - 1),
@@ -197,9 +197,9 @@ fn look_between(cars: &[LaneCar], cells: usize, place: u32, next: usize) -> Besi
     }
 }
 
-/// The surroundings of any place, also before the first car or past the last. `next` is the index of the first car from
+/// The surroundings of any place, even before the first car or past the last. `next` is the index of the first car from
 /// the place on.
-fn look_anywhere(cars: &[LaneCar], cells: usize, place: u32, next: usize) -> Beside
+fn look_anywhere(cars: &[LaneCar], cells: usize, place: u32, next: usize) -> SideGaps
     requires small { cells ≤ MAX_LENGTH }
     requires inside { place < cells }
     requires sorted { IsSortedFrom 0 cells cars.now }
@@ -208,14 +208,14 @@ fn look_anywhere(cars: &[LaneCar], cells: usize, place: u32, next: usize) -> Bes
     ensures next { result.next ≡ next }
 {
     if next < cars.len() && place_at(cars, next) == place {
-        return Beside {
+        return SideGaps {
             is_empty: false,
             ahead: 0,
             behind: 0,
             next,
         };
     }
-    Beside {
+    SideGaps {
         is_empty: true,
         ahead: gap_ahead(cars, cells, place as usize, next) as u32,
         behind: gap_behind(cars, cells, place as usize, next) as u32,
@@ -223,10 +223,10 @@ fn look_anywhere(cars: &[LaneCar], cells: usize, place: u32, next: usize) -> Bes
     }
 }
 
-/// The surroundings of a place. The index `near` affects only speed: if it is near the place, five cars are usually
-/// enough to check.
+/// The surroundings of a place. The index `near` affects only the running time: if the car at this index is near the
+/// place, usually only five cars are checked.
 #[inline(always)]
-pub fn look_beside(cars: &[LaneCar], cells: usize, place: u32, near: usize) -> Beside
+pub fn look_beside(cars: &[LaneCar], cells: usize, place: u32, near: usize) -> SideGaps
     requires small { cells ≤ MAX_LENGTH }
     requires inside { place < cells }
     requires sorted { IsSortedFrom 0 cells cars.now }

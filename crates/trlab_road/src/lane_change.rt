@@ -13,22 +13,21 @@ use crate::lanes::{empty_lanes, list_of};
 use std::alloc::{AllocError, Global};
 use std::mem;
 
-/// A lane before its cars cross: its list, and the index of its first car's answer.
+/// The cars of a lane before the lane change, and the index of the first car's answer.
 #[derive(Clone, Copy)]
 struct AnsweredLane<'a> {
     cars: &'a [LaneCar],
     from: usize,
 }
 
-/// The place of the k-th car, or the end of the lane.
-fn next_place(cars: &[LaneCar], k: usize, cells: u32) -> u32
+/// The place of the k-th car of a list, or the number of cells if there is no k-th car.
+fn place_or_end(cars: &[LaneCar], k: usize, cells: u32) -> u32
     ensures here { k < length cars.now → result ≡ place_of cars.now k }
     ensures past { length cars.now ≤ k → result ≡ cells }
 {
-    if k < cars.len() {
-        place_at(cars, k)
-    } else {
-        cells
+    match cars.get(k) {
+        Some(car) => car.place(),
+        None => cells,
     }
 }
 
@@ -56,7 +55,7 @@ fn leaving_cars(
     Ok(())
 }
 
-/// The index after a run of cars that stay and are before a place. The run begins with a car that stays.
+/// The index after a sequence of cars that stay and are before the place `due`; the first has the index `begin`.
 fn run_end(lane: AnsweredLane, crosses: &[bool], begin: usize, due: u32) -> usize
     requires each { lane.from + length lane.cars.now ≤ length crosses.now }
     requires begin { begin < length lane.cars.now }
@@ -97,8 +96,8 @@ fn change_lane(
     next.reserve(own.cars.len())?;
     let mut i = 0;
     let mut j = 0;
-    let mut own_next = next_place(own.cars, i, cells);
-    let mut due = next_place(coming, j, cells);
+    let mut own_next = place_or_end(own.cars, i, cells);
+    let mut due = place_or_end(coming, j, cells);
     while own_next.min(due) < cells {
         if own_next < due {
             if crosses[own.from + i] {
@@ -108,7 +107,7 @@ fn change_lane(
                 next.extend_from_slice(&own.cars[i..end])?;
                 i = end;
             }
-            own_next = next_place(own.cars, i, cells);
+            own_next = place_or_end(own.cars, i, cells);
         } else {
             // a car that comes takes the cell if it is empty or its car leaves; a car that stays keeps its cell
             let own_here = own_next == due;
@@ -120,14 +119,14 @@ fn change_lane(
             next.push(car)?;
             i += usize::from(own_here);
             j += 1;
-            own_next = next_place(own.cars, i, cells);
-            due = next_place(coming, j, cells);
+            own_next = place_or_end(own.cars, i, cells);
+            due = place_or_end(coming, j, cells);
         }
     }
     Ok(())
 }
 
-/// The two lanes after the lane change. The lists are the room's, if it has two.
+/// The two lanes after the lane change. They use the lists of the room, if it has two.
 pub fn change_lanes(
     alloc: Global,
     room: &mut Room,
@@ -166,8 +165,9 @@ pub fn change_lanes(
 pub struct Room {
     /// The lists of a road that is no longer needed.
     lanes: Vec<Vec<LaneCar>>,
-    /// The cars that cross from lane 0, and those that cross from lane 1.
+    /// The cars that cross from lane 0.
     pub(crate) from_first: Vec<LaneCar>,
+    /// The cars that cross from lane 1.
     pub(crate) from_second: Vec<LaneCar>,
 }
 

@@ -1,4 +1,4 @@
-//! The lanes of a road, each the list of its cars by rising place.
+//! The lanes of a road, each the list of its cars by increasing place.
 
 ghost use Rattle.std.specs.Prelude.{ℕ, ◌≡◌, ◌*◌, ◌<◌, ◌≤◌, ◌↔◌, IsTrue, IfOk, [], length, slice_index_or, sum_by};
 ghost use Rattle.trlab_bounds.specs.declared.roads.TheConstants.{MAX_LENGTH, MAX_LANES};
@@ -60,7 +60,7 @@ pub fn count_cars(lanes: &[Vec<LaneCar>]) -> u32
     count
 }
 
-/// `count` lanes without cars.
+/// `count` empty lists, for lanes without cars.
 pub fn empty_lanes(alloc: Global, count: usize) -> Result<Vec<Vec<LaneCar>>, AllocError>
     ensures same_count { IfOk result (λ lanes. length lanes.items ≡ count) }
     ensures empty { IfOk result (λ lanes. (l : ℕ) → list_at lanes.items l ≡ []) }
@@ -83,34 +83,34 @@ pub fn copy_lanes(alloc: Global, lanes: &[Vec<LaneCar>]) -> Result<Vec<Vec<LaneC
     Ok(copies)
 }
 
-/// Do two lists have the same cars in the same order?
-fn same_cars(cars: &[LaneCar], others: &[LaneCar]) -> bool
+/// Whether two lists have the same cars in the same order.
+fn are_same_cars(cars: &[LaneCar], others: &[LaneCar]) -> bool
     ensures { IsTrue result ↔ (cars.now ≡ others.now) }
 {
     if cars.len() != others.len() {
         return false;
     }
-    let mut greatest = 0;
+    let mut max_difference = 0;
     for k in 0..cars.len() {
         let difference = cars[k].difference(others[k]);
-        greatest = if greatest < difference {
+        max_difference = if max_difference < difference {
             difference
         } else {
-            greatest
+            max_difference
         };
     }
-    greatest == 0
+    max_difference == 0
 }
 
-/// Do two lists of lanes have the same cars in the same order?
-pub fn same_lanes(lanes: &[Vec<LaneCar>], others: &[Vec<LaneCar>]) -> bool
+/// Whether two roads have the same number of lanes, with the same cars in the same order.
+pub fn are_same_lanes(lanes: &[Vec<LaneCar>], others: &[Vec<LaneCar>]) -> bool
     ensures { IsTrue result ↔ (lists_of lanes.now ≡ lists_of others.now) }
 {
     if lanes.len() != others.len() {
         return false;
     }
     for k in 0..lanes.len() {
-        if !same_cars(&lanes[k], &others[k]) {
+        if !are_same_cars(&lanes[k], &others[k]) {
             return false;
         }
     }

@@ -25,6 +25,6 @@ mod spreading;
 
 pub use car::{Car, LaneCar};
 pub use fault::RoadFault;
-pub use gaps::{Ahead, Beside};
+pub use gaps::{Leader, SideGaps};
 pub use lane_change::Room;
 pub use road::Road;

@@ -1,26 +1,21 @@
-//! The motion: the cars of each lane move at once, in place in its list. Only the last car can pass the end of
-//! the lane; then it becomes the first.
+//! The motion: the cars of each lane move at once, in place in its list.
 
 ghost use Rattle.std.specs.Prelude.{◌≡◌, ◌+◌, ◌<◌, ◌≤◌, ℕ, length, slice_index, slice_index_or, sum_by};
 ghost use Rattle.trlab_bounds.specs.declared.roads.TheConstants.{MAX_LENGTH, MAX_LIMIT};
 ghost use Rattle.trlab_road.specs.Cells.{lane_car_count};
 ghost use Rattle.trlab_road.specs.Motion.{LaneFits, LaneMoves};
-ghost use Rattle.trlab_road.specs.GoneOn.{HaveMovedAhead, moved_ahead};
+ghost use Rattle.trlab_road.specs.MovedAhead.{HaveMovedAhead, moved_ahead};
 ghost use Rattle.trlab_road.specs.Stored.{no_car, place_of, ListsFit, ListsMove, IsSortedFrom, AreSorted, cells_of, lanes_from, lane_answer};
 
 use crate::car::LaneCar;
 
-/// The number of cars that are moved together: enough for the compiler to keep the loop and use vector instructions.
+/// The number of cars of a block: enough for the compiler to keep the loop and use vector instructions.
 const MOVED_TOGETHER: usize = 32;
 
-/// `MOVED_TOGETHER` cars of a list from an index on, after they have moved.
+/// `MOVED_TOGETHER` cars of a list, from the index `at` on, after they have moved. Their speeds begin at the index
+/// `from` of `speeds`.
 #[inline(always)]
-fn gone_together(
-    cars: &[LaneCar],
-    at: usize,
-    speeds: &[u8],
-    from: usize,
-) -> [LaneCar; MOVED_TOGETHER]
+fn move_block(cars: &[LaneCar], at: usize, speeds: &[u8], from: usize) -> [LaneCar; MOVED_TOGETHER]
     requires within { at + MOVED_TOGETHER ≤ length cars.now }
     requires one_each { from + MOVED_TOGETHER ≤ length speeds.now }
     requires slow { (k : ℕ) → k < MOVED_TOGETHER → slice_index speeds.now (from + k) ≤ MAX_LIMIT }
@@ -29,16 +24,16 @@ fn gone_together(
     ensures { (k : ℕ) → k < MOVED_TOGETHER → slice_index_or result k no_car
         ≡ moved_ahead (slice_index_or cars.now (at + k) no_car) (slice_index speeds.now (from + k)) }
 {
-    let mut gone = [LaneCar::new(0, 0, 0); MOVED_TOGETHER];
+    let mut moved = [LaneCar::new(0, 0, 0); MOVED_TOGETHER];
     for k in 0..MOVED_TOGETHER {
-        gone[k] = go_on(cars[at + k], u32::from(speeds[from + k]));
+        moved[k] = move_ahead(cars[at + k], u32::from(speeds[from + k]));
     }
-    gone
+    moved
 }
 
-/// A car after it has moved a number of cells ahead.
+/// A car after it has moved `speed` cells ahead, its new speed, without passing the end of the lane.
 #[inline(always)]
-fn go_on(car: LaneCar, speed: u32) -> LaneCar
+fn move_ahead(car: LaneCar, speed: u32) -> LaneCar
     requires slow { speed ≤ MAX_LIMIT }
     requires short { car.place + speed ≤ MAX_LENGTH }
     ensures { result ≡ moved_ahead car speed }
@@ -46,8 +41,8 @@ fn go_on(car: LaneCar, speed: u32) -> LaneCar
     LaneCar::new(car.number(), car.place() + speed, speed)
 }
 
-/// Moves the cars of a list, none of which passes the end of the lane. Their speeds begin at an index of the list of
-/// speeds. Several cars are moved at once: their places and speeds are computed in columns and written together.
+/// Moves the cars of a list, none of which passes the end of the lane. Their speeds begin at the index `from` of
+/// `speeds`. Cars are moved in blocks of `MOVED_TOGETHER`, so that the compiler can use vector instructions.
 fn move_straight(cars: &mut [LaneCar], speeds: &[u8], from: usize)
     requires one_each { from + length cars.old ≤ length speeds.now }
     requires slow { (k : ℕ) → k < length speeds.now → slice_index speeds.now k ≤ MAX_LIMIT }
@@ -58,19 +53,18 @@ fn move_straight(cars: &mut [LaneCar], speeds: &[u8], from: usize)
     let blocks = cars.len() / MOVED_TOGETHER;
     for block in 0..blocks {
         let at = MOVED_TOGETHER * block;
-        let gone = gone_together(cars, at, speeds, from + at);
+        let moved = move_block(cars, at, speeds, from + at);
         for k in 0..MOVED_TOGETHER {
-            cars[at + k] = gone[k];
+            cars[at + k] = moved[k];
         }
     }
     for index in MOVED_TOGETHER * blocks..cars.len() {
-        cars[index] = go_on(cars[index], u32::from(speeds[from + index]));
+        cars[index] = move_ahead(cars[index], u32::from(speeds[from + index]));
     }
 }
 
-/// Moves the cars of a lane; their speeds begin at an index of the list of speeds.
-///
-/// Only the last car can pass the end of the lane; then it becomes the first.
+/// Moves the cars of a lane. Their speeds begin at the index `from` of `speeds`. Only the last car can pass the end of
+/// the lane; then it becomes the first.
 fn move_lane(cars: &mut Vec<LaneCar>, cells: u32, speeds: &[u8], from: usize)
     requires small { cells ≤ MAX_LENGTH }
     requires sorted { IsSortedFrom 0 cells cars.old.items }
@@ -91,7 +85,7 @@ fn move_lane(cars: &mut Vec<LaneCar>, cells: u32, speeds: &[u8], from: usize)
     let number = last.number();
     let speed = speeds[from + straight] as u32;
     let place = last.place() + speed;
-    // there is room, because the last car was just removed
+    // cannot fail: there is room, because the last car was just removed
     let _ = if place < cells {
         cars.push(LaneCar::new(number, place, speed))
     } else {
@@ -99,7 +93,7 @@ fn move_lane(cars: &mut Vec<LaneCar>, cells: u32, speeds: &[u8], from: usize)
     };
 }
 
-/// Moves the cars of all lanes at once; speeds are listed in standing order.
+/// Moves the cars of all lanes at once. The speeds are in standing order.
 pub fn move_lanes(lanes: &mut [Vec<LaneCar>], cells: u32, speeds: &[u8])
     requires small { cells ≤ MAX_LENGTH }
     requires sorted { AreSorted cells lanes.old }

@@ -13,7 +13,7 @@ use std::alloc::{AllocError, Global};
 use trlab_bounds::roads::{MAX_LANES, MAX_LENGTH, MAX_LIMIT};
 
 /// The character of an empty cell.
-const POINT: u8 = b'.';
+const DOT: u8 = b'.';
 
 /// The characters of the speeds from 0 to the maximum.
 const CHARACTERS: [u8; 36] = *b"0123456789abcdefghijklmnopqrstuvwxyz";
@@ -27,7 +27,7 @@ fn speed_character(speed: u32) -> u8
     CHARACTERS[speed as usize]
 }
 
-/// The speed that a character shows, if it shows one.
+/// The speed that a character shows, in cells per step; `None` if it shows no speed.
 fn speed_shown(character: u8) -> Option<u32>
     ensures none { IsNone result → ¬ (ShowsSpeed MAX_LIMIT character) }
     ensures within { IfSome result (λ speed. speed ≤ MAX_LIMIT) }
@@ -40,7 +40,7 @@ fn speed_shown(character: u8) -> Option<u32>
     }
 }
 
-/// Does a character show a speed of at most some number?
+/// Whether a character shows a speed of at most `most`.
 fn shows_speed(most: u32, character: u8) -> bool
     requires { most ≤ MAX_LIMIT }
     ensures { IsTrue result ↔ ShowsSpeed most character }
@@ -51,12 +51,12 @@ fn shows_speed(most: u32, character: u8) -> bool
     }
 }
 
-/// Does a character show a cell: a dot, or a speed within the limit?
+/// Whether a character shows a cell: a dot, or a speed of at most the limit.
 fn shows_cell(limit: u32, character: u8) -> bool
     requires { limit ≤ MAX_LIMIT }
     ensures { IsTrue result ↔ ShowsCell limit character }
 {
-    character == POINT || shows_speed(limit, character)
+    character == DOT || shows_speed(limit, character)
 }
 
 /// Appends the picture of a lane: a dot for an empty cell, the character of the speed for a car. If allocation fails,
@@ -66,22 +66,22 @@ pub fn push_picture(out: &mut Vec<u8>, cars: &[LaneCar], cells: u32) -> Result<(
     requires slow { (k : ℕ) → k < length cars.now
         → (slice_index_or cars.now k no_car).speed ≤ MAX_LIMIT }
     ensures added { OnOk result (out.new.items ≡ out.old.items ++ picture (cells_of cells cars.now)) }
-    ensures same { OnErr result (out.new.items ≡ out.old.items) }
+    ensures unchanged { OnErr result (out.new.items ≡ out.old.items) }
 {
     let start = out.len();
-    out.resize(start + cells as usize, POINT)?;
+    out.resize(start + cells as usize, DOT)?;
     for k in 0..cars.len() {
         out[start + place_at(cars, k) as usize] = speed_character(speed_at(cars, k));
     }
     Ok(())
 }
 
-/// The place of the first character that shows no cell, or the length.
-fn first_bad(limit: u32, picture: &[u8]) -> usize
+/// The place of the first character that shows no cell, or the length of the picture if all characters show cells.
+fn first_invalid(limit: u32, picture: &[u8]) -> usize
     requires { limit ≤ MAX_LIMIT }
     ensures within { result ≤ length picture.now }
     ensures before { (x : ℕ) → x < result → ShowsCell limit (slice_index picture.now x) }
-    ensures bad { result < length picture.now
+    ensures invalid { result < length picture.now
         → ¬ (ShowsCell limit (slice_index picture.now result)) }
 {
     for (place, character) in picture.iter().enumerate() {
@@ -92,7 +92,7 @@ fn first_bad(limit: u32, picture: &[u8]) -> usize
     picture.len()
 }
 
-/// Do the lanes have the same length, and is it 1 to 100,000 cells?
+/// Whether the lanes have the same length, 1 to 100,000 cells.
 fn has_equal_lanes(pictures: &[&[u8]]) -> bool
     requires { LanesFit (length (pictures_of pictures.now)) }
     ensures { IsTrue result ↔ HaveEqualLengths (pictures_of pictures.now) }
@@ -104,7 +104,11 @@ fn has_equal_lanes(pictures: &[&[u8]]) -> bool
     pictures.len() == 1 || pictures[1].len() == cells
 }
 
-/// Checks a limit and pictures, and returns their first fault.
+/// Checks a limit and pictures.
+///
+/// # Errors
+///
+/// The first fault: `Lanes`, then `Length`, then `Limit`, then the fault of the first invalid character.
 pub fn check_pictures(limit: u32, pictures: &[&[u8]]) -> Result<(), RoadFault>
     ensures { MatchResult result
         (λ _. AreValidPictures limit (pictures_of pictures.now))
@@ -120,12 +124,12 @@ pub fn check_pictures(limit: u32, pictures: &[&[u8]]) -> Result<(), RoadFault>
         return Err(RoadFault::Limit);
     }
     for (lane, picture) in pictures.iter().enumerate() {
-        let place = first_bad(limit, picture);
+        let place = first_invalid(limit, picture);
         if place < picture.len() {
-            let speed = shows_speed(MAX_LIMIT, picture[place]);
+            let is_speed = shows_speed(MAX_LIMIT, picture[place]);
             let lane = lane as u32;
             let place = place as u32;
-            return Err(if speed {
+            return Err(if is_speed {
                 RoadFault::SpeedAboveLimit { lane, place }
             } else {
                 RoadFault::Character { lane, place }
@@ -162,7 +166,7 @@ pub fn draw_lanes(
     pictures: &[&[u8]],
     cells: usize,
 ) -> Result<Vec<Vec<LaneCar>>, AllocError>
-    requires good { AreValidPictures MAX_LIMIT (pictures_of pictures.now) }
+    requires valid { AreValidPictures MAX_LIMIT (pictures_of pictures.now) }
     requires first { cells ≡ length (picture_at (pictures_of pictures.now) 0) }
     ensures sorted { IfOk result (λ lanes. AreSorted cells lanes.items) }
     ensures drawn { IfOk result (λ lanes.

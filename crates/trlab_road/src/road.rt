@@ -1,4 +1,4 @@
-//! Roads. Contracts see the cells of a road; the code keeps a list of the cars of each lane, by rising place.
+//! Roads. Contracts see the cells of a road; the code keeps a list of the cars of each lane, in order of place.
 
 ghost use Rattle.std.specs.Prelude.{◌≡◌, ◌≢◌, ◌⊎◌, ◌<◌, ◌↔◌, length, ◌++◌, IfOk, OnErr, OnOk, IsTrue, MatchResult, ◌+◌, ◌*◌, ◌≤◌, ℕ, slice_index, slice_index_or, false, Bool};
 ghost use Rattle.trlab_road.specs.declared.fault.RoadFault.{RoadFault};
@@ -12,14 +12,14 @@ ghost use Rattle.trlab_road.specs.Gaps.{gap, headspeed, side, sideback, sidegap}
 ghost use Rattle.trlab_road.specs.InLine.{IsFollowed, IsLineFrom, IsLineOf};
 ghost use Rattle.trlab_road.specs.Standing.{IsNthCar};
 ghost use Rattle.trlab_road.specs.Stored.{no_car};
-ghost use Rattle.trlab_road.specs.LaneChange.{IsValueOnOtherLane, IsGapOnOtherLane, sides, IsCleanLaneChange, ChangesLanes, MayCross};
-ghost use Rattle.trlab_road.specs.Motion.{IsValueOnOwnLane, gaps, MayMove, IsCleanMotion, Moves, in_order};
+ghost use Rattle.trlab_road.specs.LaneChange.{IsValueOnOtherLane, IsGapOnOtherLane, sides, IsCleanLaneChange, ChangesLanes, AreSafeCrossings};
+ghost use Rattle.trlab_road.specs.Motion.{IsValueOnOwnLane, gaps, AreSafeSpeeds, IsCleanMotion, Moves, in_order};
 
 use crate::car::{Car, LaneCar, place_at};
 use crate::fault::RoadFault;
-use crate::gaps::{Ahead, Beside, look_ahead, look_beside};
+use crate::gaps::{Leader, SideGaps, look_ahead, look_beside};
 use crate::lane_change::{Room, change_lanes};
-use crate::lanes::{car_of, copy_lanes, count_cars, find, list_of, same_lanes};
+use crate::lanes::{are_same_lanes, car_of, copy_lanes, count_cars, find, list_of};
 use crate::motion::move_lanes;
 use crate::picture::{check_pictures, draw_lanes, push_picture};
 use crate::spreading::{check_even, even_lanes};
@@ -29,12 +29,13 @@ use std::snapshot::Snapshot;
 
 /// A legal road: one or two lanes of cells on a ring, with a speed limit.
 ///
-/// Cars are numbered from 0 and keep their numbers. Standing order is lane by lane, by rising place.
+/// Cars are numbered from 0 and keep their numbers. Standing order is lane by lane, and on each lane by increasing
+/// place.
 pub struct Road {
     limit: u32,
     /// The number of cells of each lane.
     cells: u32,
-    /// The cars of each lane by rising place.
+    /// The cars of each lane, in order of place.
     lanes: Vec<Vec<LaneCar>>,
 }
 
@@ -99,7 +100,7 @@ impl Road {
     /// A road of one or two lanes of 1 to 100,000 cells, with `count` evenly spaced cars of speed 0. The limit
     /// is 1 to 35 cells per step.
     ///
-    /// With C cells in all, car i of n is in flat cell i * C / n, rounded down. Flat cells count across the
+    /// With C cells in all, car i is in flat cell i * C / `count`, rounded down. Flat cells count across the
     /// lanes: place 0 of each lane, then place 1, and so on.
     ///
     /// # Errors
@@ -159,13 +160,13 @@ impl Road {
         Snapshot::of(self)
     }
 
-    /// Do two roads have the same limit and the same cells, including the numbers of their cars?
+    /// Whether two roads have the same limit and the same cells, including the numbers of their cars.
     pub fn equals(&self, other: &Road) -> bool
         ensures { IsTrue result ↔ (self.now ≡ other.now) }
     {
         self.limit == other.limit
             && self.cells == other.cells
-            && same_lanes(&self.lanes, &other.lanes)
+            && are_same_lanes(&self.lanes, &other.lanes)
     }
 
     /// The picture of a lane, one character per cell: a dot, or a digit or a letter for the car's speed.
@@ -190,7 +191,7 @@ impl Road {
     pub fn push_picture(&self, out: &mut Vec<u8>, lane: u32) -> Result<(), AllocError>
         requires { lane < length self.now.lanes }
         ensures added { OnOk result (out.new.items ≡ out.old.items ++ picture (lane_of self.now lane)) }
-        ensures same { OnErr result (out.new.items ≡ out.old.items) }
+        ensures unchanged { OnErr result (out.new.items ≡ out.old.items) }
     {
         push_picture(out, list_of(&self.lanes, lane), self.cells)
     }
@@ -231,7 +232,7 @@ impl Road {
         self.limit
     }
 
-    /// The number of cars.
+    /// The number of cars on all lanes.
     pub fn cars(&self) -> u32
         ensures value { result ≡ cars self.now }
         ensures few { result ≤ MAX_LANES * MAX_LENGTH }
@@ -274,7 +275,7 @@ impl Road {
     }
 
     /// The `gap` and the `headspeed` of the k-th car in standing order.
-    pub fn ahead(&self, k: u32) -> Ahead
+    pub fn ahead(&self, k: u32) -> Leader
         requires { k < cars self.now }
         ensures value { result.gap ≡ slice_index (gaps self.now) k }
         ensures gap { IsValueOnOwnLane gap self.now k result.gap }
@@ -286,8 +287,8 @@ impl Road {
         look_ahead(list_of(&self.lanes, lane), self.cells as usize, index)
     }
 
-    /// The line from the k-th car in standing order on to the last car of its lane, as the lane keeps it:
-    /// each car but the last is followed by the next car ahead of it.
+    /// The k-th car in standing order and all cars after it on its lane, in order of place: each car but the last
+    /// is followed by the next car ahead of it.
     pub fn line_from(&self, k: u32) -> &[LaneCar]
         requires { k < cars self.now }
         ensures line { IsLineFrom self.now k result.now }
@@ -299,7 +300,7 @@ impl Road {
         line
     }
 
-    /// The line of a lane: all its cars by rising place, as the lane keeps them.
+    /// All cars of a lane, in order of place.
     pub fn line_of(&self, lane: u32) -> &[LaneCar]
         requires { lane < length self.now.lanes }
         ensures line { IsLineOf self.now lane result.now }
@@ -310,7 +311,7 @@ impl Road {
         list_of(&self.lanes, lane)
     }
 
-    /// Is the side cell of the k-th car in standing order, at the same place on the other lane, empty?
+    /// Whether the side cell of the k-th car in standing order, at the same place on the other lane, is empty.
     pub fn side(&self, k: u32) -> bool
         requires below { k < cars self.now }
         requires two { length self.now.lanes ≡ 2 }
@@ -320,11 +321,11 @@ impl Road {
         self.beside(k, 0).is_empty
     }
 
-    /// The other lane, seen from the k-th car in standing order: its `side`, `sidegap` and `sideback`.
+    /// The surroundings of the k-th car in standing order on the other lane: its `side`, `sidegap` and `sideback`.
     ///
-    /// If you ask car by car along a lane and pass the `next` of the previous answer as `near`, the search
+    /// If you go car by car along a lane and pass the `next` of the previous result as `near`, the search
     /// continues from there; with any other `near`, such as 0, it is a binary search.
-    pub fn beside(&self, k: u32, near: usize) -> Beside
+    pub fn beside(&self, k: u32, near: usize) -> SideGaps
         requires below { k < cars self.now }
         requires two { length self.now.lanes ≡ 2 }
         ensures value { result.is_empty ≡ slice_index_or (sides self.now) k false }
@@ -369,7 +370,7 @@ impl Road {
 impl Road {
     /// Moves all cars at once by their new speeds, which are listed in standing order. It allocates nothing.
     pub fn move_cars(&mut self, speeds: &[u8])
-        requires { MayMove self.old speeds.now }
+        requires { AreSafeSpeeds self.old speeds.now }
         ensures moves { (answer : ℕ → ℕ → ℕ)
             → speeds.now ≡ in_order answer self.old → Moves answer self.old self.new }
         ensures clean { IsCleanMotion self.old self.new }
@@ -391,7 +392,7 @@ impl Road {
         room: &mut Room,
         crosses: &[bool],
     ) -> Result<Road, AllocError>
-        requires { MayCross self.now crosses.now }
+        requires { AreSafeCrossings self.now crosses.now }
         ensures crosses { IfOk result (λ next. (answer : ℕ → ℕ → Bool)
             → crosses.now ≡ in_order answer self.now → ChangesLanes answer self.now next) }
         ensures clean { IfOk result (λ next. IsCleanLaneChange self.now next) }

@@ -11,7 +11,11 @@ use crate::lanes::empty_lanes;
 use std::alloc::{AllocError, Global};
 use trlab_bounds::roads::{MAX_LANES, MAX_LENGTH, MAX_LIMIT};
 
-/// Checks a number of lanes, the cells of each lane, a limit and a number of cars, and returns their first fault.
+/// Checks a number of lanes, the cells of each lane, a limit and a number of cars.
+///
+/// # Errors
+///
+/// The first fault: `Lanes`, then `Length`, then `Limit`, then `TooManyCars`.
 pub fn check_even(lanes: u32, cells: u32, limit: u32, count: u32) -> Result<(), RoadFault>
     ensures { MatchResult result
         (λ _. CanSpread lanes cells limit count)
@@ -32,17 +36,18 @@ pub fn check_even(lanes: u32, cells: u32, limit: u32, count: u32) -> Result<(), 
     Ok(())
 }
 
-/// The flat cell of a car, one of `count` evenly spaced cars on `cells` cells in all.
-fn flat_cell(cells: usize, count: usize, number: usize) -> usize
-    requires few { cells ≤ MAX_LANES * MAX_LENGTH }
-    requires room { count ≤ cells }
+/// The flat cell of car `number`, one of `count` cars that are evenly spaced on a road of `road_cells` cells in all.
+/// Flat cells count across the lanes: place 0 of each lane, then place 1, and so on.
+fn flat_cell(road_cells: usize, count: usize, number: usize) -> usize
+    requires few { road_cells ≤ MAX_LANES * MAX_LENGTH }
+    requires room { count ≤ road_cells }
     requires below { number < count }
-    ensures { result ≡ number * cells / count }
+    ensures { result ≡ number * road_cells / count }
 {
-    number * cells / count
+    number * road_cells / count
 }
 
-/// Lanes with `count` evenly spaced cars, all with speed 0.
+/// Lanes of `cells` cells with `count` evenly spaced cars of speed 0 in all.
 pub fn even_lanes(
     alloc: Global,
     lanes: usize,

@@ -23,15 +23,15 @@ within r k = record { one = variable.Register r; other = variable.Input k; level
 
 -- notes about the first registers only
 abbrev saying : List AbstractValue → Known
-saying said = record { said = said; facts = []; side = false }
+saying values = record { values = values; facts = []; side = false }
 
 -- the same, with facts about the order
 abbrev knowing : List AbstractValue → List Fact → Known
-knowing said facts = record { said = said; facts = facts; side = false }
+knowing values facts = record { values = values; facts = facts; side = false }
 
 -- the same, and the side cell is empty
 abbrev beside_empty : List AbstractValue → Known
-beside_empty said = record { said = said; facts = []; side = true }
+beside_empty values = record { values = values; facts = []; side = true }
 
 abbrev speed : AbstractValue
 speed = Between 0 MAX_LIMIT

@@ -15,7 +15,7 @@ use Rattle.trlab_code.specs.Flow.{target, falls, on_target}
 use Rattle.trlab_notes.specs.declared.note.AbstractValue.{AbstractValue}
 use Rattle.trlab_notes.specs.declared.note.AbstractValue.TheVariants.{Nothing, Between, Implies}
 use Rattle.trlab_notes.specs.declared.reasons.Reason.{Reason}
-use Rattle.trlab_notes.specs.Notes.{Note, same_variable, value_with_side, known_level, entry_said, entry}
+use Rattle.trlab_notes.specs.Notes.{Note, same_variable, value_with_side, known_level, entry_values, entry}
 use Rattle.trlab_notes.specs.Order.{IsNoMorePrecise, IsNoStronger}
 use Rattle.trlab_notes.specs.Reasons.{reason_against}
 use Rattle.trlab_notes.specs.Transfer.{next_note, jump_note}
@@ -35,7 +35,7 @@ pub record Fact : Type 0 where
 -- a row of such a table: what is known of the first registers, facts about the order, and whether the side
 -- cell is empty
 pub record Known : Type 0 where
-  pub said : List AbstractValue
+  pub values : List AbstractValue
   pub facts : List Fact
   pub side : Bool
 
@@ -44,16 +44,16 @@ level_by [] x y = 0
 level_by (fact ∷ facts) x y = cond (same_variable x fact.one && same_variable y fact.other) fact.level (level_by facts x y)
 
 abbrev said_by : Kind → List AbstractValue → Variable → AbstractValue
-said_by kind said (variable.Register r) = get_or said (register_number r) Nothing
-said_by kind said (variable.Input k) = entry_said kind (variable.Input k)
+said_by kind values (variable.Register r) = get_or values (register_number r) Nothing
+said_by kind values (variable.Input k) = entry_values kind (variable.Input k)
 
 -- the note that a row stands for
 abbrev note_of : Kind → Known → Note
-note_of kind known = record { said = said_by kind known.said; level = level_by known.facts; side = known.side }
+note_of kind known = record { values = said_by kind known.values; level = level_by known.facts; side = known.side }
 
 -- the row past the end of a table: nothing is known
 abbrev unknown : Known
-unknown = record { said = []; facts = []; side = false }
+unknown = record { values = []; facts = []; side = false }
 
 -- the first says no more of a variable than the second
 abbrev says_no_more : AbstractValue → AbstractValue → Bool
@@ -117,9 +117,9 @@ no_stronger kind known n h =
     let says : (x : Variable) → IsNoMorePrecise (value_with_side (note_of kind known) x) (value_with_side n x) =
     λ x. no_more (value_with_side (note_of kind known) x) (value_with_side n x) (of_each (λ z. says_no_more (value_with_side (note_of kind known) z) (value_with_side n z)) first.0 x) in
     record {
-      said = says;
-      order = λ x y. (known_from (said_by kind known.said x) (said_by kind known.said y) (n.said x) (n.said y) (same_variable x y) (level_by known.facts x y) (n.level x y)
-          (wider known.side n.side (said_by kind known.said x) (n.said x) (says x)) (wider known.side n.side (said_by kind known.said y) (n.said y) (says y)) (facts_hold n known.facts second.0 x y));
+      values = says;
+      order = λ x y. (known_from (said_by kind known.values x) (said_by kind known.values y) (n.values x) (n.values y) (same_variable x y) (level_by known.facts x y) (n.level x y)
+          (wider known.side n.side (said_by kind known.values x) (n.values x) (says x)) (wider known.side n.side (said_by kind known.values y) (n.values y) (says y)) (facts_hold n known.facts second.0 x y));
       beside = implied known.side n.side second.1;
     }
 

@@ -8,7 +8,7 @@ use Rattle.trlab_code.specs.declared.instruction.Input.TheVariants.{Speed, Limit
 use Rattle.trlab_code.specs.declared.view.View.{View}
 use Rattle.trlab_code.specs.Views.{IsViewInRange}
 use Rattle.trlab_code.specs.Machine.{Store, Number, Flag, At, Goes, start, update}
-use Rattle.trlab_rules.specs.Published.{safe_speed, brake, happens_at, vdr_chance, vdr_speed}
+use Rattle.trlab_rules.specs.Published.{safe_speed, brake, happens_at, vdr_braking_chance, vdr_speed}
 use Rattle.trlab_rules.specs.Standard.{vdr_program}
 use Rattle.trlab_rules.specs.Laws.{ComputesSpeed}
 use Rattle.trlab_rules.proofs.Rows.{Run, num, get, draw, add, sub, smaller, jump, at_most-jumps, at_most-falls, if_false-jumps, if_false-falls, go}
@@ -46,7 +46,7 @@ module _ (p p0 : ℕ) (view : View) (words : List ℕ) (seen : IsViewInRange vie
       (go R0 safe refl refl (omega arith) (omega arith)))))))
 
   -- before the draw it asks whether the car is stopped
-  runs : (stands : Bool) (h : Bool) → nat_eq view.speed 0 ≡ stands → happens_at (vdr_chance p p0 view.speed) words 0 ≡ h →
+  runs : (stands : Bool) (h : Bool) → nat_eq view.speed 0 ≡ stands → happens_at (vdr_braking_chance p p0 view.speed) words 0 ≡ h →
       Run Motion (vdr_program p p0).instrs view words (At 0 (start Motion view)) (Goes (brake h safe))
   unfolding start update
   runs true h stands happens =
@@ -66,5 +66,5 @@ module _ (p p0 : ℕ) (view : View) (words : List ℕ) (seen : IsViewInRange vie
 -- it answers the speed of Barlovic, Santen, Schadschneider and Schreckenberg
 pub vdr_moves : (p p0 : ℕ) → ComputesSpeed (vdr_speed p p0) (vdr_program p p0)
 vdr_moves p p0 view words seen =
-    let run = runs p p0 view words seen (nat_eq view.speed 0) (happens_at (vdr_chance p p0 view.speed) words 0) refl refl in
+    let run = runs p p0 view words seen (nat_eq view.speed 0) (happens_at (vdr_braking_chance p p0 view.speed) words 0) refl refl in
     (run.steps, run.ends)

@@ -1,7 +1,7 @@
--- The published rules, as functions of a car's view and its random words: the motion of Nagel and
--- Schreckenberg (1992), slow starts by Barlovic, Santen, Schadschneider and Schreckenberg (1998), and the
--- lane change of Rickert, Nagel, Schreckenberg and Latour (1996), whose lane-change distances are this
--- project's own.
+-- The published models, as functions of a car's view and its random words: the Nagel-Schreckenberg model
+-- (1992), the velocity-dependent-randomization (VDR) model of Barlovic, Santen, Schadschneider and
+-- Schreckenberg (1998), and the lane changes of Rickert, Nagel, Schreckenberg and Latour (1996), with
+-- distances of this project's own.
 use Rattle.std.specs.Prelude.{ℕ, ◌+◌, ◌-◌, ◌&&◌, min, List, Bool, true, false, nat_eq, nat_lt, nat_le, if◌then◌else◌, slice_index}
 use Rattle.trlab_words.specs.Chances.{happens_on}
 use Rattle.trlab_code.specs.declared.view.View.{View}
@@ -20,22 +20,22 @@ brake false speed = speed
 abbrev pub happens_at : ℕ → List ℕ → ℕ → Bool
 happens_at chance words k = happens_on chance (slice_index words k)
 
--- the speed by the rule of 1992 (Nagel and Schreckenberg): acceleration, slowing down, and braking with
--- probability p / 2 ^ 31 on random word 0
+-- the speed in the Nagel-Schreckenberg model (1992): acceleration, slowing down, and braking with probability
+-- p / 2 ^ 31 on random word 0
 abbrev pub nasch_speed : ℕ → View → List ℕ → ℕ
 nasch_speed p view words = brake (happens_at p words 0) (safe_speed view.speed view.limit view.gap)
 
--- the probability of braking, times 2 ^ 31, with slow starts: p0 for a car that is stopped before it
--- accelerates, p for a moving one
-abbrev pub vdr_chance : ℕ → ℕ → ℕ → ℕ
-vdr_chance p p0 speed = if nat_eq speed 0 then p0 else p
+-- the braking probability in the VDR model, times 2 ^ 31: p0 for a car whose speed before the step is 0, and p
+-- for a moving car
+abbrev pub vdr_braking_chance : ℕ → ℕ → ℕ → ℕ
+vdr_braking_chance p p0 speed = if nat_eq speed 0 then p0 else p
 
--- the speed by the rule of 1998 (Barlovic and others), which adds slow starts to the rule of 1992: stopped
--- cars brake with probability p0 / 2 ^ 31, moving cars with p / 2 ^ 31
+-- the speed in the VDR model (Barlovic et al. 1998), which adds slow starts to the Nagel-Schreckenberg model: a
+-- stopped car brakes with probability p0 / 2 ^ 31, a moving car with p / 2 ^ 31
 abbrev pub vdr_speed : ℕ → ℕ → View → List ℕ → ℕ
-vdr_speed p p0 view words = nasch_speed (vdr_chance p p0 view.speed) view words
+vdr_speed p p0 view words = nasch_speed (vdr_braking_chance p p0 view.speed) view words
 
--- the lane change of 1996 (Rickert and others): a car crosses if its side cell is empty, gap < speed + 1,
+-- does a car change lanes, as in Rickert et al. (1996)? It does if its side cell is empty, gap < speed + 1,
 -- speed + 1 < sidegap, limit < sideback, and an event of probability c / 2 ^ 31 happens on random word 1
 abbrev pub rickert_crosses : ℕ → View → List ℕ → Bool
 rickert_crosses c view words =
@@ -43,17 +43,18 @@ rickert_crosses c view words =
     && nat_lt view.limit view.sideback
     && happens_at c words 1
 
--- acceleration as worded in 1992: a speed below the limit grows by one if the distance to the next car ahead
--- is above speed + 1; otherwise it is unchanged
+-- acceleration as worded by Nagel and Schreckenberg (1992): a speed below the limit grows by one if the
+-- distance to the next car ahead is above speed + 1; otherwise it is unchanged
 abbrev pub acceleration_1992 : ℕ → ℕ → ℕ → ℕ
 acceleration_1992 speed limit distance =
     if nat_lt speed limit && nat_lt (speed + 1) distance then speed + 1 else speed
 
--- slowing down as worded in 1992: if the distance to the next car ahead is at most the speed, the speed
--- becomes distance - 1; otherwise it is unchanged
+-- slowing down as worded by Nagel and Schreckenberg (1992): if the distance to the next car ahead is at most
+-- the speed, the speed becomes distance - 1; otherwise it is unchanged
 abbrev pub slowing_down_1992 : ℕ → ℕ → ℕ
 slowing_down_1992 speed distance = if nat_le distance speed then distance - 1 else speed
 
--- acceleration, then slowing down, as worded in 1992; the distance to the next car ahead is gap + 1
+-- the speed after acceleration and then slowing down, as worded by Nagel and Schreckenberg (1992); the distance
+-- to the next car ahead is gap + 1
 abbrev pub wording_1992 : ℕ → ℕ → ℕ → ℕ
 wording_1992 speed limit gap = slowing_down_1992 (acceleration_1992 speed limit (gap + 1)) (gap + 1)

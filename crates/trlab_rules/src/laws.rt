@@ -19,23 +19,24 @@ pub fn chances_are_those_of_draws()
     ensures { DrawsMatchChances }
 {}
 
-/// The motion program of 1992 computes the speed of Nagel and Schreckenberg.
+/// The motion program `nasch_program` computes the speed of the Nagel-Schreckenberg model.
 pub fn nasch_is_published()
     ensures { (p : ℕ) → ComputesSpeed (nasch_speed p) (nasch_program p) }
 {}
 
-/// The motion program of 1998 computes the speed of Barlovic, Santen, Schadschneider and Schreckenberg.
+/// The motion program `vdr_program` computes the speed of the VDR model of Barlovic et al. (1998).
 pub fn vdr_is_published()
     ensures { (p p0 : ℕ) → ComputesSpeed (vdr_speed p p0) (vdr_program p p0) }
 {}
 
-/// The change program of 1996 computes the lane change of Rickert, Nagel, Schreckenberg and Latour, with this project's
+/// The change program `rickert_program` computes the lane changes of Rickert et al. (1996), with this project's
 /// distances.
 pub fn rickert_is_published()
     ensures { (c : ℕ) → ComputesCrossing (rickert_crosses c) (rickert_program c) }
 {}
 
-/// For a speed of at most the limit, the wording of 1992 gives the minimum of the speed plus one, limit and gap.
+/// For a speed of at most the limit, the wording of Nagel and Schreckenberg (1992) gives the minimum of the speed plus
+/// one, the limit and the gap.
 pub fn wording_is_safe_speed()
     ensures { (speed limit gap : ℕ) → speed ≤ limit → wording_1992 speed limit gap ≡ safe_speed speed limit gap }
 {}

@@ -1,6 +1,6 @@
-//! The instructions of the standard programs: of Nagel and Schreckenberg (1992), with the slow starts of Barlovic,
-//! Santen, Schadschneider and Schreckenberg (1998), and of Rickert, Nagel, Schreckenberg and Latour (1996), with
-//! distances of this project's own. A jump names the index of an instruction, counted from 0.
+//! The instructions of the standard programs: the motion of the Nagel-Schreckenberg model (1992) and of the VDR model of
+//! Barlovic et al. (1998), and the lane changes of Rickert et al. (1996) with distances of this project's own. A jump
+//! names the index of an instruction, counted from 0.
 
 ghost use Rattle.std.specs.Prelude.{◌≡◌, IfOk};
 ghost use Rattle.trlab_code.specs.Program.{IsValidProgram};
@@ -14,7 +14,7 @@ use trlab_code::Instr::{
 use trlab_code::Register::{R0, R1, R2, R3};
 use trlab_words::Chance;
 
-/// The instructions of the motion of 1992, which brakes with probability `p`.
+/// The motion program of the Nagel-Schreckenberg model, which brakes with probability `p`.
 ///
 /// # Errors
 ///
@@ -40,8 +40,7 @@ pub fn nasch_instrs(alloc: Global, p: Chance) -> Result<Vec<Instr>, AllocError>
     Ok(instrs)
 }
 
-/// The instructions of the motion of 1998, which brakes with probability `p0` if the car is stopped, and with
-/// `p` if it moves.
+/// The motion program of the VDR model: a stopped car brakes with probability `p0`, a moving car with `p`.
 ///
 /// # Errors
 ///
@@ -70,7 +69,7 @@ pub fn vdr_instrs(alloc: Global, p: Chance, p0: Chance) -> Result<Vec<Instr>, Al
     Ok(instrs)
 }
 
-/// The instructions of the lane change of 1996, with probability `c`.
+/// The change program of Rickert et al. (1996): lane changes with probability `c`.
 ///
 /// # Errors
 ///

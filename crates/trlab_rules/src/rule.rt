@@ -50,7 +50,7 @@ impl Rule {
         &self.motion
     }
 
-    /// The program that decides whether a car crosses, if the rule has one.
+    /// The program that decides whether a car changes lanes, if the rule has one.
     pub fn change(&self) -> Option<&Change>
         ensures value { option_map (λ change. change.now) result ≡ self.now.change }
         ensures rule { IsRule self.now }
@@ -74,7 +74,7 @@ impl Rule {
         Ok(Rule::new(motion, change))
     }
 
-    /// Do two rules have the same motion program, and the same change program or none?
+    /// Whether two rules have the same motion program, and the same change program or none.
     pub fn equals(&self, other: &Rule) -> bool
         ensures { IsTrue result ↔ (self.now ≡ other.now) }
     {

@@ -37,7 +37,7 @@ impl From<AllocError> for StandardFault {
     }
 }
 
-/// The rule of Nagel and Schreckenberg (1992), for one lane or for lanes that no car leaves.
+/// The model of Nagel and Schreckenberg (1992), on one lane or on lanes that no car leaves.
 ///
 /// A car accelerates by one cell per step up to the limit, slows down to its gap, and then, with probability
 /// `p` on its word 0, brakes by one.
@@ -53,9 +53,10 @@ pub fn nasch(alloc: Global, p: Chance) -> Result<Rule, StandardFault>
     Ok(Rule::new(nasch_motion(alloc, p)?, None))
 }
 
-/// The slow-start rule of Barlovic, Santen, Schadschneider and Schreckenberg (1998).
+/// The velocity-dependent-randomization (VDR) model of Barlovic, Santen, Schadschneider and Schreckenberg (1998).
 ///
-/// It is `nasch` with probability `p0` for a car whose speed before the step is 0, and `p` for a moving one.
+/// It is `nasch` with slow starts: a car whose speed before the step is 0 brakes with probability `p0`, and a moving
+/// car with probability `p`.
 ///
 /// # Errors
 ///
@@ -68,7 +69,7 @@ pub fn vdr(alloc: Global, p: Chance, p0: Chance) -> Result<Rule, StandardFault>
     Ok(Rule::new(vdr_motion(alloc, p, p0)?, None))
 }
 
-/// The two-lane rule of Rickert, Nagel, Schreckenberg and Latour (1996), with lane-change distances of this project's
+/// The two-lane model of Rickert, Nagel, Schreckenberg and Latour (1996), with lane-change distances of this project's
 /// own.
 ///
 /// A car crosses exactly if its side cell is empty, its gap is below its speed plus one, the gap ahead on the other
@@ -88,12 +89,12 @@ pub fn rickert(alloc: Global, p: Chance, c: Chance) -> Result<Rule, StandardFaul
     Ok(Rule::new(motion, Some(change)))
 }
 
-/// The program of the kind `K` with these instructions, which the verifier accepts.
+/// Builds the program of the kind `K` with these instructions, which the verifier accepts.
 ///
 /// # Errors
 ///
 /// If an allocation fails.
-fn checked<K: ProgramKind>(
+fn accept<K: ProgramKind>(
     alloc: Global,
     instrs: Vec<Instr>,
 ) -> Result<AcceptedProgram<K>, AllocError>
@@ -112,7 +113,7 @@ fn checked<K: ProgramKind>(
     }
 }
 
-/// The accepted motion of 1992, which brakes with probability `p`.
+/// The accepted motion program of the Nagel-Schreckenberg model, which brakes with probability `p`.
 ///
 /// # Errors
 ///
@@ -120,11 +121,10 @@ fn checked<K: ProgramKind>(
 fn nasch_motion(alloc: Global, p: Chance) -> Result<Motion, AllocError>
     ensures { IfOk result (IsMotionComputing (nasch_speed p) (nasch_program p)) }
 {
-    checked(alloc, nasch_instrs(alloc, p)?)
+    accept(alloc, nasch_instrs(alloc, p)?)
 }
 
-/// The accepted motion of 1998, which brakes with probability `p0` if the car is stopped, and with `p` if it
-/// moves.
+/// The accepted motion program of the VDR model: a stopped car brakes with probability `p0`, a moving car with `p`.
 ///
 /// # Errors
 ///
@@ -132,10 +132,10 @@ fn nasch_motion(alloc: Global, p: Chance) -> Result<Motion, AllocError>
 fn vdr_motion(alloc: Global, p: Chance, p0: Chance) -> Result<Motion, AllocError>
     ensures { IfOk result (IsMotionComputing (vdr_speed p p0) (vdr_program p p0)) }
 {
-    checked(alloc, vdr_instrs(alloc, p, p0)?)
+    accept(alloc, vdr_instrs(alloc, p, p0)?)
 }
 
-/// The accepted lane change of 1996, with probability `c`.
+/// The accepted change program of Rickert et al. (1996): lane changes with probability `c`.
 ///
 /// # Errors
 ///
@@ -143,7 +143,7 @@ fn vdr_motion(alloc: Global, p: Chance, p0: Chance) -> Result<Motion, AllocError
 fn rickert_change(alloc: Global, c: Chance) -> Result<Change, AllocError>
     ensures { IfOk result (IsChangeComputing (rickert_crosses c) (rickert_program c)) }
 {
-    checked(alloc, rickert_instrs(alloc, c)?)
+    accept(alloc, rickert_instrs(alloc, c)?)
 }
 
 /// The speed of a car after acceleration and slowing down, as Nagel and Schreckenberg worded it in 1992.

@@ -5,17 +5,17 @@ use mathlib.Core.Option.{some}
 use native.Mathlib.Decide.{ℕ_discrete}
 use Rattle.atomic_table.specs.Table.{Me, keeps, takes, gives, Allows, Arrives}
 use Rattle.atomic_table.proofs.Lists.{set_here}
-use Rattle.trlab_segments.specs.KeyedLocks.{ObeysLockRule, HasTakenValue}
+use Rattle.trlab_segments.specs.KeyedLocks.{SatisfiesLockInvariant, HasTakenValue}
 
 module _ {T K : Type 0} (Fits : T → Type 0) where
   -- a thread that has the value puts one back that fits
   pub releases : (id : ℕ) (m : Me (Option T) K) (v : K) (value : T) (more : List (ℕ × Option T)) → m ≡ (v, (0, Some value) ∷ more) → Fits value
-      → Allows (ObeysLockRule Fits) 1 id m 0 (λ _. 0) (λ _ _. Unit {0})
-  releases id m v value more e ok = subst (λ (x : Me (Option T) K). Allows (ObeysLockRule Fits) 1 id x 0 (λ _. 0) (λ _ _. Unit {0})) (sym e)
+      → Allows (SatisfiesLockInvariant Fits) 1 id m 0 (λ _. 0) (λ _ _. Unit {0})
+  releases id m v value more e ok = subst (λ (x : Me (Option T) K). Allows (SatisfiesLockInvariant Fits) 1 id x 0 (λ _. 0) (λ _ _. Unit {0})) (sym e)
       (λ s g wide me _. (v, gives, tt, (length-set s.words 0 0 ∙ g.0, λ _. (value, set_here s.homes 0 (some (Some value)) (omega arith), ok)), tt))
 
   -- a thread that finds 0 has a value that fits
-  pub seizes : (n : ℕ) (v : K) → Arrives (ObeysLockRule Fits) n 0 (λ _. 1) (λ r m. r ≡ 0 → HasTakenValue {K = K} Fits m)
+  pub seizes : (n : ℕ) (v : K) → Arrives (SatisfiesLockInvariant Fits) n 0 (λ _. 1) (λ r m. r ≡ 0 → HasTakenValue {K = K} Fits m)
   seizes n v s g wide _ =
       let long = g.0 in
       let one = get_or-set_same s.words 0 1 0 (omega arith) in

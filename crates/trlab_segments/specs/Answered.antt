@@ -1,5 +1,5 @@
 -- Parts: the answers of a program for the cars of one segment of a road, and the parts that a worker returns.
-use Rattle.std.specs.Prelude.{◌≡◌, ℕ, ◌+◌, ◌<◌, true, Bool, List, All, map, length, slice_index_or}
+use Rattle.std.specs.Prelude.{◌≡◌, ℕ, ◌+◌, true, Bool, List, All, map, length, slice_get, Some}
 use Rattle.std.specs.Prelude.{Result, IfOk, Vec}
 use Rattle.trlab_machine.specs.declared.dice.Dice.{Dice}
 use Rattle.trlab_road.specs.Cells.{Cells, cars}
@@ -22,7 +22,7 @@ IsAnyRoad road = Unit {0}
 abbrev pub HasTwoLanes : Cells → Type 0
 HasTwoLanes road = length road.lanes ≡ 2
 
--- the ticket with which a part was asked: the number of its segment
+-- the ticket of a part, which is the number of its segment
 abbrev pub ticket_of : {A : Type 0} → Part A → ℕ
 ticket_of part = part.number
 
@@ -58,11 +58,9 @@ HasWorked Fits tickets old outcome =
     IsDrawerOf tickets outcome.0 × (passes_of outcome.0 ≡ passes_of old)
     × IfOk outcome.1 (λ parts. HasParts Fits outcome.0 parts.items)
 
--- the part at this index of the list has this ticket; `other`, which `slice_index_or` would give beyond the
--- end, is never used
+-- the part at this index of the list has this ticket
 abbrev pub IsIndexOfTicket : {A : Type 0} → List (Part A) → ℕ → ℕ → Type 0
-IsIndexOfTicket parts index ticket =
-    (index < length parts) × ((other : Part _) → ticket_of (slice_index_or parts index other) ≡ ticket)
+IsIndexOfTicket parts index ticket = slice_get (map ticket_of parts) index ≡ Some ticket
 
 -- a call with precondition `pre` and postcondition `post` can be made on any road and, unless an allocation
 -- fails, returns the speeds that the motion program answers for its cars, in standing order

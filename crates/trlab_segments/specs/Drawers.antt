@@ -12,22 +12,22 @@ ticket_count tickets = tickets.plan.count
 abbrev pub drawers_of : Tickets → ℕ
 drawers_of tickets = tickets.plan.drawers
 
--- the number of passes of a drawer, which are its rights to draw; a drawer with two or more can be split
+-- the number of passes (rights to draw) of a drawer, which is at least 1 by the invariant of `Drawer`
 abbrev pub passes_of : Drawer → ℕ
 passes_of drawer = drawer.passes
 
--- the tickets that a drawer drew, in order. If it was gathered from two drawers, it has the tickets of both,
--- first those of one and then those of the other
+-- the tickets that a drawer drew, in order; if it was gathered from two drawers, the tickets of the first and
+-- then the tickets of the second
 abbrev pub tickets_of : Drawer → List ℕ
 tickets_of drawer = drawer.seat.me.0.tickets
 
 -- the smallest number that the next ticket of a drawer may have
 abbrev pub least_next_ticket : Drawer → ℕ
-least_next_ticket drawer = drawer.seat.me.0.least
+least_next_ticket drawer = drawer.seat.me.0.least_next
 
 -- has a drawer found that no ticket is left?
 abbrev pub is_ended : Drawer → Bool
-is_ended drawer = drawer.ended
+is_ended drawer = drawer.has_ended
 
 -- the drawer belongs to these tickets: it draws from their counter, and has their plan
 abbrev pub IsDrawerOf : Tickets → Drawer → Type 0
@@ -58,7 +58,7 @@ HasDrawn tickets old ticket new =
 abbrev pub IsSameDrawer : Drawer → Drawer → Type 0
 IsSameDrawer one other =
     (one.seat.table_id ≡ other.seat.table_id) × (one.seat.me ≡ other.seat.me)
-    × (one.passes ≡ other.passes) × (one.ended ≡ other.ended)
+    × (one.passes ≡ other.passes) × (one.has_ended ≡ other.has_ended)
 
 -- the drawer `all` has the drawn tickets of `one`, then those of `other`, and has ended if either of them has
 pub record Joins (t : Tickets) (one other all : Drawer) : Type 0 where

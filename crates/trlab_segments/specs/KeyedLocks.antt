@@ -1,5 +1,5 @@
--- The rule of a lock with one word and one slot: while the word is 0, no thread has the value, and it is in
--- the slot. The lock guarantees that `Fits` holds for the value.
+-- The invariant of a lock with one word and one slot: while the word is 0, no thread has the value, and it is
+-- in the slot. The lock guarantees that `Fits` holds for the value.
 use Rattle.std.specs.Prelude.{◌≡◌, ℕ, ◌∷◌, [], Option, Some, slice_index, length}
 use mathlib.Core.Option.{some}
 use lib.ListN.{get_elem?}
@@ -11,10 +11,10 @@ module _ {T K : Type 0} where
   HoldsFittingValue Fits state =
       (value : T) × (get_elem? state.homes 0 ≡ some (some (Some value))) × Fits value
 
-  -- the rule of the lock: it has one word, and while this word is 0, the slot holds a value for which `Fits`
-  -- holds
-  abbrev pub ObeysLockRule : (T → Type 0) → State (Option T) K → Type 0
-  ObeysLockRule Fits state =
+  -- the lock invariant, before and after each atomic step: there is one word, and while this word is 0, the
+  -- slot holds a value for which `Fits` holds
+  abbrev pub SatisfiesLockInvariant : (T → Type 0) → State (Option T) K → Type 0
+  SatisfiesLockInvariant Fits state =
       (length state.words ≡ 1) × (slice_index state.words 0 ≡ 0 → HoldsFittingValue Fits state)
 
   -- a thread has taken the slot, with a value in it for which `Fits` holds, and no other slot

@@ -1,12 +1,12 @@
--- Tickets are the numbers below a count; each is drawn by one drawer. A drawer knows the number of its
--- passes, and which tickets it drew.
-use Rattle.std.specs.Prelude.{◌≡◌, ℕ, ◌+◌, ◌-◌, Bool, true, false, cond, ◌||◌, eqb}
+-- The knowledge of drawers: their passes, and which tickets they drew. Tickets are the numbers below a count,
+-- and each is drawn by at most one drawer.
+use Rattle.std.specs.Prelude.{◌≡◌, ℕ, ◌+◌, ◌-◌, true, false, cond, ◌||◌, eqb}
 use Rattle.std.specs.Prelude.{List, [], ◌∷◌, ◌++◌, count_by}
 use Rattle.trlab_strands.specs.Knowledge.{once_below}
 use Rattle.trlab_segments.specs.declared.ticket_rule.Plan.{Plan}
 use Rattle.trlab_segments.specs.declared.ticket_rule.TicketKnowledge.{TicketKnowledge}
 
--- how often the number x occurs in a list of tickets
+-- the number of times that x occurs in a list of tickets
 abbrev pub occurrences : ℕ → List ℕ → ℕ
 occurrences x tickets = count_by (λ ticket. eqb ticket x) tickets
 
@@ -15,46 +15,49 @@ occurrences x tickets = count_by (λ ticket. eqb ticket x) tickets
 abbrev pub IsPermutation : List ℕ → ℕ → Type 0
 IsPermutation tickets count = (x : ℕ) → occurrences x tickets ≡ once_below x count
 
--- the knowledge of a drawer: the plan of its tickets, its passes, the tickets that it drew, the smallest
--- number that its next ticket may have, and whether it has found that no ticket is left
-abbrev pub ticket_knowledge : Plan → ℕ → List ℕ → ℕ → Bool → TicketKnowledge
-ticket_knowledge plan passes tickets least ended =
-    record { plan = plan; passes = passes; tickets = tickets; least = least; ended = ended }
+-- the knowledge of a seat whose drawer has been joined to another: no passes, no tickets, and the plan of no
+-- tickets and no drawers
+abbrev pub idle_knowledge : TicketKnowledge
+idle_knowledge = record {
+  plan = record { count = 0; drawers = 0 };
+  passes = 0;
+  tickets = [];
+  least_next = 0;
+  has_ended = false;
+}
 
--- the knowledge that is left at the seat of a drawer that was joined to another: no pass, no ticket and the
--- plan of no tickets
-abbrev pub no_knowledge : TicketKnowledge
-no_knowledge = ticket_knowledge (record { count = 0; drawers = 0 }) 0 [] 0 false
-
--- the knowledge of the first drawer: it has all passes and no ticket
+-- the knowledge of the first drawer of this plan: it has all passes and no tickets, and may draw any ticket
 abbrev pub first_drawer : Plan → TicketKnowledge
-first_drawer plan = ticket_knowledge plan plan.drawers [] 0 false
+first_drawer plan = record idle_knowledge { plan = plan; passes = plan.drawers }
 
--- the knowledge of a drawer that has drawn this ticket; its next one is above it
+-- the knowledge of the drawer `old` after it has drawn this ticket; its next ticket will be larger
 abbrev pub with_ticket : TicketKnowledge → ℕ → TicketKnowledge
-with_ticket old ticket =
-    ticket_knowledge old.plan old.passes (old.tickets ++ ticket ∷ []) (ticket + 1) old.ended
+with_ticket old ticket = record old { tickets = old.tickets ++ ticket ∷ []; least_next = ticket + 1 }
 
--- the knowledge of a drawer that has found that no ticket is left
+-- the knowledge of the drawer `old` after it has found that no ticket is left
 abbrev pub at_end : TicketKnowledge → TicketKnowledge
-at_end old = ticket_knowledge old.plan old.passes old.tickets old.least true
+at_end old = record old { has_ended = true }
 
--- the knowledge of a drawer that has given one pass away
+-- the knowledge of the drawer `old` after it has given one pass away
 abbrev pub less_a_pass : TicketKnowledge → TicketKnowledge
-less_a_pass old = ticket_knowledge old.plan (old.passes - 1) old.tickets old.least old.ended
+less_a_pass old = record old { passes = old.passes - 1 }
 
--- the knowledge of a new drawer that got one pass from the drawer `old`: it has no ticket, and has ended if
--- `old` has
+-- the knowledge of a new drawer that got one pass from the drawer `old`: it has no tickets and may draw any,
+-- and it has ended if `old` has
 abbrev pub one_pass : TicketKnowledge → TicketKnowledge
-one_pass old = ticket_knowledge old.plan 1 [] 0 old.ended
+one_pass old = record idle_knowledge { plan = old.plan; passes = 1; has_ended = old.has_ended }
 
--- the knowledge of two drawers that were joined: the passes and the tickets of both. The drawer has ended if
--- one of them has, and its next ticket may have any number
+-- the knowledge of two drawers of the same plan that were joined: the passes and the tickets of both. The
+-- joined drawer may draw any ticket next, and has ended if one of the two has
 abbrev pub both_drawers : TicketKnowledge → TicketKnowledge → TicketKnowledge
-both_drawers one other =
-    ticket_knowledge one.plan (one.passes + other.passes) (one.tickets ++ other.tickets) 0
-    (one.ended || other.ended)
+both_drawers one other = record {
+  plan = one.plan;
+  passes = one.passes + other.passes;
+  tickets = one.tickets ++ other.tickets;
+  least_next = 0;
+  has_ended = one.has_ended || other.has_ended;
+}
 
 -- the number of passes of a drawer if it has found that no ticket is left, otherwise 0
 abbrev pub passes_at_end : TicketKnowledge → ℕ
-passes_at_end drawer = cond drawer.ended drawer.passes 0
+passes_at_end drawer = cond drawer.has_ended drawer.passes 0

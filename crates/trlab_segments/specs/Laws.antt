@@ -8,20 +8,20 @@ use Rattle.trlab_bounds.specs.declared.runs.TheConstants.{MAX_WORKERS}
 use Rattle.trlab_segments.specs.declared.ticket_rule.Plan.{Plan}
 use Rattle.trlab_segments.specs.declared.ticket_rule.TicketKnowledge.{TicketKnowledge}
 use Rattle.trlab_segments.specs.Knowledge.{IsPermutation}
-use Rattle.trlab_segments.specs.Rule.{ObeysTicketRule, counter_of}
+use Rattle.trlab_segments.specs.Rule.{SatisfiesTicketInvariant, counter_of}
 use Rattle.trlab_segments.specs.Segments.{segment_count, first_car, segment}
 
--- if the rule of tickets holds, the counter is at most the number of tickets plus the maximum number of
--- workers
+-- if the ticket invariant holds, the counter is at most the number of tickets plus MAX_WORKERS
 abbrev pub CounterIsBounded : Type 0
 CounterIsBounded = (plan : Plan) (state : State ℕ TicketKnowledge)
-    → ObeysTicketRule plan state → counter_of state ≤ plan.count + MAX_WORKERS
+    → SatisfiesTicketInvariant plan state → counter_of state ≤ plan.count + MAX_WORKERS
 
--- if the rule of tickets holds, a drawer with all passes has drawn each ticket exactly once, if and only if
+-- if the ticket invariant holds, a drawer with all passes has drawn each ticket exactly once if and only if
 -- the counter has reached the number of tickets
 abbrev pub AllPassesHaveAllTickets : Type 0
 AllPassesHaveAllTickets = (plan : Plan) (state : State ℕ TicketKnowledge) (seat : ℕ) (mine : TicketKnowledge)
-    → ObeysTicketRule plan state → get_elem? state.views seat ≡ some mine → mine.passes ≡ plan.drawers
+    → SatisfiesTicketInvariant plan state → get_elem? state.views seat ≡ some mine
+    → mine.passes ≡ plan.drawers
     → IsPermutation mine.tickets plan.count ↔ (plan.count ≤ counter_of state)
 
 -- the first of `count` segments begins with the first car, and the last one ends with the last car
@@ -34,8 +34,8 @@ abbrev pub SegmentsHaveCars : Type 0
 SegmentsHaveCars = (cars count i : ℕ) → 0 < count → count ≤ cars
     → first_car cars count i < first_car cars count (i + 1)
 
--- the cars of all segments, one segment after the other, are all cars in standing order, each once; the
--- number of workers may be any but 0
+-- the cars of all segments, one segment after the other, are all cars in standing order, each once, for any
+-- number of workers but 0
 abbrev pub SegmentsAreAllCars : Type 0
 SegmentsAreAllCars = (cars workers : ℕ) → 0 < workers
     → flat_map (segment cars (segment_count cars workers)) (range_with_len 0 (segment_count cars workers))

@@ -1,5 +1,5 @@
--- The rule of tickets: an invariant of the one counter that drawers share, which is the next ticket, and of
--- their knowledge, before and after each atomic step.
+-- The ticket invariant: facts about the drawers' shared counter, which is the next ticket, and about their
+-- knowledge, before and after each atomic step; and the effects of the steps.
 use Rattle.std.specs.Prelude.{◌≡◌, ℕ, ◌+◌, ◌<◌, ◌≤◌, ◌^◌, min, true, List, length, slice_index, sum_by}
 use mathlib.Core.Option.{some}
 use lib.ListN.{get_elem?}
@@ -8,7 +8,7 @@ use Rattle.trlab_bounds.specs.declared.runs.TheConstants.{MAX_WORKERS}
 use Rattle.trlab_segments.specs.declared.ticket_rule.Plan.{Plan}
 use Rattle.trlab_segments.specs.declared.ticket_rule.TicketKnowledge.{TicketKnowledge}
 use Rattle.trlab_strands.specs.Knowledge.{once_below}
-use Rattle.trlab_segments.specs.Knowledge.{occurrences, IsPermutation, no_knowledge, with_ticket, at_end}
+use Rattle.trlab_segments.specs.Knowledge.{occurrences, IsPermutation, idle_knowledge, with_ticket, at_end}
 use Rattle.trlab_segments.specs.Knowledge.{passes_at_end}
 
 -- the counter, the word that drawers share: it is the next ticket, and all tickets below it were drawn
@@ -19,10 +19,10 @@ counter_of state = slice_index state.words 0
 -- knows the plan, has ended only if the counter has reached the number of tickets, and may draw the ticket of
 -- the counter
 pub record IsSoundDrawer (plan : Plan) (counter : ℕ) (drawer : TicketKnowledge) : Type 0 where
-  pub idle : drawer.passes ≡ 0 → drawer ≡ no_knowledge
+  pub idle : drawer.passes ≡ 0 → drawer ≡ idle_knowledge
   pub same_plan : 0 < drawer.passes → drawer.plan ≡ plan
-  pub late : drawer.ended ≡ true → plan.count ≤ counter
-  pub least_within : drawer.least ≤ counter
+  pub late : drawer.has_ended ≡ true → plan.count ≤ counter
+  pub least_next_within : drawer.least_next ≤ counter
 
 -- the knowledge of all seats is true for this plan and counter. Each ticket below the counter was drawn
 -- exactly once, by one drawer, and no other number was drawn. The passes add up to the drawers of the plan,
@@ -35,10 +35,10 @@ pub record AreSoundDrawers (plan : Plan) (counter : ℕ) (known : List TicketKno
   pub each : (seat : ℕ) (drawer : TicketKnowledge)
       → get_elem? known seat ≡ some drawer → IsSoundDrawer plan counter drawer
 
--- the rule of tickets, which holds before and after each atomic step: the only word is the counter, the
--- numbers of tickets and drawers are in range, and the knowledge of all seats is true for the plan and the
--- counter
-pub record ObeysTicketRule (plan : Plan) (state : State ℕ TicketKnowledge) : Type 0 where
+-- the ticket invariant, before and after each atomic step: there is one shared word, the counter; there are
+-- fewer than 2^32 tickets and at most MAX_WORKERS drawers; and the knowledge of all seats is true for the
+-- plan and the counter
+pub record SatisfiesTicketInvariant (plan : Plan) (state : State ℕ TicketKnowledge) : Type 0 where
   pub one_word : length state.words ≡ 1
   pub count : plan.count < 2 ^ 32
   pub drawers : plan.drawers ≤ MAX_WORKERS
@@ -48,19 +48,19 @@ pub record ObeysTicketRule (plan : Plan) (state : State ℕ TicketKnowledge) : T
 -- next ticket; otherwise no ticket is left, and the drawer has ended
 abbrev pub DrawsTicket : Step ℕ → Me ℕ TicketKnowledge → ℕ → Me ℕ TicketKnowledge → Type 0
 DrawsTicket step old found new =
-    (new.1 ≡ old.1) × (old.0.least ≤ found)
+    (new.1 ≡ old.1) × (old.0.least_next ≤ found)
     × (found < old.0.plan.count → new.0 ≡ with_ticket old.0 found)
     × (old.0.plan.count ≤ found → new.0 ≡ at_end old.0)
 
--- facts about a drawer that follow from the rule. It has at most all passes, of which there are at most
--- `MAX_WORKERS`; if it has all, it has drawn each ticket below the counter exactly once; if it has ended, the
--- counter has reached the number of tickets
+-- facts about a drawer that follow from the ticket invariant. It has at most all passes, of which there are
+-- at most MAX_WORKERS; if it has all, it has drawn each ticket below the counter exactly once; if it has
+-- ended, the counter has reached the number of tickets
 pub record AgreesWithCounter (counter : ℕ) (drawer : TicketKnowledge) : Type 0 where
   pub passes : drawer.passes ≤ drawer.plan.drawers
   pub drawers : drawer.plan.drawers ≤ MAX_WORKERS
   pub whole : drawer.passes ≡ drawer.plan.drawers
       → IsPermutation drawer.tickets (min drawer.plan.count counter)
-  pub late : drawer.ended ≡ true → drawer.plan.count ≤ counter
+  pub late : drawer.has_ended ≡ true → drawer.plan.count ≤ counter
 
 -- the step that reads the counter, `found`: it changes nothing, and shows that `AgreesWithCounter` holds
 abbrev pub ReadsCounter : Step ℕ → Me ℕ TicketKnowledge → ℕ → Me ℕ TicketKnowledge → Type 0

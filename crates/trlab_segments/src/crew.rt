@@ -10,7 +10,7 @@ ghost use Rattle.trlab_segments.specs.Drawers.{IsDrawerOf, ticket_count, tickets
 ghost use Rattle.trlab_step.specs.Answers.{IsCrossingsPart, IsSpeedsPart, dice_of};
 ghost use Rattle.trlab_step.specs.Next.{IsStepResult};
 
-use crate::parts::{Part, joined, line_up, work};
+use crate::parts::{Part, join_parts, line_up, work};
 use crate::phase::{Asked, Phase};
 use crate::segment::{Gate, segment_count};
 use crate::tickets::{Drawer, Tickets};
@@ -23,15 +23,14 @@ use trlab_step::{Executor, StepFault, StepObserver, StepTally, step_road_by};
 use trlab_verify::{Change, Motion};
 use trlab_words::Key;
 
-/// 1 to 16 workers and their gate. The calling thread is worker 0; the others are started for each phase, and have
-/// ended when its answers are returned.
+/// 1 to `MAX_WORKERS` workers and their gate. The calling thread is worker 0; the others are started for each phase,
+/// and have ended when its answers are returned.
 #[derive(Drop)]
 pub struct Crew<'a, R, G> {
     rt: &'a R,
     gate: &'a G,
     workers: u32,
-    ghost some: { 0 < workers },
-    ghost few: { workers ≤ MAX_WORKERS },
+    ghost in_range: { (0 < workers) × (workers ≤ MAX_WORKERS) },
 }
 
 impl<'a, R: Threads + Sync, G: Gate + Sync> Crew<'a, R, G> {
@@ -39,8 +38,7 @@ impl<'a, R: Threads + Sync, G: Gate + Sync> Crew<'a, R, G> {
 
     /// A crew of `workers` workers, each of which passes the gate before each segment.
     pub fn new(rt: &'a R, workers: u32, gate: &'a G) -> Crew<'a, R, G>
-        requires some { 0 < workers }
-        requires few { workers ≤ MAX_WORKERS }
+        requires { (0 < workers) × (workers ≤ MAX_WORKERS) }
         ensures { crew_workers result ≡ workers }
     {
         Crew { rt, gate, workers }
@@ -206,7 +204,7 @@ fn share<A: Drop + Send, P: Asked<A> + Sync, R: Threads + Sync, G: Gate + Sync>(
         return (drawer, parts);
     }
     let mut theirs = tickets.split(&mut drawer);
-    let ((theirs, some), (mine, more)) = join(
+    let ((theirs, their_parts), (mine, my_parts)) = join(
         rt,
         move || -> (Drawer, Result<Vec<Part<A>>, AllocError>)
             requires { IsDrawerOf tickets.now theirs × (tickets_of theirs ≡ []) × P.can_ask phase.now.road.now }
@@ -223,11 +221,14 @@ fn share<A: Drop + Send, P: Asked<A> + Sync, R: Threads + Sync, G: Gate + Sync>(
                 tickets.entry.now drawer result }
         { share(rt, alloc, phase, tickets, drawer, gate) },
     );
-    (tickets.gather(theirs, mine), joined(some, more))
+    (
+        tickets.gather(theirs, mine),
+        join_parts(their_parts, my_parts),
+    )
 }
 
-/// The next road as `step_road` returns it, with 1 to 16 workers. It is the same for every number of workers and
-/// every gate.
+/// The next road as `step_road` returns it, computed by 1 to `MAX_WORKERS` workers. It is the same for every number of
+/// workers and every gate.
 ///
 /// The cars are cut into segments, four per worker but none without a car. In each of the two phases a worker draws the
 /// number of the next segment, passes the gate and asks the segment's cars, until no segment is left. The calling
@@ -248,8 +249,7 @@ pub fn step_shared<R: Threads + Sync, G: Gate + Sync>(
     workers: u32,
     gate: &G,
 ) -> Result<(Road, StepTally), StepFault>
-    requires some_worker { 0 < workers }
-    requires few_workers { workers ≤ MAX_WORKERS }
+    requires { (0 < workers) × (workers ≤ MAX_WORKERS) }
     ensures { IsStepResult rule.now (dice_of key.now.0 number step) road.now result }
 {
     let crew = Crew::new(rt, workers, gate);

@@ -1,5 +1,5 @@
-//! Laws of tickets and segments: consequences of the rule of tickets, and that the segments together have each car
-//! exactly once.
+//! Laws of tickets and segments: consequences of the ticket invariant, and the law that the segments together have each
+//! car exactly once.
 //!
 //! Each law is the contract of a function with an empty body.
 

@@ -7,7 +7,7 @@
 //!
 //! ```text
 //! let key = Key([7; 32]);
-//! step_shared(rt, rt.alloc(), road, rule, &key, 3, 5, others + 1, &OpenGate) // step 5 of road 3
+//! step_shared(rt, rt.alloc(), road, rule, &key, ROAD, STEP, others + 1, &OpenGate)
 //! ```
 #![tactic(auto)]
 

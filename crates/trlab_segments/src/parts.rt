@@ -1,5 +1,5 @@
-//! The answers of segments: each worker asks the cars of the segments that it draws, and then the answers of all
-//! segments become one list, whichever worker computed them.
+//! The answers of segments: each worker asks the cars of the segments that it draws. The answers of all segments then
+//! become one list, regardless of who computed them.
 
 ghost use Rattle.std.specs.Prelude.{◌≡◌, ◌<◌, ◌++◌, [], ◌∷◌, All, IfOk, IsOkAnd, OnOk, map};
 ghost use Rattle.trlab_road.specs.Cells.{cars};
@@ -80,30 +80,30 @@ pub fn work<A: Drop, P: Asked<A>, G: Gate>(
 /// # Errors
 ///
 /// If an allocation fails now, or failed for one of the workers.
-pub fn joined<A: Drop>(
-    some: Result<Vec<Part<A>>, AllocError>,
-    more: Result<Vec<Part<A>>, AllocError>,
+pub fn join_parts<A: Drop>(
+    one: Result<Vec<Part<A>>, AllocError>,
+    other: Result<Vec<Part<A>>, AllocError>,
 ) -> Result<Vec<Part<A>>, AllocError>
     ensures { IfOk result (λ all.
-        IsOkAnd some (λ some. IsOkAnd more (λ more. all.items ≡ some.items ++ more.items))) }
+        IsOkAnd one (λ one. IsOkAnd other (λ other. all.items ≡ one.items ++ other.items))) }
 {
-    let mut all = some?;
-    let mut more = more?;
+    let mut all = one?;
+    let mut other = other?;
     if all.is_empty() {
-        return Ok(more);
+        return Ok(other);
     }
-    all.append(&mut more)?;
+    all.append(&mut other)?;
     Ok(all)
 }
 
 /// The index of the part with this number.
-fn place_of<A>(parts: &[Part<A>], number: u32) -> usize
+fn index_of<A>(parts: &[Part<A>], number: u32) -> usize
     requires { 0 < occurrences number (map ticket_of parts.now) }
     ensures { IsIndexOfTicket parts.now result number }
 {
-    for place in 0..parts.len() {
-        if parts[place].number == number {
-            return place;
+    for index in 0..parts.len() {
+        if parts[index].number == number {
+            return index;
         }
     }
     unreachable!()
@@ -129,8 +129,8 @@ pub fn line_up<A: Copy, P: Asked<A>>(
     answers.clear();
     answers.reserve(phase.road.cars() as usize)?;
     for number in 0..count {
-        let place = place_of(parts, number);
-        answers.extend_from_slice(&parts[place].answers)?;
+        let index = index_of(parts, number);
+        answers.extend_from_slice(&parts[index].answers)?;
     }
     Ok(())
 }

@@ -51,7 +51,7 @@ pub trait Asked<A>: Sized {
     /// # Errors
     ///
     /// If an allocation fails.
-    fn copied(&self, alloc: Global) -> Result<Self, AllocError>
+    fn copy(&self, alloc: Global) -> Result<Self, AllocError>
         ensures { IfOk result (λ copy. copy ≡ self.now) };
 
     // For no cars, the empty list is the answer.
@@ -76,7 +76,7 @@ impl Asked<u8> for Motion {
         compute_speeds(list, phase.road, phase.program, phase.dice, from, to)
     }
 
-    fn copied(&self, alloc: Global) -> Result<Motion, AllocError> {
+    fn copy(&self, alloc: Global) -> Result<Motion, AllocError> {
         self.copy(alloc)
     }
 
@@ -97,7 +97,7 @@ impl Asked<bool> for Change {
         compute_crossings(list, phase.road, phase.program, phase.dice, from, to)
     }
 
-    fn copied(&self, alloc: Global) -> Result<Change, AllocError> {
+    fn copy(&self, alloc: Global) -> Result<Change, AllocError> {
         self.copy(alloc)
     }
 

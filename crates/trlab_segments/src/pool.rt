@@ -11,7 +11,7 @@ ghost use Rattle.std.specs.Prelude.{◌≡◌, ◌/◌, ◌<◌, ◌≤◌, if�
 ghost use Rattle.trlab_bounds.specs.declared.runs.TheConstants.{MAX_WORKERS};
 ghost use Rattle.trlab_segments.specs.declared.pool.TheConstants.{CARS_PER_WORKER, DRAWING_CARS_PER_WORKER};
 
-use crate::pool::rendezvous::{Rendezvous, help_all};
+use crate::pool::rendezvous::{Rendezvous, SPINS_BEFORE_SLEEP, help_all};
 use crate::segment::Gate;
 use std::alloc::Global;
 use std::sync::Wait;
@@ -24,16 +24,15 @@ pub const CARS_PER_WORKER: u32 = 2000;
 /// These take most of the time per car.
 pub const DRAWING_CARS_PER_WORKER: u32 = 500;
 
-/// 1 to 16 workers and their gate. The calling thread is worker 0; the others are started once, for a
-/// whole run, and help with its phases.
+/// 1 to `MAX_WORKERS` workers and their gate. The calling thread is worker 0; the others are started once for a whole
+/// run, and help with its phases.
 #[derive(Drop)]
 pub struct Pool<'a, R, G> {
     rt: &'a R,
     gate: &'a G,
     rendezvous: Rendezvous,
     workers: u32,
-    ghost some: { 0 < workers },
-    ghost few: { workers ≤ MAX_WORKERS },
+    ghost in_range: { (0 < workers) × (workers ≤ MAX_WORKERS) },
 }
 
 impl<'a, R: Threads + Wait + Sync, G: Gate + Sync> Pool<'a, R, G> {
@@ -42,22 +41,21 @@ impl<'a, R: Threads + Wait + Sync, G: Gate + Sync> Pool<'a, R, G> {
     /// A pool of `workers` workers, each of which passes the gate before each segment. A single worker asks all cars
     /// at once, and passes no gate.
     pub fn new(rt: &'a R, workers: u32, gate: &'a G) -> Pool<'a, R, G>
-        requires some { 0 < workers }
-        requires few { workers ≤ MAX_WORKERS }
+        requires { (0 < workers) × (workers ≤ MAX_WORKERS) }
         ensures { pool_workers result ≡ workers }
     {
         Pool {
             rt,
             gate,
-            rendezvous: Rendezvous::new(),
+            rendezvous: Rendezvous::new(0),
             workers,
         }
     }
 
-    /// Keeps only as many workers as save time on a road with `cars` cars: at most one per processor, and at most one
-    /// per 2000 cars, or per 500 cars if a program `draws` random numbers, but at least one. The helpers stay awake for
-    /// a while between two phases.
-    pub fn sparing(self, cars: u32, draws: bool) -> Pool<'a, R, G>
+    /// Keeps only as many workers as save time on a road with `cars` cars: at least one, but at most one per processor
+    /// and one per `CARS_PER_WORKER` cars (`DRAWING_CARS_PER_WORKER` if a program `draws` random numbers). The helpers
+    /// stay awake for a while between two phases.
+    pub fn with_workers_for(self, cars: u32, draws: bool) -> Pool<'a, R, G>
         ensures some { 0 < pool_workers result }
         ensures few { pool_workers result ≤ pool_workers self.entry }
         ensures used { let share = if draws then DRAWING_CARS_PER_WORKER else CARS_PER_WORKER in
@@ -68,7 +66,7 @@ impl<'a, R: Threads + Wait + Sync, G: Gate + Sync> Pool<'a, R, G> {
         Pool {
             rt: self.rt,
             gate: self.gate,
-            rendezvous: Rendezvous::watchful(),
+            rendezvous: Rendezvous::new(SPINS_BEFORE_SLEEP),
             workers: busy.min(most),
         }
     }

@@ -12,7 +12,7 @@ pub struct Segment {
     pub to: u32,
 }
 
-/// The number of segments for 1 to 16 workers: four per worker, but at most one per car.
+/// The number of segments for `workers` workers: four per worker, but at most one per car.
 pub fn segment_count(cars: u32, workers: u32) -> u32
     requires { (0 < workers) × (workers ≤ MAX_WORKERS) }
     ensures { result ≡ segment_count cars workers }

@@ -1,5 +1,5 @@
-//! The knowledge of a drawer, and its invariant in each atomic step. All of this is for contracts: at run time there
-//! is one counter.
+//! The knowledge of a drawer, and its invariant in each atomic step. All of this is ghost state: at run time there is
+//! one counter.
 
 use atomic_table::{Join, Play, Split, TableRule};
 use std::collections::LinkedList;
@@ -11,24 +11,24 @@ pub struct Plan {
     pub drawers: u32,
 }
 
-/// The knowledge of a drawer: its passes, the tickets that it drew, and the smallest ticket that it may draw next. No
-/// value of this type is ever made.
+/// The knowledge of a drawer: the plan, its passes, the tickets that it drew, the smallest ticket that it may draw
+/// next, and whether it has found that none is left. Only contracts use this type.
 pub struct TicketKnowledge {
     pub plan: Plan,
     pub passes: u32,
     pub tickets: LinkedList<u32>,
-    pub least: u64,
-    pub ended: bool,
+    pub least_next: u64,
+    pub has_ended: bool,
 }
 
-/// Each ticket that was drawn was drawn by one drawer.
+/// The invariant: each ticket that was drawn was drawn once, by one drawer.
 pub struct OncePerTicket;
 
 impl TableRule<u8, TicketKnowledge, Plan> for OncePerTicket {
-    ghost use Rattle.trlab_segments.specs.Rule.{ObeysTicketRule};
+    ghost use Rattle.trlab_segments.specs.Rule.{SatisfiesTicketInvariant};
     ghost use Rattle.trlab_segments.specs.Knowledge.{first_drawer};
 
-    ghost holds = { ObeysTicketRule };
+    ghost holds = { SatisfiesTicketInvariant };
 
     ghost first = { first_drawer };
 }
@@ -42,7 +42,7 @@ impl Play<u8, TicketKnowledge> for DrawNext {
     ghost then = { DrawsTicket };
 }
 
-/// A step that reads the counter.
+/// The step that reads the counter, and changes nothing.
 pub struct ReadCounter;
 
 impl Play<u8, TicketKnowledge> for ReadCounter {
@@ -51,7 +51,7 @@ impl Play<u8, TicketKnowledge> for ReadCounter {
     ghost then = { ReadsCounter };
 }
 
-/// One pass goes to another drawer.
+/// One pass moves from a drawer to a new drawer.
 pub struct OnePass;
 
 impl Split<TicketKnowledge> for OnePass {
@@ -66,9 +66,9 @@ impl Split<TicketKnowledge> for OnePass {
 pub struct JoinDrawers;
 
 impl Join<TicketKnowledge> for JoinDrawers {
-    ghost use Rattle.trlab_segments.specs.Knowledge.{both_drawers, no_knowledge};
+    ghost use Rattle.trlab_segments.specs.Knowledge.{both_drawers, idle_knowledge};
 
     ghost both = { both_drawers };
 
-    ghost spent = { no_knowledge };
+    ghost spent = { idle_knowledge };
 }

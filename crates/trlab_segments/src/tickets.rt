@@ -10,8 +10,8 @@ use crate::ticket_rule::{
 use atomic_table::{Seat, Table};
 use std::alloc::{AllocError, Global};
 
-/// The numbers below a count, each to be drawn once, by any of up to 16 drawers. Threads may share the tickets by
-/// reference: their counter changes in atomic steps, without a lock.
+/// The numbers below a count, each to be drawn once, by any of up to `MAX_WORKERS` drawers. Threads may share the
+/// tickets by reference: their counter changes in atomic steps, without a lock.
 #[derive(Drop)]
 pub struct Tickets {
     pub(crate) plan: Plan,
@@ -21,17 +21,17 @@ pub struct Tickets {
     ghost same_plan: { table.shared.key ≡ plan },
 }
 
-/// Draws tickets, with one pass or more. A pass is the right to draw; a drawer with two passes can be split. Only
-/// contracts see the tickets that it drew, so they take no memory.
+/// Draws tickets, with one pass or more. A pass is the right to draw; a drawer with two passes can be split. The drawn
+/// tickets are recorded only in ghost state, so they use no memory at run time.
 #[derive(Drop)]
 pub struct Drawer {
     pub(crate) passes: u32,
-    pub(crate) ended: bool,
+    pub(crate) has_ended: bool,
     pub(crate) seat: Seat<u8, TicketKnowledge>,
     ghost no_slot: { seat.me.1 ≡ [] },
     ghost some: { 0 < passes },
     ghost passes_are: { seat.me.0.passes ≡ passes },
-    ghost ended_is: { seat.me.0.ended ≡ ended },
+    ghost ended_is: { seat.me.0.has_ended ≡ has_ended },
 }
 
 impl Tickets {
@@ -40,8 +40,8 @@ impl Tickets {
     ghost use Rattle.trlab_segments.specs.Drawers.{ticket_count, drawers_of, passes_of, tickets_of, is_ended};
     ghost use Rattle.trlab_segments.specs.Knowledge.{IsPermutation};
 
-    /// The tickets from 0 up to, but not including, `count`, and their first drawer, with a pass for each of 1 to 16
-    /// drawers.
+    /// The tickets from 0 up to, but not including, `count`, and their first drawer, which has a pass for each of
+    /// `drawers` drawers.
     ///
     /// # Errors
     ///
@@ -58,13 +58,13 @@ impl Tickets {
         let tickets = Tickets { plan, table };
         let drawer = Drawer {
             passes: drawers,
-            ended: false,
+            has_ended: false,
             seat,
         };
         Ok((tickets, drawer))
     }
 
-    /// The next ticket, which no drawer drew before; `None` if all are drawn. The drawer has then
+    /// Draws the next ticket, which no drawer drew before, or returns `None` if all are drawn. The drawer has then
     /// ended: from then on it returns `None` without an atomic step.
     pub fn draw(&self, drawer: &mut Drawer) -> Option<u32>
         requires { IsDrawerOf self.now drawer.old }
@@ -75,7 +75,7 @@ impl Tickets {
             (tickets_of drawer.new ≡ tickets_of drawer.old) × (is_ended drawer.new ≡ true)) }
         ensures ended { is_ended drawer.old ≡ true → (result ≡ None) × (is_ended drawer.new ≡ true) }
     {
-        if drawer.ended {
+        if drawer.has_ended {
             return None;
         }
         let found = self
@@ -85,7 +85,7 @@ impl Tickets {
         if found < self.plan.count as u64 {
             Some(found as u32)
         } else {
-            drawer.ended = true;
+            drawer.has_ended = true;
             None
         }
     }
@@ -105,7 +105,7 @@ impl Tickets {
         drawer.passes -= 1;
         Drawer {
             passes: 1,
-            ended: drawer.ended,
+            has_ended: drawer.has_ended,
             seat,
         }
     }
@@ -119,24 +119,24 @@ impl Tickets {
         ensures ended { is_ended result ≡ (is_ended one || is_ended other) }
     {
         let Drawer {
-            passes: some,
-            ended: one_ended,
+            passes: one_passes,
+            has_ended: one_ended,
             mut seat,
         } = one;
         let Drawer {
-            passes: more,
-            ended: other_ended,
-            seat: joined,
+            passes: other_passes,
+            has_ended: other_ended,
+            seat: other_seat,
         } = other;
         self.table
             .shared
-            .join_seat::<JoinDrawers>(&mut seat, joined);
+            .join_seat::<JoinDrawers>(&mut seat, other_seat);
         // For the proof: reading the counter shows that the passes are at most the drawers, so their sum does not
         // overflow.
         self.table.shared.load::<ReadCounter>(&mut seat, 0);
         Drawer {
-            passes: some + more,
-            ended: one_ended || other_ended,
+            passes: one_passes + other_passes,
+            has_ended: one_ended || other_ended,
             seat,
         }
     }
@@ -146,7 +146,7 @@ impl Tickets {
     ///
     /// # Errors
     ///
-    /// Returns tickets and drawer if the drawer does not have all passes, or a ticket is left.
+    /// The tickets and the drawer, if the drawer does not have all passes or a ticket is left.
     pub fn finish(self, drawer: Drawer) -> Result<(), (Tickets, Drawer)>
         requires { IsDrawerOf self drawer }
         ensures ok { IsOk result ↔ HasAllPasses self drawer × IsPermutation (tickets_of drawer) (ticket_count self) }
@@ -169,7 +169,7 @@ impl Tickets {
 impl Drawer {
     ghost use Rattle.trlab_segments.specs.Drawers.{passes_of};
 
-    /// The number of passes of the drawer, 1 to 16.
+    /// The number of passes of the drawer, from 1 to `MAX_WORKERS`.
     pub fn passes(&self) -> u32
         ensures { result ≡ passes_of self.now }
     {

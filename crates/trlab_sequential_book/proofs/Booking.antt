@@ -1,5 +1,5 @@
 -- Facts of the book machine.
-use Rattle.std.proofs.Common.{◌≡◌, ℕ, zero, suc, arith, ◌∷◌, ◌+◌, ◌<◌, ◌≤◌, ◌==◌, ◌&&◌, ◌↔◌, IsTrue, not, ltb, [], Bool, true, false, List, Option, Some, None, length, ap, sym, ◌∙◌, refl, slice_get, slice_set, slice_index_or, MatchBool, MatchOption, IfOk, Result, Ok, Err, subst}
+use Rattle.std.proofs.Common.{◌≡◌, ℕ, ◌+◌, ◌<◌, ◌≤◌, ◌==◌, ◌&&◌, ◌↔◌, IsTrue, not, ltb, [], Bool, true, false, List, Option, Some, None, length, ap, sym, ◌∙◌, refl, slice_get, slice_set, slice_index_or, MatchBool, MatchOption, IfOk, Result, Ok, Err, subst}
 use Rattle.std.proofs.lemmas.Option.{slice_get-get_or, get_or_from_slice_get}
 use Rattle.std.proofs.lemmas.List.{set-get_or}
 use Rattle.std.proofs.lemmas.Bool.{and_parts, cond-false, cond-true, false≢true, eqb-true, ltb-false}
@@ -21,9 +21,15 @@ use Rattle.trlab_sequential_book.specs.declared.fault.BookFault.TheVariants.{His
 use Rattle.trlab_sequential_book.specs.declared.event.Reply.{Reply}
 use Rattle.trlab_sequential_book.specs.declared.event.Reply.TheVariants.{Done, Leased, NoLease, Refused, Seen}
 use Rattle.trlab_sequential_book.specs.declared.order.Order.{Order}
+use Rattle.trlab_sequential_book.specs.declared.seed.Seed.{Seed}
 use Rattle.trlab_step.specs.Run.{IsRoadAt, Sheet, in_force}
 use Rattle.trlab_sequential_book.specs.Comparison.{IsFresh, IsFreshIfLent, RunsRoadOfJob, HasRuleInForce, RunsRoadOfItsJob, ShowsJob, IsSnapshotOf, LeaseCall}
-use Rattle.trlab_sequential_book.specs.Machine.{JobState, JobOutcome, JobsOutcome, BookState, after, is_free, is_full, is_out, accepts_lease, giving_back, leasing, next_after, on_free, on_job, reading, refused, reply_of, outcome_of_call}
+use Rattle.trlab_sequential_book.specs.Machine.{JobState, JobOutcome, JobsOutcome, BookState, after, is_free, has_full_history, is_out, accepts_lease, give_back_outcome, lease_outcome, next_after, on_free, on_job, read_outcome, refusal, reply_of, outcome_of_call}
+
+-- a job with these fields
+abbrev pub job_state : Seed → Sheet → ℕ → ℕ → ℕ → Bool → Option ℕ → JobState
+job_state seed sheet steps high done cancelled out =
+    record { seed = seed; sheet = sheet; steps = steps; high = high; done = done; cancelled = cancelled; out = out }
 
 -- a job that exists
 pub found : (jobs : List JobState) (i : ℕ) (j : JobState) → i < length jobs → j ≡ slice_index_or jobs i j → slice_get jobs i ≡ Some j
@@ -34,30 +40,19 @@ on_found jobs i j f e =
     let t : Option JobState → JobsOutcome = λ o. elim o [ None ↦ record { reply = Refused NoSuchJob; jobs = jobs } | Some k ↦ record { reply = (f k).reply; jobs = slice_set jobs i (f k).job } ] in
     ap t e
 
--- a job that does not exist
-pub on_none : (jobs : List JobState) (i : ℕ) (f : JobState → JobOutcome) → length jobs ≤ i → on_job jobs i f ≡ record { reply = Refused NoSuchJob; jobs = jobs }
-on_none jobs i f h =
-    let t : Option JobState → JobsOutcome = λ o. elim o [ None ↦ record { reply = Refused NoSuchJob; jobs = jobs } | Some k ↦ record { reply = (f k).reply; jobs = slice_set jobs i (f k).job } ] in
-    ap t (none_there jobs i h)
-  where
-    none_there : (others : List JobState) (k : ℕ) → length others ≤ k → slice_get others k ≡ None
-    none_there [] k h = refl
-    none_there (x ∷ others) zero h = absurd (omega arith)
-    none_there (x ∷ others) (suc k) h = none_there others k (omega arith)
-
 pub jobs_made : (jobs : List JobState) (i : ℕ) (old new : JobState) (f : JobState → JobOutcome) (m : Bool) → i < length jobs → old ≡ slice_index_or jobs i old → MatchBool m (new ≡ old) (new ≡ (f old).job) → MatchBool m (slice_set jobs i new ≡ jobs) (slice_set jobs i new ≡ (on_job jobs i f).jobs)
 jobs_made jobs i old new f true h e n = ap (slice_set jobs i) (n ∙ e) ∙ set-get_or jobs i old
 jobs_made jobs i old new f false h e n = ap (slice_set jobs i) n ∙ sym (ap (λ s. s.jobs) (on_found jobs i old f (found jobs i old h e)))
 
-stays : (jobs : List JobState) (i : ℕ) (o : Option JobState) → slice_get jobs i ≡ o → (on_job jobs i reading).jobs ≡ jobs
+stays : (jobs : List JobState) (i : ℕ) (o : Option JobState) → slice_get jobs i ≡ o → (on_job jobs i read_outcome).jobs ≡ jobs
 stays jobs i None e =
-    let t : Option JobState → JobsOutcome = λ o. elim o [ None ↦ record { reply = Refused NoSuchJob; jobs = jobs } | Some k ↦ record { reply = (reading k).reply; jobs = slice_set jobs i (reading k).job } ] in
+    let t : Option JobState → JobsOutcome = λ o. elim o [ None ↦ record { reply = Refused NoSuchJob; jobs = jobs } | Some k ↦ record { reply = (read_outcome k).reply; jobs = slice_set jobs i (read_outcome k).job } ] in
     ap (λ s. s.jobs) (ap t e)
 stays jobs i (Some j) e =
-    ap (λ s. s.jobs) (on_found jobs i j reading e) ∙ sym (ap (slice_set jobs i) (get_or_from_slice_get jobs i j j e)) ∙ set-get_or jobs i j
+    ap (λ s. s.jobs) (on_found jobs i j read_outcome e) ∙ sym (ap (slice_set jobs i) (get_or_from_slice_get jobs i j j e)) ∙ set-get_or jobs i j
 
 -- a read changes no job
-pub reading_stays : (jobs : List JobState) (i : ℕ) → (on_job jobs i reading).jobs ≡ jobs
+pub reading_stays : (jobs : List JobState) (i : ℕ) → (on_job jobs i read_outcome).jobs ≡ jobs
 reading_stays jobs i = stays jobs i (slice_get jobs i) refl
 
 pub rule_found : (jobs : List JobState) (i : ℕ) (j : JobState) (r : Result Order BookFault) → i < length jobs → j ≡ slice_index_or jobs i j → IfOk r (λ o. o.job ≡ i) → IfOk r (λ o. in_force j.sheet o.step ≡ Some o.rule) → IfOk r (λ o. HasRuleInForce jobs o)
@@ -84,9 +79,9 @@ seen_found jobs i j seen h e is =
     let P : Option JobState → Type 0 = λ o. MatchOption o ⊥ (λ k. IsSnapshotOf k seen) in
     subst P (sym (found jobs i j h e)) is
 
-pub seen_told : (jobs : List JobState) (i : ℕ) (j : JobState) (seen : Progress) → i < length jobs → j ≡ slice_index_or jobs i j → IsSnapshotOf j seen → Seen seen.step (length seen.sheet) ≡ (on_job jobs i reading).reply
+pub seen_told : (jobs : List JobState) (i : ℕ) (j : JobState) (seen : Progress) → i < length jobs → j ≡ slice_index_or jobs i j → IsSnapshotOf j seen → Seen seen.step (length seen.sheet) ≡ (on_job jobs i read_outcome).reply
 seen_told jobs i j seen h e is =
-    ap (λ n. Seen n (length seen.sheet)) is.step ∙ ap (λ (s : Sheet). Seen j.done (length s)) is.sheet ∙ reply_found jobs i j reading h e
+    ap (λ n. Seen n (length seen.sheet)) is.step ∙ ap (λ (s : Sheet). Seen j.done (length s)) is.sheet ∙ reply_found jobs i j read_outcome h e
 
 -- the lease of a job that exists runs its road
 pub own_found : (jobs : List JobState) (i : ℕ) (j : JobState) (lease : LeaseState) → i < length jobs → j ≡ slice_index_or jobs i j → lease.job ≡ i → RunsRoadOfItsJob jobs lease → RunsRoadOfJob j lease
@@ -97,27 +92,27 @@ own_found jobs i j lease h e job same =
 
 -- the call `lease` of a book in which a job is free
 served_free : (s : BookState) (i : ℕ) (j : JobState) → position is_free s.jobs ≡ Some i → i < length s.jobs → j ≡ slice_index_or s.jobs i j
-    → outcome_of_call s LeaseCall ≡ record { reply = Leased i s.next j.done j.steps; jobs = slice_set s.jobs i (leasing i s.next j).job }
-served_free s i j free h e = ap (on_free s.jobs s.next) free ∙ on_found s.jobs i j (leasing i s.next) (found s.jobs i j h e)
+    → outcome_of_call s LeaseCall ≡ record { reply = Leased i s.next j.done j.steps; jobs = slice_set s.jobs i (lease_outcome i s.next j).job }
+served_free s i j free h e = ap (on_free s.jobs s.next) free ∙ on_found s.jobs i j (lease_outcome i s.next) (found s.jobs i j h e)
 
-pub lease_told : (s now : BookState) (i : ℕ) (j : JobState) (lease : LeaseState) → s ≡ now → is_full now ≡ false → position is_free s.jobs ≡ Some i → i < length s.jobs → j ≡ slice_index_or s.jobs i j
+pub lease_told : (s now : BookState) (i : ℕ) (j : JobState) (lease : LeaseState) → s ≡ now → has_full_history now ≡ false → position is_free s.jobs ≡ Some i → i < length s.jobs → j ≡ slice_index_or s.jobs i j
     → lease.job ≡ i → IsFresh j s.next lease → Leased lease.job lease.number lease.step lease.steps ≡ reply_of now LeaseCall
 lease_told s now i j lease view room free h e job fresh =
     let told : reply_of s LeaseCall ≡ Leased i s.next j.done j.steps =
-    cond-false (is_full s) (Refused HistoryFull) (outcome_of_call s LeaseCall).reply (ap is_full view ∙ room) ∙ ap (λ r. r.reply) (served_free s i j free h e) in
+    cond-false (has_full_history s) (Refused HistoryFull) (outcome_of_call s LeaseCall).reply (ap has_full_history view ∙ room) ∙ ap (λ r. r.reply) (served_free s i j free h e) in
     let number = fresh.number_is in
     let step = fresh.step in
     let steps = fresh.steps in
     let mine : Leased lease.job lease.number lease.step lease.steps ≡ reply_of s LeaseCall = cc in
     mine ∙ ap (λ (t : BookState). reply_of t LeaseCall) view
 
-pub lease_leads : (s now : BookState) (i : ℕ) (j new : JobState) → s ≡ now → is_full now ≡ false → position is_free s.jobs ≡ Some i → i < length s.jobs → j ≡ slice_index_or s.jobs i j
-    → new ≡ (leasing i s.next j).job → record { count = s.count + 1; next = s.next + 1; jobs = slice_set s.jobs i new } ≡ after now LeaseCall
+pub lease_leads : (s now : BookState) (i : ℕ) (j new : JobState) → s ≡ now → has_full_history now ≡ false → position is_free s.jobs ≡ Some i → i < length s.jobs → j ≡ slice_index_or s.jobs i j
+    → new ≡ (lease_outcome i s.next j).job → record { count = s.count + 1; next = s.next + 1; jobs = slice_set s.jobs i new } ≡ after now LeaseCall
 lease_leads s now i j new view room free h e made =
     let with : JobState → BookState = λ k. record { count = s.count + 1; next = s.next + 1; jobs = slice_set s.jobs i k } in
     let by : JobsOutcome → BookState = λ r. record { count = s.count + 1; next = next_after s.next r.reply; jobs = r.jobs } in
-    let leads : after s LeaseCall ≡ with (leasing i s.next j).job =
-    cond-false (is_full s) s (by (outcome_of_call s LeaseCall)) (ap is_full view ∙ room) ∙ ap by (served_free s i j free h e) in
+    let leads : after s LeaseCall ≡ with (lease_outcome i s.next j).job =
+    cond-false (has_full_history s) s (by (outcome_of_call s LeaseCall)) (ap has_full_history view ∙ room) ∙ ap by (served_free s i j free h e) in
     ap with made ∙ sym leads ∙ ap (λ (t : BookState). after t LeaseCall) view
 
 pub lease_lent : (s now : BookState) (i : ℕ) (j : JobState) (lease : LeaseState) → s ≡ now → i < length s.jobs → j ≡ slice_index_or s.jobs i j
@@ -186,48 +181,48 @@ runs_not job now lease road sum view run other own =
     other (road_at_is_one (run_start now.seed) now.sheet now.done lease.base.road road own.base (sum, run.comes))
 
 -- a lease that is given back is refused if it is not the one that is out, and accepted if it is
-pub back_refused : (lease : Offered) (job : JobState) → accepts_lease lease job ≡ false → giving_back lease job ≡ refused StrangerLease job
-back_refused lease job other = ap (λ own. if own then record { reply = Done; job = record job { done = lease.step; out = None } } else refused StrangerLease job) other
+pub back_refused : (lease : Offered) (job : JobState) → accepts_lease lease job ≡ false → give_back_outcome lease job ≡ refusal StrangerLease job
+back_refused lease job other = ap (λ own. if own then record { reply = Done; job = record job { done = lease.step; out = None } } else refusal StrangerLease job) other
 
-pub back_taken : (lease : Offered) (job : JobState) → accepts_lease lease job ≡ true → Done ≡ (giving_back lease job).reply
+pub back_taken : (lease : Offered) (job : JobState) → accepts_lease lease job ≡ true → Done ≡ (give_back_outcome lease job).reply
 back_taken lease job own =
-    sym (ap (λ own. (if own then record { reply = Done; job = record job { done = lease.step; out = None } } else refused StrangerLease job).reply) own)
+    sym (ap (λ own. (if own then record { reply = Done; job = record job { done = lease.step; out = None } } else refusal StrangerLease job).reply) own)
 
 pub back_made : (lease : Offered) (job now : JobState) (step : ℕ) → job ≡ now → accepts_lease lease now ≡ true → step ≡ lease.step
-    → record job { done = step; out = None } ≡ (giving_back lease now).job
+    → record job { done = step; out = None } ≡ (give_back_outcome lease now).job
 back_made lease job now step view own at =
     ap (λ (n : ℕ). record job { done = n; out = None }) at
     ∙ ap (λ (s : JobState). record s { done = lease.step; out = None }) view
-    ∙ sym (ap (λ own. (if own then record { reply = Done; job = record now { done = lease.step; out = None } } else refused StrangerLease now).job) own)
+    ∙ sym (ap (λ own. (if own then record { reply = Done; job = record now { done = lease.step; out = None } } else refusal StrangerLease now).job) own)
 
 -- the reply to a call, and the state after it, of a book that is full
-pub full_told : (s : BookState) (call : Call) → is_full s ≡ true → Refused HistoryFull ≡ reply_of s call
-full_told s call full = sym (cond-true (is_full s) (Refused HistoryFull) (outcome_of_call s call).reply full)
+pub full_told : (s : BookState) (call : Call) → has_full_history s ≡ true → Refused HistoryFull ≡ reply_of s call
+full_told s call full = sym (cond-true (has_full_history s) (Refused HistoryFull) (outcome_of_call s call).reply full)
 
-pub full_stays : (s : BookState) (call : Call) → is_full s ≡ true → s ≡ after s call
+pub full_stays : (s : BookState) (call : Call) → has_full_history s ≡ true → s ≡ after s call
 full_stays s call full =
     let next : BookState = record { count = s.count + 1; next = next_after s.next (outcome_of_call s call).reply; jobs = (outcome_of_call s call).jobs } in
-    sym (cond-true (is_full s) s next full)
+    sym (cond-true (has_full_history s) s next full)
 
 -- the same for a book that is not full, and a call that lends nothing and in which an allocation may have failed
-pub told_made : (s now : BookState) (m : Bool) (call : Call) (told : Reply) → s ≡ now → is_full now ≡ false
+pub told_made : (s now : BookState) (m : Bool) (call : Call) (told : Reply) → s ≡ now → has_full_history now ≡ false
     → MatchBool m (Unit {0}) (told ≡ (outcome_of_call s call).reply) → MatchBool m (Unit {0}) (told ≡ reply_of now call)
 told_made s now true call told view room made = tt
 told_made s now false call told view room made =
-    made ∙ sym (cond-false (is_full s) (Refused HistoryFull) (outcome_of_call s call).reply (ap is_full view ∙ room)) ∙ ap (λ (t : BookState). reply_of t call) view
+    made ∙ sym (cond-false (has_full_history s) (Refused HistoryFull) (outcome_of_call s call).reply (ap has_full_history view ∙ room)) ∙ ap (λ (t : BookState). reply_of t call) view
 
-pub leads_made : (s now : BookState) (m : Bool) (call : Call) (told : Reply) (jobs : List JobState) → s ≡ now → is_full now ≡ false → m ≡ false → next_after s.next told ≡ s.next
+pub leads_made : (s now : BookState) (m : Bool) (call : Call) (told : Reply) (jobs : List JobState) → s ≡ now → has_full_history now ≡ false → m ≡ false → next_after s.next told ≡ s.next
     → MatchBool m (Unit {0}) (told ≡ (outcome_of_call s call).reply) → MatchBool m (jobs ≡ s.jobs) (jobs ≡ (outcome_of_call s call).jobs)
     → MatchBool m (record { count = s.count + 1; next = s.next; jobs = jobs } ≡ now) (record { count = s.count + 1; next = s.next; jobs = jobs } ≡ after now call)
 leads_made s now true call told jobs view room kept next made put = absurd (false≢true (sym kept))
 leads_made s now false call told jobs view room kept next made put =
     let by : ℕ → List JobState → BookState = λ n xs. record { count = s.count + 1; next = n; jobs = xs } in
     ap (by s.next) put ∙ ap (λ n. by n (outcome_of_call s call).jobs) (sym next ∙ ap (next_after s.next) made)
-    ∙ sym (cond-false (is_full s) s (by (next_after s.next (outcome_of_call s call).reply) (outcome_of_call s call).jobs) (ap is_full view ∙ room))
+    ∙ sym (cond-false (has_full_history s) s (by (next_after s.next (outcome_of_call s call).reply) (outcome_of_call s call).jobs) (ap has_full_history view ∙ room))
     ∙ ap (λ (t : BookState). after t call) view
 
 -- a call that lends nothing is counted, unless an allocation fails
-pub counted : (s now : BookState) (m : Bool) (call : Call) (told : Reply) (jobs : List JobState) (count : ℕ) → s ≡ now → is_full now ≡ false → next_after s.next told ≡ s.next
+pub counted : (s now : BookState) (m : Bool) (call : Call) (told : Reply) (jobs : List JobState) (count : ℕ) → s ≡ now → has_full_history now ≡ false → next_after s.next told ≡ s.next
     → MatchBool m (count ≡ s.count) (count ≡ s.count + 1)
     → MatchBool m (Unit {0}) (told ≡ (outcome_of_call s call).reply) → MatchBool m (jobs ≡ s.jobs) (jobs ≡ (outcome_of_call s call).jobs)
     → MatchBool m (record { count = count; next = s.next; jobs = jobs } ≡ now) (record { count = count; next = s.next; jobs = jobs } ≡ after now call)
@@ -265,16 +260,16 @@ same_jobs true jobs others same = refl
 same_jobs false jobs others same = sym same
 
 pub told_seen : (jobs seen : List JobState) (i : ℕ) (m : Bool) (told : Reply) → seen ≡ jobs
-    → MatchBool m (Unit {0}) (told ≡ (on_job seen i reading).reply) → MatchBool m (Unit {0}) (told ≡ (on_job jobs i reading).reply)
+    → MatchBool m (Unit {0}) (told ≡ (on_job seen i read_outcome).reply) → MatchBool m (Unit {0}) (told ≡ (on_job jobs i read_outcome).reply)
 told_seen jobs seen i m told same made =
-    subst (λ (xs : List JobState). MatchBool m (Unit {0}) (told ≡ (on_job xs i reading).reply)) same made
+    subst (λ (xs : List JobState). MatchBool m (Unit {0}) (told ≡ (on_job xs i read_outcome).reply)) same made
 
 -- the call `lease` of a book in which no job is free
-pub none_told : (s now : BookState) → s ≡ now → is_full now ≡ false → position is_free s.jobs ≡ None → NoLease ≡ reply_of now LeaseCall
+pub none_told : (s now : BookState) → s ≡ now → has_full_history now ≡ false → position is_free s.jobs ≡ None → NoLease ≡ reply_of now LeaseCall
 none_told s now view room none =
     told_made s now false LeaseCall NoLease view room (sym (ap (λ (o : Option ℕ). (on_free s.jobs s.next o).reply) none))
 
-pub none_leads : (s now : BookState) → s ≡ now → is_full now ≡ false → position is_free s.jobs ≡ None → record { count = s.count + 1; next = s.next; jobs = s.jobs } ≡ after now LeaseCall
+pub none_leads : (s now : BookState) → s ≡ now → has_full_history now ≡ false → position is_free s.jobs ≡ None → record { count = s.count + 1; next = s.next; jobs = s.jobs } ≡ after now LeaseCall
 none_leads s now view room none =
     leads_made s now false LeaseCall NoLease s.jobs view room refl refl (sym (ap (λ (o : Option ℕ). (on_free s.jobs s.next o).reply) none))
     (sym (ap (λ (o : Option ℕ). (on_free s.jobs s.next o).jobs) none))

@@ -11,7 +11,8 @@ use Rattle.trlab_step.specs.Laws.{IsRuleFor}
 use Rattle.trlab_step.specs.Progress.{IsReachedByRun}
 use Rattle.trlab_sequential_book.specs.Sheets.{BeginBy, IsBookSheet, with_rule_from}
 use Rattle.trlab_sequential_book.specs.Leases.{suits}
-use Rattle.trlab_sequential_book.specs.Machine.{JobState, JobOutcome, refused, replacing}
+use Rattle.trlab_sequential_book.specs.Machine.{JobState, JobOutcome, refusal, replace_outcome}
+use Rattle.trlab_sequential_book.specs.declared.sheet.TheConstants.{MAX_ENTRIES}
 use Rattle.trlab_sequential_book.specs.declared.event.Reply.TheVariants.{Number}
 use Rattle.trlab_sequential_book.specs.declared.fault.BookFault.TheVariants.{Ended, LanesMismatch, SheetFull}
 use Rattle.trlab_sequential_book.proofs.InForce.{rises_from_0, none_in_force}
@@ -72,7 +73,7 @@ sheet_at xs last from rule is e =
     let few = is.at_most_max in
     record { is_sheet = is_sheet_at xs last (from, rule) e is.is_sheet; at_most_max = omega arith }
 
-pub sheet_after : (xs : Sheet) (last : ℕ × Programs) (from : ℕ) (rule : Programs) → IsBookSheet (xs ++ last ∷ []) → last.0 < from → length (xs ++ last ∷ []) < 1024 → IsBookSheet ((xs ++ last ∷ []) ++ (from, rule) ∷ [])
+pub sheet_after : (xs : Sheet) (last : ℕ × Programs) (from : ℕ) (rule : Programs) → IsBookSheet (xs ++ last ∷ []) → last.0 < from → length (xs ++ last ∷ []) < MAX_ENTRIES → IsBookSheet ((xs ++ last ∷ []) ++ (from, rule) ∷ [])
 sheet_after xs last from rule is e few =
     let b = length-append (xs ++ last ∷ []) ((from, rule) ∷ []) in
     record { is_sheet = is_sheet_after xs last (from, rule) e is.is_sheet; at_most_max = omega arith }
@@ -142,19 +143,19 @@ underway_entered seed sheet from rule step road sum h suits is on =
     }
 
 -- the reply to a replacement, and the job after it
-pub rule_taken : (job now : JobState) (rule : Programs) (sheet : Sheet) → job ≡ now → (now.cancelled || (now.high == now.steps)) ≡ false → suits rule now.seed.road ≡ true → sheet ≡ with_rule_from job.sheet job.high rule → length sheet ≤ 1024
-    → record { reply = Number job.high; job = record job { sheet = sheet } } ≡ replacing rule now
+pub rule_taken : (job now : JobState) (rule : Programs) (sheet : Sheet) → job ≡ now → (now.cancelled || (now.high == now.steps)) ≡ false → suits rule now.seed.road ≡ true → sheet ≡ with_rule_from job.sheet job.high rule → length sheet ≤ MAX_ENTRIES
+    → record { reply = Number job.high; job = record job { sheet = sheet } } ≡ replace_outcome rule now
 rule_taken job now rule sheet view under suit put few =
-    let P : JobState → Type 0 = λ s. (s.cancelled || (s.high == s.steps)) ≡ false → suits rule s.seed.road ≡ true → record { reply = Number job.high; job = record job { sheet = sheet } } ≡ replacing rule s in
+    let P : JobState → Type 0 = λ s. (s.cancelled || (s.high == s.steps)) ≡ false → suits rule s.seed.road ≡ true → record { reply = Number job.high; job = record job { sheet = sheet } } ≡ replace_outcome rule s in
     subst P view (λ a b. taken a b) under suit
   where
-    taken : (job.cancelled || (job.high == job.steps)) ≡ false → suits rule job.seed.road ≡ true → record { reply = Number job.high; job = record job { sheet = sheet } } ≡ replacing rule job
+    taken : (job.cancelled || (job.high == job.steps)) ≡ false → suits rule job.seed.road ≡ true → record { reply = Number job.high; job = record job { sheet = sheet } } ≡ replace_outcome rule job
     taken a b =
         let most = ap length put in
         let made : JobOutcome = record { reply = Number job.high; job = record job { sheet = with_rule_from job.sheet job.high rule } } in
-        let full : JobOutcome = if ltb 1024 (length (with_rule_from job.sheet job.high rule)) then refused SheetFull job else made in
-        let lanes : JobOutcome = if not (suits rule job.seed.road) then refused LanesMismatch job else full in
+        let full : JobOutcome = if ltb MAX_ENTRIES (length (with_rule_from job.sheet job.high rule)) then refusal SheetFull job else made in
+        let lanes : JobOutcome = if not (suits rule job.seed.road) then refusal LanesMismatch job else full in
         ap (λ (v : Sheet). (record { reply = Number job.high; job = record job { sheet = v } })) put
-        ∙ sym (cond-false (job.cancelled || (job.high == job.steps)) (refused Ended job) lanes a
-        ∙ cond-false (not (suits rule job.seed.road)) (refused LanesMismatch job) full (ap not b)
-        ∙ cond-false (ltb 1024 (length (with_rule_from job.sheet job.high rule))) (refused SheetFull job) made (le-ltb 1024 (length (with_rule_from job.sheet job.high rule)) (omega (arith, most, few))))
+        ∙ sym (cond-false (job.cancelled || (job.high == job.steps)) (refusal Ended job) lanes a
+        ∙ cond-false (not (suits rule job.seed.road)) (refusal LanesMismatch job) full (ap not b)
+        ∙ cond-false (ltb MAX_ENTRIES (length (with_rule_from job.sheet job.high rule))) (refusal SheetFull job) made (le-ltb MAX_ENTRIES (length (with_rule_from job.sheet job.high rule)) (omega (arith, most, few))))

@@ -7,6 +7,8 @@ use Rattle.std.specs.Prelude.{MatchOption, is_some, if◌then◌else◌}
 use Rattle.std.specs.List.{position}
 use Rattle.trlab_rules.specs.Rules.{Programs}
 use Rattle.trlab_step.specs.Progress.{Progress}
+use Rattle.trlab_sequential_book.specs.declared.book.TheConstants.{MAX_JOBS}
+use Rattle.trlab_sequential_book.specs.declared.sheet.TheConstants.{MAX_ENTRIES}
 use Rattle.trlab_sequential_book.specs.declared.seed.Seed.{Seed}
 use Rattle.trlab_sequential_book.specs.declared.event.Offered.{Offered}
 use Rattle.trlab_sequential_book.specs.declared.event.Event.{Event}
@@ -17,7 +19,7 @@ use Rattle.trlab_sequential_book.specs.declared.event.Reply.TheVariants as reply
 use Rattle.trlab_sequential_book.specs.declared.fault.BookFault.TheVariants as fault
 use Rattle.trlab_sequential_book.specs.Comparison.{IsSnapshotOf}
 use Rattle.trlab_sequential_book.specs.Leases.{suits}
-use Rattle.trlab_sequential_book.specs.Machine.{JobState, JobOutcome, JobsOutcome, BookState, after, cancelling, giving_back, is_free, is_full, accepts_lease, leasing, new_job, next_after, on_free, on_job, ordering, reading, replacing, reply_of, revoking, outcome_of_call, empty_book}
+use Rattle.trlab_sequential_book.specs.Machine.{JobState, JobOutcome, JobsOutcome, BookState, after, cancel_outcome, give_back_outcome, is_free, has_full_history, accepts_lease, lease_outcome, new_job, next_after, on_free, on_job, order_outcome, read_outcome, replace_outcome, reply_of, revoke_outcome, outcome_of_call, empty_book}
 use Rattle.trlab_sequential_book.specs.Replay.{Replays, call_of, event, replies_from, state_from, reply_of_event}
 use Rattle.trlab_sequential_book.specs.Sheets.{with_rule_from}
 use Rattle.trlab_sequential_book.specs.Submits.{IsSubmitted, JobsAreSubmitted, SnapshotsAreOfSubmits, SubmitNumbersAreUnique}
@@ -42,24 +44,24 @@ by_if P false x y h k = k
 abbrev Leaves : (JobState → JobOutcome) → Type 0
 Leaves outcome = (job : JobState) → Keeps job (outcome job).job
 
-replacing_keeps : (rule : Programs) → Leaves (replacing rule)
+replacing_keeps : (rule : Programs) → Leaves (replace_outcome rule)
 replacing_keeps rule job =
     let P : JobOutcome → Type 0 = λ (o : JobOutcome). Keeps job o.job in
     let same = same_job job in
-    by_if P (job.cancelled || (job.high == job.steps)) _ _ same (by_if P (not (suits rule job.seed.road)) _ _ same (by_if P (ltb 1024 (length (with_rule_from job.sheet job.high rule))) _ _ same (record { seed = refl; steps = refl })))
+    by_if P (job.cancelled || (job.high == job.steps)) _ _ same (by_if P (not (suits rule job.seed.road)) _ _ same (by_if P (ltb MAX_ENTRIES (length (with_rule_from job.sheet job.high rule))) _ _ same (record { seed = refl; steps = refl })))
 
-ordering_keeps : (lease : Offered) → Leaves (ordering lease)
+ordering_keeps : (lease : Offered) → Leaves (order_outcome lease)
 ordering_keeps lease job =
     let P : JobOutcome → Type 0 = λ (o : JobOutcome). Keeps job o.job in
     by_if P (job.cancelled || (lease.step == job.steps)) _ _ (same_job job) (by_if P (accepts_lease lease job) _ _ (record { seed = refl; steps = refl }) (same_job job))
 
-giving_back_keeps : (lease : Offered) → Leaves (giving_back lease)
+giving_back_keeps : (lease : Offered) → Leaves (give_back_outcome lease)
 giving_back_keeps lease job = by_if (λ (o : JobOutcome). Keeps job o.job) (accepts_lease lease job) _ _ (record { seed = refl; steps = refl }) (same_job job)
 
-revoking_keeps : Leaves revoking
+revoking_keeps : Leaves revoke_outcome
 revoking_keeps job = by_if (λ (o : JobOutcome). Keeps job o.job) (is_some job.out) _ _ (record { seed = refl; steps = refl }) (same_job job)
 
-cancelling_keeps : Leaves cancelling
+cancelling_keeps : Leaves cancel_outcome
 cancelling_keeps job = by_if (λ (o : JobOutcome). Keeps job o.job) (job.cancelled || (job.done == job.steps)) _ _ (same_job job) (record { seed = refl; steps = refl })
 
 -- a job of this number was there before
@@ -107,7 +109,7 @@ on_one jobs index outcome leaves = after_one jobs index outcome leaves (slice_ge
 
 after_lease : (jobs : List JobState) (next : ℕ) (free : Option ℕ) → AfterOne jobs (on_free jobs next free).jobs
 after_lease jobs next None = record { was = still jobs; size = refl }
-after_lease jobs next (Some index) = on_one jobs index (leasing index next) (λ job. record { seed = refl; steps = refl })
+after_lease jobs next (Some index) = on_one jobs index (lease_outcome index next) (λ job. record { seed = refl; steps = refl })
 
 -- a job after a push was there before, or is the one that was pushed
 push_was : (jobs : List JobState) (last job : JobState) (number : ℕ) → slice_get (jobs ++ last ∷ []) number ≡ Some job → (slice_get jobs number ≡ Some job) ⊎ ((number ≡ length jobs) × (job ≡ last))
@@ -182,14 +184,14 @@ submit_by false true jobs seed rule steps = pushed jobs seed rule steps
 submit_by false false jobs seed rule steps = nothing_done jobs (call.Submit seed rule steps) (reply.Refused fault.Full) not_full
 
 served_left : (book : BookState) (asked : Call) → Left book.jobs asked (outcome_of_call book asked).reply (outcome_of_call book asked).jobs
-served_left book (call.Submit seed rule steps) = submit_by (not (suits rule seed.road)) (ltb (length book.jobs) 256) book.jobs seed rule steps
-served_left book (call.Replace job rule) = left_one _ _ _ _ (λ s r n is. absurd cc) (on_one book.jobs job (replacing rule) (replacing_keeps rule))
+served_left book (call.Submit seed rule steps) = submit_by (not (suits rule seed.road)) (ltb (length book.jobs) MAX_JOBS) book.jobs seed rule steps
+served_left book (call.Replace job rule) = left_one _ _ _ _ (λ s r n is. absurd cc) (on_one book.jobs job (replace_outcome rule) (replacing_keeps rule))
 served_left book call.Lease = left_one _ _ _ _ (λ s r n is. absurd cc) (after_lease book.jobs book.next (position is_free book.jobs))
-served_left book (call.Order lease) = left_one _ _ _ _ (λ s r n is. absurd cc) (on_one book.jobs lease.job (ordering lease) (ordering_keeps lease))
-served_left book (call.GiveBack lease) = left_one _ _ _ _ (λ s r n is. absurd cc) (on_one book.jobs lease.job (giving_back lease) (giving_back_keeps lease))
-served_left book (call.Revoke job) = left_one _ _ _ _ (λ s r n is. absurd cc) (on_one book.jobs job revoking revoking_keeps)
-served_left book (call.Cancel job) = left_one _ _ _ _ (λ s r n is. absurd cc) (on_one book.jobs job cancelling cancelling_keeps)
-served_left book (call.Read job) = left_one _ _ _ _ (λ s r n is. absurd cc) (on_one book.jobs job reading same_job)
+served_left book (call.Order lease) = left_one _ _ _ _ (λ s r n is. absurd cc) (on_one book.jobs lease.job (order_outcome lease) (ordering_keeps lease))
+served_left book (call.GiveBack lease) = left_one _ _ _ _ (λ s r n is. absurd cc) (on_one book.jobs lease.job (give_back_outcome lease) (giving_back_keeps lease))
+served_left book (call.Revoke job) = left_one _ _ _ _ (λ s r n is. absurd cc) (on_one book.jobs job revoke_outcome revoking_keeps)
+served_left book (call.Cancel job) = left_one _ _ _ _ (λ s r n is. absurd cc) (on_one book.jobs job cancel_outcome cancelling_keeps)
+served_left book (call.Read job) = left_one _ _ _ _ (λ s r n is. absurd cc) (on_one book.jobs job read_outcome same_job)
 
 full_by : (b : Bool) (book next : BookState) (asked : Call) (told : Reply) → Left book.jobs asked told next.jobs → Left book.jobs asked (if b then reply.Refused fault.HistoryFull else told) (if b then book else next).jobs
 full_by true book next asked told left = nothing_done book.jobs asked (reply.Refused fault.HistoryFull) not_any
@@ -198,7 +200,7 @@ full_by false book next asked told left = left
 call_left : (book : BookState) (asked : Call) → Left book.jobs asked (reply_of book asked) (after book asked).jobs
 call_left book asked =
     let later : BookState = record { count = book.count + 1; next = next_after book.next (outcome_of_call book asked).reply; jobs = (outcome_of_call book asked).jobs } in
-    full_by (is_full book) book later asked (outcome_of_call book asked).reply (served_left book asked)
+    full_by (has_full_history book) book later asked (outcome_of_call book asked).reply (served_left book asked)
 
 -- one of the calls submitted this job, and was answered with its number
 record SubmitsAmong (calls : List Call) (replies : List Reply) (number : ℕ) (job : JobState) : Type 0 where

@@ -11,8 +11,8 @@ use Rattle.trlab_sequential_book.specs.Machine.{JobState}
 use Rattle.trlab_sequential_book.specs.Jobs.{run_start}
 use Rattle.trlab_sequential_book.specs.Sheets.{RanUnderSheet}
 
--- the summary of a lease in a call: its job, its number, the step of its base, its next step, and `same`,
--- whether it runs the road of its job
+-- the parts of a lease that a call records: its job, its number, the step of its base, its next step, and
+-- `same`: whether it runs the road of its job
 abbrev pub offered : LeaseState → Bool → Offered
 offered lease same = record {
   job = lease.job;
@@ -30,7 +30,7 @@ pub record RunsRoadOfJob (job : JobState) (lease : LeaseState) : Type 0 where
   pub base : IsRoadAt (run_start job.seed) job.sheet job.done lease.base.road
   pub rules : RanUnderSheet job.sheet lease.base.step lease.applied
 
--- the job of the lease exists, and the lease runs this job's road: the meaning of `same` in an offered lease
+-- the job of the lease exists, and the lease runs this job's road: the meaning of `same` in `Offered`
 abbrev pub RunsRoadOfItsJob : List JobState → LeaseState → Type 0
 RunsRoadOfItsJob jobs lease = MatchOption (slice_get jobs lease.job) ⊥ (λ job. RunsRoadOfJob job lease)
 
@@ -46,12 +46,12 @@ pub record IsSnapshotOf (job : JobState) (snapshot : Progress) : Type 0 where
   pub sheet : snapshot.sheet ≡ job.sheet
   pub step : snapshot.step ≡ job.done
 
--- the job with this number exists, and the snapshot is one of this job
+-- the job with this number exists, and this is a snapshot of it
 abbrev pub ShowsJob : List JobState → ℕ → Progress → Type 0
 ShowsJob jobs number snapshot = MatchOption (slice_get jobs number) ⊥ (λ job. IsSnapshotOf job snapshot)
 
--- a lease of the job that has just gone out, with this number: it begins at the job's road after the steps
--- done, has the job's number of steps, and has run none
+-- the lease has this number and has just gone out for the job: it begins at the job's road after the steps
+-- done, has the job's number of steps, and has run none of them
 pub record IsFresh (job : JobState) (number : ℕ) (lease : LeaseState) : Type 0 where
   pub number_is : lease.number ≡ number
   pub steps : lease.steps ≡ job.steps

@@ -9,8 +9,8 @@ use Rattle.trlab_step.specs.declared.tally.StepTally.{StepTally}
 use Rattle.trlab_sequential_book.specs.declared.lease.ExecutedStep.{ExecutedStep}
 use Rattle.trlab_sequential_book.specs.declared.order.Order.{Order}
 
--- the steps that were run, the first of them step `step`, lead from `road` to `last`, each under its rule and
--- with its tally. `key` and `road_number` determine the random words. Without any steps `last` is `road`
+-- the executed steps, which are numbered from `step`, lead from `road` to `last`, each under its rule and
+-- with its tally. `key` and `road_number` determine the random numbers. Without any steps `last` is `road`
 abbrev pub LeadsTo : List ℕ → ℕ → ℕ → Cells → List ExecutedStep → Cells → Type 0
 LeadsTo key road_number step road [] last = last ≡ road
 LeadsTo key road_number step road (ran ∷ more) last =
@@ -22,9 +22,9 @@ pub record Base : Type 0 where
   pub step : ℕ
   pub road : Cells
 
--- a lease: the number of its job, its own number, how many steps the job has, the key and the number of the
--- road, which determine the random words, its base, its next step, the road before this step, and the steps
--- that it has run since its base
+-- a lease: the number of its job; its own number; the number of steps of the job; the key and the number of
+-- the road, which determine its random numbers; its base; its next step; the road before this step; and the
+-- steps that it has run since its base
 pub record LeaseState : Type 0 where
   pub job : ℕ
   pub number : ℕ
@@ -35,20 +35,6 @@ pub record LeaseState : Type 0 where
   pub step : ℕ
   pub road : Cells
   pub applied : List ExecutedStep
-
--- a lease with these fields
-abbrev pub lease_state : ℕ → ℕ → ℕ → Key → ℕ → Base → ℕ → Cells → List ExecutedStep → LeaseState
-lease_state job number steps key road_number base step road applied = record {
-  job = job;
-  number = number;
-  steps = steps;
-  key = key;
-  road_number = road_number;
-  base = base;
-  step = step;
-  road = road;
-  applied = applied;
-}
 
 -- the steps that a lease has run lead from its base to its road, and its next step is the one after them
 pub record IsLease (lease : LeaseState) : Type 0 where

@@ -4,6 +4,8 @@ use Rattle.std.specs.Prelude.{ℕ, ◌+◌, ◌==◌, max, Bool, true, false, �
 use Rattle.std.specs.List.{position}
 use Rattle.trlab_rules.specs.Rules.{Programs}
 use Rattle.trlab_step.specs.Run.{Sheet}
+use Rattle.trlab_sequential_book.specs.declared.book.TheConstants.{MAX_EVENTS, MAX_JOBS}
+use Rattle.trlab_sequential_book.specs.declared.sheet.TheConstants.{MAX_ENTRIES}
 use Rattle.trlab_sequential_book.specs.declared.seed.Seed.{Seed}
 use Rattle.trlab_sequential_book.specs.declared.fault.BookFault.{BookFault}
 use Rattle.trlab_sequential_book.specs.declared.fault.BookFault.TheVariants as fault
@@ -15,9 +17,9 @@ use Rattle.trlab_sequential_book.specs.declared.event.Reply.TheVariants as reply
 use Rattle.trlab_sequential_book.specs.Leases.{suits}
 use Rattle.trlab_sequential_book.specs.Sheets.{begin_in_force, with_rule_from}
 
--- a job: its seed and its sheet, how many steps it has, how many were ever ordered (`high`) and how many are
--- done, whether it was cancelled, and the number of the lease that is out, if one is. For example, with
--- `high` 5 and `done` 3 the steps 0 to 2 are done, and steps 3 and 4 are ordered but not done
+-- a job: its seed and its sheet, the number of its steps, of steps ever ordered (`high`) and of steps done,
+-- whether it was cancelled, and the number of the lease that is out, if one is. For example, with `high` 5
+-- and `done` 3 the steps 0 to 2 are done, and steps 3 and 4 are ordered but not done
 pub record JobState : Type 0 where
   pub seed : Seed
   pub sheet : Sheet
@@ -27,19 +29,7 @@ pub record JobState : Type 0 where
   pub cancelled : Bool
   pub out : Option ℕ
 
--- a job with these fields
-abbrev pub job_state : Seed → Sheet → ℕ → ℕ → ℕ → Bool → Option ℕ → JobState
-job_state seed sheet steps high done cancelled out = record {
-  seed = seed;
-  sheet = sheet;
-  steps = steps;
-  high = high;
-  done = done;
-  cancelled = cancelled;
-  out = out;
-}
-
--- a book: how many events it has had, the number of its next lease, and its jobs
+-- a book: the number of events that it has had, the number of its next lease, and its jobs
 pub record BookState : Type 0 where
   pub count : ℕ
   pub next : ℕ
@@ -54,30 +44,38 @@ pub record JobOutcome : Type 0 where
   pub reply : Reply
   pub job : JobState
 
--- the call is refused with this fault, and the job stays as it is
-abbrev pub refused : BookFault → JobState → JobOutcome
-refused fault job = record { reply = reply.Refused fault; job = job }
+-- the outcome of a call that is refused with this fault: the job stays as it is
+abbrev pub refusal : BookFault → JobState → JobOutcome
+refusal fault job = record { reply = reply.Refused fault; job = job }
 
 -- a job that was just submitted: its rule is in force from step 0 on, no step is ordered or done, and no
 -- lease is out
 abbrev pub new_job : Seed → Programs → ℕ → JobState
-new_job seed rule steps = job_state seed ((0, rule) ∷ []) steps 0 0 false None
+new_job seed rule steps = record {
+  seed = seed;
+  sheet = (0, rule) ∷ [];
+  steps = steps;
+  high = 0;
+  done = 0;
+  cancelled = false;
+  out = None;
+}
 
--- the rule is in force from step `high` on, the first that was never ordered, and the reply has this step.
--- The fault is the first that applies: `Ended` if the job was cancelled or all its steps were ordered,
--- `LanesMismatch` if the rule does not suit the road, `SheetFull` if the sheet would have more than 1024
--- entries
-abbrev pub replacing : Programs → JobState → JobOutcome
-replacing rule job =
-    if job.cancelled || (job.high == job.steps) then refused fault.Ended job
-    else if not (suits rule job.seed.road) then refused fault.LanesMismatch job
-    else if ltb 1024 (length (with_rule_from job.sheet job.high rule)) then refused fault.SheetFull job
+-- the outcome of `replace`: the rule is in force from step `high` on, the first that was never ordered, and
+-- the reply has this step. The fault is the first that applies: `Ended` if the job was cancelled or all its
+-- steps were ordered, `LanesMismatch` if the rule does not suit the road, `SheetFull` if the sheet would
+-- have more than MAX_ENTRIES entries
+abbrev pub replace_outcome : Programs → JobState → JobOutcome
+replace_outcome rule job =
+    if job.cancelled || (job.high == job.steps) then refusal fault.Ended job
+    else if not (suits rule job.seed.road) then refusal fault.LanesMismatch job
+    else if ltb MAX_ENTRIES (length (with_rule_from job.sheet job.high rule)) then refusal fault.SheetFull job
     else record {
       reply = reply.Number job.high;
       job = record job { sheet = with_rule_from job.sheet job.high rule };
     }
 
--- is a lease out, and does it have this number?
+-- is a lease out (`Some`), and does it have this number?
 abbrev pub is_out : ℕ → Option ℕ → Bool
 is_out number None = false
 is_out number (Some out) = out == number
@@ -88,50 +86,52 @@ abbrev pub accepts_lease : Offered → JobState → Bool
 accepts_lease lease job =
     is_out lease.number job.out && ((lease.base == job.done) && (not (ltb job.high lease.step) && lease.same))
 
--- the lease's next step is ordered: `high` is now above it, and the reply has the step from which its rule is
--- in force. The fault is `Ended` if the job was cancelled or the lease has run all its steps, otherwise
--- `StrangerLease` if the job does not accept the lease as its own
-abbrev pub ordering : Offered → JobState → JobOutcome
-ordering lease job =
-    if job.cancelled || (lease.step == job.steps) then refused fault.Ended job
+-- the outcome of `order`: the lease's next step is ordered, so `high` is now above it, and the reply has the
+-- step from which its rule is in force. The fault is `Ended` if the job was cancelled or the lease has run
+-- all its steps, otherwise `StrangerLease` if the job does not accept the lease as its own
+abbrev pub order_outcome : Offered → JobState → JobOutcome
+order_outcome lease job =
+    if job.cancelled || (lease.step == job.steps) then refusal fault.Ended job
     else if accepts_lease lease job then record {
       reply = reply.Ordered lease.job lease.number lease.step (begin_in_force job.sheet lease.step);
       job = record job { high = max job.high (lease.step + 1) };
-    } else refused fault.StrangerLease job
+    } else refusal fault.StrangerLease job
 
--- the job takes over the steps of the lease, which are now done, and no lease is out. The fault is
--- `StrangerLease` if the job does not accept the lease as its own
-abbrev pub giving_back : Offered → JobState → JobOutcome
-giving_back lease job =
+-- the outcome of `give_back`: the job takes over the steps of the lease, which are now done, and no lease is
+-- out. The fault is `StrangerLease` if the job does not accept the lease as its own
+abbrev pub give_back_outcome : Offered → JobState → JobOutcome
+give_back_outcome lease job =
     if accepts_lease lease job
     then record { reply = reply.Done; job = record job { done = lease.step; out = None } }
-    else refused fault.StrangerLease job
+    else refusal fault.StrangerLease job
 
--- the lease that is out ends, and its steps are lost. The fault is `StrangerLease` if none is out
-abbrev pub revoking : JobState → JobOutcome
-revoking job =
+-- the outcome of `revoke`: the lease that is out ends, and its steps are lost. The fault is `StrangerLease`
+-- if none is out
+abbrev pub revoke_outcome : JobState → JobOutcome
+revoke_outcome job =
     if is_some job.out then record { reply = reply.Done; job = record job { out = None } }
-    else refused fault.StrangerLease job
+    else refusal fault.StrangerLease job
 
--- the job is cancelled, and no lease is out. The fault is `Ended` if it was cancelled before or all its steps
--- are done
-abbrev pub cancelling : JobState → JobOutcome
-cancelling job =
-    if job.cancelled || (job.done == job.steps) then refused fault.Ended job
+-- the outcome of `cancel`: the job is cancelled, and no lease is out. The fault is `Ended` if it was
+-- cancelled before or all its steps are done
+abbrev pub cancel_outcome : JobState → JobOutcome
+cancel_outcome job =
+    if job.cancelled || (job.done == job.steps) then refusal fault.Ended job
     else record { reply = reply.Done; job = record job { cancelled = true; out = None } }
 
--- the reply has the steps done and the number of entries of the sheet, and the job stays as it is
-abbrev pub reading : JobState → JobOutcome
-reading job = record { reply = reply.Seen job.done (length job.sheet); job = job }
+-- the outcome of `read`: the reply has the number of steps done and the number of entries of the sheet, and
+-- the job stays as it is
+abbrev pub read_outcome : JobState → JobOutcome
+read_outcome job = record { reply = reply.Seen job.done (length job.sheet); job = job }
 
 -- can the job be leased? It can if no lease is out, it was not cancelled, and not all its steps are done
 abbrev pub is_free : JobState → Bool
 is_free job = not (is_some job.out) && (not job.cancelled && ltb job.done job.steps)
 
--- the job is leased: it is job number `job_number`, and lease number `lease_number` is out. The reply has
--- both numbers, the steps done, which is the lease's next step, and the number of all steps
-abbrev pub leasing : ℕ → ℕ → JobState → JobOutcome
-leasing job_number lease_number job = record {
+-- the outcome of `lease` if this job, with number `job_number`, is leased: lease number `lease_number` is
+-- out. The reply has both numbers, the steps done (the lease's next step) and the number of all steps
+abbrev pub lease_outcome : ℕ → ℕ → JobState → JobOutcome
+lease_outcome job_number lease_number job = record {
   reply = reply.Leased job_number lease_number job.done job.steps;
   job = record job { out = Some lease_number };
 }
@@ -141,59 +141,59 @@ pub record JobsOutcome : Type 0 where
   pub reply : Reply
   pub jobs : List JobState
 
--- a call on the job with number `index`, whose effect on this job is `outcome`; the other jobs stay as they
--- are. The fault is `NoSuchJob` if there is no such job
+-- the outcome of a call on the job with number `index`, if its effect on a job is `outcome`; the other jobs
+-- stay as they are. The fault is `NoSuchJob` if no job has this number
 abbrev pub on_job : List JobState → ℕ → (JobState → JobOutcome) → JobsOutcome
 on_job jobs index outcome = elim (slice_get jobs index) [
   | None ↦ record { reply = reply.Refused fault.NoSuchJob; jobs = jobs }
   | Some job ↦ record { reply = (outcome job).reply; jobs = slice_set jobs index (outcome job).job }
 ]
 
--- the call `lease`, if the next lease has this number: the free job with number `index` is leased; for `None`
--- no job is free, and the reply is `NoLease`
+-- the outcome of `lease`, if the next lease has this number: the free job with number `index` is leased; for
+-- `None` no job is free, and the reply is `NoLease`
 abbrev pub on_free : List JobState → ℕ → Option ℕ → JobsOutcome
 on_free jobs number None = record { reply = reply.NoLease; jobs = jobs }
-on_free jobs number (Some index) = on_job jobs index (leasing index number)
+on_free jobs number (Some index) = on_job jobs index (lease_outcome index number)
 
--- a job is added as the last one, and the reply is its number, counted from 0. The fault is `LanesMismatch`
--- if its rule does not suit its road, otherwise `Full` if there are 256 jobs
-abbrev pub submitting : List JobState → Seed → Programs → ℕ → JobsOutcome
-submitting jobs seed rule steps =
+-- the outcome of `submit`: a job is added as the last one, and the reply is its number, counted from 0. The
+-- fault is `LanesMismatch` if its rule does not suit its road, otherwise `Full` if there are MAX_JOBS jobs
+abbrev pub submit_outcome : List JobState → Seed → Programs → ℕ → JobsOutcome
+submit_outcome jobs seed rule steps =
     if not (suits rule seed.road) then record { reply = reply.Refused fault.LanesMismatch; jobs = jobs }
-    else if ltb (length jobs) 256
+    else if ltb (length jobs) MAX_JOBS
     then record { reply = reply.Number (length jobs); jobs = jobs ++ new_job seed rule steps ∷ [] }
     else record { reply = reply.Refused fault.Full; jobs = jobs }
 
 -- the outcome of a call on the jobs of a book: `submit` adds a job, `lease` lends the free job with the
 -- smallest number, and each other call is on the job with the number that it names
 abbrev pub outcome_of_call : BookState → Call → JobsOutcome
-outcome_of_call book (call.Submit seed rule steps) = submitting book.jobs seed rule steps
-outcome_of_call book (call.Replace job rule) = on_job book.jobs job (replacing rule)
+outcome_of_call book (call.Submit seed rule steps) = submit_outcome book.jobs seed rule steps
+outcome_of_call book (call.Replace job rule) = on_job book.jobs job (replace_outcome rule)
 outcome_of_call book call.Lease = on_free book.jobs book.next (position is_free book.jobs)
-outcome_of_call book (call.Order lease) = on_job book.jobs lease.job (ordering lease)
-outcome_of_call book (call.GiveBack lease) = on_job book.jobs lease.job (giving_back lease)
-outcome_of_call book (call.Revoke job) = on_job book.jobs job revoking
-outcome_of_call book (call.Cancel job) = on_job book.jobs job cancelling
-outcome_of_call book (call.Read job) = on_job book.jobs job reading
+outcome_of_call book (call.Order lease) = on_job book.jobs lease.job (order_outcome lease)
+outcome_of_call book (call.GiveBack lease) = on_job book.jobs lease.job (give_back_outcome lease)
+outcome_of_call book (call.Revoke job) = on_job book.jobs job revoke_outcome
+outcome_of_call book (call.Cancel job) = on_job book.jobs job cancel_outcome
+outcome_of_call book (call.Read job) = on_job book.jobs job read_outcome
 
 -- the number of the next lease after a reply: one more if a lease went out
 abbrev pub next_after : ℕ → Reply → ℕ
 next_after next (reply.Leased job number step steps) = next + 1
 next_after next _ = next
 
--- is the history of a book full? It is after 1000000 events; the book then refuses each call as `HistoryFull`
-abbrev pub is_full : BookState → Bool
-is_full book = not (ltb book.count 1000000)
+-- does the book have a full history? It does after MAX_EVENTS events, and refuses each call as `HistoryFull`
+abbrev pub has_full_history : BookState → Bool
+has_full_history book = not (ltb book.count MAX_EVENTS)
 
--- the reply of a book to a call: `HistoryFull` if its history is full
+-- the reply of a book to a call: `HistoryFull` if the book's history is full, otherwise the outcome's reply
 abbrev pub reply_of : BookState → Call → Reply
 reply_of book call =
-    if is_full book then reply.Refused fault.HistoryFull else (outcome_of_call book call).reply
+    if has_full_history book then reply.Refused fault.HistoryFull else (outcome_of_call book call).reply
 
 -- the book after a call, which is one more event, also if it was refused; a book with a full history stays as
 -- it is
 abbrev pub after : BookState → Call → BookState
-after book call = if is_full book then book else record {
+after book call = if has_full_history book then book else record {
   count = book.count + 1;
   next = next_after book.next (outcome_of_call book call).reply;
   jobs = (outcome_of_call book call).jobs;

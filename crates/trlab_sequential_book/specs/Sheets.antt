@@ -2,6 +2,7 @@
 use Rattle.std.specs.Prelude.{◌≡◌, ℕ, ◌+◌, ◌≤◌, ◌<◌, nat_le, ltb, List, [], ◌∷◌, ◌++◌, filter, length, slice_get, Option, Some, None, unwrap_or, if◌then◌else◌}
 use Rattle.trlab_rules.specs.Rules.{Programs}
 use Rattle.trlab_step.specs.Run.{Sheet, IsSheet, in_force}
+use Rattle.trlab_sequential_book.specs.declared.sheet.TheConstants.{MAX_ENTRIES}
 use Rattle.trlab_sequential_book.specs.declared.lease.ExecutedStep.{ExecutedStep}
 use Rattle.trlab_sequential_book.specs.declared.fault.BookFault.{BookFault}
 use Rattle.trlab_sequential_book.specs.declared.fault.BookFault.TheVariants.{Memory, SheetFull}
@@ -30,10 +31,10 @@ abbrev pub BeginBy : ℕ → Sheet → Type 0
 BeginBy step [] = Unit {0}
 BeginBy step (entry ∷ sheet) = (entry.0 ≤ step) × BeginBy step sheet
 
--- a sheet that the book can keep: it has at most 1024 entries
+-- a sheet that the book can keep: it has at most MAX_ENTRIES entries
 pub record IsBookSheet (sheet : Sheet) : Type 0 where
   pub is_sheet : IsSheet sheet
-  pub at_most_max : length sheet ≤ 1024
+  pub at_most_max : length sheet ≤ MAX_ENTRIES
 
 -- `applied` are the steps `first`, `first + 1` and so on; each was run under the rule that the sheet has in
 -- force then
@@ -42,8 +43,8 @@ RanUnderSheet sheet first applied =
     (k : ℕ) (ran : ExecutedStep) → slice_get applied k ≡ Some ran → in_force sheet (first + k) ≡ Some ran.rule
 
 -- a new rule, with which the sheet would be this one, may be refused with this fault: `Memory` is always
--- possible, `SheetFull` only if the sheet would have more than 1024 entries, and no other fault is
+-- possible, `SheetFull` only if the sheet would have more than MAX_ENTRIES entries, and no other fault is
 abbrev pub MayRefuse : BookFault → Sheet → Type 0
 MayRefuse Memory sheet = Unit {0}
-MayRefuse SheetFull sheet = 1024 < length sheet
+MayRefuse SheetFull sheet = MAX_ENTRIES < length sheet
 MayRefuse _ sheet = ⊥

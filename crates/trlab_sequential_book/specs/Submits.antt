@@ -39,8 +39,8 @@ SubmitNumbersAreUnique =
     → IsSubmit history j seed rule steps number
     → IsSubmit history k other_seed other_rule other_steps number → j ≡ k
 
--- if a history replays to a book, a snapshot of the job with this number is one of a job that an event of the
--- history submitted: it has the seed that was submitted
+-- if a history replays to a book, an event of the history submitted the job of each snapshot of the book, and
+-- the snapshot has the seed that was submitted
 abbrev pub SnapshotsAreOfSubmits : Type 0
 SnapshotsAreOfSubmits =
     (history : List Event) (book : BookState) (number : ℕ) (seen : Progress) → Replays history book

@@ -7,7 +7,7 @@ ghost use Rattle.trlab_step.specs.Laws.{IsRuleFor};
 ghost use Rattle.trlab_sequential_book.specs.Answers.{LeadsAs, RepliesAs, give_back_reply, done_reply, is_memory, lease_reply, number_reply, order_reply, read_reply};
 ghost use Rattle.trlab_sequential_book.specs.Comparison.{IsFreshIfLent, HasRuleInForce, RunsRoadOfItsJob, ShowsJob, LeaseCall, OrderCall, offered};
 ghost use Rattle.trlab_sequential_book.specs.Leases.{suits};
-ghost use Rattle.trlab_sequential_book.specs.Machine.{after, cancelling, giving_back, is_free, is_full, on_job, ordering, reading, replacing, reply_of, revoking, empty_book, submitting};
+ghost use Rattle.trlab_sequential_book.specs.Machine.{after, cancel_outcome, give_back_outcome, is_free, has_full_history, on_job, order_outcome, read_outcome, replace_outcome, reply_of, revoke_outcome, empty_book, submit_outcome};
 ghost use Rattle.trlab_sequential_book.specs.declared.event.Call.TheVariants.{Cancel, GiveBack, Read, Replace, Revoke, Submit};
 ghost use Rattle.trlab_sequential_book.specs.declared.event.Reply.TheVariants.{Refused};
 ghost use Rattle.trlab_sequential_book.specs.declared.fault.BookFault.TheVariants.{HistoryFull};
@@ -26,15 +26,15 @@ use trlab_rules::Rule;
 /// The maximum number of jobs of a book.
 pub const MAX_JOBS: usize = 256;
 
-/// The maximum number of events of a book. After that many it refuses each call.
+/// The maximum number of events of a book. After this number of events, a book refuses each call.
 pub const MAX_EVENTS: u32 = 1000000;
 
-/// A book of up to 256 jobs, which are numbered from 0 and never removed.
+/// A book of up to `MAX_JOBS` jobs, which are numbered from 0 and never removed.
 ///
 /// Each call is an event, even if it is refused. Only a call refused as `HistoryFull` or `Memory` is not an event, and
 /// changes nothing.
 pub struct Book {
-    /// How many events there were.
+    /// The number of events that the book has had.
     count: u32,
     /// The number of the next lease.
     next: u32,
@@ -55,13 +55,14 @@ impl Drop for Book {
 impl Model for Book {
     ghost use Rattle.std.specs.Prelude.{◌≤◌, vec_len};
     ghost use Rattle.trlab_sequential_book.specs.Machine.{BookState};
+    ghost use Rattle.trlab_sequential_book.specs.declared.book.TheConstants.{MAX_EVENTS, MAX_JOBS};
 
     ghost Value = { BookState };
 
     ghost view = { λ book. record { count = book.count; next = book.next; jobs = book.jobs.items } };
 
-    ghost invariant = { λ book. (book.count ≤ 1000000) × (book.next ≤ book.count)
-        × (vec_len book.jobs ≤ 256) };
+    ghost invariant = { λ book. (book.count ≤ MAX_EVENTS) × (book.next ≤ book.count)
+        × (vec_len book.jobs ≤ MAX_JOBS) };
 }
 
 impl Book {
@@ -76,9 +77,9 @@ impl Book {
         }
     }
 
-    /// Whether there were 1,000,000 events, after which each call is refused as `HistoryFull`.
-    pub fn is_full(&self) -> bool
-        ensures { result ≡ is_full self.now }
+    /// Whether the book has had `MAX_EVENTS` events. It then refuses each call as `HistoryFull`.
+    pub fn has_full_history(&self) -> bool
+        ensures { result ≡ has_full_history self.now }
     {
         self.count >= MAX_EVENTS
     }
@@ -98,9 +99,9 @@ impl Book {
     ) -> Result<u32, BookFault>
         ensures reply { RepliesAs (is_memory result) (number_reply result) self.old (Submit seed rule steps) }
         ensures state { LeadsAs (is_memory result) self.old (Submit seed rule steps) self.new }
-        ensures full { is_full self.old ≡ true → result ≡ Err HistoryFull }
+        ensures full { has_full_history self.old ≡ true → result ≡ Err HistoryFull }
     {
-        if self.is_full() {
+        if self.has_full_history() {
             return Err(BookFault::HistoryFull);
         }
         let boxed = BoxedSeed::new(alloc, seed)?;
@@ -121,9 +122,9 @@ impl Book {
     ) -> Result<u32, BookFault>
         ensures reply { RepliesAs (is_memory result) (number_reply result) self.old (Submit seed rule steps) }
         ensures state { LeadsAs (is_memory result) self.old (Submit seed rule steps) self.new }
-        ensures full { is_full self.old ≡ true → result ≡ Err HistoryFull }
+        ensures full { has_full_history self.old ≡ true → result ≡ Err HistoryFull }
     {
-        if self.is_full() {
+        if self.has_full_history() {
             return Err(BookFault::HistoryFull);
         }
         self.add_job(alloc, seed, rule, steps)
@@ -137,7 +138,7 @@ impl Book {
         rule: Rule,
         steps: u32,
     ) -> Result<u32, BookFault>
-        requires { is_full self.old ≡ false }
+        requires { has_full_history self.old ≡ false }
         ensures reply { RepliesAs (is_memory result) (number_reply result) self.old (Submit seed rule steps) }
         ensures state { LeadsAs (is_memory result) self.old (Submit seed rule steps) self.new }
     {
@@ -154,9 +155,9 @@ impl Book {
     pub fn replace(&mut self, job: u32, rule: Rule) -> Result<u32, BookFault>
         ensures reply { RepliesAs (is_memory result) (number_reply result) self.old (Replace job rule) }
         ensures state { LeadsAs (is_memory result) self.old (Replace job rule) self.new }
-        ensures full { is_full self.old ≡ true → result ≡ Err HistoryFull }
+        ensures full { has_full_history self.old ≡ true → result ≡ Err HistoryFull }
     {
-        if self.is_full() {
+        if self.has_full_history() {
             return Err(BookFault::HistoryFull);
         }
         let answer = replace_in(&mut self.jobs, job, rule);
@@ -173,10 +174,10 @@ impl Book {
     pub fn lease(&mut self, alloc: Global) -> Result<Option<Lease>, BookFault>
         ensures reply { RepliesAs (is_memory result) (lease_reply result) self.old LeaseCall }
         ensures state { LeadsAs (is_memory result) self.old LeaseCall self.new }
-        ensures full { is_full self.old ≡ true → result ≡ Err HistoryFull }
+        ensures full { has_full_history self.old ≡ true → result ≡ Err HistoryFull }
         ensures lent { IfOk result (λ lent. IsFreshIfLent self.old.jobs self.old.next lent) }
     {
-        if self.is_full() {
+        if self.has_full_history() {
             return Err(BookFault::HistoryFull);
         }
         let Some(index) = free_in(&self.jobs) else {
@@ -190,15 +191,15 @@ impl Book {
         Ok(Some(lease))
     }
 
-    /// Whether a lease runs the road of its job: with the key and the number of the job, from the job's road,
-    /// under the rules in force.
-    pub fn is_same(&self, lease: &Lease) -> bool
+    /// Whether a lease runs the road of its job: with the key and the road number of the job's seed, from the job's
+    /// road after the steps done, under the rules in force. False if there is no such job.
+    pub fn lease_runs_its_road(&self, lease: &Lease) -> bool
         ensures { IsTrue result ↔ RunsRoadOfItsJob self.now.jobs lease.now }
     {
         let Some(found) = self.jobs.get(lease.job() as usize) else {
             return false;
         };
-        found.runs(lease)
+        found.is_run_by(lease)
     }
 
     /// Orders a lease's next step, and returns the rule in force there. The order shares the rule with the job's sheet,
@@ -208,34 +209,34 @@ impl Book {
     ///
     /// `HistoryFull`, `NoSuchJob`, `Ended`, `StrangerLease` or `Memory`.
     pub fn order(&mut self, _: Global, lease: &Lease) -> Result<Order, BookFault>
-        ensures reply { (same : Bool) → (IsTrue same ↔ RunsRoadOfItsJob self.old.jobs lease.now)
-            → RepliesAs (is_memory result) (order_reply result) self.old (OrderCall (offered lease.now same)) }
-        ensures state { (same : Bool) → (IsTrue same ↔ RunsRoadOfItsJob self.old.jobs lease.now)
-            → LeadsAs (is_memory result) self.old (OrderCall (offered lease.now same)) self.new }
-        ensures full { is_full self.old ≡ true → result ≡ Err HistoryFull }
+        ensures reply { (runs_its_road : Bool) → (IsTrue runs_its_road ↔ RunsRoadOfItsJob self.old.jobs lease.now)
+            → RepliesAs (is_memory result) (order_reply result) self.old (OrderCall (offered lease.now runs_its_road)) }
+        ensures state { (runs_its_road : Bool) → (IsTrue runs_its_road ↔ RunsRoadOfItsJob self.old.jobs lease.now)
+            → LeadsAs (is_memory result) self.old (OrderCall (offered lease.now runs_its_road)) self.new }
+        ensures full { has_full_history self.old ≡ true → result ≡ Err HistoryFull }
         ensures rule { IfOk result (λ order. HasRuleInForce self.old.jobs order) }
     {
-        let same = self.is_same(lease);
-        self.order_as(lease, same)
+        let runs_its_road = self.lease_runs_its_road(lease);
+        self.order_as(lease, runs_its_road)
     }
 
-    /// `order`, if `is_same(lease)` is known already.
+    /// `order`, if `lease_runs_its_road(lease)` is known already.
     ///
     /// # Errors
     ///
     /// Those of `order`.
-    pub fn order_as(&mut self, lease: &Lease, same: bool) -> Result<Order, BookFault>
-        requires { IsTrue same ↔ RunsRoadOfItsJob self.old.jobs lease.now }
+    pub fn order_as(&mut self, lease: &Lease, runs_its_road: bool) -> Result<Order, BookFault>
+        requires { IsTrue runs_its_road ↔ RunsRoadOfItsJob self.old.jobs lease.now }
         ensures reply { RepliesAs (is_memory result) (order_reply result) self.old
-            (OrderCall (offered lease.now same)) }
-        ensures state { LeadsAs (is_memory result) self.old (OrderCall (offered lease.now same)) self.new }
-        ensures full { is_full self.old ≡ true → result ≡ Err HistoryFull }
+            (OrderCall (offered lease.now runs_its_road)) }
+        ensures state { LeadsAs (is_memory result) self.old (OrderCall (offered lease.now runs_its_road)) self.new }
+        ensures full { has_full_history self.old ≡ true → result ≡ Err HistoryFull }
         ensures rule { IfOk result (λ order. HasRuleInForce self.old.jobs order) }
     {
-        if self.is_full() {
+        if self.has_full_history() {
             return Err(BookFault::HistoryFull);
         }
-        let answer = order_in(&mut self.jobs, lease, same);
+        let answer = order_in(&mut self.jobs, lease, runs_its_road);
         self.count = count_after(self.count, &answer);
         answer
     }
@@ -246,32 +247,36 @@ impl Book {
     ///
     /// `HistoryFull`, `NoSuchJob` or `StrangerLease`, with the lease.
     pub fn give_back(&mut self, lease: Lease) -> Result<(), (Lease, BookFault)>
-        ensures reply { (same : Bool) → (IsTrue same ↔ RunsRoadOfItsJob self.old.jobs lease)
-            → give_back_reply result ≡ reply_of self.old (GiveBack (offered lease same)) }
-        ensures state { (same : Bool) → (IsTrue same ↔ RunsRoadOfItsJob self.old.jobs lease)
-            → self.new ≡ after self.old (GiveBack (offered lease same)) }
-        ensures handed { IfErr result (λ handed. handed.0 ≡ lease) }
+        ensures reply { (runs_its_road : Bool) → (IsTrue runs_its_road ↔ RunsRoadOfItsJob self.old.jobs lease)
+            → give_back_reply result ≡ reply_of self.old (GiveBack (offered lease runs_its_road)) }
+        ensures state { (runs_its_road : Bool) → (IsTrue runs_its_road ↔ RunsRoadOfItsJob self.old.jobs lease)
+            → self.new ≡ after self.old (GiveBack (offered lease runs_its_road)) }
+        ensures returned { IfErr result (λ returned. returned.0 ≡ lease) }
     {
-        let same = self.is_same(&lease);
-        self.give_back_as(lease, same)
+        let runs_its_road = self.lease_runs_its_road(&lease);
+        self.give_back_as(lease, runs_its_road)
     }
 
-    /// `give_back`, if `is_same(lease)` is known already.
+    /// `give_back`, if `lease_runs_its_road(lease)` is known already.
     ///
     /// # Errors
     ///
     /// Those of `give_back`.
-    pub fn give_back_as(&mut self, lease: Lease, same: bool) -> Result<(), (Lease, BookFault)>
-        requires { IsTrue same ↔ RunsRoadOfItsJob self.old.jobs lease }
-        ensures reply { give_back_reply result ≡ reply_of self.old (GiveBack (offered lease same)) }
-        ensures state { self.new ≡ after self.old (GiveBack (offered lease same)) }
-        ensures handed { IfErr result (λ handed. handed.0 ≡ lease) }
+    pub fn give_back_as(
+        &mut self,
+        lease: Lease,
+        runs_its_road: bool,
+    ) -> Result<(), (Lease, BookFault)>
+        requires { IsTrue runs_its_road ↔ RunsRoadOfItsJob self.old.jobs lease }
+        ensures reply { give_back_reply result ≡ reply_of self.old (GiveBack (offered lease runs_its_road)) }
+        ensures state { self.new ≡ after self.old (GiveBack (offered lease runs_its_road)) }
+        ensures returned { IfErr result (λ returned. returned.0 ≡ lease) }
     {
-        if self.is_full() {
+        if self.has_full_history() {
             return Err((lease, BookFault::HistoryFull));
         }
         self.count += 1;
-        give_back_in(&mut self.jobs, lease, same)
+        give_back_in(&mut self.jobs, lease, runs_its_road)
     }
 
     /// Ends the lease that is out for a job. The job keeps its rules and its steps done.
@@ -283,7 +288,7 @@ impl Book {
         ensures reply { done_reply result ≡ reply_of self.old (Revoke job) }
         ensures state { self.new ≡ after self.old (Revoke job) }
     {
-        if self.is_full() {
+        if self.has_full_history() {
             return Err(BookFault::HistoryFull);
         }
         self.count += 1;
@@ -299,14 +304,14 @@ impl Book {
         ensures reply { done_reply result ≡ reply_of self.old (Cancel job) }
         ensures state { self.new ≡ after self.old (Cancel job) }
     {
-        if self.is_full() {
+        if self.has_full_history() {
             return Err(BookFault::HistoryFull);
         }
         self.count += 1;
         cancel_in(&mut self.jobs, job)
     }
 
-    /// The state of a job at its steps done. A cancelled job can be read as well.
+    /// The state of a job after the steps that it has done. A cancelled job can be read as well.
     ///
     /// # Errors
     ///
@@ -314,10 +319,10 @@ impl Book {
     pub fn read(&mut self, alloc: Global, job: u32) -> Result<Snapshot, BookFault>
         ensures reply { RepliesAs (is_memory result) (read_reply result) self.old (Read job) }
         ensures state { LeadsAs (is_memory result) self.old (Read job) self.new }
-        ensures full { is_full self.old ≡ true → result ≡ Err HistoryFull }
+        ensures full { has_full_history self.old ≡ true → result ≡ Err HistoryFull }
         ensures seen { IfOk result (λ seen. ShowsJob self.old.jobs job seen) }
     {
-        if self.is_full() {
+        if self.has_full_history() {
             return Err(BookFault::HistoryFull);
         }
         let answer = read_in(&self.jobs, alloc, job);
@@ -328,9 +333,9 @@ impl Book {
 
 /// The number of events after a call with this answer; `count` is the number before the call.
 fn count_after<T>(count: u32, answer: &Result<T, BookFault>) -> u32
-    requires { count < 1000000 }
+    requires { count < MAX_EVENTS }
     ensures value { MatchBool (is_memory answer.now) (result ≡ count) (result ≡ count + 1) }
-    ensures within { (count ≤ result) × (result ≤ 1000000) }
+    ensures within { (count ≤ result) × (result ≤ MAX_EVENTS) }
 {
     match answer {
         Err(BookFault::Memory) => count,
@@ -347,12 +352,12 @@ fn submit_in(
     rule: Rule,
     steps: u32,
 ) -> Result<u32, BookFault>
-    requires { length jobs.old.items ≤ 256 }
+    requires { length jobs.old.items ≤ MAX_JOBS }
     ensures reply { MatchBool (is_memory result) (Unit {0})
-        (number_reply result ≡ (submitting jobs.old.items seed rule steps).reply) }
+        (number_reply result ≡ (submit_outcome jobs.old.items seed rule steps).reply) }
     ensures jobs { MatchBool (is_memory result) (jobs.new.items ≡ jobs.old.items)
-        (jobs.new.items ≡ (submitting jobs.old.items seed rule steps).jobs) }
-    ensures at_most_max { length jobs.new.items ≤ 256 }
+        (jobs.new.items ≡ (submit_outcome jobs.old.items seed rule steps).jobs) }
+    ensures at_most_max { length jobs.new.items ≤ MAX_JOBS }
 {
     make_room(jobs, seed.get(), &rule)?;
     let job = JobRecord::new(alloc, seed, rule, steps)?;
@@ -361,14 +366,14 @@ fn submit_in(
     Ok(number)
 }
 
-/// Makes room for one more job, if there are fewer than 256 and its rule suits its road.
+/// Makes room for one more job, if there are fewer than `MAX_JOBS` and its rule suits its road.
 fn make_room(jobs: &mut Vec<JobRecord>, seed: &Seed, rule: &Rule) -> Result<(), BookFault>
     ensures jobs { jobs.new.items ≡ jobs.old.items }
     ensures room { IfOk result (λ _. vec_len jobs.new < vec_capacity jobs.new) }
-    ensures taken { IfOk result (λ _. (suits rule.now seed.now.road ≡ true) × (length jobs.old.items < 256)) }
+    ensures taken { IfOk result (λ _. (suits rule.now seed.now.road ≡ true) × (length jobs.old.items < MAX_JOBS)) }
     ensures rule { IfOk result (λ _. IsRuleFor (length seed.now.road.lanes) rule.now) }
     ensures refused { IfErr result (λ fault. MatchBool (is_memory result) (Unit {0})
-        ((steps : ℕ) → submitting jobs.old.items seed.now rule.now steps
+        ((steps : ℕ) → submit_outcome jobs.old.items seed.now rule.now steps
         ≡ record { reply = Refused fault; jobs = jobs.old.items })) }
     ensures legal { IsLegal seed.now.road }
 {
@@ -381,30 +386,29 @@ fn make_room(jobs: &mut Vec<JobRecord>, seed: &Seed, rule: &Rule) -> Result<(), 
     Ok(jobs.reserve(1)?)
 }
 
-/// Whether a book with this many jobs is full.
+/// Whether a book with this number of jobs is full.
 fn has_all_jobs(jobs: usize) -> bool
-    ensures { result ≡ not (ltb jobs 256) }
+    ensures { result ≡ not (ltb jobs MAX_JOBS) }
 {
     jobs >= MAX_JOBS
 }
 
 fn replace_in(jobs: &mut Vec<JobRecord>, index: u32, rule: Rule) -> Result<u32, BookFault>
     ensures reply { MatchBool (is_memory result) (Unit {0})
-        (number_reply result ≡ (on_job jobs.old.items index (replacing rule)).reply) }
+        (number_reply result ≡ (on_job jobs.old.items index (replace_outcome rule)).reply) }
     ensures jobs { MatchBool (is_memory result) (jobs.new.items ≡ jobs.old.items)
-        (jobs.new.items ≡ (on_job jobs.old.items index (replacing rule)).jobs) }
+        (jobs.new.items ≡ (on_job jobs.old.items index (replace_outcome rule)).jobs) }
     ensures len { length jobs.new.items ≡ length jobs.old.items }
 {
-    if index as usize >= jobs.len() {
+    let Some(found) = jobs.get_mut(index as usize) else {
         return Err(BookFault::NoSuchJob);
-    }
-    let found = &mut jobs[index as usize];
+    };
     found.replace(rule)
 }
 
 fn revoke_in(jobs: &mut Vec<JobRecord>, index: u32) -> Result<(), BookFault>
-    ensures reply { done_reply result ≡ (on_job jobs.old.items index revoking).reply }
-    ensures jobs { jobs.new.items ≡ (on_job jobs.old.items index revoking).jobs }
+    ensures reply { done_reply result ≡ (on_job jobs.old.items index revoke_outcome).reply }
+    ensures jobs { jobs.new.items ≡ (on_job jobs.old.items index revoke_outcome).jobs }
     ensures len { length jobs.new.items ≡ length jobs.old.items }
 {
     let Some(found) = jobs.get_mut(index as usize) else {
@@ -414,8 +418,8 @@ fn revoke_in(jobs: &mut Vec<JobRecord>, index: u32) -> Result<(), BookFault>
 }
 
 fn cancel_in(jobs: &mut Vec<JobRecord>, index: u32) -> Result<(), BookFault>
-    ensures reply { done_reply result ≡ (on_job jobs.old.items index cancelling).reply }
-    ensures jobs { jobs.new.items ≡ (on_job jobs.old.items index cancelling).jobs }
+    ensures reply { done_reply result ≡ (on_job jobs.old.items index cancel_outcome).reply }
+    ensures jobs { jobs.new.items ≡ (on_job jobs.old.items index cancel_outcome).jobs }
     ensures len { length jobs.new.items ≡ length jobs.old.items }
 {
     let Some(found) = jobs.get_mut(index as usize) else {
@@ -432,51 +436,53 @@ fn free_in(jobs: &[JobRecord]) -> Option<usize>
     jobs.iter().position(|job| job.is_free())
 }
 
-fn order_in(jobs: &mut Vec<JobRecord>, lease: &Lease, same: bool) -> Result<Order, BookFault>
+fn order_in(
+    jobs: &mut Vec<JobRecord>,
+    lease: &Lease,
+    runs_its_road: bool,
+) -> Result<Order, BookFault>
     ensures reply { MatchBool (is_memory result) (Unit {0})
         (order_reply result
-        ≡ (on_job jobs.old.items lease.now.job (ordering (offered lease.now same))).reply) }
+        ≡ (on_job jobs.old.items lease.now.job (order_outcome (offered lease.now runs_its_road))).reply) }
     ensures jobs { MatchBool (is_memory result) (jobs.new.items ≡ jobs.old.items)
-        (jobs.new.items ≡ (on_job jobs.old.items lease.now.job (ordering (offered lease.now same))).jobs) }
+        (jobs.new.items
+        ≡ (on_job jobs.old.items lease.now.job (order_outcome (offered lease.now runs_its_road))).jobs) }
     ensures len { length jobs.new.items ≡ length jobs.old.items }
     ensures rule { IfOk result (λ order. HasRuleInForce jobs.old.items order) }
 {
-    let index = lease.job() as usize;
-    if index >= jobs.len() {
+    let Some(found) = jobs.get_mut(lease.job() as usize) else {
         return Err(BookFault::NoSuchJob);
-    }
-    let found = &mut jobs[index];
-    found.order(lease, same)
+    };
+    found.order(lease, runs_its_road)
 }
 
 fn give_back_in(
     jobs: &mut Vec<JobRecord>,
     lease: Lease,
-    same: bool,
+    runs_its_road: bool,
 ) -> Result<(), (Lease, BookFault)>
-    requires { IsTrue same → RunsRoadOfItsJob jobs.old.items lease }
+    requires { IsTrue runs_its_road → RunsRoadOfItsJob jobs.old.items lease }
     ensures reply { give_back_reply result
-        ≡ (on_job jobs.old.items lease.job (giving_back (offered lease same))).reply }
-    ensures jobs { jobs.new.items ≡ (on_job jobs.old.items lease.job (giving_back (offered lease same))).jobs }
+        ≡ (on_job jobs.old.items lease.job (give_back_outcome (offered lease runs_its_road))).reply }
+    ensures jobs { jobs.new.items
+        ≡ (on_job jobs.old.items lease.job (give_back_outcome (offered lease runs_its_road))).jobs }
     ensures len { length jobs.new.items ≡ length jobs.old.items }
-    ensures handed { IfErr result (λ handed. handed.0 ≡ lease) }
+    ensures returned { IfErr result (λ returned. returned.0 ≡ lease) }
 {
-    let index = lease.job() as usize;
-    if index >= jobs.len() {
+    let Some(found) = jobs.get_mut(lease.job() as usize) else {
         return Err((lease, BookFault::NoSuchJob));
-    }
-    let found = &mut jobs[index];
-    found.give_back(lease, same)
+    };
+    found.give_back(lease, runs_its_road)
 }
 
 fn read_in(jobs: &[JobRecord], alloc: Global, index: u32) -> Result<Snapshot, BookFault>
     ensures reply { MatchBool (is_memory result) (Unit {0})
-        (read_reply result ≡ (on_job jobs.now index reading).reply) }
+        (read_reply result ≡ (on_job jobs.now index read_outcome).reply) }
     ensures seen { IfOk result (λ seen. ShowsJob jobs.now index seen) }
-    ensures jobs { (on_job jobs.now index reading).jobs ≡ jobs.now }
+    ensures jobs { (on_job jobs.now index read_outcome).jobs ≡ jobs.now }
 {
-    if index as usize >= jobs.len() {
+    let Some(found) = jobs.get(index as usize) else {
         return Err(BookFault::NoSuchJob);
-    }
-    Ok(jobs[index as usize].read(alloc)?)
+    };
+    Ok(found.read(alloc)?)
 }

@@ -4,14 +4,16 @@ use crate::fault::BookFault;
 use crate::rule::BoxedRule;
 use crate::seed::BoxedSeed;
 
-/// The parts of a lease that events keep: its job, its number, the step at which it began, its next step, and
-/// whether it runs the road of its job.
+/// The parts of a lease that events keep.
 #[derive(Clone, Copy, PartialEq, Eq)]
 pub struct Offered {
     pub job: u32,
     pub number: u32,
+    /// The step at which the lease went out.
     pub base: u32,
+    /// The next step of the lease.
     pub step: u32,
+    /// Whether the lease runs the road of its job.
     pub same: bool,
 }
 

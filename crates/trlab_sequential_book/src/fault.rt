@@ -10,7 +10,7 @@ use thiserror::Error;
 /// `LanesMismatch`, `Full`, `SheetFull`, `StrangerLease` is returned. `Memory` may replace any but `HistoryFull`.
 #[derive(Clone, Copy, Debug, PartialEq, Eq, Error)]
 pub enum BookFault {
-    /// The book has 256 jobs.
+    /// The book has `MAX_JOBS` jobs.
     #[error("the book is full")]
     Full,
     /// The book has no job with this number.
@@ -22,14 +22,14 @@ pub enum BookFault {
     /// The rule has a change program, and the road has one lane.
     #[error("a change program needs two lanes")]
     LanesMismatch,
-    /// The job's sheet would have more than 1024 entries.
+    /// The job's sheet would have more than `MAX_ENTRIES` entries.
     #[error("the sheet is full")]
     SheetFull,
     /// The lease is not the one that is out, or does not run this job's road under its rules. For `revoke`: no lease is
     /// out.
     #[error("the lease is not for this job")]
     StrangerLease,
-    /// The book has had 1,000,000 events.
+    /// The book has had `MAX_EVENTS` events.
     #[error("the history is full")]
     HistoryFull,
     /// An allocation failed.

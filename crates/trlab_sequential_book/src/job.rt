@@ -9,7 +9,7 @@ ghost use Rattle.trlab_sequential_book.specs.Answers.{give_back_reply, done_repl
 ghost use Rattle.trlab_sequential_book.specs.Comparison.{IsFresh, RunsRoadOfJob, IsSnapshotOf, offered};
 ghost use Rattle.trlab_sequential_book.specs.Jobs.{progress_of};
 ghost use Rattle.trlab_sequential_book.specs.Leases.{suits};
-ghost use Rattle.trlab_sequential_book.specs.Machine.{cancelling, giving_back, is_free, accepts_lease, leasing, new_job, ordering, refused, replacing, revoking};
+ghost use Rattle.trlab_sequential_book.specs.Machine.{cancel_outcome, give_back_outcome, is_free, accepts_lease, lease_outcome, new_job, order_outcome, refusal, replace_outcome, revoke_outcome};
 
 use crate::fault::BookFault;
 use crate::lease::Lease;
@@ -30,9 +30,9 @@ pub(crate) struct JobRecord {
     seed: BoxedSeed,
     sheet: Sheet,
     steps: u32,
-    /// How many steps were ever ordered.
+    /// The number of steps that were ever ordered.
     high: u32,
-    /// How many steps are done.
+    /// The number of steps done.
     done: u32,
     cancelled: bool,
     /// The number of the lease that is out.
@@ -61,14 +61,30 @@ impl Drop for JobRecord {
 
 impl Model for JobRecord {
     ghost use Rattle.trlab_sequential_book.specs.Jobs.{IsJob};
-    ghost use Rattle.trlab_sequential_book.specs.Machine.{JobState, job_state};
+    ghost use Rattle.trlab_sequential_book.specs.Machine.{JobState};
 
     ghost Value = { JobState };
 
-    ghost view = { λ job. job_state job.seed job.sheet job.steps job.high job.done job.cancelled job.out };
+    ghost view = { λ job. record {
+      seed = job.seed;
+      sheet = job.sheet;
+      steps = job.steps;
+      high = job.high;
+      done = job.done;
+      cancelled = job.cancelled;
+      out = job.out;
+    } };
 
     ghost invariant = { λ job. IsJob
-        (job_state job.seed job.sheet job.steps job.high job.done job.cancelled job.out)
+        (record {
+          seed = job.seed;
+          sheet = job.sheet;
+          steps = job.steps;
+          high = job.high;
+          done = job.done;
+          cancelled = job.cancelled;
+          out = job.out;
+        })
         job.road job.tally };
 }
 
@@ -102,21 +118,21 @@ impl JobRecord {
     /// Replaces the rule from the first step on that was never ordered. Returns this step.
     pub fn replace(&mut self, rule: Rule) -> Result<u32, BookFault>
         ensures reply { MatchBool (is_memory result) (Unit {0})
-            (number_reply result ≡ (replacing rule self.old).reply) }
+            (number_reply result ≡ (replace_outcome rule self.old).reply) }
         ensures job { MatchBool (is_memory result) (self.new ≡ self.old)
-            (self.new ≡ (replacing rule self.old).job) }
+            (self.new ≡ (replace_outcome rule self.old).job) }
     {
-        self.admits(&rule)?;
+        self.check_rule(&rule)?;
         self.sheet.enter(self.high, rule)?;
         Ok(self.high)
     }
 
     /// Tests that the job is not cancelled and has steps that were never ordered, and that a rule suits its road.
-    fn admits(&self, rule: &Rule) -> Result<(), BookFault>
+    fn check_rule(&self, rule: &Rule) -> Result<(), BookFault>
         ensures ok { IfOk result (λ _. (self.now.cancelled || (self.now.high == self.now.steps) ≡ false)
             × (suits rule.now self.now.seed.road ≡ true)) }
         ensures rule { IfOk result (λ _. IsRuleFor (length self.now.seed.road.lanes) rule.now) }
-        ensures err { IfErr result (λ fault. replacing rule.now self.now ≡ refused fault self.now) }
+        ensures err { IfErr result (λ fault. replace_outcome rule.now self.now ≡ refusal fault self.now) }
     {
         if self.cancelled || self.high == self.steps {
             return Err(BookFault::Ended);
@@ -129,8 +145,8 @@ impl JobRecord {
 
     /// Ends the lease that is out.
     pub fn revoke(&mut self) -> Result<(), BookFault>
-        ensures reply { done_reply result ≡ (revoking self.old).reply }
-        ensures job { self.new ≡ (revoking self.old).job }
+        ensures reply { done_reply result ≡ (revoke_outcome self.old).reply }
+        ensures job { self.new ≡ (revoke_outcome self.old).job }
     {
         if self.out.is_none() {
             return Err(BookFault::StrangerLease);
@@ -141,8 +157,8 @@ impl JobRecord {
 
     /// Ends the job and its lease.
     pub fn cancel(&mut self) -> Result<(), BookFault>
-        ensures reply { done_reply result ≡ (cancelling self.old).reply }
-        ensures job { self.new ≡ (cancelling self.old).job }
+        ensures reply { done_reply result ≡ (cancel_outcome self.old).reply }
+        ensures job { self.new ≡ (cancel_outcome self.old).job }
     {
         if self.cancelled || self.done == self.steps {
             return Err(BookFault::Ended);
@@ -152,7 +168,7 @@ impl JobRecord {
         Ok(())
     }
 
-    /// Whether the job can be leased.
+    /// Whether the job can be leased: no lease is out, it is not cancelled, and it has steps to do.
     pub fn is_free(&self) -> bool
         ensures { result ≡ is_free self.now }
     {
@@ -162,7 +178,7 @@ impl JobRecord {
     /// Lends the job. `index` is the job's number, `number` the lease's.
     pub fn lend(&mut self, alloc: Global, index: u32, number: u32) -> Result<Lease, AllocError>
         ensures lease { IfOk result (λ lease. (lease.job ≡ index) × IsFresh self.old number lease) }
-        ensures job { IfOk result (λ _. self.new ≡ (leasing index number self.old).job) }
+        ensures job { IfOk result (λ _. self.new ≡ (lease_outcome index number self.old).job) }
         ensures unchanged { OnErr result (self.new ≡ self.old) }
     {
         let copy = self.road.get().copy(alloc)?;
@@ -186,14 +202,14 @@ impl JobRecord {
         })
     }
 
-    /// Whether a lease runs this job's road.
-    pub fn runs(&self, lease: &Lease) -> bool
+    /// Whether a lease runs this job's road: with its key and road number, from its road, under the rules in force.
+    pub fn is_run_by(&self, lease: &Lease) -> bool
         ensures { IsTrue result ↔ RunsRoadOfJob self.now lease.now }
     {
         // For the proof: the lease's step is a `u32`, so no step up to it overflows.
         let _end = lease.step();
         let seed = self.seed.get();
-        if lease.road_number() != seed.number || !same_key(lease.key(), &seed.key) {
+        if lease.road_number() != seed.number || !is_same_key(lease.key(), &seed.key) {
             return false;
         }
         if !lease.base_road().equals(self.road.get()) {
@@ -203,27 +219,28 @@ impl JobRecord {
             .are_in_force(lease.base_step(), lease.applied(), lease.is_steady())
     }
 
-    /// Whether a lease is the one that is out, and may be ordered or given back. `same`: the lease runs the job's road.
-    fn owns(&self, lease: &Lease, same: bool) -> bool
-        ensures { result ≡ accepts_lease (offered lease.now same) self.now }
+    /// Whether a lease is out for this job, and may be ordered or given back. It must run the job's road
+    /// (`runs_its_road`), from the steps done, and at most up to the last ordered step.
+    fn accepts_lease(&self, lease: &Lease, runs_its_road: bool) -> bool
+        ensures { result ≡ accepts_lease (offered lease.now runs_its_road) self.now }
     {
         match self.out {
             Some(number) => {
                 number == lease.number()
                     && lease.base_step() == self.done
                     && lease.step() <= self.high
-                    && same
+                    && runs_its_road
             }
             None => false,
         }
     }
 
     /// Orders the next step of a lease.
-    pub fn order(&mut self, lease: &Lease, same: bool) -> Result<Order, BookFault>
+    pub fn order(&mut self, lease: &Lease, runs_its_road: bool) -> Result<Order, BookFault>
         ensures reply { MatchBool (is_memory result) (Unit {0})
-            (order_reply result ≡ (ordering (offered lease.now same) self.old).reply) }
+            (order_reply result ≡ (order_outcome (offered lease.now runs_its_road) self.old).reply) }
         ensures job { MatchBool (is_memory result) (self.new ≡ self.old)
-            (self.new ≡ (ordering (offered lease.now same) self.old).job) }
+            (self.new ≡ (order_outcome (offered lease.now runs_its_road) self.old).job) }
         ensures index { IfOk result (λ order. order.job ≡ lease.now.job) }
         ensures rule { IfOk result (λ order. in_force self.old.sheet order.step ≡ Some order.rule) }
     {
@@ -231,7 +248,7 @@ impl JobRecord {
         if self.cancelled || step == self.steps {
             return Err(BookFault::Ended);
         }
-        if !self.owns(lease, same) {
+        if !self.accepts_lease(lease, runs_its_road) {
             return Err(BookFault::StrangerLease);
         }
         let entry = self.sheet.entry_in_force(step);
@@ -268,13 +285,13 @@ impl JobRecord {
     }
 
     /// Gives the job the road and the step of its lease.
-    pub fn give_back(&mut self, lease: Lease, same: bool) -> Result<(), (Lease, BookFault)>
-        requires { IsTrue same → RunsRoadOfJob self.old lease }
-        ensures reply { give_back_reply result ≡ (giving_back (offered lease same) self.old).reply }
-        ensures job { self.new ≡ (giving_back (offered lease same) self.old).job }
-        ensures handed { IfErr result (λ handed. handed.0 ≡ lease) }
+    pub fn give_back(&mut self, lease: Lease, runs_its_road: bool) -> Result<(), (Lease, BookFault)>
+        requires { IsTrue runs_its_road → RunsRoadOfJob self.old lease }
+        ensures reply { give_back_reply result ≡ (give_back_outcome (offered lease runs_its_road) self.old).reply }
+        ensures job { self.new ≡ (give_back_outcome (offered lease runs_its_road) self.old).job }
+        ensures returned { IfErr result (λ returned. returned.0 ≡ lease) }
     {
-        if !self.owns(&lease, same) {
+        if !self.accepts_lease(&lease, runs_its_road) {
             return Err((lease, BookFault::StrangerLease));
         }
         self.tally = self.tally_with(&lease);
@@ -284,7 +301,7 @@ impl JobRecord {
         Ok(())
     }
 
-    /// The state of the job at its steps done.
+    /// The state of the job after the steps that it has done.
     pub fn read(&self, alloc: Global) -> Result<Snapshot, AllocError>
         ensures { IfOk result (λ seen. IsSnapshotOf self.now seen) }
     {
@@ -301,7 +318,8 @@ impl JobRecord {
     }
 }
 
-fn same_key(key: &Key, other: &Key) -> bool
+/// Whether two keys are equal.
+fn is_same_key(key: &Key, other: &Key) -> bool
     ensures { IsTrue result ↔ (key.now ≡ other.now) }
 {
     key.0 == other.0

@@ -1,4 +1,4 @@
-//! The limits of the book as figures, and which call each of its jobs comes from.
+//! The limits of the book as numbers, and the call of `submit` from which each of its jobs comes.
 //!
 //! Each law is the contract of a function with an empty body.
 
@@ -24,7 +24,7 @@ pub fn jobs_are_of_submits()
     ensures seen { SnapshotsAreOfSubmits }
 {}
 
-/// A read shows the road of one worker who runs the seed of the job's submit under the job's sheet, regardless
+/// A read shows the road of one worker that runs the seed of the job's submit under the job's sheet, regardless
 /// of the calls before it. Each step is clean, its programs end within their budgets, and no car is lost.
 pub fn reads_are_driven()
     ensures { ReadsAreDriven }

@@ -19,7 +19,7 @@ use thiserror::Error;
 use trlab_machine::Dice;
 use trlab_road::Road;
 use trlab_rules::Rule;
-use trlab_step::{Asking, Executor, NoObserver, StepRoom, StepTally, take_step};
+use trlab_step::{Executor, NoObserver, StepContext, StepRoom, StepTally, take_step};
 use trlab_words::Key;
 
 /// Why a lease ran no step.
@@ -72,7 +72,7 @@ pub struct Lease {
     /// Not shared until the job takes it over.
     pub(crate) road: Arc<Road, Global>,
     pub(crate) applied: Vec<ExecutedStep>,
-    /// If true, all steps that were run had the same rule.
+    /// If true, all steps that were run had the same rule; if false, they may have had several.
     pub(crate) is_steady: bool,
     /// Memory that is reused by each step.
     pub(crate) room: StepRoom,
@@ -81,18 +81,34 @@ pub struct Lease {
 impl Model for Lease {
     ghost use Rattle.std.specs.Prelude.{IsTrue};
     ghost use Rattle.std.specs.Arc.{arc_value};
-    ghost use Rattle.trlab_sequential_book.specs.Leases.{IsLease, IsSteady, LeaseState, lease_state};
+    ghost use Rattle.trlab_sequential_book.specs.Leases.{IsLease, IsSteady, LeaseState};
 
     ghost Value = { LeaseState };
 
-    ghost view = { λ lease. lease_state lease.job lease.number lease.steps lease.key lease.road_number
-        (record { step = lease.base_step; road = lease.base_road })
-        lease.step (arc_value lease.road) lease.applied.items };
+    ghost view = { λ lease. record {
+      job = lease.job;
+      number = lease.number;
+      steps = lease.steps;
+      key = lease.key;
+      road_number = lease.road_number;
+      base = record { step = lease.base_step; road = lease.base_road };
+      step = lease.step;
+      road = arc_value lease.road;
+      applied = lease.applied.items;
+    } };
 
     ghost invariant = { λ lease. IsLease
-        (lease_state lease.job lease.number lease.steps lease.key lease.road_number
-        (record { step = lease.base_step; road = lease.base_road })
-        lease.step (arc_value lease.road) lease.applied.items)
+        (record {
+          job = lease.job;
+          number = lease.number;
+          steps = lease.steps;
+          key = lease.key;
+          road_number = lease.road_number;
+          base = record { step = lease.base_step; road = lease.base_road };
+          step = lease.step;
+          road = arc_value lease.road;
+          applied = lease.applied.items;
+        })
         × (IsTrue lease.is_steady → IsSteady lease.applied.items) };
 }
 
@@ -111,7 +127,7 @@ impl Lease {
         self.number
     }
 
-    /// How many steps the job has.
+    /// The number of steps of the job.
     pub fn steps(&self) -> u32
         ensures { result ≡ self.now.steps }
     {
@@ -170,7 +186,7 @@ impl Lease {
         &self.applied
     }
 
-    /// If true, all steps that were run had the same rule. False says nothing.
+    /// If true, all steps that were run had the same rule; if false, they may have had several.
     pub(crate) fn is_steady(&self) -> bool
         ensures { IsTrue result → IsSteady self.now.applied }
     {
@@ -198,7 +214,7 @@ impl Lease {
     ) -> Result<(), LeaseFault>
         requires ready { A.is_ready executor.now }
         ensures ok { OnOk result (HasRun self.old order.now self.new) }
-        ensures err { OnErr result (self.new ≡ self.old) }
+        ensures unchanged { OnErr result (self.new ≡ self.old) }
         ensures wrong { (result ≡ Err WrongOrder) ↔ (FitsOrder self.old order.now → ⊥) }
     {
         if !self.fits(order) {
@@ -218,7 +234,7 @@ impl Lease {
             && suits(order.rule.get(), &self.road)
     }
 
-    /// Runs a step under a rule. If an allocation fails, nothing changes.
+    /// Runs the lease's next step under a rule. If an allocation fails, nothing changes.
     fn run<A: Executor>(
         &mut self,
         executor: &A,
@@ -232,19 +248,19 @@ impl Lease {
             × IsNext rule.now (dice_of self.old.key.0 self.old.road_number self.old.step)
             self.old.road self.new.road tally
             × (self.new ≡ with_executed_step self.old rule.now tally self.new.road)) }
-        ensures err { OnErr result (self.new ≡ self.old) }
+        ensures unchanged { OnErr result (self.new ≡ self.old) }
     {
         self.applied.reserve(1)?;
         let dice = Dice::new(&self.key, self.road_number, self.step);
         let shared = rule.share()?;
         let is_steady = stays_steady(&self.applied, self.is_steady, rule);
         let rule = rule.get();
-        let asking = Asking {
+        let context = StepContext {
             executor,
             alloc,
             dice: &dice,
         };
-        let tally = step_alone(&asking, &mut self.road, &mut self.room, rule)?;
+        let tally = step_unshared(&context, &mut self.road, &mut self.room, rule)?;
         self.applied.push_reserved(ExecutedStep {
             rule: shared,
             tally,
@@ -255,27 +271,26 @@ impl Lease {
     }
 }
 
-/// Takes a step of a lease's road, which is not shared; a shared road would be reported as a failed
-/// allocation.
-fn step_alone<A: Executor>(
-    asking: &Asking<A>,
+/// Runs a step on a lease's road, which no one else shares; a shared road would be reported as a failed allocation.
+fn step_unshared<A: Executor>(
+    context: &StepContext<A>,
     road: &mut Arc<Road, Global>,
     room: &mut StepRoom,
     rule: &Rule,
 ) -> Result<StepTally, AllocError>
-    requires ready { A.is_ready asking.now.executor.now }
+    requires ready { A.is_ready context.now.executor.now }
     requires rule { IsRuleFor (length (arc_value road.old).lanes) rule.now }
     ensures next { IfOk result (λ tally.
-        IsNext rule.now asking.now.dice.now (arc_value road.old) (arc_value road.new) tally) }
+        IsNext rule.now context.now.dice.now (arc_value road.old) (arc_value road.new) tally) }
     ensures unchanged { OnErr result (arc_value road.new ≡ arc_value road.old) }
 {
     match Arc::get_mut(road) {
-        Some(road) => take_step(asking, road, room, rule, &mut NoObserver),
+        Some(road) => take_step(context, road, room, rule, &mut NoObserver),
         None => Err(AllocError),
     }
 }
 
-/// Whether all steps are still known to have the same rule after a step under this one.
+/// Whether all steps of a lease are known to have the same rule, once a step with `rule` is added to `applied`.
 fn stays_steady(applied: &[ExecutedStep], is_steady: bool, rule: &BoxedRule) -> bool
     requires { IsTrue is_steady → IsSteady applied.now }
     ensures { IsTrue result → (tally : StepTally)

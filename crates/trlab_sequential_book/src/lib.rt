@@ -15,7 +15,7 @@
 //! let snapshot = book.read(alloc, job).ok()?;
 //! ```
 //!
-//! A [`Snapshot`] shows the road of one worker who runs the job's seed under its sheet of rules, regardless of
+//! A [`Snapshot`] shows the road of one worker that runs the job's seed under its sheet of rules, regardless of
 //! how the steps were run. `trlab_book` shares a book between threads.
 #![tactic(auto)]
 

@@ -13,7 +13,7 @@ use trlab_code::encode;
 use trlab_road::Road;
 use trlab_rules::Rule;
 
-/// Whether a rule suits a road. A change program needs two lanes.
+/// Whether a rule suits a road: a rule with a change program needs two lanes.
 pub(crate) fn suits(rule: &Rule, road: &Road) -> bool
     ensures value { result ≡ suits rule.now road.now }
     ensures rule { IsTrue result → IsRuleFor (length road.now.lanes) rule.now }
@@ -71,6 +71,7 @@ impl EncodedRule {
         })
     }
 
+    /// The rule itself.
     pub(crate) fn rule(&self) -> &Rule
         ensures { result.now ≡ self.now }
     {
@@ -154,6 +155,7 @@ impl BoxedRule {
         Ok(BoxedRule { held })
     }
 
+    /// The shared rule.
     pub fn get(&self) -> &Rule
         ensures { result.now ≡ self.now }
     {

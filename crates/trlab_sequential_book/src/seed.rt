@@ -11,12 +11,13 @@ use std::sync::Arc;
 use trlab_road::Road;
 use trlab_words::Key;
 
-/// The initial state of a job: its road, the key and the number that determine its random numbers, and the
-/// step from which its tally counts.
+/// The initial state of a job. Its key and its number determine its random numbers.
 pub struct Seed {
     pub road: Road,
     pub key: Key,
+    /// The number of the road.
     pub number: u32,
+    /// The step from which the job's tally counts.
     pub warm: u32,
 }
 
@@ -97,6 +98,7 @@ impl BoxedSeed {
         Ok(BoxedSeed { held })
     }
 
+    /// The shared seed.
     pub fn get(&self) -> &Seed
         ensures { result.now ≡ self.now }
     {
@@ -107,7 +109,7 @@ impl BoxedSeed {
 /// An immutable road of a seed's run that several owners share.
 pub(crate) struct BoxedRoad {
     seed: BoxedSeed,
-    /// None for the road of the seed itself.
+    /// `None` if the road is the seed's own.
     held: Option<Arc<Road, Global>>,
 }
 
@@ -154,6 +156,7 @@ impl BoxedRoad {
         Ok(BoxedRoad { seed, held })
     }
 
+    /// The shared road.
     pub(crate) fn get(&self) -> &Road
         ensures { result.now ≡ self.now }
     {

@@ -16,7 +16,7 @@ use trlab_rules::Rule;
 /// The maximum number of entries of a sheet.
 pub const MAX_ENTRIES: usize = 1024;
 
-/// The rules of a job. Each entry is in force from its step up to the next entry's; the first begins at step 0.
+/// The rules of a job. Each entry is in force from its step until the next entry begins; the first begins at step 0.
 pub struct Sheet {
     entries: Vec<(u32, BoxedRule)>,
 }
@@ -50,26 +50,26 @@ impl Sheet {
         Ok(Sheet { entries })
     }
 
-    /// The number of entries, 1 to 1024. Their steps rise from 0.
+    /// The number of entries, 1 to `MAX_ENTRIES`. Their steps rise from 0.
     pub fn len(&self) -> usize
         ensures value { result ≡ length self.now }
-        ensures at_most_max { result ≤ 1024 }
+        ensures at_most_max { result ≤ MAX_ENTRIES }
         ensures rules { IsSheet self.now }
     {
         self.entries.len()
     }
 
-    /// An entry: the step from which its rule is in force, and the rule.
+    /// The entry with this index, counted from 0: the step from which its rule is in force, and the rule.
     pub fn entry(&self, index: usize) -> (u32, &Rule)
         requires { index < length self.now }
         ensures { slice_get self.now index ≡ Some (result.0, result.1.now) }
     {
-        let (from, rule) = self.kept_entry(index);
+        let (from, rule) = self.boxed_entry(index);
         (from, rule.get())
     }
 
-    /// An entry, with its rule as a `BoxedRule` that can be shared.
-    fn kept_entry(&self, index: usize) -> (u32, &BoxedRule)
+    /// `entry`, with the rule as a `BoxedRule`, which can be shared.
+    fn boxed_entry(&self, index: usize) -> (u32, &BoxedRule)
         requires { index < length self.now }
         ensures { slice_get self.now index ≡ Some (result.0, result.1.now) }
     {
@@ -108,7 +108,7 @@ impl Sheet {
         let Some(ran) = applied.first() else {
             return true;
         };
-        let (from, rule) = self.kept_entry(self.len() - 1);
+        let (from, rule) = self.boxed_entry(self.len() - 1);
         if is_steady && from <= first {
             rule.equals(&ran.rule)
         } else {
@@ -136,25 +136,25 @@ impl Sheet {
     ///
     /// # Errors
     ///
-    /// `SheetFull` if the sheet would have more than 1024 entries, `Memory` if an allocation fails. Then
+    /// `SheetFull` if the sheet would have more than `MAX_ENTRIES` entries, `Memory` if an allocation fails. Then
     /// nothing changes.
     pub(crate) fn enter(&mut self, from: u32, rule: Rule) -> Result<(), BookFault>
         requires { BeginBy from self.old }
         ensures ok { OnOk result
-            ((self.new ≡ with_rule_from self.old from rule) × (length self.new ≤ 1024) × IsSheet self.new) }
+            ((self.new ≡ with_rule_from self.old from rule) × (length self.new ≤ MAX_ENTRIES) × IsSheet self.new) }
         ensures err { IfErr result (λ fault. MayRefuse fault (with_rule_from self.old from rule)) }
         ensures unchanged { OnErr result (self.new ≡ self.old) }
     {
         let alloc = *self.entries.allocator();
         let rule = BoxedRule::new(alloc, rule)?;
-        make_way(&mut self.entries, from)?;
+        make_room(&mut self.entries, from)?;
         self.entries.push_reserved((from, rule));
         Ok(())
     }
 }
 
 /// Makes room for an entry that begins at the step `from`. Drops the last entry if it begins there as well.
-fn make_way(entries: &mut Vec<(u32, BoxedRule)>, from: u32) -> Result<(), BookFault>
+fn make_room(entries: &mut Vec<(u32, BoxedRule)>, from: u32) -> Result<(), BookFault>
     requires sheet { IsBookSheet entries.old.items }
     requires begin { BeginBy from entries.old.items }
     ensures ok { (rule : Programs) → OnOk result

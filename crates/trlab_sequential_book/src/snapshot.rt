@@ -12,7 +12,7 @@ use std::marker::Model;
 use trlab_road::Road;
 use trlab_step::StepTally;
 
-/// The state of a job at its steps done. Its type guarantees that the road and the tally are those of one worker
+/// The state of a job after the steps that it has done. Its type guarantees that the road and the tally are those of one worker
 /// who runs the seed under the sheet.
 pub struct Snapshot {
     pub(crate) seed: BoxedSeed,

@@ -8,7 +8,7 @@ use Rattle.trlab_code.specs.Views.{IsViewInRange}
 use Rattle.trlab_verify.specs.CheckedProgram.{CheckedProgram, IsChecked}
 use Rattle.trlab_road.specs.Cells.{Cell, Cells, Lane, cell, lane_of, IsAt}
 use Rattle.trlab_road.specs.LaneChange.{other_lane, CrossesToEmpty}
-use Rattle.trlab_road.specs.Gaps.{gap, side, ahead, behind, clear_cells, greatest, is_clear}
+use Rattle.trlab_road.specs.Gaps.{gap, side, ahead, behind, clear_cells, largest, is_clear}
 use Rattle.trlab_road.specs.Legal.{IsLegal}
 use Rattle.trlab_road.specs.Motion.{Fits}
 use Rattle.trlab_road.proofs.Headspeeds.{headspeed_within}
@@ -21,9 +21,9 @@ use Rattle.trlab_step.specs.Answers.{motion_view_of, change_view_of, AnswersSpee
 use Rattle.trlab_road.specs.declared.car.Car.{Car}
 use Rattle.trlab_road.proofs.Ring.{car_in}
 
-greatest_within : (test : ℕ → Bool) (n : ℕ) → greatest test n ≤ n
+greatest_within : (test : ℕ → Bool) (n : ℕ) → largest test n ≤ n
 greatest_within test zero = omega arith
-greatest_within test (suc n) = pick (test (suc n)) n (greatest test n) (greatest_within test n)
+greatest_within test (suc n) = pick (test (suc n)) n (largest test n) (greatest_within test n)
   where
     pick : (b : Bool) (n g : ℕ) → g ≤ n → cond b (suc n) g ≤ suc n
     pick true n g h = omega arith

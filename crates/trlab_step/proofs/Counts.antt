@@ -27,7 +27,7 @@ few_counted {X} p (x ∷ xs) =
     at_most_one true = omega arith
     at_most_one false = omega arith
 
--- a sum of numbers up to the greatest limit
+-- a sum of numbers up to the largest limit
 small_sum : {X : Type 0} (f : X → ℕ) (xs : List X) → ((k : ℕ) (d : X) → k < length xs → f (get_or xs k d) ≤ MAX_LIMIT) → sum_by f xs ≤ MAX_LIMIT * length xs
 small_sum f [] small = omega arith
 small_sum f (x ∷ xs) small =

@@ -7,9 +7,9 @@ use Rattle.trlab_code.specs.Views.{motion_view}
 use Rattle.trlab_verify.specs.CheckedProgram.{CheckedProgram}
 use Rattle.trlab_road.specs.declared.car.Car.{Car}
 use Rattle.trlab_road.specs.Cells.{Cells, cars, lane_of}
-use Rattle.trlab_road.specs.LaneChange.{MayCross, other_lane, sides}
+use Rattle.trlab_road.specs.LaneChange.{AreSafeCrossings, other_lane, sides}
 use Rattle.trlab_road.specs.Gaps.{side, sidegap, sideback}
-use Rattle.trlab_road.specs.Motion.{MayMove, gaps}
+use Rattle.trlab_road.specs.Motion.{AreSafeSpeeds, gaps}
 use Rattle.trlab_machine.specs.declared.dice.Dice.{Dice}
 use Rattle.trlab_machine.specs.Blocks.{with_other_lane}
 use Rattle.trlab_step.specs.Answers.{change_view_of, motion_view_of, CrossingsFitPart, SpeedsFitPart, IsCrossingsPart, IsSpeedsPart}
@@ -58,7 +58,7 @@ more_free road from middle crosses block whole part empty =
     }
 
 -- the answers of all cars are allowed
-pub whole_allowed : (motion : CheckedProgram) (dice : Dice) (road : Cells) (speeds : List ℕ) → IsSpeedsPart motion dice road 0 (cars road) speeds → MayMove road speeds
+pub whole_allowed : (motion : CheckedProgram) (dice : Dice) (road : Cells) (speeds : List ℕ) → IsSpeedsPart motion dice road 0 (cars road) speeds → AreSafeSpeeds road speeds
 whole_allowed motion dice road speeds told =
     let size = told.0.one_each in
     let first : (k : ℕ) → 0 + k ≡ k = λ k. omega arith in
@@ -68,7 +68,7 @@ whole_allowed motion dice road speeds told =
       within_limit = λ k below. told.1.within_limit k (omega arith);
     }
 
-pub whole_free : (change : CheckedProgram) (dice : Dice) (road : Cells) (crosses : List Bool) → length road.lanes ≡ 2 → IsCrossingsPart change dice road 0 (cars road) crosses → MayCross road crosses
+pub whole_free : (change : CheckedProgram) (dice : Dice) (road : Cells) (crosses : List Bool) → length road.lanes ≡ 2 → IsCrossingsPart change dice road 0 (cars road) crosses → AreSafeCrossings road crosses
 whole_free change dice road crosses two told =
     let size = told.0.one_each in
     let first : (k : ℕ) → 0 + k ≡ k = λ k. omega arith in

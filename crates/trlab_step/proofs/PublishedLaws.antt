@@ -16,7 +16,7 @@ use Rattle.trlab_road.specs.Gaps.{gap, side, sidegap, sideback}
 use Rattle.trlab_road.specs.Legal.{IsLegal}
 use Rattle.trlab_road.proofs.LaneChangeLaws.{came_from, lane_change_legal, lane_change_none_lost}
 use Rattle.trlab_road.proofs.MotionLaws.{on_lane}
-use Rattle.trlab_rules.specs.Published.{brake, safe_speed, nasch_speed, rickert_crosses, vdr_chance, vdr_speed}
+use Rattle.trlab_rules.specs.Published.{brake, safe_speed, nasch_speed, rickert_crosses, vdr_braking_chance, vdr_speed}
 use Rattle.trlab_rules.specs.StandardRules.{IsChangeComputing}
 use Rattle.trlab_rules.specs.Laws.{ComputesCrossing, ComputesSpeed}
 use Rattle.trlab_rules.specs.Rules.{Programs}
@@ -60,7 +60,7 @@ nasch_goes_by p motion dice old new moves legal phase =
 vdr_goes_by : (p p0 : ℕ) (motion : CheckedProgram) (dice : Dice) (old new : Cells) → ComputesSpeed (vdr_speed p p0) motion.program → IsLegal old → IsMotionPhase motion dice old new → AllMoveAhead (vdr_car_speed p p0 dice old) old new
 vdr_goes_by p p0 motion dice old new moves legal phase =
     all_go (λ car. vdr_speed p p0 (motion_view_of old car) (words_of dice car.number)) (vdr_car_speed p p0 dice old) old new
-    (λ car. ap (λ (word : ℕ). brake (happens_on (vdr_chance p p0 car.speed) word) (safe_speed car.speed old.limit (gap (lane_of old car.lane) car.place))) (word_is dice car.number 0 (omega arith)))
+    (λ car. ap (λ (word : ℕ). brake (happens_on (vdr_braking_chance p p0 car.speed) word) (safe_speed car.speed old.limit (gap (lane_of old car.lane) car.place))) (word_is dice car.number 0 (omega arith)))
     (goes_by (vdr_speed p p0) motion dice old new moves legal phase)
 
 -- a rule without a change program goes ahead from the road itself

@@ -14,7 +14,7 @@ use Rattle.trlab_road.specs.Cells.{Cells}
 use Rattle.trlab_road.specs.Legal.{IsLegal}
 use Rattle.trlab_rules.specs.Rules.{IsRule, Programs}
 use Rattle.trlab_step.specs.Answers.{change_view_of, motion_view_of}
-use Rattle.trlab_step.specs.Block.{view_by}
+use Rattle.trlab_step.specs.Block.{view_for_kind}
 use Rattle.trlab_step.specs.Calls.{AreSafeCalls, StepCallsAreSafe}
 use Rattle.trlab_step.specs.Laws.{CrossingsComeWithinBudget, SpeedsComeWithinBudget, ViewsAreInRange}
 use Rattle.trlab_step.proofs.AnswersExist.{change_view_is_view, motion_view_is_view}
@@ -31,7 +31,7 @@ views_in_range Change road car legal two here = change_view_is_view road car leg
 calls_safe : (kind : Kind) (checked : CheckedProgram) (dice : Dice) (road : Cells) → IsChecked kind checked → IsLegal road → (kind ≡ Change → length road.lanes ≡ 2) → AreSafeCalls kind checked dice road
 calls_safe kind checked dice road is legal two car here =
     let seen = views_in_range kind road car legal two here in
-    record { in_range = seen; ends = is.safe (view_by kind road car) (words_of dice car.number) seen (length-random_words dice.key dice.road car.number dice.step) }
+    record { in_range = seen; ends = is.safe (view_for_kind kind road car) (words_of dice car.number) seen (length-random_words dice.key dice.road car.number dice.step) }
 
 -- a program ends once, so its answer comes within its budget
 pub speeds_in_time : SpeedsComeWithinBudget

@@ -6,7 +6,7 @@ use Rattle.std.proofs.lemmas.List.Sums.{sum_by-cons, sum_by-append}
 use Rattle.trlab_road.specs.declared.car.Car.{Car}
 use Rattle.trlab_road.specs.Cells.{Lane, Cells, at, cars}
 use Rattle.trlab_road.specs.Gaps.{ahead}
-use Rattle.trlab_road.specs.Motion.{LaneMoves, Moves, MayMove}
+use Rattle.trlab_road.specs.Motion.{LaneMoves, Moves, AreSafeSpeeds}
 use Rattle.trlab_road.specs.Standing.{standing_from, standing_from_lane, standing, rank}
 use Rattle.trlab_road.specs.LaneChange.{crosses_at}
 use Rattle.trlab_road.proofs.Ring.{Apart, apart_within_gaps}
@@ -126,7 +126,7 @@ answers_in_order none road answers size =
     get_or-map_in answer (standing road) k no_one none below ∙ ap (λ i. get_or answers i none) (rank_of_kth road k (omega (arith, below, count))))
 
 -- what the cars of a road weigh by their speeds after the motion is what the answers weigh
-moved_total : (g : ℕ → ℕ) (road next : Cells) (speeds : List ℕ) → MayMove road speeds → Moves (answer_at road speeds) road next → sum_by (λ (car : Car). g car.speed) (standing next) ≡ sum_by g speeds
+moved_total : (g : ℕ → ℕ) (road next : Cells) (speeds : List ℕ) → AreSafeSpeeds road speeds → Moves (answer_at road speeds) road next → sum_by (λ (car : Car). g car.speed) (standing next) ≡ sum_by g speeds
 moved_total g road next speeds allowed moves =
     let answer = answer_at road speeds in
     let fits = allowed_fits road speeds allowed in
@@ -137,11 +137,11 @@ moved_total g road next speeds allowed moves =
     sym lanes ∙ sym (sum_by-map g (λ (car : Car). answer car.lane car.place) (standing road)) ∙ ap (sum_by g) (answers_in_order 0 road speeds allowed.one_each)
 
 -- the sum of the answers is that of the speeds after the motion
-pub total_speed-moved : (road next : Cells) (speeds : List ℕ) → MayMove road speeds → Moves (answer_at road speeds) road next → total_speed next ≡ sum speeds
+pub total_speed-moved : (road next : Cells) (speeds : List ℕ) → AreSafeSpeeds road speeds → Moves (answer_at road speeds) road next → total_speed next ≡ sum speeds
 total_speed-moved road next speeds allowed moves = moved_total (λ s. s) road next speeds allowed moves
 
 -- the answers that are 0 are as many as the cars that are stopped after the motion
-pub stopped_cars-moved : (road next : Cells) (speeds : List ℕ) → MayMove road speeds → Moves (answer_at road speeds) road next → stopped_cars next ≡ count_by (λ s. nat_eq s 0) speeds
+pub stopped_cars-moved : (road next : Cells) (speeds : List ℕ) → AreSafeSpeeds road speeds → Moves (answer_at road speeds) road next → stopped_cars next ≡ count_by (λ s. nat_eq s 0) speeds
 stopped_cars-moved road next speeds allowed moves = moved_total (λ s. cond (nat_eq s 0) 1 0) road next speeds allowed moves
 
 -- the cars that cross are as many as the answers that say so

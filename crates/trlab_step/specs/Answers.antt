@@ -27,7 +27,7 @@ motion_view_of road car =
     motion_view car.speed road.limit (gap own car.place) (headspeed own car.place)
 
 -- the view of a car on a road for a change program: its speed, the limit, its gap, its lane and its
--- headspeed, and from the other lane: is the side cell empty, and the sidegap and the sideback
+-- headspeed; and, on the other lane, whether its side cell is empty, its sidegap and its sideback
 abbrev pub change_view_of : Cells → Car → View
 change_view_of road car =
     let own = lane_of road car.lane in
@@ -67,8 +67,8 @@ pub record AreAnswersPart {X : Type 0} (IsAnswer : Car → X → Type 0) (road :
 abbrev pub AnswersSpeeds : CheckedProgram → Dice → Cells → (ℕ → ℕ → ℕ) → Type 0
 AnswersSpeeds motion dice road = AreAnswers (AnswersSpeed motion dice road) road
 
--- a function of lane and place is true for a car of the road if the change program answers that this car
--- crosses, and false if it answers that the car stays
+-- a function of lane and place gives, for each car of the road, the answer of the change program: true if the
+-- car crosses, false if it stays
 abbrev pub AnswersCrossings : CheckedProgram → Dice → Cells → (ℕ → ℕ → Bool) → Type 0
 AnswersCrossings change dice road = AreAnswers (AnswersCrossing change dice road) road
 

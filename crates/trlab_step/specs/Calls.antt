@@ -1,5 +1,5 @@
--- The calls of programs in a step. Each is safe: its view is one that a car on a road can have, and it ends
--- with an answer within its budget.
+-- The calls of programs in a step. A call is safe if its view is in range and it ends with an answer within
+-- its budget.
 use Rattle.std.specs.Prelude.{IfSome}
 use Rattle.trlab_code.specs.declared.program.Kind.{Kind}
 use Rattle.trlab_code.specs.declared.program.Kind.TheVariants.{Motion, Change}
@@ -11,14 +11,14 @@ use Rattle.trlab_machine.specs.Blocks.{words_of}
 use Rattle.trlab_road.specs.declared.car.Car.{Car}
 use Rattle.trlab_road.specs.Cells.{Cells, IsAt}
 use Rattle.trlab_rules.specs.Rules.{Programs}
-use Rattle.trlab_step.specs.Block.{view_by}
+use Rattle.trlab_step.specs.Block.{view_for_kind}
 
 -- the call of the program `checked` for a car is safe: the car's view is in range, and with the car's random
 -- words the program ends with an answer within its budget
 pub record IsSafeCall (kind : Kind) (checked : CheckedProgram) (dice : Dice) (road : Cells)
     (car : Car) : Type 0 where
-  pub in_range : IsViewInRange (view_by kind road car)
-  pub ends : EndsWithin kind checked.program.instrs (view_by kind road car)
+  pub in_range : IsViewInRange (view_for_kind kind road car)
+  pub ends : EndsWithin kind checked.program.instrs (view_for_kind kind road car)
       (words_of dice car.number) checked.budget
 
 -- the call of a program for each car of the road is safe

@@ -14,19 +14,20 @@ use Rattle.trlab_rules.specs.Rules.{Programs}
 use Rattle.trlab_step.specs.declared.tally.StepTally.{StepTally}
 use Rattle.trlab_machine.specs.declared.dice.Dice.{Dice}
 use Rattle.trlab_step.specs.Answers.{AnswersCrossing, AnswersSpeed, AnswersSpeedsPart, AnswersCrossingsPart, IsSpeedsPart}
-use Rattle.trlab_step.specs.Block.{view_by}
+use Rattle.trlab_step.specs.Block.{view_for_kind}
 use Rattle.trlab_step.specs.Calls.{StepCallsAreSafe}
 use Rattle.trlab_step.specs.Next.{IsNext, IsCleanNext, IsStep}
 use Rattle.trlab_step.specs.Run.{Seed, Sheet, IsSheet, in_force, tally_sum, dice_at, ComesTo}
 
--- a rule for roads with `lanes` lanes: its programs are valid programs of their kind, and safe within their
--- budgets; if it has a change program, there are two lanes
+-- a rule for roads with `lanes` lanes: its motion program and, if there is one, its change program are
+-- accepted programs, which end within their budgets; if it has a change program, `lanes` is 2
 pub record IsRuleFor (lanes : ℕ) (rule : Programs) : Type 0 where
   pub motion : IsChecked Motion rule.motion
   pub change : IfSome rule.change (λ change. IsChecked Change change)
   pub two_lanes : IsSome rule.change → lanes ≡ 2
 
--- a valid sheet, and all its rules are for roads with `lanes` lanes
+-- a sheet for roads with `lanes` lanes: its entries begin with one for step 0, their steps strictly increase,
+-- and their rules have accepted programs, with change programs only if `lanes` is 2
 pub record IsSheetFor (lanes : ℕ) (sheet : Sheet) : Type 0 where
   pub is_sheet : IsSheet sheet
   pub rules : All (λ (entry : ℕ × Programs). IsRuleFor lanes entry.1) sheet
@@ -109,7 +110,7 @@ AnswersLeadToNextRoad =
 abbrev pub ViewsAreInRange : Type 0
 ViewsAreInRange =
     (kind : Kind) (road : Cells) (car : Car) → IsLegal road → (kind ≡ Change → length road.lanes ≡ 2)
-    → IsAt road car → IsViewInRange (view_by kind road car)
+    → IsAt road car → IsViewInRange (view_for_kind kind road car)
 
 -- if an accepted motion program answers a speed for a car of a legal road, it has executed at most as many
 -- instructions as its budget
@@ -127,15 +128,17 @@ CrossingsComeWithinBudget =
     → IsChecked Change change → IsLegal road → length road.lanes ≡ 2 → IsAt road car
     → (answer : AnswersCrossing change dice road car crosses) → answer.0 ≤ change.budget
 
--- in a step of a legal road, under a rule for its lanes, all calls of programs are safe
+-- in a step of a legal road, under a rule for its number of lanes, all calls of programs are safe: each view
+-- is in range, and each call ends with an answer within the budget
 abbrev pub StepsCallSafely : Type 0
 StepsCallSafely =
     (rule : Programs) (dice : Dice) (road middle next : Cells) (tally : StepTally)
     → IsRuleFor (length road.lanes) rule → IsLegal road → IsStep rule dice road middle next tally
     → StepCallsAreSafe rule dice road middle
 
--- under a rule for its lanes, a legal road has a next road, by a clean step; the next road is legal, with the
--- same limit and the same numbers of lanes and cars
+-- under a rule for its number of lanes a legal road has a next road, which is legal, with the same limit and
+-- the same numbers of lanes and cars; in the step no car moves onto or through another, and all calls of
+-- programs are safe
 abbrev pub NextRoadExists : Type 0
 NextRoadExists =
     (rule : Programs) (dice : Dice) (road : Cells) → IsRuleFor (length road.lanes) rule → IsLegal road
@@ -148,8 +151,8 @@ NextRoadIsUnique =
     → IsNext rule dice road next tally → IsNext rule dice road other other_tally
     → (next ≡ other) × (tally ≡ other_tally)
 
--- a run from a legal road, with rules for its lanes, has after any number of steps a road and a sum of
--- tallies; the road is legal, with the limit and the numbers of lanes and cars of the start
+-- a run from a legal road, with rules for its number of lanes, has after any number of steps a road and a sum
+-- of tallies; the road is legal, with the limit and the numbers of lanes and cars of the initial road
 abbrev pub RoadExists : Type 0
 RoadExists =
     (seed : Seed) (sheet : Sheet) (step : ℕ) → IsLegal seed.road → IsSheetFor (length seed.road.lanes) sheet
@@ -172,7 +175,8 @@ RunContinues =
     → IsNext rule (dice_at seed step) road next tally
     → ComesTo seed sheet (suc step) next (if nat_le seed.warm step then tally_sum sum tally else sum)
 
--- in each step of a run from a legal road, with rules for its lanes, all calls of programs are safe
+-- in each step of a run from a legal road, with rules for its number of lanes, all calls of programs are
+-- safe: each view is in range, and each call ends with an answer within the budget
 abbrev pub RunsCallSafely : Type 0
 RunsCallSafely =
     (seed : Seed) (sheet : Sheet) (step : ℕ) (road middle next : Cells) (sum : StepTally) (rule : Programs)

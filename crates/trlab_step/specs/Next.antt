@@ -28,7 +28,7 @@ abbrev pub crossing_cars : (ℕ → ℕ → Bool) → Cells → ℕ
 crossing_cars crosses road = count_by (λ (car : Car). crosses car.lane car.place) (standing road)
 
 -- the lane change from `road` to `middle`, in which `changes` cars cross. With a change program, the road has
--- two lanes, and a car crosses exactly if the program answers so for it. Without one (`None`), no car crosses
+-- two lanes, and a car crosses exactly if the program answers true. Without one (`None`), no car crosses
 abbrev pub IsLaneChangePhase : Option CheckedProgram → Dice → Cells → Cells → ℕ → Type 0
 IsLaneChangePhase None dice road middle changes = (middle ≡ road) × (changes ≡ 0)
 IsLaneChangePhase (Some change) dice road middle changes =
@@ -40,8 +40,8 @@ abbrev pub IsMotionPhase : CheckedProgram → Dice → Cells → Cells → Type 
 IsMotionPhase motion dice road next =
     (speeds : ℕ → ℕ → ℕ) × AnswersSpeeds motion dice road speeds × Moves speeds road next
 
--- the motion from `road` to `next`, with its tally, which counts no lane changes; no car moves onto or
--- through another, no car is lost or added, and `next` is legal
+-- the motion from `road` to `next` by the answers of the motion program, with its tally, which counts no lane
+-- changes; no car moves onto or through another, no car is lost or added, and `next` is legal
 pub record IsCountedMotion (motion : CheckedProgram) (dice : Dice) (road next : Cells)
     (tally : StepTally) : Type 0 where
   pub phase : IsMotionPhase motion dice road next
@@ -51,9 +51,9 @@ pub record IsCountedMotion (motion : CheckedProgram) (dice : Dice) (road next : 
   pub clean : IsCleanMotion road next
   pub legal : IsLegal next
 
--- a step under a rule: the lane change from `road` to `middle` (Rickert and others 1996), then the motion
--- from there to `next` (Nagel and Schreckenberg 1992); `tally` has the lane changes, the sum of the new
--- speeds and the stopped cars
+-- a step under a rule: the lane change from `road` to `middle` (Rickert et al. 1996), then the motion from
+-- there to `next` (Nagel and Schreckenberg 1992); `tally` has the number of lane changes, the sum of the new
+-- speeds and the number of stopped cars
 pub record IsStep (rule : Programs) (dice : Dice) (road middle next : Cells)
     (tally : StepTally) : Type 0 where
   pub lane_change : IsLaneChangePhase rule.change dice road middle tally.changes
@@ -65,8 +65,8 @@ pub record IsStep (rule : Programs) (dice : Dice) (road middle next : Cells)
 abbrev pub IsNext : Programs → Dice → Cells → Cells → StepTally → Type 0
 IsNext rule dice road next tally = (middle : Cells) × IsStep rule dice road middle next tally
 
--- a clean step: no car moves onto or through another, no car is lost or added, and each called program sees a
--- view in range and ends within its budget
+-- a clean step: no car moves onto or through another, no car is lost or added, and each call of a program is
+-- safe: its view is in range, and it ends within its budget
 pub record IsCleanStep (rule : Programs) (dice : Dice) (road middle next : Cells)
     (tally : StepTally) : Type 0 where
   pub step : IsStep rule dice road middle next tally

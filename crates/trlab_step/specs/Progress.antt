@@ -15,12 +15,12 @@ pub record Progress : Type 0 where
   pub road : Cells
   pub sum : StepTally
 
--- a run at step 0: its road is that of the start, and no tally has been counted
+-- a run at step 0: it has the initial road, and no tally has been counted
 abbrev pub at_start : Seed → Sheet → Progress
 at_start seed sheet = record { seed = seed; sheet = sheet; step = 0; road = seed.road; sum = no_tally }
 
--- a run reaches this progress: it starts on a legal road, under a sheet with rules for its lanes, and after
--- `step` steps it is at `road` with the sum `sum`
+-- a run reaches this progress: it starts from a legal road, under a sheet of rules for its number of lanes,
+-- and after `step` steps its road is `road` and the sum of its tallies is `sum`
 pub record IsReachedByRun (run : Progress) : Type 0 where
   pub legal : IsLegal run.seed.road
   pub suits : IsSheetFor (length run.seed.road.lanes) run.sheet

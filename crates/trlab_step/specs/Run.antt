@@ -7,8 +7,8 @@ use Rattle.trlab_step.specs.Answers.{dice_of}
 use Rattle.trlab_step.specs.declared.tally.StepTally.{StepTally}
 use Rattle.trlab_step.specs.Next.{IsNext}
 
--- the start of a run: its road; the key and the number of the road, which determine the random words; and the
--- first step whose tally is counted, `warm`
+-- the start of a run: its road; the key and the number of the road, which determine the random words; and
+-- `warm`, the first step whose tally is counted
 pub record Seed : Type 0 where
   pub road : Cells
   pub key : List ℕ
@@ -19,7 +19,8 @@ pub record Seed : Type 0 where
 abbrev pub Sheet : Type 0
 Sheet = List (ℕ × Programs)
 
--- the steps of the entries strictly increase, and the first is `least` or later; true without entries
+-- the steps of the entries strictly increase, and the first is at least `least`; true without entries. For
+-- example, the steps 3, 5 and 9 increase from 3
 abbrev pub StepsIncreaseFrom : ℕ → Sheet → Type 0
 StepsIncreaseFrom least [] = Unit {0}
 StepsIncreaseFrom least (entry ∷ later) = (least ≤ entry.0) × StepsIncreaseFrom (entry.0 + 1) later
@@ -42,7 +43,7 @@ in_force [] step = None
 in_force (entry ∷ sheet) step =
     if nat_le entry.0 step then Some (unwrap_or (in_force sheet step) entry.1) else None
 
--- the sum of no tallies at all: each count is 0
+-- the tally before any step: each count is 0
 abbrev pub no_tally : StepTally
 no_tally = record { distance = 0; stopped = 0; changes = 0 }
 
@@ -67,7 +68,7 @@ pub record IsRunStep (seed : Seed) (sheet : Sheet) (step : ℕ) (before after : 
   pub counted : sum ≡ (if nat_le seed.warm step then tally_sum sum_before tally else sum_before)
 
 -- after `step` steps of a run its road is `road`, and `sum` is the sum of the tallies of its steps from
--- `warm` on; after 0 steps these are the road of the start and `no_tally`
+-- `warm` on; after 0 steps these are the initial road and `no_tally`
 abbrev pub ComesTo : Seed → Sheet → ℕ → Cells → StepTally → Type 0
 ComesTo seed sheet zero road sum = IsSheet sheet × (road ≡ seed.road) × (sum ≡ no_tally)
 ComesTo seed sheet (suc step) road sum =

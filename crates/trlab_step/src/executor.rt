@@ -15,7 +15,7 @@ use trlab_verify::{Change, Motion};
 /// Sees the road of a step before its cars cross and move. It runs on the calling thread while other threads compute
 /// the answers, so writing a row costs less time.
 pub trait StepObserver {
-    // How an observer changes when it sees a road: the observer before, the road, and the observer after.
+    // The relation of the observer before it sees a road, the road, and the observer after it has seen the road.
     ghost observes: { Self → Cells → Self → Type 0 };
 
     /// Looks at a road.
@@ -33,15 +33,15 @@ impl StepObserver for NoObserver {
     fn observe(&mut self, _: &Road) {}
 }
 
-/// Runs a program for all cars of a road, and replaces the contents of a list by their answers in standing order.
+/// Runs a program for all cars of a road, and replaces the contents of a list with their answers in standing order.
 ///
 /// The road is borrowed mutably, so that it can be moved to other threads; it comes back unchanged. The observer sees
 /// it once, even if an allocation fails.
 pub trait Executor {
-    // The condition for a call, for example the contracts of the closures that an executor calls.
+    // The precondition of a call, for example the contracts of the closures that an executor calls.
     ghost is_ready: { Self → Type 0 };
 
-    /// The new speeds of the cars under a motion program, in cells per step, each in a byte.
+    /// Computes the new speeds of the cars under a motion program, in cells per step, each in a byte.
     ///
     /// # Errors
     ///
@@ -61,7 +61,7 @@ pub trait Executor {
         ensures seen { O.observes observer.old road.old observer.new }
         ensures same { road.new ≡ road.old };
 
-    /// Which cars of a road of two lanes cross under a change program.
+    /// Computes for each car of a road of two lanes whether it crosses under a change program.
     ///
     /// # Errors
     ///

@@ -3,13 +3,13 @@
 ghost use Rattle.std.specs.Prelude.{◌≡◌, ◌≤◌, IfOk, OnOk, length, ℕ, Bool};
 ghost use Rattle.trlab_road.specs.Cells.{cars};
 ghost use Rattle.trlab_step.specs.Answers.{IsCrossingsPart, dice_of};
-ghost use Rattle.trlab_road.specs.LaneChange.{IsCleanLaneChange, MayCross, ChangesLanes};
+ghost use Rattle.trlab_road.specs.LaneChange.{IsCleanLaneChange, AreSafeCrossings, ChangesLanes};
 ghost use Rattle.trlab_road.specs.Legal.{IsLegal};
 ghost use Rattle.trlab_road.specs.Motion.{in_order};
 
 use crate::block::{BLOCK, fill_change_views};
 use std::alloc::{AllocError, Global};
-use trlab_machine::{BLOCK_CARS, Dice, REGISTERS, Views, run_changes};
+use trlab_machine::{BLOCK_CARS, Dice, REGISTER_COUNT, Views, run_changes};
 use trlab_road::{Road, Room};
 use trlab_verify::Change;
 use trlab_words::Key;
@@ -51,7 +51,7 @@ pub fn choose_part(
     Ok(crosses)
 }
 
-/// Replaces the contents of a list by the answers that `choose_part` returns.
+/// Replaces the contents of a list with the answers that `choose_part` returns.
 ///
 /// # Errors
 ///
@@ -73,7 +73,7 @@ pub fn compute_crossings(
     crosses.clear();
     crosses.reserve((to - from) as usize)?;
     let mut views = Views::new();
-    let mut registers = [[0; BLOCK_CARS]; REGISTERS];
+    let mut registers = [[0; BLOCK_CARS]; REGISTER_COUNT];
     for block in 0..(to - from).div_ceil(BLOCK) {
         let begin = from + BLOCK * block;
         let end = begin + BLOCK.min(to - begin);
@@ -93,7 +93,7 @@ pub fn compute_crossings(
 ///
 /// If an allocation fails.
 pub fn commit_change(alloc: Global, road: &Road, crosses: &[bool]) -> Result<Road, AllocError>
-    requires { MayCross road.now crosses.now }
+    requires { AreSafeCrossings road.now crosses.now }
     ensures crosses { IfOk result (λ next. (answer : ℕ → ℕ → Bool)
         → crosses.now ≡ in_order answer road.now → ChangesLanes answer road.now next) }
     ensures clean { IfOk result (λ next. IsCleanLaneChange road.now next) }

@@ -9,15 +9,15 @@ ghost use Rattle.trlab_step.specs.Laws.{CrossingsComeWithinBudget, RunsCallSafel
 ghost use Rattle.trlab_step.specs.Laws.{StepsCallSafely, ViewsAreInRange};
 ghost use Rattle.trlab_step.specs.Driven.{RunsAreDriven};
 
-/// For each part of the standing order a motion program answers only one list of speeds, and the lists of adjacent
+/// For each part of the standing order a motion program gives at most one list of speeds, and the lists of adjacent
 /// parts join to the list of both. So it does not matter which thread computes a part, or in which order.
 pub fn parts_make_the_whole()
     ensures one { SpeedsAreUnique }
     ensures join { SpeedsJoin }
 {}
 
-/// For each part of the standing order a change program answers only one list that says which cars cross, and the lists
-/// of adjacent parts join to the list of both.
+/// For each part of the standing order a change program gives at most one list of lane changes, and the lists of
+/// adjacent parts join to the list of both.
 pub fn crossings_make_the_whole()
     ensures one { CrossingsAreUnique }
     ensures join { CrossingsJoin }
@@ -29,8 +29,8 @@ pub fn answers_lead_on()
     ensures { AnswersLeadToNextRoad }
 {}
 
-/// On a legal road the views of both kinds of programs are those that the verifier considers: speeds, gaps and the
-/// limit are in range. A change program needs two lanes.
+/// On a legal road the views for both kinds of programs are in range, as the verifier assumes: speeds, gaps and the
+/// limit. A change program needs two lanes.
 pub fn views_are_in_range()
     ensures { ViewsAreInRange }
 {}
@@ -41,8 +41,8 @@ pub fn answers_come_in_time()
     ensures crossings { CrossingsComeWithinBudget }
 {}
 
-/// Each call of a program is safe, in both phases: its view is in range, and it ends with an answer within its budget.
-/// This holds in a step of a legal road under a rule for its lanes, and in each step of a run.
+/// In both phases of a step of a legal road, under a rule for its number of lanes, each call of a program is safe: its
+/// view is in range, and it ends with an answer within its budget. The same holds in each step of a run.
 pub fn calls_are_safe()
     ensures step { StepsCallSafely }
     ensures run { RunsCallSafely }
@@ -60,8 +60,8 @@ pub fn next_road_is_one()
     ensures { NextRoadIsUnique }
 {}
 
-/// A run from a legal road, under a schedule of rules for its lanes, has a legal road at each step, with the same limit
-/// and the same numbers of lanes and cars.
+/// A run from a legal road, under a schedule of rules for its number of lanes, has a legal road at each step, with the
+/// same limit and the same numbers of lanes and cars.
 pub fn road_exists()
     ensures { RoadExists }
 {}
@@ -77,24 +77,25 @@ pub fn run_goes_on()
     ensures { RunContinues }
 {}
 
-/// Every run from a legal road under a schedule for its lanes goes on: the road at each step is legal, with the lanes,
-/// the limit and the cars of the start, and each step is clean, with all programs ending within their budgets.
+/// In every run from a legal road, under a schedule for its number of lanes, the road at each step is legal, with the
+/// limit and the numbers of lanes and cars of the initial road. No car moves onto or through another, and all programs
+/// end within their budgets.
 pub fn runs_are_driven()
     ensures { RunsAreDriven }
 {}
 
-/// In a step under `nasch` each car moves by its speed of Nagel and Schreckenberg (1992).
+/// In a step under the rule `nasch` each car moves as in the Nagel-Schreckenberg model (1992).
 pub fn nasch_goes_as_published()
     ensures { NaschOnCells }
 {}
 
-/// In a step under `vdr` each car moves by its speed of Barlovic and others (1998).
+/// In a step under the rule `vdr` each car moves as in the VDR model of Barlovic et al. (1998).
 pub fn vdr_goes_as_published()
     ensures { VdrOnCells }
 {}
 
-/// In a step under `rickert` on two lanes all cars change lanes as in Rickert and others (1996), and then each moves
-/// by its speed of 1992.
+/// In a step under the rule `rickert` all cars of the two lanes change lanes as in Rickert et al. (1996), and then each
+/// moves as in the Nagel-Schreckenberg model.
 pub fn rickert_goes_as_published()
     ensures { RickertOnCells }
 {}

@@ -29,5 +29,5 @@ pub use lane_change::{choose_part, commit_change, compute_crossings};
 pub use motion::{commit_motion, compute_speeds, move_part};
 pub use run::Run;
 pub use schedule::Schedule;
-pub use step::{Asking, StepFault, StepRoom, step_road, step_road_by, take_step};
+pub use step::{StepContext, StepFault, StepRoom, step_road, step_road_by, take_step};
 pub use tally::{StepTally, no_tally, tally_sum};

@@ -4,13 +4,13 @@ ghost use Rattle.std.specs.Prelude.{length, ◌≡◌, ◌<◌, ◌≤◌, ◌+�
 ghost use Rattle.trlab_bounds.specs.declared.roads.TheConstants.{MAX_LIMIT};
 ghost use Rattle.trlab_road.specs.Cells.{cars};
 ghost use Rattle.trlab_road.specs.Legal.{IsLegal};
-ghost use Rattle.trlab_road.specs.Motion.{IsCleanMotion, MayMove, Moves, in_order};
+ghost use Rattle.trlab_road.specs.Motion.{IsCleanMotion, AreSafeSpeeds, Moves, in_order};
 ghost use Rattle.trlab_step.specs.Answers.{IsSpeedsPart, dice_of};
 
 use crate::block::{BLOCK, fill_motion_views};
 use std::alloc::{AllocError, Global};
 use trlab_machine::{
-    BLOCK_CARS, Column, Dice, REGISTERS, SMALL_BLOCK_CARS, Views, run_few_motions, run_motions,
+    BLOCK_CARS, Column, Dice, REGISTER_COUNT, SMALL_BLOCK_CARS, Views, run_few_motions, run_motions,
 };
 use trlab_road::Road;
 use trlab_verify::Motion;
@@ -48,19 +48,19 @@ pub fn move_part(
         from,
         to,
     )?;
-    let speeds = in_words(alloc, &answers)?;
+    let speeds = speeds_to_u32(alloc, &answers)?;
     Ok(speeds)
 }
 
-/// The speeds as numbers of 32 bits.
-fn in_words(alloc: Global, speeds: &[u8]) -> Result<Vec<u32>, AllocError>
-    ensures { IfOk result (λ words. words.items ≡ speeds.now) }
+/// The speeds as `u32` numbers.
+fn speeds_to_u32(alloc: Global, speeds: &[u8]) -> Result<Vec<u32>, AllocError>
+    ensures { IfOk result (λ numbers. numbers.items ≡ speeds.now) }
 {
-    let mut words = Vec::with_capacity(alloc, speeds.len())?;
+    let mut numbers = Vec::with_capacity(alloc, speeds.len())?;
     for speed in speeds {
-        words.push(u32::from(*speed))?;
+        numbers.push(u32::from(*speed))?;
     }
-    Ok(words)
+    Ok(numbers)
 }
 
 /// The lowest byte of each number of a column: the number itself, if it is at most 255.
@@ -75,7 +75,7 @@ fn low_bytes<const N: usize>(numbers: &Column<N>) -> [u8; N]
     bytes
 }
 
-/// Replaces the contents of a list by the speeds that `move_part` returns, each in a byte.
+/// Replaces the contents of a list with the speeds that `move_part` returns, each in a byte.
 ///
 /// # Errors
 ///
@@ -98,7 +98,7 @@ pub fn compute_speeds(
     speeds.clear();
     speeds.reserve((to - from) as usize)?;
     let mut views = Views::<BLOCK_CARS>::new();
-    let mut registers = [[0; BLOCK_CARS]; REGISTERS];
+    let mut registers = [[0; BLOCK_CARS]; REGISTER_COUNT];
     for block in 0..(to - from).div_ceil(BLOCK) {
         let begin = from + BLOCK * block;
         let end = begin + BLOCK.min(to - begin);
@@ -110,10 +110,6 @@ pub fn compute_speeds(
 }
 
 /// `compute_speeds` for cars that fit into one small block.
-///
-/// # Errors
-///
-/// If an allocation fails.
 fn compute_few_speeds(
     speeds: &mut Vec<u8>,
     road: &Road,
@@ -129,7 +125,7 @@ fn compute_few_speeds(
 {
     speeds.clear();
     let mut views = Views::<SMALL_BLOCK_CARS>::new();
-    let mut registers = [[0; SMALL_BLOCK_CARS]; REGISTERS];
+    let mut registers = [[0; SMALL_BLOCK_CARS]; REGISTER_COUNT];
     fill_motion_views(&mut views, road, from, to);
     let answers = low_bytes(&run_few_motions(motion, &views, dice, &mut registers));
     speeds.extend_from_slice(&answers[..(to - from) as usize])?;
@@ -145,7 +141,7 @@ fn compute_few_speeds(
 ///
 /// If an allocation fails.
 pub fn commit_motion(alloc: Global, road: &Road, speeds: &[u32]) -> Result<Road, AllocError>
-    requires { MayMove road.now speeds.now }
+    requires { AreSafeSpeeds road.now speeds.now }
     ensures moves { IfOk result (λ next. (answer : ℕ → ℕ → ℕ)
         → speeds.now ≡ in_order answer road.now → Moves answer road.now next) }
     ensures clean { IfOk result (λ next. IsCleanMotion road.now next) }
@@ -154,12 +150,12 @@ pub fn commit_motion(alloc: Global, road: &Road, speeds: &[u32]) -> Result<Road,
     // only the proof reads it: the road is legal, so each speed fits into a byte
     let _start = road.snapshot();
     let mut next = road.copy(alloc)?;
-    next.move_cars(&in_bytes(alloc, speeds)?);
+    next.move_cars(&speeds_to_bytes(alloc, speeds)?);
     Ok(next)
 }
 
 /// The speeds as bytes; each is at most `MAX_LIMIT`.
-fn in_bytes(alloc: Global, speeds: &[u32]) -> Result<Vec<u8>, AllocError>
+fn speeds_to_bytes(alloc: Global, speeds: &[u32]) -> Result<Vec<u8>, AllocError>
     requires { (k : ℕ) → k < length speeds.now → slice_index speeds.now k ≤ MAX_LIMIT }
     ensures { IfOk result (λ bytes. bytes.items ≡ speeds.now) }
 {

@@ -7,7 +7,7 @@ ghost use Rattle.trlab_step.specs.Progress.{IsReachedByRun, IsOneStepOn, at_star
 
 use crate::schedule::Schedule;
 use crate::tally::{no_tally, tally_sum};
-use crate::{Asking, Executor, NoObserver, StepObserver, StepRoom, StepTally, take_step};
+use crate::{Executor, NoObserver, StepContext, StepObserver, StepRoom, StepTally, take_step};
 use std::alloc::{AllocError, Global};
 use std::marker::Model;
 use std::snapshot::Snapshot;
@@ -122,7 +122,7 @@ impl Run {
         requires ready { A.is_ready executor.now }
         requires steps { self.old.step + 1 < 2 ^ 32 }
         ensures on { OnOk result (IsOneStepOn self.old self.new) }
-        ensures same { OnErr result (self.new ≡ self.old) }
+        ensures unchanged { OnErr result (self.new ≡ self.old) }
     {
         self.advance_showing(executor, alloc, &mut NoObserver)
     }
@@ -143,16 +143,16 @@ impl Run {
         ensures on { OnOk result (IsOneStepOn self.old self.new) }
         ensures seen { O.observes observer.old self.old.road observer.new }
         ensures run { IsRoadAt self.old.seed self.old.sheet self.old.step self.old.road }
-        ensures same { OnErr result (self.new ≡ self.old) }
+        ensures unchanged { OnErr result (self.new ≡ self.old) }
     {
         let dice = Dice::new(&self.key, self.number, self.step);
-        let asking = Asking {
+        let context = StepContext {
             executor,
             alloc,
             dice: &dice,
         };
         let rule = self.sheet.in_force(self.step);
-        let tally = take_step(&asking, &mut self.road, &mut self.room, rule, observer)?;
+        let tally = take_step(&context, &mut self.road, &mut self.room, rule, observer)?;
         self.sum = if self.warm <= self.step {
             tally_sum(self.sum, tally)
         } else {

@@ -35,14 +35,18 @@ impl Model for Schedule {
 }
 
 impl Schedule {
-    /// The schedule of a first rule and of later ones, in order of their steps. A later rule for step 0 replaces the
-    /// first.
+    /// A schedule of a first rule and later rules, each with its step; the steps increase. A later rule for step 0
+    /// replaces the first.
     pub fn new(first: Rule, mut later: Vec<(u32, Rule)>) -> Schedule
         requires { StepsIncreaseFrom 0 later.items }
         ensures { result ≡ sheet_with first later.items }
     {
-        let begins = later.first().is_some_and(|entry| entry.0 == 0);
-        let first = if begins { later.remove(0).1 } else { first };
+        let is_replaced = later.first().is_some_and(|entry| entry.0 == 0);
+        let first = if is_replaced {
+            later.remove(0).1
+        } else {
+            first
+        };
         Schedule { first, later }
     }
 

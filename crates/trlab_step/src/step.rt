@@ -8,7 +8,7 @@ ghost use Rattle.trlab_step.specs.Next.{IsCleanNext, IsCountedMotion, IsLaneChan
 ghost use Rattle.trlab_step.specs.declared.step.StepFault.TheVariants.{Memory};
 
 use crate::executor::{Caller, Executor, NoObserver, StepObserver};
-use crate::tally::{StepTally, count_crossing, tally_of};
+use crate::tally::{StepTally, count_lane_changes, tally_of};
 use std::alloc::{AllocError, Global};
 use std::mem;
 use thiserror::Error;
@@ -21,7 +21,7 @@ use trlab_words::Key;
 /// Why a step was not taken.
 #[derive(Clone, Copy, Debug, PartialEq, Eq, Error)]
 pub enum StepFault {
-    /// The rule has a change program, but the road has one lane.
+    /// The rule has a change program, but the road has only one lane.
     #[error("a change program needs two lanes")]
     LanesMismatch,
     /// An allocation failed.
@@ -37,13 +37,14 @@ impl From<AllocError> for StepFault {
     }
 }
 
-/// Memory that is kept from step to step, so that most steps of one thread allocate nothing. No result depends on its
+/// Memory that is kept from step to step, so that most steps on one thread allocate nothing. No result depends on its
 /// contents.
 pub struct StepRoom {
-    /// For the lanes.
+    /// The lists for a lane change.
     pub(crate) lanes: Room,
-    /// For the answers of the cars.
+    /// The answers of the motion program.
     pub(crate) speeds: Vec<u8>,
+    /// The answers of the change program.
     pub(crate) crosses: Vec<bool>,
 }
 
@@ -71,13 +72,13 @@ impl StepRoom {
 
 /// How the answers of the cars of a step are computed: the executor, its allocator and the dice.
 #[derive(Drop)]
-pub struct Asking<'a, A> {
+pub struct StepContext<'a, A> {
     pub executor: &'a A,
     pub alloc: Global,
     pub dice: &'a Dice,
 }
 
-/// Whether the rule has a change program, but the road has only one lane.
+/// Whether the rule has a change program but the road has only one lane.
 fn lanes_mismatch(road: &Road, rule: &Rule) -> bool
     ensures value { IsTrue result ↔ (IsSome rule.now.change × (length road.now.lanes ≡ 1)) }
     ensures legal { IsLegal road.now }
@@ -109,12 +110,12 @@ pub fn step_road_by<A: Executor>(
     }
     let mut next = road.copy(alloc)?;
     let mut room = StepRoom::new(alloc);
-    let asking = Asking {
+    let context = StepContext {
         executor,
         alloc,
         dice,
     };
-    let tally = take_step(&asking, &mut next, &mut room, rule, &mut NoObserver)?;
+    let tally = take_step(&context, &mut next, &mut room, rule, &mut NoObserver)?;
     Ok((next, tally))
 }
 
@@ -145,28 +146,28 @@ pub fn step_road(
 ///
 /// If an allocation fails; then the road is unchanged. The room may have lost its memory, but can still be used.
 pub fn take_step<A: Executor, O: StepObserver>(
-    asking: &Asking<A>,
+    context: &StepContext<A>,
     road: &mut Road,
     room: &mut StepRoom,
     rule: &Rule,
     observer: &mut O,
 ) -> Result<StepTally, AllocError>
-    requires ready { A.is_ready asking.now.executor.now }
+    requires ready { A.is_ready context.now.executor.now }
     requires lanes { IsSome rule.now.change → length road.old.lanes ≡ 2 }
-    ensures next { IfOk result (λ tally. IsNext rule.now asking.now.dice.now road.old road.new tally) }
-    ensures clean { IfOk result (λ tally. IsCleanNext rule.now asking.now.dice.now road.old road.new tally) }
+    ensures next { IfOk result (λ tally. IsNext rule.now context.now.dice.now road.old road.new tally) }
+    ensures clean { IfOk result (λ tally. IsCleanNext rule.now context.now.dice.now road.old road.new tally) }
     ensures legal { OnOk result (IsLegal road.new) }
     ensures seen { O.observes observer.old road.old observer.new }
-    ensures same { OnErr result (road.new ≡ road.old) }
+    ensures unchanged { OnErr result (road.new ≡ road.old) }
 {
     // only the proof reads it: the road is legal, so each call of a program is safe
     let _start = road.snapshot();
     let motion = rule.motion();
     match rule.change() {
-        None => move_cars(asking, road, &mut room.speeds, motion, observer),
+        None => move_cars(context, road, &mut room.speeds, motion, observer),
         Some(change) => {
-            let (middle, changes) = change_lanes(asking, road, room, change, observer)?;
-            let tally = move_on(asking, road, middle, room, motion)?;
+            let (middle, changes) = change_lanes(context, road, room, change, observer)?;
+            let tally = move_after_lane_change(context, road, middle, room, motion)?;
             Ok(StepTally { changes, ..tally })
         }
     }
@@ -174,74 +175,71 @@ pub fn take_step<A: Executor, O: StepObserver>(
 
 /// Runs the motion on `middle`, the road after the lane change, and replaces `road` by the result. Returns the tally of
 /// the motion.
-fn move_on<A: Executor>(
-    asking: &Asking<A>,
+fn move_after_lane_change<A: Executor>(
+    context: &StepContext<A>,
     road: &mut Road,
-    middle: Road,
+    mut middle: Road,
     room: &mut StepRoom,
     motion: &Motion,
 ) -> Result<StepTally, AllocError>
-    requires { A.is_ready asking.now.executor.now }
+    requires { A.is_ready context.now.executor.now }
     ensures moved { IfOk result (λ tally.
-        IsCountedMotion motion.now asking.now.dice.now middle road.new tally) }
-    ensures same { OnErr result (road.new ≡ road.old) }
+        IsCountedMotion motion.now context.now.dice.now middle road.new tally) }
+    ensures unchanged { OnErr result (road.new ≡ road.old) }
 {
-    let mut middle = middle;
     let speeds = &mut room.speeds;
-    let tally = move_cars(asking, &mut middle, speeds, motion, &mut NoObserver)?;
+    let tally = move_cars(context, &mut middle, speeds, motion, &mut NoObserver)?;
     mem::replace(road, middle).leave_to(&mut room.lanes);
     Ok(tally)
 }
 
 /// The road after the lane change under a change program, and the number of cars that crossed.
 fn change_lanes<A: Executor, O: StepObserver>(
-    asking: &Asking<A>,
+    context: &StepContext<A>,
     road: &mut Road,
     room: &mut StepRoom,
     change: &Change,
     observer: &mut O,
 ) -> Result<(Road, u64), AllocError>
-    requires ready { A.is_ready asking.now.executor.now }
+    requires ready { A.is_ready context.now.executor.now }
     requires two_lanes { length road.old.lanes ≡ 2 }
     ensures phase { IfOk result (λ after.
-        IsLaneChangePhase (Some change.now) asking.now.dice.now road.old after.0 after.1) }
+        IsLaneChangePhase (Some change.now) context.now.dice.now road.old after.0 after.1) }
     ensures clean { IfOk result (λ after. IsCleanLaneChange road.old after.0) }
     ensures legal { IfOk result (λ after. IsLegal after.0) }
     ensures seen { O.observes observer.old road.old observer.new }
     ensures same { road.new ≡ road.old }
 {
-    let alloc = asking.alloc;
-    asking.executor.crossings(
+    let alloc = context.alloc;
+    context.executor.crossings(
         alloc,
         &mut room.crosses,
         road,
         change,
-        asking.dice,
+        context.dice,
         observer,
     )?;
     let middle = road.after_lane_change(alloc, &mut room.lanes, &room.crosses)?;
-    Ok((middle, count_crossing(&room.crosses)))
+    Ok((middle, count_lane_changes(&room.crosses)))
 }
 
 /// Moves all cars of the road, and returns the tally of the motion.
 fn move_cars<A: Executor, O: StepObserver>(
-    asking: &Asking<A>,
+    context: &StepContext<A>,
     road: &mut Road,
     speeds: &mut Vec<u8>,
     motion: &Motion,
     observer: &mut O,
 ) -> Result<StepTally, AllocError>
-    requires { A.is_ready asking.now.executor.now }
+    requires { A.is_ready context.now.executor.now }
     ensures moved { IfOk result (λ tally.
-        IsCountedMotion motion.now asking.now.dice.now road.old road.new tally) }
+        IsCountedMotion motion.now context.now.dice.now road.old road.new tally) }
     ensures seen { O.observes observer.old road.old observer.new }
-    ensures same { OnErr result (road.new ≡ road.old) }
+    ensures unchanged { OnErr result (road.new ≡ road.old) }
 {
     // only the proof reads it: the road is legal, so its cars are few enough to be counted
     let _start = road.snapshot();
-    asking
-        .executor
-        .speeds(asking.alloc, speeds, road, motion, asking.dice, observer)?;
+    context.executor.speeds(context.alloc, speeds, road, motion, context.dice, observer)?;
     road.move_cars(speeds);
     Ok(tally_of(speeds))
 }

@@ -19,7 +19,7 @@ pub struct StepTally {
 }
 
 /// The number of cars that cross.
-pub fn count_crossing(crosses: &[bool]) -> u64
+pub fn count_lane_changes(crosses: &[bool]) -> u64
     requires few { length crosses.now ≤ MAX_LANES * MAX_LENGTH }
     ensures { result ≡ count_by (λ crosses. crosses) crosses.now }
 {
@@ -50,7 +50,7 @@ pub fn tally_of(speeds: &[u8]) -> StepTally
     }
 }
 
-/// The sum of no tallies: all counts are 0.
+/// The tally before any step: all counts are 0.
 pub fn no_tally() -> StepTally
     ensures { result ≡ no_tally }
 {
@@ -61,7 +61,7 @@ pub fn no_tally() -> StepTally
     }
 }
 
-/// The sum of two tallies.
+/// The sum of two tallies, count by count.
 pub fn tally_sum(a: StepTally, b: StepTally) -> StepTally
     requires distance { a.distance + b.distance < 2 ^ 64 }
     requires stopped { a.stopped + b.stopped < 2 ^ 64 }

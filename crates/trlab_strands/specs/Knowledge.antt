@@ -1,6 +1,6 @@
--- The subhistory of a strand is its own events, each with all earlier events of the one list. A strand knows
--- the number of its parts, and which events are its own; the keeper knows the list.
-use Rattle.std.specs.Prelude.{◌≡◌, ℕ, ◌+◌, ◌-◌, max, Bool, true, false, cond, eqb, ltb}
+-- The knowledge of strands and their keeper. The events of a strand are those that it added to the list, each
+-- with all earlier events of the list; the keeper knows the whole list.
+use Rattle.std.specs.Prelude.{◌≡◌, ℕ, ◌+◌, ◌-◌, max, true, false, cond, eqb, ltb}
 use Rattle.std.specs.Prelude.{List, [], ◌∷◌, ◌++◌, length, count_by, All}
 use Rattle.trlab_strands.specs.declared.knowledge.TheConstants.{ALL_PARTS}
 use Rattle.trlab_strands.specs.declared.knowledge.Noted.{Noted}
@@ -15,11 +15,11 @@ once_below k count = cond (ltb k count) 1 0
 abbrev pub noted : {E : Type 0} → List E → E → Noted E
 noted before event = record { before = before; event = event }
 
--- the number of an event, which is its index in the list: how many events came before it
+-- the number of an event, which is its index in the list: the number of events before it
 abbrev pub event_number : {E : Type 0} → Noted E → ℕ
 event_number noted_event = length noted_event.before
 
--- how many of the events `own` have the number k
+-- how many events of a strand have the number k
 abbrev pub count_with_number : {E : Type 0} → ℕ → List (Noted E) → ℕ
 count_with_number k own = count_by (λ noted_event. eqb (event_number noted_event) k) own
 
@@ -29,7 +29,7 @@ abbrev pub IsInList : {E : Type 0} → List E → Noted E → Type 0
 IsInList {E} events noted_event =
     (later : List E) × (events ≡ noted_event.before ++ noted_event.event ∷ later)
 
--- each of the events `own` is in the list `events`, right after the events before it
+-- each of the events `own` is in the list `events`, right after the events that it has before it
 abbrev pub AreInList : {E : Type 0} → List E → List (Noted E) → Type 0
 AreInList events own = All (IsInList events) own
 
@@ -40,52 +40,52 @@ pub record IsLinearization {E : Type 0} (events : List E) (own : List (Noted E))
   pub in_list : AreInList events own
   pub once : (k : ℕ) → count_with_number k own ≡ once_below k (length events)
 
--- the knowledge of a seat: how many parts it has, its own events, its clock, which is the smallest number
--- that its next event may have, whether it keeps the list, and the list that it keeps
-abbrev pub strand_knowledge : {E : Type 0} → ℕ → List (Noted E) → ℕ → Bool → List E → StrandKnowledge E
-strand_knowledge parts own clock keeps events =
-    record { parts = parts; own = own; least = clock; keeps = keeps; all = events }
+-- the knowledge of a seat that has been joined to another: no parts, no events, clock 0 and no list
+abbrev pub no_knowledge : {E : Type 0} → StrandKnowledge E
+no_knowledge = record { parts = 0; events = []; clock = 0; has_list = false; list = [] }
 
--- the knowledge that is left at a seat after it was joined to another seat: no part, no event and no list
-abbrev pub spent_seat : {E : Type 0} → StrandKnowledge E
-spent_seat = strand_knowledge 0 [] 0 false []
-
--- the knowledge of the first seat: it has all parts, no event, and keeps the empty list
+-- the knowledge of the first seat: it has all parts, no events, clock 0, and keeps the empty list
 abbrev pub first_seat : {E : Type 0} → StrandKnowledge E
-first_seat = strand_knowledge ALL_PARTS [] 0 true []
+first_seat = record { parts = ALL_PARTS; events = []; clock = 0; has_list = true; list = [] }
 
--- the knowledge of a seat from which the list was taken; its parts, events and clock are as before
+-- the knowledge of the seat `old` after the list was taken from it; its parts, events and clock are as before
 abbrev pub without_list : {E : Type 0} → StrandKnowledge E → StrandKnowledge E
-without_list old = strand_knowledge old.parts old.own old.least false []
+without_list old = record old { has_list = false; list = [] }
 
--- the knowledge of a new seat that took the list from the seat `old`: it has no part and no event, and keeps
--- the list if `old` kept it
+-- the knowledge of a new seat that took the list from the seat `old`: it has no parts, no events and clock 0,
+-- and keeps the list if `old` kept it
 abbrev pub list_seat : {E : Type 0} → StrandKnowledge E → StrandKnowledge E
-list_seat old = strand_knowledge 0 [] 0 old.keeps old.all
+list_seat old = record no_knowledge { has_list = old.has_list; list = old.list }
 
--- the knowledge of a strand that has given one part away
-abbrev pub less_a_part : {E : Type 0} → StrandKnowledge E → StrandKnowledge E
-less_a_part old = strand_knowledge (old.parts - 1) old.own old.least old.keeps old.all
+-- the knowledge of the strand `old` after it has given one part away
+abbrev pub without_one_part : {E : Type 0} → StrandKnowledge E → StrandKnowledge E
+without_one_part old = record old { parts = old.parts - 1 }
 
--- the knowledge of a new strand that got one part from the strand `old`: it has no event and no list, and its
--- clock is that of `old`
+-- the knowledge of a new strand that got one part from the strand `old`: it has no events and no list, and
+-- the clock of `old`
 abbrev pub one_part : {E : Type 0} → StrandKnowledge E → StrandKnowledge E
-one_part old = strand_knowledge 1 [] old.least false []
+one_part old = record no_knowledge { parts = 1; clock = old.clock }
 
 -- the knowledge of two seats that were joined, of which `one` did not keep the list: the parts and the events
 -- of both, the larger clock, and the list if `other` kept it
 abbrev pub both_seats : {E : Type 0} → StrandKnowledge E → StrandKnowledge E → StrandKnowledge E
-both_seats one other =
-    strand_knowledge (one.parts + other.parts) (one.own ++ other.own) (max one.least other.least)
-    other.keeps other.all
+both_seats one other = record {
+  parts = one.parts + other.parts;
+  events = one.events ++ other.events;
+  clock = max one.clock other.clock;
+  has_list = other.has_list;
+  list = other.list;
+}
 
--- the knowledge of a strand with the list, after it has seen the whole list: its clock is the list's length
+-- the knowledge of a strand with the list after it has seen the whole list: its clock is the list's length
 abbrev pub up_to_date : {E : Type 0} → StrandKnowledge E → StrandKnowledge E
-up_to_date old = strand_knowledge old.parts old.own (length old.all) old.keeps old.all
+up_to_date old = record old { clock = length old.list }
 
--- the knowledge of a strand with the list, after one more event: the event is now the last of the list and
--- the last of the strand's own, and the clock is the list's new length
+-- the knowledge of a strand with the list after one more event: the event is now the last of the list and the
+-- last of the strand's own, and the clock is the list's new length
 abbrev pub with_event : {E : Type 0} → StrandKnowledge E → E → StrandKnowledge E
-with_event old event =
-    strand_knowledge old.parts (old.own ++ noted old.all event ∷ []) (length old.all + 1) old.keeps
-    (old.all ++ event ∷ [])
+with_event old event = record old {
+  events = old.events ++ noted old.list event ∷ [];
+  clock = length old.list + 1;
+  list = old.list ++ event ∷ [];
+}

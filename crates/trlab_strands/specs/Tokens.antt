@@ -14,25 +14,25 @@ name_of blank = blank.table.shared.table_id
 
 -- the list of all events, as its keeper knows it
 abbrev pub keeper_list : {L E : Type 0} {ledger : Ghosts L} → Keeper L E ledger → List E
-keeper_list keeper = keeper.seat.me.0.all
+keeper_list keeper = keeper.seat.me.0.list
 
--- the number of parts of a strand, from 1 to 1024; a strand with two or more can be split
+-- the number of parts of a strand (the invariant of `Strand` keeps it from 1 to ALL_PARTS)
 abbrev pub strand_parts : {L E : Type 0} {ledger : Ghosts L} → Strand L E ledger → ℕ
 strand_parts strand = strand.seat.me.0.parts
 
--- the subhistory of a strand: its own events, each with all earlier events of the list
+-- the events that a strand added to the list, in order, each with all earlier events of the list
 abbrev pub strand_events : {L E : Type 0} {ledger : Ghosts L} → Strand L E ledger → List (Noted E)
-strand_events strand = strand.seat.me.0.own
+strand_events strand = strand.seat.me.0.events
 
 -- the clock of a strand: each event that it adds from now on has at least this number
 abbrev pub strand_clock : {L E : Type 0} {ledger : Ghosts L} → Strand L E ledger → ℕ
-strand_clock strand = strand.seat.me.0.least
+strand_clock strand = strand.seat.me.0.clock
 
--- the strand `old` becomes `new` when it adds `event` to the list `before`. The event is now the last of its
--- own, and its clock, which was at most the length of `before`, is one more than it; its parts are as before
-abbrev pub Adds : {L E : Type 0} {ledger : Ghosts L}
+-- the strand `old` becomes `new` by adding `event` to the list `before`. The event is now its last one, its
+-- clock, which was at most the length of `before`, is now this length plus 1, and its parts are unchanged
+abbrev pub AddsEvent : {L E : Type 0} {ledger : Ghosts L}
     → Strand L E ledger → List E → E → Strand L E ledger → Type 0
-Adds old before event new =
+AddsEvent old before event new =
     (strand_parts new ≡ strand_parts old) × (strand_clock old ≤ length before)
     × (strand_events new ≡ strand_events old ++ noted before event ∷ [])
     × (strand_clock new ≡ length before + 1)

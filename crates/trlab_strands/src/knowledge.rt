@@ -1,5 +1,5 @@
-//! The knowledge of strands and their keeper, and its invariant in each atomic step. All of this is for
-//! contracts: at run time there is only one word.
+//! The knowledge of strands and their keeper, and its invariant in each atomic step. All of this is ghost state: at
+//! run time there is only one word.
 
 use atomic_table::{Join, Play, Split, TableRule};
 use std::collections::LinkedList;
@@ -8,8 +8,8 @@ use std::marker::{Brand, PhantomData};
 /// The number of parts of the right to add to a list, and so the maximum number of its strands.
 pub const ALL_PARTS: u32 = 1024;
 
-/// Names the strands of one list, so that only strands that belong together are joined. Each call of a program picks
-/// a new name.
+/// Names the strands of one list, so that only strands of the same list are joined. Each run of a program picks a new
+/// name.
 pub trait Ledger {
     ghost use Rattle.atomic_table.specs.Seated.{TableId};
 
@@ -30,37 +30,37 @@ impl Ledger for Brand {
     } };
 }
 
-/// An event with all earlier events of the list. No value of this type is ever made.
+/// An event with all earlier events of the list. Only contracts use this type.
 pub struct Noted<E> {
     pub before: LinkedList<E>,
     pub event: E,
 }
 
-/// The knowledge of a seat: for a strand its parts, its events, and the smallest number that its next event may
-/// have; for the keeper the whole list. No value of this type is ever made.
+/// The knowledge of a seat: for a strand its parts, the events that it added, and its clock, the smallest number that
+/// its next event may have; for the keeper the whole list. Only contracts use this type.
 pub struct StrandKnowledge<E> {
     pub parts: u32,
-    pub own: LinkedList<Noted<E>>,
-    pub least: u64,
-    pub keeps: bool,
-    pub all: LinkedList<E>,
+    pub events: LinkedList<Noted<E>>,
+    pub clock: u64,
+    pub has_list: bool,
+    pub list: LinkedList<E>,
 }
 
-/// Each event of the list is in one strand, once.
+/// The invariant: each event of the list is in exactly one strand, once.
 pub struct OncePerEvent<E> {
     marker: PhantomData<E>,
 }
 
 impl<E> TableRule<E, StrandKnowledge<E>, ()> for OncePerEvent<E> {
-    ghost use Rattle.trlab_strands.specs.Rule.{ObeysStrandRule};
+    ghost use Rattle.trlab_strands.specs.Rule.{SatisfiesStrandInvariant};
     ghost use Rattle.trlab_strands.specs.Knowledge.{first_seat};
 
-    ghost holds = { λ key. ObeysStrandRule };
+    ghost holds = { λ key. SatisfiesStrandInvariant };
 
     ghost first = { λ key. first_seat };
 }
 
-/// The step that notes an event.
+/// The step in which a strand adds an event to the list.
 pub struct NoteEvent;
 
 impl<E> Play<E, StrandKnowledge<E>> for NoteEvent {
@@ -69,7 +69,7 @@ impl<E> Play<E, StrandKnowledge<E>> for NoteEvent {
     ghost then = { NotesEvent };
 }
 
-/// A step that changes nothing.
+/// The step that compares a strand with the list, and changes nothing.
 pub struct AuditList;
 
 impl<E> Play<E, StrandKnowledge<E>> for AuditList {
@@ -78,7 +78,7 @@ impl<E> Play<E, StrandKnowledge<E>> for AuditList {
     ghost then = { AuditsList };
 }
 
-/// The step by which a strand sees the whole list.
+/// The step in which a strand sees the whole list: its clock becomes the list's length.
 pub struct SeeWholeList;
 
 impl<E> Play<E, StrandKnowledge<E>> for SeeWholeList {
@@ -87,7 +87,7 @@ impl<E> Play<E, StrandKnowledge<E>> for SeeWholeList {
     ghost then = { SeesWholeList };
 }
 
-/// The list leaves a strand.
+/// The list moves from a strand to a new seat.
 pub struct Apart;
 
 impl<E> Split<StrandKnowledge<E>> for Apart {
@@ -98,24 +98,24 @@ impl<E> Split<StrandKnowledge<E>> for Apart {
     ghost right = { list_seat };
 }
 
-/// One part goes to another strand.
+/// One part moves from a strand to a new strand.
 pub struct OnePart;
 
 impl<E> Split<StrandKnowledge<E>> for OnePart {
-    ghost use Rattle.trlab_strands.specs.Knowledge.{less_a_part, one_part};
+    ghost use Rattle.trlab_strands.specs.Knowledge.{without_one_part, one_part};
 
-    ghost left = { less_a_part };
+    ghost left = { without_one_part };
 
     ghost right = { one_part };
 }
 
-/// Two strands become one, or a strand meets the list.
+/// Two strands become one, or a strand takes over the list.
 pub struct JoinStrands;
 
 impl<E> Join<StrandKnowledge<E>> for JoinStrands {
-    ghost use Rattle.trlab_strands.specs.Knowledge.{both_seats, spent_seat};
+    ghost use Rattle.trlab_strands.specs.Knowledge.{both_seats, no_knowledge};
 
     ghost both = { both_seats };
 
-    ghost spent = { spent_seat };
+    ghost spent = { no_knowledge };
 }

@@ -1,5 +1,5 @@
-//! The maximum number of strands of a list, as a number. Definitions use the constant by name, so a new value would
-//! silently change their meaning. This law would then fail.
+//! The value of `ALL_PARTS`. Definitions use the constant by name, so a new value would silently change their meaning;
+//! this law would then fail.
 //!
 //! The law is the contract of a function with an empty body.
 

@@ -13,7 +13,7 @@ use atomic_table::{Seat, Table};
 use std::alloc::{AllocError, Global};
 use std::marker::PhantomData;
 
-/// The strands of an empty list, before a ledger has their name.
+/// The strands of an empty list, before a ledger has named them.
 #[derive(Drop)]
 pub struct Blank<E> {
     pub(crate) table: Table<E, StrandKnowledge<E>, (), OncePerEvent<E>, Global>,
@@ -32,41 +32,41 @@ pub struct Strands<L: Ledger, E> {
     ghost one_word: { table.shared.table_id.words ≡ 1 },
 }
 
-/// Knows the whole list, and is kept with it under the lock.
+/// The knowledge of the whole list. It is kept under the same lock as the list.
 #[derive(Drop)]
 pub struct Keeper<L: Ledger, E> {
     pub(crate) seat: Seat<E, StrandKnowledge<E>>,
     pub(crate) ledger: PhantomData<L>,
     ghost at: { seat.table_id ≡ L.name },
     ghost no_slot: { seat.me.1 ≡ [] },
-    ghost keeps: { seat.me.0.keeps ≡ true },
+    ghost has_list: { seat.me.0.has_list ≡ true },
 }
 
-/// The events that one thread added to the list, and the right to add more, with 1 to 1024 parts.
+/// The events that one thread added to the list, and 1 to `ALL_PARTS` parts of the right to add more.
 #[derive(Drop)]
 pub struct Strand<L: Ledger, E> {
     pub(crate) seat: Seat<E, StrandKnowledge<E>>,
     pub(crate) ledger: PhantomData<L>,
     ghost at: { seat.table_id ≡ L.name },
     ghost no_slot: { seat.me.1 ≡ [] },
-    ghost no_list: { seat.me.0.keeps ≡ false },
+    ghost no_list: { seat.me.0.has_list ≡ false },
     ghost some: { 0 < seat.me.0.parts },
 }
 
 impl<E: Drop> Blank<E> {
     ghost use Rattle.trlab_strands.specs.Tokens.{strand_events, strand_clock, keeper_list, name_of, strand_parts};
 
-    /// The strands of an empty list.
+    /// Allocates the word that the strands of an empty list will share.
     ///
     /// # Errors
     ///
-    /// If the shared word cannot be allocated.
+    /// If the allocation fails.
     pub fn new(alloc: Global) -> Result<Blank<E>, AllocError> {
         let (table, seat) = Table::of_words(alloc, &[0], &())?;
         Ok(Blank { table, seat })
     }
 
-    /// The shared word, the keeper of an empty list, and the strand with all 1024 parts.
+    /// The shared word, the keeper of an empty list, and the strand with all parts.
     pub fn open<L: Ledger>(self) -> (Strands<L, E>, Keeper<L, E>, Strand<L, E>)
         requires { name_of self ≡ L.name }
         ensures list { keeper_list result.1 ≡ [] }
@@ -93,12 +93,12 @@ impl<E: Drop> Blank<E> {
 }
 
 impl<L: Ledger, E: Drop> Keeper<L, E> {
-    ghost use Rattle.trlab_strands.specs.Tokens.{Adds, CatchesUp, IsSameStrand, strand_events, keeper_list, strand_parts};
+    ghost use Rattle.trlab_strands.specs.Tokens.{AddsEvent, CatchesUp, IsSameStrand, strand_events, keeper_list, strand_parts};
 
-    /// Notes an event as the next one of the list, and as one of this strand.
+    /// Records an event as the next one of the list, and as the last one of this strand.
     pub fn note(&mut self, strands: &Strands<L, E>, strand: &mut Strand<L, E>, event: &E)
         ensures list { keeper_list self.new ≡ keeper_list self.old ++ event.now ∷ [] }
-        ensures strand { Adds strand.old (keeper_list self.old) event.now strand.new }
+        ensures strand { AddsEvent strand.old (keeper_list self.old) event.now strand.new }
     {
         let shared = &strands.table.shared;
         let list = shared.split_seat::<Apart>(&mut self.seat);

@@ -23,7 +23,7 @@ ReadWithin n (read ∷ reads) = (read.line ≤ n) × ReadWithin n reads
 
 -- so the first pass reads, or has a fault there
 abbrev PassWithin : ℕ → Result Parts AsmFault → Type 0
-PassWithin n (Ok parts) = ReadWithin n parts.reads
+PassWithin n (Ok parts) = ReadWithin n parts.drafts
 PassWithin n (Err fault) = fault.line ≤ n
 
 read_more : (n : ℕ) (reads : List LineDraft) (read : LineDraft) → ReadWithin n reads → read.line ≤ n → ReadWithin n (reads ++ (read ∷ []))
@@ -41,12 +41,12 @@ first_step : (n number : ℕ) (parts : Parts) (left : List (List ℕ)) (say : Re
 first_step n number parts left (Ok line) here rest = rest line
 first_step n number parts left (Err why) here rest = here
 
-first_within : (n number : ℕ) (lines : List (List ℕ)) (parts : Parts) → number + length lines ≤ suc n → ReadWithin n parts.reads → PassWithin n (first_pass parts number lines)
+first_within : (n number : ℕ) (lines : List (List ℕ)) (parts : Parts) → number + length lines ≤ suc n → ReadWithin n parts.drafts → PassWithin n (first_pass parts number lines)
 unfolding first_pass
 first_within n number [] parts room all = all
 first_within n number (line ∷ left) parts room all =
-    first_step n number parts left (line_content parts.labels (length parts.reads) line) (omega arith)
-    (λ say. first_within n (number + 1) left (with_line parts number say) (omega arith) (read_line n number parts.reads say.draft all (omega arith)))
+    first_step n number parts left (line_content parts.labels (length parts.drafts) line) (omega arith)
+    (λ say. first_within n (number + 1) left (with_line parts number say) (omega arith) (read_line n number parts.drafts say.draft all (omega arith)))
 
 jump_within : (n line : ℕ) (instr : Instr) (pc : Option ℕ) → line ≤ n → Within n (jump_to line instr pc)
 jump_within n line instr None here = here
@@ -83,7 +83,7 @@ passes_within : (n : ℕ) (kind : Kind) (parts : Result Parts AsmFault) → Pass
     → Within {A = Program} n (parts >>= λ found. instrs_of found >>= λ code. Ok (record { kind = kind; instrs = code }))
 passes_within n kind (Ok parts) within =
     program_within n kind (instrs_of parts)
-    (some_within n (length parts.reads == 0) (second_pass parts.labels parts.reads) (second_within n parts.labels parts.reads within))
+    (some_within n (length parts.drafts == 0) (second_pass parts.labels parts.drafts) (second_within n parts.labels parts.drafts within))
 passes_within n kind (Err fault) within = within
 
 nothing_read : (n : ℕ) → ReadWithin n []

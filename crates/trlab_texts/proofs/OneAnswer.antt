@@ -6,7 +6,7 @@ use Rattle.trlab_texts.specs.declared.fault.Cause.TheVariants.{Line, TooBig}
 use Rattle.trlab_bounds.specs.declared.texts.TheConstants.{TEXT_LIMIT}
 use Rattle.trlab_texts.specs.Causes.{IsNotStandardRefused}
 use Rattle.trlab_texts.specs.Lines.{Rest}
-use Rattle.trlab_texts.specs.Reading.{Fault, LineRule, Reading, say, Continues, ◌>>=◌, line_with_rest, LineParsesTo, line, exactly, SizedTextParsesTo, TextParsesTo, read_if, before, at_line, of_line}
+use Rattle.trlab_texts.specs.Reading.{Fault, LineRule, Reading, give, Continues, ◌>>=◌, line_with_rest, LineParsesTo, line, exactly, SizedTextParsesTo, TextParsesTo, read_if, before, at_line, result_of_line}
 use Rattle.trlab_texts.proofs.Fine.{IsOtherFault, Fine, FineText, line_other, too_big_other, at_line_fine}
 
 -- exactly one thing is said; a value keeps what is asked, and so does a fault
@@ -122,11 +122,11 @@ then_one {A} {B} {P} {Q} first next one rest place =
       };
     }
 
-pub said_one : {A : Type 0} {P : A → Type 0} (x : A) → P x → OneReading P (say x)
+pub said_one : {A : Type 0} {P : A → Type 0} (x : A) → P x → OneReading P (give x)
 said_one x keeps place = record { one = exact (Ok (x, place)) keeps }
 
 pub perhaps_one : {A : Type 0} {P : A → Type 0} (there : Bool) (reading : Reading A) → OneReading P reading → OneReading (λ (o : Option A). IfSome o P) (read_if there reading)
-perhaps_one {A} {P} true reading one = then_one reading (λ (x : A). say (Some x)) one (λ x keeps. said_one (Some x) keeps)
+perhaps_one {A} {P} true reading one = then_one reading (λ (x : A). give (Some x)) one (λ x keeps. said_one (Some x) keeps)
 perhaps_one {A} {P} false reading one = said_one None tt
 
 pub before_fine : {A : Type 0} (P : A → Type 0) (place : Rest) (says : Result A Fault) → FineText P says → FineText (λ (found : A × Rest). P found.0) (before place says)
@@ -139,7 +139,7 @@ pub before_one : {A : Type 0} {P : A → Type 0} {Says : Result A Fault → Type
 before_one {A} {P} place one = record { one = made (before place) one (before_fine P place) }
 
 -- a line that was read
-pub of_line_one : {A : Type 0} {P : A → Type 0} {Says : Result A Cause → Type 0} (number : ℕ) → OneLine P Says → OneReading P (of_line number Says)
+pub of_line_one : {A : Type 0} {P : A → Type 0} {Says : Result A Cause → Type 0} (number : ℕ) → OneLine P Says → OneReading P (result_of_line number Says)
 of_line_one {A} {P} number one place =
     record { one = made (λ says. before place (at_line number says)) one (λ says fine. before_fine P place (at_line number says) (at_line_fine P number says fine)) }
 

@@ -1,6 +1,7 @@
 -- What the next line says by a rule, and what is read after it.
 use Rattle.std.proofs.Common.{◌≡◌, ℕ, ◌+◌, List, [], ◌∷◌, refl, ap}
 use Rattle.std.specs.Prelude.{Result, Ok, Err}
+use Rattle.std.specs.Result.{IsErr, IsErrAnd}
 use Rattle.trlab_texts.specs.declared.fault.Cause.{Cause}
 use Rattle.trlab_texts.specs.declared.fault.LineFault.{LineFault}
 use Rattle.trlab_texts.specs.declared.fault.LineFault.TheVariants.{Wrong, Memory as NoMemory}
@@ -50,3 +51,8 @@ pub stops : {A B : Type 0} (first : Reading A) (next : A → Reading B) (place :
     → Reports {A = A × Rest} (first place) (Err fault) → Reports {A = B × Rest} ((first >>= next) place) (Err fault)
 stops first next place (At number cause) says = (Err (record { line = number; cause = cause }), (says, refl))
 stops first next place Memory says = tt
+
+-- a fault that is passed on unchanged
+pub handed_on : {T E : Type 0} (r : Result T E) (fault : E) → IsErr r → IsErrAnd r (λ f. f ≡ fault) → r ≡ Err fault
+handed_on (Ok x) fault is q = absurd q
+handed_on (Err f) fault is q = ap (λ e. Err e) q

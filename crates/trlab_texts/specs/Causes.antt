@@ -20,24 +20,18 @@ why_number TooLong = 6
 why_number Empty = 7
 why_number WhyMemory = 8
 
--- the part of the table `code_fault_number` for faults in the header of a program's bytes; 0 for any other
--- fault
-abbrev pub header_fault_number : CodeFault → ℕ
-header_fault_number Magic = 2
-header_fault_number Version = 3
-header_fault_number Kind = 4
-header_fault_number Count = 5
-header_fault_number NeedlessVersion = 10
-header_fault_number _ = 0
-
 -- the number, from 1 to 10, of a fault in a program's bytes; 9 is a failed allocation and is never printed
 abbrev pub code_fault_number : CodeFault → ℕ
 code_fault_number Short = 1
+code_fault_number Magic = 2
+code_fault_number Version = 3
+code_fault_number Kind = 4
+code_fault_number Count = 5
 code_fault_number (Opcode pc) = 6
 code_fault_number (Field pc) = 7
 code_fault_number Trailing = 8
 code_fault_number CodeMemory = 9
-code_fault_number fault = header_fault_number fault
+code_fault_number NeedlessVersion = 10
 
 -- the number, from 1 to 7, of a fault of a road; 6 is a failed allocation and is never printed
 abbrev pub road_fault_number : RoadFault → ℕ
@@ -49,31 +43,25 @@ road_fault_number (SpeedAboveLimit lane place) = 5
 road_fault_number RoadMemory = 6
 road_fault_number TooManyCars = 7
 
--- the part of the table `cause_number` for an input's own words and lines, 1 to 8; 0 for any other cause
-abbrev pub own_cause_number : Cause → ℕ
-own_cause_number Line = 1
-own_cause_number Number = 2
-own_cause_number Key = 3
-own_cause_number OneLane = 4
-own_cause_number Order = 5
-own_cause_number TooMany = 6
-own_cause_number Work = 7
-own_cause_number Hex = 8
-own_cause_number _ = 0
-
--- the printed number of a cause: 1 to 8 for an input's own words and lines, 9 for an input that is too long;
--- 10, 20 or 30 plus the fault's number for a program's lines, a program's bytes or a road; 40 for a rejected
--- standard rule, and 40 plus the verifier's reason for any other rejected program. For example, 37 is too
--- many cars
+-- the printed number of a cause: 1 to 9 for the words, the lines and the size of an input; 10, 20 or 30 plus
+-- the fault's number for a program's lines, a program's bytes or a road; 40 for a rejected standard rule, and
+-- 40 plus the verifier's reason for any other rejected program. For example, 37 is too many cars
 abbrev pub cause_number : Cause → ℕ
+cause_number Line = 1
+cause_number Number = 2
+cause_number Key = 3
+cause_number OneLane = 4
+cause_number Order = 5
+cause_number TooMany = 6
+cause_number Work = 7
+cause_number Hex = 8
+cause_number TooBig = 9
 cause_number (Program why) = 10 + why_number why
 cause_number (Code fault) = 20 + code_fault_number fault
 cause_number (Road fault) = 30 + road_fault_number fault
-cause_number TooBig = 9
 cause_number StandardRefused = 40
 cause_number (Verdict reason) = 40 + reason
-cause_number cause = own_cause_number cause
 
--- a cause other than that of a standard rule whose program the verifier rejects: its number is not 40
+-- the cause is not that the verifier rejects a standard rule: its number is not 40
 abbrev pub IsNotStandardRefused : Cause → Type 0
 IsNotStandardRefused cause = cause_number cause ≢ cause_number StandardRefused

@@ -36,13 +36,13 @@ abbrev pub DigitsDecodeTo : Result (List ℕ) FromHexError → Result Program Ca
 DigitsDecodeTo (Err fault) result = result ≡ Err Hex
 DigitsDecodeTo (Ok bytes) result = BytesDecodeTo bytes result
 
--- the result for the line `code X`, from its word X: that of the hexadecimal digits X, or the cause if the
--- line has no such word
+-- the result for the line `code X`, from its word X: the result for the hexadecimal digits X, or the cause
+-- that is given instead of a word if there is none
 abbrev pub CodeParsesTo : Result (List ℕ) Cause → Result Program Cause → Type 0
 CodeParsesTo (Err cause) result = result ≡ Err cause
 CodeParsesTo (Ok digits) result = DigitsDecodeTo (decode_of digits) result
 
--- the line `code X`, where X is the bytes of a program of either kind, in hexadecimal digits
+-- the rule for the line `code X`, where X is the bytes of a program of either kind, in hexadecimal digits
 abbrev pub code_line : LineRule Program
 code_line text result = CodeParsesTo (word_after (codes "code ") text) result
 
@@ -59,7 +59,7 @@ abbrev pub of_kind : Kind → Result Program Cause → Result Program Cause
 of_kind kind (Err cause) = Err cause
 of_kind kind (Ok program) = as_kind kind program.kind program
 
--- the line `code X`, where X is the bytes of a program of this kind, in hexadecimal digits
+-- the rule for the line `code X`, where X is the bytes of a program of this kind, in hexadecimal digits
 abbrev pub code_line_of : Kind → LineRule Program
 code_line_of kind text result =
     (decoded : Result Program Cause) × (code_line text decoded × (result ≡ of_kind kind decoded))
@@ -109,8 +109,9 @@ block kind first left (Some parts) =
     before (record { number = first + length parts.0 + 2; left = parts.1 })
     (program_after kind first parts.0)
 
--- the result for a program of this kind whose first line is `text`, with this number: that of a block if the
--- line is a heading (`true`), and otherwise that of the line `code X`; `left` are the lines after it
+-- the result for a program of this kind whose first line is `text`, with this number: the result for a block
+-- if the line is a heading (`true`), and otherwise the result for the line `code X`; `left` are the lines
+-- after it
 abbrev pub HeadingParsesTo : Kind → Bool → ℕ → List ℕ → List (List ℕ)
     → Result (Program × Rest) Fault → Type 0
 HeadingParsesTo kind true number text left out = out ≡ block kind number left (split_at_end left)

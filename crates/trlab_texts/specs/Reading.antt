@@ -23,8 +23,8 @@ abbrev pub Reading : Type 0 → Type 1
 Reading A = Rest → Result (A × Rest) Fault → Type 0
 
 -- gives the value x and reads no line
-abbrev pub say : {A : Type 0} → A → Reading A
-say x rest out = out ≡ Ok (x, rest)
+abbrev pub give : {A : Type 0} → A → Reading A
+give x rest out = out ≡ Ok (x, rest)
 
 -- `out` is a result after a first reading and then `next`: that of `next`, which uses the value of the first,
 -- or the fault of the first
@@ -94,8 +94,8 @@ ReportsLine IsResult (Err NoMemory) = Unit {0}
 
 -- reads a value by `reading` if the condition is true; otherwise gives `None` and reads no line
 abbrev pub read_if : {A : Type 0} → Bool → Reading A → Reading (Option A)
-read_if true reading = reading >>= λ x. say (Some x)
-read_if false reading = say None
+read_if true reading = reading >>= λ x. give (Some x)
+read_if false reading = give None
 
 -- a result for the lines before `rest`: a value is paired with this rest, and a fault stays
 abbrev pub before : {A : Type 0} → Rest → Result A Fault → Result (A × Rest) Fault
@@ -108,8 +108,8 @@ at_line number (Ok x) = Ok x
 at_line number (Err cause) = Err (record { line = number; cause = cause })
 
 -- gives a result that `IsResult` allows for the line `number`, which was read already
-abbrev pub of_line : {A : Type 0} → ℕ → (Result A Cause → Type 0) → Reading A
-of_line {A} number IsResult rest out =
+abbrev pub result_of_line : {A : Type 0} → ℕ → (Result A Cause → Type 0) → Reading A
+result_of_line {A} number IsResult rest out =
     (result : Result A Cause) × (IsResult result × (out ≡ before rest (at_line number result)))
 
 -- a function reports this fault of a text, or that an allocation failed
@@ -122,8 +122,8 @@ abbrev pub ReportsCause : Cause → LineFault → Type 0
 ReportsCause cause (Wrong reported) = reported ≡ cause
 ReportsCause cause NoMemory = Unit {0}
 
--- the fault of a text, from that of its line with the number `line`: the cause at this line, or the failed
--- allocation
+-- the fault of a text, from the fault of its line with the number `line`: the cause at this line, or the
+-- failed allocation
 abbrev pub text_fault : ℕ → LineFault → TextFault
 text_fault line (Wrong cause) = At line cause
 text_fault line NoMemory = Memory

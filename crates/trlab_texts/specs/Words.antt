@@ -7,7 +7,7 @@ use Rattle.trlab_lines.specs.Cutting.{without_prefix, cut, front_or_all}
 use Rattle.trlab_texts.specs.declared.fault.Cause.{Cause}
 use Rattle.trlab_texts.specs.declared.fault.Cause.TheVariants.{Line, Number}
 
--- whether a text contains a space
+-- whether a text contains a space, which has the code 32
 abbrev pub has_space : List ℕ → Bool
 has_space text = list_any (λ c. c == 32) text
 
@@ -15,7 +15,7 @@ has_space text = list_any (λ c. c == 32) text
 abbrev pub is_word : List ℕ → Bool
 is_word text = nat_lt 0 (length text) && not (has_space text)
 
--- the text after a line's name, if it is one word; otherwise the cause `Line`, also if the line has another
+-- the text after a line's name, if it is one word; the cause `Line` if it is not, or if the line has another
 -- name (`None`)
 abbrev pub one_word : Option (List ℕ) → Result (List ℕ) Cause
 one_word None = Err Line
@@ -36,8 +36,8 @@ abbrev pub within : ℕ → ℕ → Option ℕ → Result ℕ Cause
 within low high None = Err Number
 within low high (Some n) = if nat_le low n && nat_le n high then Ok n else Err Number
 
--- the number from `low` to `high` that a word writes; the cause `Number` if it writes none, and if there is
--- no word, the cause of that
+-- the number from `low` to `high` that a word states; the cause `Number` for any other word, and the cause
+-- that is given instead of a word if there is none
 abbrev pub number_within : ℕ → ℕ → Result (List ℕ) Cause → Result ℕ Cause
 number_within low high (Err cause) = Err cause
 number_within low high (Ok word) = within low high (number_of word)

@@ -13,7 +13,7 @@ use crate::word;
 use std::marker::Model;
 use trlab_bounds::texts::LONGEST_NUMBER;
 
-/// Some bytes of a line and their position in it.
+/// Some bytes of a line and their position in it, counted in bytes from 0.
 #[derive(Drop)]
 pub struct Excerpt<'a> {
     line: &'a [u8],
@@ -33,6 +33,7 @@ impl<'a> Model for Excerpt<'a> {
 }
 
 impl<'a> Excerpt<'a> {
+    /// The whole line.
     pub fn of(line: &'a [u8]) -> Excerpt<'a>
         ensures { result ≡ line.now }
     {
@@ -81,6 +82,7 @@ impl<'a> Excerpt<'a> {
         word.number(low, high, quantity)
     }
 
+    /// The bytes of the excerpt, without the rest of the line.
     pub fn bytes(&self) -> &'a [u8]
         ensures { result.now ≡ self.now }
     {
@@ -91,38 +93,33 @@ impl<'a> Excerpt<'a> {
     pub fn after(&self, prefix: &[u8]) -> Option<Excerpt<'a>>
         ensures { result ≡ without_prefix prefix.now self.now }
     {
-        match word::without_prefix(prefix, self.bytes) {
-            Some(rest) => Some(Excerpt {
-                line: self.line,
-                at: self.at + prefix.len(),
-                bytes: rest,
-            }),
-            None => None,
-        }
+        let bytes = word::without_prefix(prefix, self.bytes)?;
+        Some(Excerpt {
+            line: self.line,
+            at: self.at + prefix.len(),
+            bytes,
+        })
     }
 
     /// The excerpts before and after the first occurrence of a byte.
     pub fn cut(&self, byte: u8) -> Option<(Excerpt<'a>, Excerpt<'a>)>
         ensures { result ≡ cut byte self.now }
     {
-        match trlab_lines::cut(self.bytes, byte) {
-            Some((front, back)) => {
-                let before = Excerpt {
-                    line: self.line,
-                    at: self.at,
-                    bytes: front,
-                };
-                let after = Excerpt {
-                    line: self.line,
-                    at: self.at + front.len() + 1,
-                    bytes: back,
-                };
-                Some((before, after))
-            }
-            None => None,
-        }
+        let (front, back) = trlab_lines::cut(self.bytes, byte)?;
+        let before = Excerpt {
+            line: self.line,
+            at: self.at,
+            bytes: front,
+        };
+        let after = Excerpt {
+            line: self.line,
+            at: self.at + front.len() + 1,
+            bytes: back,
+        };
+        Some((before, after))
     }
 
+    /// Whether the excerpt is one word: not empty, and without spaces.
     pub fn is_word(&self) -> bool
         ensures { result ≡ is_word self.now }
     {
@@ -140,15 +137,11 @@ impl<'a> Excerpt<'a> {
     pub fn two_words(&self) -> Option<(Excerpt<'a>, Excerpt<'a>)>
         ensures { result ≡ two_words self.now }
     {
-        match self.cut(b' ') {
-            Some((first, second)) => {
-                if first.is_word() && second.is_word() {
-                    Some((first, second))
-                } else {
-                    None
-                }
-            }
-            None => None,
+        let (first, second) = self.cut(b' ')?;
+        if first.is_word() && second.is_word() {
+            Some((first, second))
+        } else {
+            None
         }
     }
 

@@ -50,10 +50,10 @@ pub enum Cause {
     Road(RoadFault),
     /// The verifier rejects a program of a standard rule. No text has this cause, because the verifier accepts
     /// these programs (law `standard_programs_are_accepted` of `trlab_rules`).
-    #[error("a program of the standard rule is refused")]
+    #[error("the verifier rejects a program of a standard rule")]
     StandardRefused,
     /// The verifier rejects the program, for the reason with this number.
-    #[error("the program is refused for reason {0}")]
+    #[error("the verifier rejects the program (reason {0})")]
     Verdict(u32),
 }
 
@@ -81,6 +81,7 @@ impl Cause {
     }
 }
 
+/// The number, from 1 to 8, of a fault in a program's lines.
 fn why_number(why: Why) -> u64
     ensures { result ≡ why_number why }
 {
@@ -96,6 +97,7 @@ fn why_number(why: Why) -> u64
     }
 }
 
+/// The number, from 1 to 10, of a fault in a program's bytes.
 fn code_fault_number(fault: CodeFault) -> u64
     ensures { result ≡ code_fault_number fault }
 {
@@ -113,6 +115,7 @@ fn code_fault_number(fault: CodeFault) -> u64
     }
 }
 
+/// The number, from 1 to 7, of a fault of a road.
 fn road_fault_number(fault: RoadFault) -> u64
     ensures { result ≡ road_fault_number fault }
 {
@@ -130,14 +133,16 @@ fn road_fault_number(fault: RoadFault) -> u64
 /// Why a line was rejected.
 #[derive(Clone, Copy, Debug, PartialEq, Eq, Error)]
 pub enum LineFault {
+    /// The line is invalid, for this cause.
     #[error("{0}")]
     Wrong(Cause),
+    /// An allocation failed.
     #[error("out of memory")]
     Memory,
 }
 
 impl LineFault {
-    /// The fault of a text whose line with this number has this fault.
+    /// The fault of the text whose line number `line` has this fault.
     pub fn at(self, line: u32) -> TextFault
         ensures { result ≡ text_fault line self }
     {
@@ -154,6 +159,7 @@ pub enum TextFault {
     /// The first fault of the text; lines are counted from 1, and line 0 is the whole text.
     #[error("line {line}: {cause}")]
     At { line: u32, cause: Cause },
+    /// An allocation failed.
     #[error("out of memory")]
     Memory,
 }

@@ -1,9 +1,9 @@
-//! The lines of job and sweep files by their first words, and sets of them.
+//! The lines of job, sweep and program files by their first words, and sets of them.
 
 ghost use Rattle.std.specs.Prelude.{◌≡◌, ◌<◌, IsTrue, ◌↔◌, length};
 ghost use Rattle.trlab_texts.specs.LineNames.{name_and_space, name_word};
 
-/// A line of a job or sweep file, by its first word.
+/// A line of a job, sweep or program file, by its first word.
 #[derive(Clone, Copy, Debug, PartialEq, Eq)]
 pub enum LineName {
     /// The line `road 1`.
@@ -41,7 +41,7 @@ pub enum LineName {
 }
 
 impl LineName {
-    /// All names, in the order of a file.
+    /// All names.
     pub const ALL: [LineName; 16] = [
         LineName::Road,
         LineName::Sweep,
@@ -85,6 +85,7 @@ impl LineName {
         }
     }
 
+    /// The first word of the line.
     pub fn word(self) -> &'static [u8]
         ensures { result.now ≡ name_word self }
     {
@@ -101,6 +102,7 @@ pub struct LineNames {
 }
 
 impl LineNames {
+    /// The empty set.
     pub fn none() -> LineNames {
         LineNames {
             present: [false; 16],
@@ -114,10 +116,12 @@ impl LineNames {
         LineNames { present }
     }
 
+    /// Whether the set contains this name.
     pub fn has(self, name: LineName) -> bool {
         self.present[name as usize]
     }
 
+    /// Whether the set contains no name.
     pub fn is_empty(self) -> bool {
         !self.present.contains(&true)
     }

@@ -83,19 +83,15 @@ pub fn code_line(alloc: Global, line: &[u8]) -> Result<Code, LineFault>
 pub fn parse_code_of(alloc: Global, kind: Kind, line: &[u8]) -> Result<Code, LineRefusal<'_>>
     ensures { ReportsLine (code_line_of kind line.now) result }
 {
-    match parse_code(alloc, line) {
-        Ok(code) => {
-            if code.kind() == kind {
-                return Ok(code);
-            }
-            let other = Objection::bare(Cause::Code(CodeFault::Kind));
-            Err(LineRefusal::of(other))
-        }
-        Err(refusal) => Err(refusal),
+    let code = parse_code(alloc, line)?;
+    if code.kind() == kind {
+        Ok(code)
+    } else {
+        Err(LineRefusal::of(Objection::bare(Cause::Code(CodeFault::Kind))))
     }
 }
 
-/// Whether a line begins a block of this kind.
+/// Whether a line is the heading of a block of this kind: `motion` or `change`.
 pub fn is_heading(kind: Kind, line: &[u8]) -> bool
     ensures { result ≡ bytes_eq line.now (heading_line kind) }
 {
@@ -105,7 +101,7 @@ pub fn is_heading(kind: Kind, line: &[u8]) -> bool
     }
 }
 
-/// Assembles lines that follow the line `first` of a text.
+/// Assembles a program of this kind from lines that come after the line `first` of a text.
 ///
 /// # Errors
 ///
@@ -131,7 +127,8 @@ pub fn program_after(
     }
 }
 
-pub fn part_name(kind: Kind) -> LineName {
+/// The name of a program's first line.
+fn first_line_name(kind: Kind) -> LineName {
     match kind {
         Kind::Motion => LineName::Motion,
         Kind::Change => LineName::Change,
@@ -143,8 +140,9 @@ fn program_part(alloc: Global, kind: Kind, rest: Rest<'_>) -> Result<(Code, Rest
     ensures { Reports (program_part kind rest.entry) result }
 {
     let first = rest.number();
-    let names = rest.names_with(part_name(kind));
-    let (line, after) = rest.next_line(part_name(kind))?;
+    let name = first_line_name(kind);
+    let names = rest.names_with(name);
+    let (line, after) = rest.next_line(name)?;
     if is_heading(kind, line) {
         let (lines, after) = after.part()?;
         let code = program_after(alloc, kind, first, lines)?;
@@ -156,7 +154,7 @@ fn program_part(alloc: Global, kind: Kind, rest: Rest<'_>) -> Result<(Code, Rest
     }
 }
 
-/// Verifies a program whose first line is `first`.
+/// Verifies a program whose first line has the number `first`.
 fn accepted<'a, K: ProgramKind>(
     alloc: Global,
     first: u32,
@@ -166,13 +164,13 @@ fn accepted<'a, K: ProgramKind>(
 {
     match verify_as(alloc, code) {
         Ok(program) => Ok(program),
-        Err((code, fault)) => match fault {
+        Err((code, rejection)) => match rejection {
             VerifyFault::Why { at, reason } => {
-                let told = TextFault::At {
+                let fault = TextFault::At {
                     line: first,
                     cause: Cause::Verdict(reason),
                 };
-                Err(Refusal::new(told, b"", Wanted::Program { code, at }))
+                Err(Refusal::new(fault, b"", Wanted::Program { code, at }))
             }
             VerifyFault::Memory => Err(Refusal::memory()),
         },
@@ -193,8 +191,6 @@ pub fn accepted_part<'a, K: ProgramKind>(
 {
     let first = rest.number();
     let (code, after) = program_part(alloc, K::KIND, rest)?;
-    match accepted(alloc, first, code) {
-        Ok(program) => Ok((program, after)),
-        Err(fault) => Err(fault),
-    }
+    let program = accepted(alloc, first, code)?;
+    Ok((program, after))
 }

@@ -21,7 +21,8 @@ pub enum Quantity {
     Other,
 }
 
-/// The input that a reader wanted when it rejected a file. Positions are in bytes from the start of the line.
+/// The input that a reader wanted when it rejected a file. Positions are in bytes, counted from 0 in the rest of the
+/// line.
 #[derive(Drop)]
 pub enum Wanted {
     /// Nothing to add to the cause.
@@ -40,7 +41,7 @@ pub enum Wanted {
     Digits {
         at: usize,
     },
-    /// A second lane; this line has the first one, or the number of lanes.
+    /// A second lane; the line with the number `line` has the first lane, or the number of lanes.
     SecondLane {
         line: u32,
     },
@@ -54,7 +55,7 @@ pub enum Wanted {
         points: u32,
         steps: u32,
     },
-    /// As many cells as the first lane has; 0 if the first lane is at fault itself.
+    /// As many cells as the first lane has; 0 if the first lane is too long.
     Cells {
         first: u32,
     },
@@ -73,7 +74,8 @@ pub enum Wanted {
 #[derive(Drop)]
 pub struct Objection<'a> {
     cause: Cause,
-    line: &'a [u8],
+    /// The rest of the line, in which the positions in `wanted` are counted.
+    line_text: &'a [u8],
     wanted: Wanted,
 }
 
@@ -85,18 +87,18 @@ impl<'a> Model for Objection<'a> {
 
     ghost view = { λ objection. objection.cause };
 
-    ghost invariant = { λ objection. IsWantedIn objection.line.now objection.cause objection.wanted };
+    ghost invariant = { λ objection. IsWantedIn objection.line_text.now objection.cause objection.wanted };
 }
 
 impl<'a> Objection<'a> {
     /// An objection, and the input that was wanted in this line.
-    pub fn new(cause: Cause, line: &'a [u8], wanted: Wanted) -> Objection<'a>
-        requires { IsWantedIn line.now cause wanted }
+    pub fn new(cause: Cause, line_text: &'a [u8], wanted: Wanted) -> Objection<'a>
+        requires { IsWantedIn line_text.now cause wanted }
         ensures { result ≡ cause }
     {
         Objection {
             cause,
-            line,
+            line_text,
             wanted,
         }
     }
@@ -128,7 +130,8 @@ impl<'a> Objection<'a> {
 /// Why a line was rejected, and the input that was wanted instead.
 pub struct LineRefusal<'a> {
     fault: LineFault,
-    line: &'a [u8],
+    /// The rest of the line, in which the positions in `wanted` are counted.
+    line_text: &'a [u8],
     wanted: Wanted,
 }
 
@@ -137,7 +140,7 @@ impl<'a> Drop for LineRefusal<'a> {
     fn drop(self) {
         let LineRefusal {
             fault: _fault,
-            line: _line,
+            line_text: _line_text,
             wanted: _wanted,
         } = self;
     }
@@ -151,37 +154,38 @@ impl<'a> Model for LineRefusal<'a> {
 
     ghost view = { λ refusal. refusal.fault };
 
-    ghost invariant = { λ refusal. IsWantedAt refusal.line.now refusal.fault refusal.wanted };
+    ghost invariant = { λ refusal. IsWantedAt refusal.line_text.now refusal.fault refusal.wanted };
 }
 
 impl<'a> LineRefusal<'a> {
-    /// The refusal of a line because of an objection.
+    /// The refusal of a line because of this objection.
     pub fn of(objection: Objection<'a>) -> LineRefusal<'a>
         ensures { result ≡ LineFault.Wrong objection.entry }
     {
         let Objection {
             cause,
-            line,
+            line_text,
             wanted,
         } = objection;
         LineRefusal {
             fault: LineFault::Wrong(cause),
-            line,
+            line_text,
             wanted,
         }
     }
 
-    /// The refusal because an allocation failed.
+    /// The refusal of a line because an allocation failed.
     pub fn memory() -> LineRefusal<'a>
         ensures { result ≡ LineFault.Memory }
     {
         LineRefusal {
             fault: LineFault::Memory,
-            line: b"",
+            line_text: b"",
             wanted: Wanted::Nothing,
         }
     }
 
+    /// The cause, or a failed allocation.
     pub fn fault(&self) -> LineFault
         ensures { result ≡ self.now }
     {
@@ -195,7 +199,7 @@ impl<'a> LineRefusal<'a> {
     {
         let LineRefusal {
             fault,
-            line,
+            line_text,
             wanted,
         } = self;
         match fault {
@@ -205,7 +209,7 @@ impl<'a> LineRefusal<'a> {
                     line: number,
                     cause,
                 },
-                line,
+                line_text,
                 wanted,
             },
             LineFault::Memory => Refusal::memory(),
@@ -216,7 +220,8 @@ impl<'a> LineRefusal<'a> {
 /// Why a text was rejected, and the input that was wanted at its first fault.
 pub struct Refusal<'a> {
     fault: TextFault,
-    line: &'a [u8],
+    /// The rest of the line, in which the positions in `wanted` are counted.
+    line_text: &'a [u8],
     wanted: Wanted,
 }
 
@@ -225,7 +230,7 @@ impl<'a> Drop for Refusal<'a> {
     fn drop(self) {
         let Refusal {
             fault: _fault,
-            line: _line,
+            line_text: _line_text,
             wanted: _wanted,
         } = self;
     }
@@ -239,18 +244,18 @@ impl<'a> Model for Refusal<'a> {
 
     ghost view = { λ refusal. refusal.fault };
 
-    ghost invariant = { λ refusal. IsWanted refusal.line.now refusal.fault refusal.wanted };
+    ghost invariant = { λ refusal. IsWanted refusal.line_text.now refusal.fault refusal.wanted };
 }
 
 impl<'a> Refusal<'a> {
     /// A refusal, and the input that was wanted in this line.
-    pub fn new(fault: TextFault, line: &'a [u8], wanted: Wanted) -> Refusal<'a>
-        requires { IsWanted line.now fault wanted }
+    pub fn new(fault: TextFault, line_text: &'a [u8], wanted: Wanted) -> Refusal<'a>
+        requires { IsWanted line_text.now fault wanted }
         ensures { result ≡ fault }
     {
         Refusal {
             fault,
-            line,
+            line_text,
             wanted,
         }
     }
@@ -263,7 +268,7 @@ impl<'a> Refusal<'a> {
         Refusal::new(fault, b"", Wanted::Nothing)
     }
 
-    /// The refusal because an allocation failed.
+    /// The refusal of a text because an allocation failed.
     pub fn memory() -> Refusal<'a>
         ensures { result ≡ TextFault.Memory }
     {
@@ -281,22 +286,23 @@ impl<'a> Refusal<'a> {
         Refusal::new(fault, b"", Wanted::Lines(names))
     }
 
+    /// The first fault of the text, or a failed allocation.
     pub fn fault(&self) -> TextFault
         ensures { result ≡ self.now }
     {
         self.fault
     }
 
-    /// The fault, the line to which positions refer, and the wanted input.
+    /// The fault, the rest of its line, in which positions are counted, and the wanted input.
     pub fn into_parts(self) -> (TextFault, &'a [u8], Wanted)
         ensures fault { result.0 ≡ self.entry }
         ensures wanted { IsWanted result.1.now result.0 result.2 }
     {
         let Refusal {
             fault,
-            line,
+            line_text,
             wanted,
         } = self;
-        (fault, line, wanted)
+        (fault, line_text, wanted)
     }
 }

@@ -19,19 +19,19 @@ use trlab_lines::next_line;
 /// The unread lines of a text, and the number of the first, counted from 1.
 #[derive(Drop)]
 pub struct Rest<'a> {
-    left: &'a [u8],
+    unread: &'a [u8],
     number: u32,
     /// Other names that the next line may have.
-    asked: LineNames,
+    also_wanted: LineNames,
 }
 
 impl<'a> Model for Rest<'a> {
     ghost Value = { RestOfLines };
 
-    ghost view = { λ rest. record { number = rest.number; left = lines_of rest.left.now } };
+    ghost view = { λ rest. record { number = rest.number; left = lines_of rest.unread.now } };
 
-    // Each line that is left has at least one byte, so no line number overflows.
-    ghost invariant = { λ rest. rest.number + length rest.left.now < 2 ^ 32 };
+    // Each unread line has at least one byte, so no line number overflows.
+    ghost invariant = { λ rest. rest.number + length rest.unread.now < 2 ^ 32 };
 }
 
 impl<'a> Rest<'a> {
@@ -41,9 +41,9 @@ impl<'a> Rest<'a> {
         ensures { result ≡ all_lines text.now }
     {
         Rest {
-            left: text,
+            unread: text,
             number: 1,
-            asked: LineNames::none(),
+            also_wanted: LineNames::none(),
         }
     }
 
@@ -61,25 +61,21 @@ impl<'a> Rest<'a> {
         self.number.saturating_sub(1)
     }
 
+    /// Whether no line is left.
     pub fn is_end(&self) -> bool
         ensures { IsTrue result ↔ (self.now.left ≡ []) }
     {
-        self.left.is_empty()
+        self.unread.is_empty()
     }
 
     /// Adds a name that the next line may have; refusals list it.
     pub fn or(self, name: LineName) -> Rest<'a>
         ensures { result ≡ self.entry }
     {
-        let Rest {
-            left,
-            number,
-            asked,
-        } = self;
         Rest {
-            left,
-            number,
-            asked: asked.with(name),
+            unread: self.unread,
+            number: self.number,
+            also_wanted: self.also_wanted.with(name),
         }
     }
 
@@ -87,15 +83,15 @@ impl<'a> Rest<'a> {
     pub fn next_word_is(&self, word: &[u8]) -> bool
         ensures { result ≡ next_word_is word.now self.now.left }
     {
-        match next_line(self.left) {
+        match next_line(self.unread) {
             Some((line, _)) => head_word(line) == word,
             None => false,
         }
     }
 
-    /// The names that the next line may have, with this one added.
+    /// The names that the next line may have, with this name added.
     pub fn names_with(&self, name: LineName) -> LineNames {
-        self.asked.with(name)
+        self.also_wanted.with(name)
     }
 
     /// The refusal of a text that ends here, because a line with this name is missing.
@@ -110,16 +106,13 @@ impl<'a> Rest<'a> {
         ensures { MatchOption result (self.entry.left ≡ [])
             (λ found. IsNextLine self.entry found.0.now found.1) }
     {
-        let Rest { left, number, .. } = self;
-        let (line, rest) = next_line(left)?;
-        Some((
-            line,
-            Rest {
-                left: rest,
-                number: number + 1,
-                asked: LineNames::none(),
-            },
-        ))
+        let (line, unread) = next_line(self.unread)?;
+        let after = Rest {
+            unread,
+            number: self.number + 1,
+            also_wanted: LineNames::none(),
+        };
+        Some((line, after))
     }
 
     /// Returns the next line and the rest after it. The name is for the refusal; it is not tested here.
@@ -170,21 +163,17 @@ impl<'a> Rest<'a> {
             (λ fault. (split_at_end self.entry.left ≡ None)
             × (fault ≡ TextFault.At (self.entry.number + length self.entry.left) Cause.Line)) }
     {
-        let Rest {
-            left: text,
-            number,
-            ..
-        } = self;
-        let mut left = text;
+        let Rest { unread, number, .. } = self;
+        let mut left = unread;
         let mut lines = 0;
         while let Some((line, rest)) = next_line(left) {
             lines += 1;
             if line == b"end".as_slice() {
-                let (part, _) = text.split_at(text.len() - left.len());
+                let (part, _) = unread.split_at(unread.len() - left.len());
                 let after = Rest {
-                    left: rest,
+                    unread: rest,
                     number: number + lines,
-                    asked: LineNames::none(),
+                    also_wanted: LineNames::none(),
                 };
                 return Ok((part, after));
             }

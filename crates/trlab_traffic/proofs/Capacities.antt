@@ -1,4 +1,4 @@
--- Steps and runs keep to the capacity of their road.
+-- Steps and runs stay under the triangle of their road.
 use Rattle.std.proofs.Common.{◌≡◌, ℕ, zero, suc, ◌+◌, ◌-◌, ◌*◌, ◌<◌, ◌≤◌, Bool, true, false, Option, Some, None, List, [], ◌∷◌, length, get_or, refl, sym, ◌∙◌, ap, subst, inl, inr, arith, mul_comm, suc-mul, true≢false, if◌then◌else◌}
 use Rattle.std.specs.Prelude.{All, nat_le, slice_index, sum_by}
 use Rattle.std.proofs.lemmas.Bool.{cases_lt, le-leb, lt-leb}
@@ -10,7 +10,7 @@ use Rattle.trlab_road.specs.declared.car.Car.{Car}
 use Rattle.trlab_road.specs.Cells.{AgreeAtCars, Cells, Lane, cars, lane_of}
 use Rattle.trlab_road.specs.Gaps.{gap}
 use Rattle.trlab_road.specs.Legal.{IsLegal}
-use Rattle.trlab_road.specs.Motion.{Fits, IsClearAhead, MayMove, Moves, in_order}
+use Rattle.trlab_road.specs.Motion.{Fits, IsClearAhead, AreSafeSpeeds, Moves, in_order}
 use Rattle.trlab_road.specs.Standing.{standing}
 use Rattle.trlab_road.proofs.MotionInOrder.{answer_at, moves_by}
 use Rattle.trlab_road.proofs.MotionLaws.{on_lane}
@@ -24,7 +24,7 @@ use Rattle.trlab_step.specs.Next.{IsLaneChangePhase, IsNext, total_speed}
 use Rattle.trlab_step.specs.Run.{ComesTo, Seed, Sheet, dice_at, tally_sum}
 use Rattle.trlab_step.proofs.NextLaws.{like_itself, like_next}
 use Rattle.trlab_step.proofs.SumsOverCars.{total_speed-moved}
-use Rattle.trlab_traffic.specs.Capacity.{IsWithinCapacity, RunKeepsToCapacity, StepKeepsToCapacity, all_cells, empty_cells, lane_cells}
+use Rattle.trlab_traffic.specs.Triangle.{IsDistanceUnderTriangle, RunStaysUnderTriangle, StepStaysUnderTriangle, all_cells, empty_cells, lane_cells}
 use Rattle.trlab_traffic.proofs.AnyRule.{answers_fit, middle_like, next_legal_like}
 use Rattle.trlab_traffic.proofs.RoomAhead.{lanes_room, taken_or_empty}
 
@@ -35,7 +35,7 @@ kth_is f road k below =
     get_or-map_in (λ (car : Car). f car.lane car.place) (standing road) k no_one 0 (omega (arith, below, count))
 
 -- speeds that fit may be answered in standing order
-pub may_move : (speeds : ℕ → ℕ → ℕ) (road : Cells) → Fits speeds road → MayMove road (in_order speeds road)
+pub may_move : (speeds : ℕ → ℕ → ℕ) (road : Cells) → Fits speeds road → AreSafeSpeeds road (in_order speeds road)
 may_move speeds road fits = record {
   one_each = length-map (standing road) (λ (car : Car). speeds car.lane car.place) ∙ length-standing_from_lane 0 road.lanes;
   within_gaps = λ k below.
@@ -125,8 +125,8 @@ step_within rule dice road next tally legal is =
 one_step : (m n : ℕ) → m ≤ n → m ≤ 1 * n
 one_step m n h = omega arith
 
-pub step_keeps_to_capacity : StepKeepsToCapacity
-step_keeps_to_capacity rule dice road next tally legal is =
+pub step_stays_under_triangle : StepStaysUnderTriangle
+step_stays_under_triangle rule dice road next tally legal is =
     let within = step_within rule dice road next tally legal is in
     record { by_empty_cells = one_step tally.distance (empty_cells road) within.by_cells; by_limit = one_step tally.distance (road.limit * cars road) within.by_limit }
 
@@ -143,7 +143,7 @@ distance_uncounted false sum so_far tally is h = ap (λ (t : StepTally). t.dista
 record OnItsWay (seed : Seed) (step : ℕ) (road : Cells) (sum : StepTally) : Type 0 where
   like : IsLegalLike seed.road road
   cells : all_cells road ≡ all_cells seed.road
-  within : IsWithinCapacity seed.road (step - seed.warm) sum.distance
+  within : IsDistanceUnderTriangle seed.road (step - seed.warm) sum.distance
 
 -- the distance of one more step, where it is counted and where it is not
 one_more : (m n most step warm : ℕ) → m ≤ (step - warm) * most → n ≤ most → warm ≤ step → m + n ≤ (suc step - warm) * most
@@ -202,5 +202,5 @@ run_on_its_way seed sheet (suc step) road sum legal is =
       ];
     }
 
-pub run_keeps_to_capacity : RunKeepsToCapacity
-run_keeps_to_capacity seed sheet step road sum legal is = (run_on_its_way seed sheet step road sum legal is).within
+pub run_stays_under_triangle : RunStaysUnderTriangle
+run_stays_under_triangle seed sheet step road sum legal is = (run_on_its_way seed sheet step road sum legal is).within

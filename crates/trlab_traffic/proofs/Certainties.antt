@@ -23,7 +23,7 @@ use Rattle.trlab_step.specs.Answers.{change_view_of, motion_view_of}
 use Rattle.trlab_step.specs.Next.{IsLaneChangePhase, IsMotionPhase}
 use Rattle.trlab_step.specs.Run.{dice_at}
 use Rattle.trlab_step.proofs.RunLaws.{force_all}
-use Rattle.trlab_traffic.specs.Certainty.{HasOneOutcome, IsDeterministic, NaschWithoutRandomizationIsDeterministic, RunIsDeterministic, StepIsDeterministic}
+use Rattle.trlab_traffic.specs.Determinism.{HasOneOutcome, IsDeterministic, NaschWithoutRandomizationIsDeterministic, RunIsDeterministic, StepIsDeterministic}
 
 -- a chance that is none, or certainty, happens on all words of 32 bits or on none
 same_drawn : (chance a b : ℕ) → (chance ≡ 0) ⊎ (chance ≡ CERTAIN) → a < 2 ^ 32 → b < 2 ^ 32 → nat_lt (a / 2) chance ≡ nat_lt (b / 2) chance

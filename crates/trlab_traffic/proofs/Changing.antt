@@ -15,7 +15,7 @@ use Rattle.trlab_road.proofs.StandingOrder.{length-standing_from_lane}
 use Rattle.trlab_step.specs.declared.tally.StepTally.{StepTally}
 use Rattle.trlab_step.specs.Next.{IsLaneChangePhase}
 use Rattle.trlab_step.specs.Run.{ComesTo, Seed, Sheet, dice_at, tally_sum}
-use Rattle.trlab_traffic.specs.Capacity.{all_cells, empty_cells, lane_empty_cells}
+use Rattle.trlab_traffic.specs.Triangle.{all_cells, empty_cells, lane_empty_cells}
 use Rattle.trlab_traffic.specs.Changing.{BoundsLaneChanges, RunBoundsLaneChanges, StepBoundsLaneChanges}
 use Rattle.trlab_traffic.proofs.AnyRule.{crossings_free}
 use Rattle.trlab_traffic.proofs.Capacities.{next_cells}

@@ -12,9 +12,9 @@ use Rattle.trlab_step.specs.declared.tally.StepTally.{StepTally}
 use Rattle.trlab_step.specs.Next.{IsNext}
 use Rattle.trlab_step.specs.Run.{ComesTo, Seed, Sheet, dice_at, IsRoadAt}
 use Rattle.trlab_step.proofs.RunLaws.{force_all, road_at_is_one}
-use Rattle.trlab_traffic.specs.Capacity.{lane_empty_cells}
+use Rattle.trlab_traffic.specs.Triangle.{lane_empty_cells}
 use Rattle.trlab_traffic.specs.Detector.{all_passages, cars_ahead_of, passages, cells_ahead_to}
-use Rattle.trlab_traffic.specs.DetectorRuns.{DifferByAtMost, CountExists, Counts, DetectorMeasuresFlow, DetectorsAgree, DetectorsAgreeByCars, DetectorsCountRun, RunSatisfiesContinuity, min_of_cars_and_empty_cells}
+use Rattle.trlab_traffic.specs.DetectorRuns.{DifferByAtMost, DetectorCountExists, DetectorHasCounted, DetectorMeasuresFlow, DetectorsAgree, DetectorsAgreeByCars, DetectorsCountRun, RunSatisfiesContinuity, min_of_cars_and_empty_cells}
 use Rattle.trlab_traffic.specs.Rule184.{is_taken}
 use Rattle.trlab_traffic.specs.Runs.{EachRule, StaysInLane}
 use Rattle.trlab_traffic.proofs.Capacities.{distance_counted, distance_uncounted}
@@ -27,7 +27,7 @@ use Rattle.trlab_traffic.proofs.OneLane.{one_sum}
 use Rattle.trlab_traffic.proofs.RunLanes.{run_lanes}
 use Rattle.trlab_traffic.proofs.Sums.{sum_range, total_add, total_none, total_same}
 
-pub count_exists : CountExists
+pub count_exists : DetectorCountExists
 count_exists seed sheet zero road sum l x comes = (0, refl)
 count_exists seed sheet (suc step) road sum l x comes =
     let before = count_exists seed sheet step comes.0 comes.1 l x comes.4 in
@@ -35,8 +35,8 @@ count_exists seed sheet (suc step) road sum l x comes =
     (count, (road, before.0, (sum, comes), before.1, refl))
 
 -- what a detector counts in one step more
-pub counts_on : (seed : Seed) (sheet : Sheet) (step : ℕ) (road : Cells) (l x count : ℕ) → IsRoadAt seed sheet (suc step) road → Counts seed sheet l x (suc step) count
-    → (before : ℕ) × (Counts seed sheet l x step before × (count ≡ (if nat_le seed.warm step then before + passages (lane_of road l) x else before)))
+pub counts_on : (seed : Seed) (sheet : Sheet) (step : ℕ) (road : Cells) (l x count : ℕ) → IsRoadAt seed sheet (suc step) road → DetectorHasCounted seed sheet l x (suc step) count
+    → (before : ℕ) × (DetectorHasCounted seed sheet l x step before × (count ≡ (if nat_le seed.warm step then before + passages (lane_of road l) x else before)))
 counts_on seed sheet step road l x count here counts =
     let same = road_at_is_one seed sheet (suc step) counts.0 road counts.2 here in
     (counts.1, (counts.3, counts.4 ∙ ap (λ (r : Cells). if nat_le seed.warm step then counts.1 + passages (lane_of r l) x else counts.1) same))
@@ -50,7 +50,7 @@ uncounted_so true count before p is so = absurd (cc so)
 uncounted_so false count before p is so = is
 
 -- nothing is counted before the count begins
-pub none_counted : (seed : Seed) (sheet : Sheet) (l x step count : ℕ) → step ≤ seed.warm → Counts seed sheet l x step count → count ≡ 0
+pub none_counted : (seed : Seed) (sheet : Sheet) (l x step count : ℕ) → step ≤ seed.warm → DetectorHasCounted seed sheet l x step count → count ≡ 0
 none_counted seed sheet l x zero count early counts = counts
 none_counted seed sheet l x (suc step) count early counts =
     uncounted_so (nat_le seed.warm step) count counts.1 (passages (lane_of counts.0 l) x) counts.4 (lt-leb seed.warm step (omega (arith, early)))
@@ -200,7 +200,7 @@ detectors_count_run seed sheet (suc step) road sum count one comes counts =
     let n = length (lane_of seed.road 0) in
     let on = comes.5 in
     let tally = comes.3 in
-    let before : (x : ℕ) → (b : ℕ) × (Counts seed sheet 0 x step b × (count x ≡ (if nat_le seed.warm step then b + passages (lane_of road 0) x else b))) =
+    let before : (x : ℕ) → (b : ℕ) × (DetectorHasCounted seed sheet 0 x step b × (count x ≡ (if nat_le seed.warm step then b + passages (lane_of road 0) x else b))) =
     λ x. counts_on seed sheet step road 0 x (count x) (sum, comes) (counts x) in
     let so_far = detectors_count_run seed sheet step comes.0 comes.1 (λ x. (before x).0) one comes.4 (λ x. (before x).1.0) in
     elim (cases_lt step seed.warm) [
@@ -247,14 +247,14 @@ measured n count apart distance total all most least = record { no_less = omega 
 pub detector_measures_flow : DetectorMeasuresFlow
 detector_measures_flow seed sheet step road sum x count nobody one comes low counted =
     let n = length (lane_of seed.road 0) in
-    let counts : (y : ℕ) → (c : ℕ) × Counts seed sheet 0 y step c = λ y. count_exists seed sheet step road sum 0 y comes in
+    let counts : (y : ℕ) → (c : ℕ) × DetectorHasCounted seed sheet 0 y step c = λ y. count_exists seed sheet step road sum 0 y comes in
     let all = detectors_count_run seed sheet step road sum (λ y. (counts y).0) one comes (λ y. (counts y).1) in
     let near : (y : ℕ) → y < n → DifferByAtMost (min_of_cars_and_empty_cells (lane_of seed.road 0)) count (counts y).0 = λ y high.
     let short : cells_ahead_to n x y < n = ahead_below n y (n - x) (omega (arith, low)) in
     detectors_agree_by_cars seed sheet step road sum 0 x (cells_ahead_to n x y) count (counts y).0 nobody comes (let k : cells_ahead_to n x y ≤ n = omega (arith, short) in k) (record {
       is_cell = low;
       here = counted;
-      there = subst (λ z. Counts seed sheet 0 z step (counts y).0) (sym (way_reaches n x y low high)) (counts y).1;
+      there = subst (λ z. DetectorHasCounted seed sheet 0 z step (counts y).0) (sym (way_reaches n x y low high)) (counts y).1;
     }) in
     let most = sum_no_more (λ y. (counts y).0) count (min_of_cars_and_empty_cells (lane_of seed.road 0)) 0 n (λ y high. (near y (omega (arith, high))).no_more) in
     let least = sum_no_less (λ y. (counts y).0) count (min_of_cars_and_empty_cells (lane_of seed.road 0)) 0 n (λ y high. (near y (omega (arith, high))).no_less) in

@@ -1,4 +1,4 @@
--- Cars that start evenly spread flow at the capacity of their road.
+-- Evenly spaced cars flow on the triangle of their road.
 use Rattle.std.proofs.Common.{◌≡◌, ℕ, zero, suc, ◌+◌, ◌-◌, ◌*◌, ◌/◌, ◌<◌, ◌≤◌, min, Some, length, refl, sym, ◌∙◌, ap, subst, inl, inr, arith, div-lt_iff_lt-mul, le-div_iff_mul-le, mul_comm}
 use Rattle.std.proofs.lemmas.Bool.{cases_lt}
 use Rattle.trlab_road.specs.declared.car.Car.{Car}
@@ -8,8 +8,8 @@ use Rattle.trlab_road.specs.Motion.{LaneFits, LaneMoves}
 use Rattle.trlab_road.specs.Standing.{standing_from}
 use Rattle.trlab_road.proofs.EvenRoads.{even_count, even_legal}
 use Rattle.trlab_road.proofs.StandingOrder.{length-standing_from}
-use Rattle.trlab_traffic.specs.Capacity.{capacity, empty_cells, lane_empty_cells}
-use Rattle.trlab_traffic.specs.Diagram.{EvenCarsFlowAtCapacity}
+use Rattle.trlab_traffic.specs.Triangle.{max_distance, empty_cells, lane_empty_cells}
+use Rattle.trlab_traffic.specs.Diagram.{EvenCarsFlowOnTriangle}
 use Rattle.trlab_traffic.proofs.EvenGaps.{gap_high, gap_low, who}
 use Rattle.trlab_traffic.proofs.Freely.{sum_by-same}
 use Rattle.trlab_traffic.proofs.GapsAfter.{gap_after, next_taken}
@@ -179,9 +179,9 @@ dense limit count cells g fast some = record {
       ∙ (let e : lane_empty_cells old ≡ cells - count = omega (arith, size, whole, now) in e);
 }
 
-pub even_cars_flow_at_capacity : EvenCarsFlowAtCapacity
+pub even_cars_flow_on_triangle : EvenCarsFlowOnTriangle
 unfolding dense free
-even_cars_flow_at_capacity cells limit n rule seed step road sum is fits even warm comes =
+even_cars_flow_on_triangle cells limit n rule seed step road sum is fits even warm comes =
     let legal = even_legal 1 cells limit n seed.road fits even in
     let count = even_count 1 cells limit n seed.road fits even in
     let lane = lane_of seed.road 0 in
@@ -195,7 +195,7 @@ even_cars_flow_at_capacity cells limit n rule seed step road sum is fits even wa
     let whole = lane_taken_or_empty lane in
     let size = on_lane.same_length in
     let empty : empty_cells seed.road ≡ cells - n = omega (arith, own, holes, whole, size, count) in
-    let all : min (limit * n) (cells - n) ≡ capacity seed.road = sym (ap (λ k. min k (empty_cells seed.road)) most ∙ ap (λ k. min (limit * n) k) empty) in
+    let all : min (limit * n) (cells - n) ≡ max_distance seed.road = sym (ap (λ k. min k (empty_cells seed.road)) most ∙ ap (λ k. min (limit * n) k) empty) in
     elim (cases_lt cells (n * (limit + 1))) [
       | inl many ↦
           let some : 0 < n = few_none cells n limit many in

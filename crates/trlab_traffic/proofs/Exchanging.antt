@@ -26,13 +26,13 @@ use Rattle.trlab_step.specs.Next.{IsLaneChangePhase, IsMotionPhase, crossing_car
 use Rattle.trlab_step.specs.Run.{dice_at}
 use Rattle.trlab_step.proofs.Parts.{same_view}
 use Rattle.trlab_step.proofs.RunLaws.{force_all}
-use Rattle.trlab_traffic.specs.Symmetry.{IgnoresLane, RickertIgnoresLane, RunIsSymmetric, StepIsSymmetric, exchanged, reads_lane}
+use Rattle.trlab_traffic.specs.Symmetry.{IgnoresLane, RickertIgnoresLane, RunIsSymmetric, StepIsSymmetric, exchange_lanes, reads_lane}
 use Rattle.trlab_traffic.proofs.Homogeneity.{same_seen}
 use Rattle.trlab_traffic.proofs.LaneUnread.{lane_is_not_read}
 use Rattle.trlab_traffic.proofs.RunLanes.{middle_lanes, next_lanes, run_lanes}
 
 -- a lane of the exchanged road is the other one of the road
-lane_exchanged : (road : Cells) (l : ℕ) → l < 2 → lane_of (exchanged road) l ≡ lane_of road (other_lane l)
+lane_exchanged : (road : Cells) (l : ℕ) → l < 2 → lane_of (exchange_lanes road) l ≡ lane_of road (other_lane l)
 lane_exchanged road zero low = refl
 lane_exchanged road (suc zero) low = refl
 lane_exchanged road (suc (suc l)) low = absurd (omega (arith, low))
@@ -40,20 +40,20 @@ lane_exchanged road (suc (suc l)) low = absurd (omega (arith, low))
 other_low : (l : ℕ) → other_lane l < 2
 other_low l = omega arith
 
-module _ (road : Cells) (car : Car) (here : IsAt (exchanged road) car) where
+module _ (road : Cells) (car : Car) (here : IsAt (exchange_lanes road) car) where
   pub on : car.lane < 2
-  on = on_lane (exchanged road) car.lane car.place (car.number, car.speed) here
+  on = on_lane (exchange_lanes road) car.lane car.place (car.number, car.speed) here
 
   -- a car of the exchanged road stands on the other lane of the road
   pub stood : IsAt road (car_after_crossing car)
   stood = subst (λ (lane : Lane). at lane car.place ≡ Some (car.number, car.speed)) (lane_exchanged road car.lane on) here
 
-  pub motion_view_exchanged : motion_view_of (exchanged road) car ≡ motion_view_of road (car_after_crossing car)
+  pub motion_view_exchanged : motion_view_of (exchange_lanes road) car ≡ motion_view_of road (car_after_crossing car)
   motion_view_exchanged =
       let turn = lane_exchanged road car.lane on in
       same_view _ _ _ _ _ _ _ _ refl refl (ap (λ (lane : Lane). gap lane car.place) turn) (ap (λ (lane : Lane). headspeed lane car.place) turn)
 
-  pub change_view_exchanged : record (change_view_of road (car_after_crossing car)) { lane = car.lane } ≡ change_view_of (exchanged road) car
+  pub change_view_exchanged : record (change_view_of road (car_after_crossing car)) { lane = car.lane } ≡ change_view_of (exchange_lanes road) car
   change_view_exchanged =
       let x = car.place in
       let turn = lane_exchanged road car.lane on in
@@ -67,7 +67,7 @@ module _ (road : Cells) (car : Car) (here : IsAt (exchanged road) car) where
       (ap (λ (lane : Lane). headspeed lane x) turn)
       )
 
-motion_exchanged : (motion : CheckedProgram) (dice : Dice) (road next : Cells) → length road.lanes ≡ 2 → IsMotionPhase motion dice road next → IsMotionPhase motion dice (exchanged road) (exchanged next)
+motion_exchanged : (motion : CheckedProgram) (dice : Dice) (road next : Cells) → length road.lanes ≡ 2 → IsMotionPhase motion dice road next → IsMotionPhase motion dice (exchange_lanes road) (exchange_lanes next)
 motion_exchanged motion dice road next both phase =
     let speeds = phase.0 in
     let m = phase.2 in (
@@ -114,21 +114,21 @@ sum_exchanged g f (lane ∷ beside ∷ []) both up down =
     omega (arith, one, two, a, b, c, d)
 sum_exchanged g f (lane ∷ beside ∷ more ∷ lanes) both up down = absurd (omega (arith, both))
 
-total_speed_exchanged : (road : Cells) → length road.lanes ≡ 2 → total_speed (exchanged road) ≡ total_speed road
+total_speed_exchanged : (road : Cells) → length road.lanes ≡ 2 → total_speed (exchange_lanes road) ≡ total_speed road
 total_speed_exchanged road both = sum_exchanged (λ (car : Car). car.speed) (λ (car : Car). car.speed) road.lanes both (λ x number speed. refl) (λ x number speed. refl)
 
-stopped_cars_exchanged : (road : Cells) → length road.lanes ≡ 2 → stopped_cars (exchanged road) ≡ stopped_cars road
+stopped_cars_exchanged : (road : Cells) → length road.lanes ≡ 2 → stopped_cars (exchange_lanes road) ≡ stopped_cars road
 stopped_cars_exchanged road both =
     sum_exchanged (λ (car : Car). cond (nat_eq car.speed 0) 1 0) (λ (car : Car). cond (nat_eq car.speed 0) 1 0) road.lanes both (λ x number speed. refl) (λ x number speed. refl)
 
-crossing_cars_exchanged : (crosses : ℕ → ℕ → Bool) (road : Cells) → length road.lanes ≡ 2 → crossing_cars (λ l x. crosses (other_lane l) x) (exchanged road) ≡ crossing_cars crosses road
+crossing_cars_exchanged : (crosses : ℕ → ℕ → Bool) (road : Cells) → length road.lanes ≡ 2 → crossing_cars (λ l x. crosses (other_lane l) x) (exchange_lanes road) ≡ crossing_cars crosses road
 crossing_cars_exchanged crosses road both =
     sum_exchanged (λ (car : Car). cond (crosses (other_lane car.lane) car.place) 1 0) (λ (car : Car). cond (crosses car.lane car.place) 1 0) road.lanes both
     (λ x number speed. refl) (λ x number speed. refl)
 
 change_exchanged : (change : Option CheckedProgram) (dice : Dice) (road middle : Cells) (changes : ℕ) → IfSome change (λ (c : CheckedProgram). All (λ (instr : Instr). reads_lane instr ≡ false) c.program.instrs)
-    → length road.lanes ≡ 2 → IsLaneChangePhase change dice road middle changes → IsLaneChangePhase change dice (exchanged road) (exchanged middle) changes
-change_exchanged None dice road middle changes unread both phase = (ap exchanged phase.0, phase.1)
+    → length road.lanes ≡ 2 → IsLaneChangePhase change dice road middle changes → IsLaneChangePhase change dice (exchange_lanes road) (exchange_lanes middle) changes
+change_exchanged None dice road middle changes unread both phase = (ap exchange_lanes phase.0, phase.1)
 change_exchanged (Some change) dice road middle changes unread both phase =
     let crosses = phase.1 in
     let m = phase.3 in (
@@ -158,7 +158,7 @@ step_is_symmetric rule dice road next tally unread both is =
     let middle = is.0 in
     let two : length middle.lanes ≡ 2 = (middle_lanes rule.change dice road middle tally.changes is.1.lane_change).count ∙ both in
     let two_next : length next.lanes ≡ 2 = (next_lanes rule dice road next tally is).count ∙ both in (
-      exchanged middle,
+      exchange_lanes middle,
       record {
         lane_change = change_exchanged rule.change dice road middle tally.changes unread both is.1.lane_change;
         motion = motion_exchanged rule.motion dice middle next two is.1.motion;
@@ -168,7 +168,7 @@ step_is_symmetric rule dice road next tally unread both is =
     )
 
 pub run_is_symmetric : RunIsSymmetric
-run_is_symmetric seed sheet zero road sum unread both comes = (comes.0, ap exchanged comes.1, comes.2)
+run_is_symmetric seed sheet zero road sum unread both comes = (comes.0, ap exchange_lanes comes.1, comes.2)
 run_is_symmetric seed sheet (suc step) road sum unread both comes =
     let before = comes.0 in
     let rule = comes.2 in
@@ -176,7 +176,7 @@ run_is_symmetric seed sheet (suc step) road sum unread both comes =
     let on_step = comes.5 in
     let ignores = force_all IgnoresLane sheet step rule unread on_step.under in
     let two : length before.lanes ≡ 2 = (run_lanes seed sheet step before comes.1 comes.4).count ∙ both in (
-      exchanged before,
+      exchange_lanes before,
       comes.1,
       rule,
       tally,

@@ -15,7 +15,7 @@ use Rattle.trlab_road.specs.declared.car.Car.{Car}
 use Rattle.trlab_road.specs.Cells.{Cells, IsAt}
 use Rattle.trlab_road.specs.Legal.{IsLegal}
 use Rattle.trlab_rules.specs.Laws.{ComputesSpeed}
-use Rattle.trlab_rules.specs.Published.{brake, nasch_speed, safe_speed, vdr_chance, vdr_speed}
+use Rattle.trlab_rules.specs.Published.{brake, nasch_speed, safe_speed, vdr_braking_chance, vdr_speed}
 use Rattle.trlab_rules.specs.Rules.{Programs}
 use Rattle.trlab_step.specs.Answers.{AnswersSpeed, motion_view_of}
 use Rattle.trlab_step.specs.Run.{Seed, dice_at}
@@ -176,7 +176,7 @@ vdr_speeds_up_by_one p p0 rule is view words speed n seen ends =
     let code = rule.motion.program.instrs in
     let own = is.motion.moves view words seen in
     let same = one_goes speed (vdr_speed p p0 view words) (one_answer Motion code view words (Goes speed) (Goes (vdr_speed p p0 view words)) n own.0 ends own.1).0 in
-    let most = brake_down (happens_on (vdr_chance p p0 view.speed) (slice_index words 0)) (safe_speed view.speed view.limit view.gap) in
+    let most = brake_down (happens_on (vdr_braking_chance p p0 view.speed) (slice_index words 0)) (safe_speed view.speed view.limit view.gap) in
     let up : safe_speed view.speed view.limit view.gap ≤ view.speed + 1 = (let k : min (min (view.speed + 1) view.limit) view.gap ≤ view.speed + 1 = omega arith in k) in
     omega (arith, same, most, up)
 
@@ -244,7 +244,7 @@ greater false p q q0 more more0 = more
 
 pub slow_starts_slow_runs : SlowStartsSlowRuns
 slow_starts_slow_runs p q q0 light heavy seed step more more0 is_light is_heavy legal one =
-    braking_slows p (vdr_chance q q0) light heavy seed step (λ speed. greater (nat_eq speed 0) p q q0 more more0) is_light is_heavy.motion.moves is_heavy.change legal one
+    braking_slows p (vdr_braking_chance q q0) light heavy seed step (λ speed. greater (nat_eq speed 0) p q q0 more more0) is_light is_heavy.motion.moves is_heavy.change legal one
 
 -- the program that goes as far as the gap and the limit allow
 gap_runs : (view : View) (words : List ℕ) → Run Motion gap_program.instrs view words (At 0 (start Motion view)) (Goes (min view.limit view.gap))

@@ -9,7 +9,7 @@ use Rattle.trlab_road.proofs.Ring.{apart_within_gaps}
 use Rattle.trlab_step.specs.declared.tally.StepTally.{StepTally}
 use Rattle.trlab_step.specs.Run.{ComesTo, Seed, Sheet, dice_at}
 use Rattle.trlab_step.proofs.RunLaws.{force_all}
-use Rattle.trlab_traffic.specs.Capacity.{lane_empty_cells}
+use Rattle.trlab_traffic.specs.Triangle.{lane_empty_cells}
 use Rattle.trlab_traffic.specs.Detector.{cars_ahead_of}
 use Rattle.trlab_traffic.specs.Rule184.{digit, is_taken}
 use Rattle.trlab_traffic.specs.Runs.{EachRule, StaysInLane}

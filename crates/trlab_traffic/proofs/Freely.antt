@@ -24,7 +24,7 @@ use Rattle.trlab_step.specs.Published.{AllMoveAhead, car_after_motion}
 use Rattle.trlab_step.specs.Run.{ComesTo, Seed, dice_at, in_force}
 use Rattle.trlab_step.proofs.NextLaws.{like_itself, like_next}
 use Rattle.trlab_traffic.specs.FreeFlow.{FreeFlowGoesOn, FreeFlowStaysFree, FreeFlowMovesAsOne, IsInFreeFlow}
-use Rattle.trlab_traffic.specs.Homogeneity.{turned, turned_lane}
+use Rattle.trlab_traffic.specs.Homogeneity.{rotate_road, rotate_lane}
 use Rattle.trlab_traffic.proofs.AnyRule.{next_legal_like}
 use Rattle.trlab_traffic.proofs.Capacities.{distance_counted, distance_uncounted}
 use Rattle.trlab_traffic.proofs.NaschMoves.{safe_motion}
@@ -97,9 +97,9 @@ module _ (v : ℕ) (answer : ℕ → ℕ) (old new : Lane) (m : LaneMoves answer
             let e = sym stood ∙ ap (at old) (ahead_once n z x v (inside old z (car.0, came.1.0) stood) low from) ∙ was in
             absurd cc
 
-    turned_back : turned_lane v new ≡ old
+    turned_back : rotate_lane v new ≡ old
     turned_back =
-        ext_get_or None (turned_lane v new) old (length-turned v new ∙ m.same_length) (λ x below.
+        ext_get_or None (rotate_lane v new) old (length-turned v new ∙ m.same_length) (λ x below.
         let size = m.same_length in
         let low : x < length new = subst (λ k. x < k) (length-turned v new) below in
         turned_at v new x low ∙ ap (λ k. at new (ahead k x v)) size ∙ cell_ahead x (omega (arith, low, size)))
@@ -140,11 +140,11 @@ free_after old new motion free = record {
         let size = motion.moves.same_lanes in
         omega (arith, on, size)
 
--- the road after it, turned by the limit, is the road before it
-pub free_back : (old new : Cells) → FreeMotion old new → IsInFreeFlow old → turned old.limit new ≡ old
+-- the road after it, rotated by the limit, is the road before it
+pub free_back : (old new : Cells) → FreeMotion old new → IsInFreeFlow old → rotate_road old.limit new ≡ old
 free_back old new motion free =
-    same_road (turned old.limit new) old motion.moves.same_limit (length-map new.lanes (turned_lane old.limit) ∙ motion.moves.same_lanes) (λ l below.
-    let size = length-map new.lanes (turned_lane old.limit) in
+    same_road (rotate_road old.limit new) old motion.moves.same_limit (length-map new.lanes (rotate_lane old.limit) ∙ motion.moves.same_lanes) (λ l below.
+    let size = length-map new.lanes (rotate_lane old.limit) in
     let same = motion.moves.same_lanes in
     lane_turned old.limit new l
     ∙ turned_back old.limit (motion.speeds l) (lane_of old l) (lane_of new l) (motion.moves.each_lane l (omega (arith, below, size, same)))
@@ -195,7 +195,7 @@ one_rule rule other step is = let e = sym (in_force_one rule step) ∙ is in cc
 pub record FreelyOn (seed : Seed) (step : ℕ) (road : Cells) (sum : StepTally) : Type 0 where
   like : IsLegalLike seed.road road
   pub free : IsInFreeFlow road
-  pub as_one : turned (seed.road.limit * step) road ≡ seed.road
+  pub as_one : rotate_road (seed.road.limit * step) road ≡ seed.road
   pub gone : sum.distance ≡ (step - seed.warm) * (seed.road.limit * cars seed.road)
 
 pub one_more : (m n most step warm : ℕ) → m ≡ (step - warm) * most → n ≡ most → warm ≤ step → m + n ≡ (suc step - warm) * most
@@ -218,7 +218,7 @@ pub run_freely : (rule : Programs) (seed : Seed) (step : ℕ) (road : Cells) (su
 run_freely rule seed zero road sum moves legal free comes = record {
   like = subst (IsLegalLike seed.road) (sym comes.1) (like_itself seed.road legal);
   free = subst IsInFreeFlow (sym comes.1) free;
-  as_one = ap (turned (seed.road.limit * 0)) comes.1 ∙ ap (λ k. turned k seed.road) (mul-zero seed.road.limit) ∙ turned_none seed.road;
+  as_one = ap (rotate_road (seed.road.limit * 0)) comes.1 ∙ ap (λ k. rotate_road k seed.road) (mul-zero seed.road.limit) ∙ turned_none seed.road;
   gone = subst (λ (t : StepTally). t.distance ≡ (0 - seed.warm) * (seed.road.limit * cars seed.road)) (sym comes.2) (none_yet (seed.road.limit * cars seed.road) seed.warm);
 }
 run_freely rule seed (suc step) road sum moves legal free comes =
@@ -238,9 +238,9 @@ run_freely rule seed (suc step) road sum moves legal free comes =
     record {
       like = like;
       free = again;
-      as_one = ap (λ k. turned k road) (mul-suc v step)
+      as_one = ap (λ k. rotate_road k road) (mul-suc v step)
           ∙ sym (turned_more (v * step) v road)
-          ∙ ap (turned (v * step)) (ap (λ k. turned k road) (sym way.like.same_limit) ∙ free_back before road motion way.free)
+          ∙ ap (rotate_road (v * step)) (ap (λ k. rotate_road k road) (sym way.like.same_limit) ∙ free_back before road motion way.free)
           ∙ way.as_one;
       gone = elim (cases_lt step seed.warm) [
         | inl early ↦

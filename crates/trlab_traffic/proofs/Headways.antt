@@ -13,7 +13,7 @@ use Rattle.trlab_road.proofs.Ring.{car_in, clear_within_gap, inside}
 use Rattle.trlab_step.specs.Run.{IsRoadAt, Seed, Sheet, dice_at}
 use Rattle.trlab_step.proofs.RunLaws.{force_all, road_at_is_one}
 use Rattle.trlab_traffic.specs.Detector.{cars_ahead_of, passages, passes, place_before_motion, cells_ahead_to}
-use Rattle.trlab_traffic.specs.DetectorRuns.{Counts, DetectorCountsBelowPeak}
+use Rattle.trlab_traffic.specs.DetectorRuns.{DetectorHasCounted, DetectorCountsBelowPeak}
 use Rattle.trlab_traffic.specs.Rule184.{is_taken}
 use Rattle.trlab_traffic.specs.Runs.{EachRule, StaysInLane}
 use Rattle.trlab_traffic.proofs.AnyRule.{answers_fit}
@@ -230,7 +230,7 @@ module _ (seed : Seed) (sheet : Sheet) (legal : IsLegal seed.road) (nobody : Eac
     few : count ≤ step - seed.warm
     each : count ≡ step - seed.warm → (t : ℕ) → seed.warm ≤ t → t < step → Passed t x
 
-  each_step : (x : ℕ) → x < n → (step count : ℕ) → Counts seed sheet l x step count → Each x step count
+  each_step : (x : ℕ) → x < n → (step count : ℕ) → DetectorHasCounted seed sheet l x step count → Each x step count
   each_step x low zero count counts = record { few = omega (arith, counts); each = λ all t late early. absurd (omega (arith, early)) }
   each_step x low (suc step) count counts =
       let road = counts.0 in

@@ -1,6 +1,6 @@
--- Heights: how many cars stand before a place, as one sees it who goes ahead by a cell a step, and has counted the
--- steps too. Where cars go up to a limit in a step, a height becomes in a step the greater of its own and one, and
--- that so many cells ahead. So it is, after some steps, the greatest over the places that could reach it.
+-- Heights: the number of cars before a place, as seen by an observer who goes ahead one cell per step, plus
+-- the number of steps. If cars go up to s cells per step, a height becomes itself plus one or the height s
+-- cells ahead, whichever is larger. So after some steps it is the largest over the places that could reach it.
 use Rattle.std.proofs.Common.{◌≡◌, ℕ, zero, suc, ◌+◌, ◌-◌, ◌*◌, ◌<◌, ◌≤◌, max, refl, sym, ◌∙◌, ap, subst, inl, inr, arith, mul-add, mul-suc, suc-mul}
 use Rattle.std.proofs.lemmas.Bool.{cases_lt}
 use Rattle.trlab_traffic.proofs.Sums.{total, total_last, total_same}

@@ -13,7 +13,7 @@ use Rattle.trlab_road.proofs.MotionLaws.{lane_same_count}
 use Rattle.trlab_road.proofs.Ring.{apart_within_gaps, clear_within_gap}
 use Rattle.trlab_step.specs.Run.{dice_at}
 use Rattle.trlab_step.proofs.RunLaws.{force_all}
-use Rattle.trlab_traffic.specs.Capacity.{lane_empty_cells}
+use Rattle.trlab_traffic.specs.Triangle.{lane_empty_cells}
 use Rattle.trlab_traffic.specs.LaneGaps.{GapsFillLane, RunKeepsLaneCars}
 use Rattle.trlab_traffic.specs.Runs.{StaysInLane}
 use Rattle.trlab_traffic.proofs.AnyRule.{answers_fit}

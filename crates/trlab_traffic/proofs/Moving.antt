@@ -14,10 +14,10 @@ use Rattle.trlab_rules.specs.Rules.{Programs}
 use Rattle.trlab_step.specs.declared.tally.StepTally.{StepTally}
 use Rattle.trlab_step.specs.Next.{IsNext}
 use Rattle.trlab_step.specs.Run.{ComesTo, Seed, Sheet, dice_at, tally_sum}
-use Rattle.trlab_traffic.specs.Capacity.{RunKeepsBelowPeak, all_cells, empty_cells}
+use Rattle.trlab_traffic.specs.Triangle.{RunKeepsBelowPeak, all_cells, empty_cells}
 use Rattle.trlab_traffic.specs.Moving.{BoundsMovingSpeed, RunBoundsMovingSpeed, StepBoundsMovingSpeed}
 use Rattle.trlab_traffic.proofs.AnyRule.{next_legal_like}
-use Rattle.trlab_traffic.proofs.Capacities.{run_keeps_to_capacity}
+use Rattle.trlab_traffic.proofs.Capacities.{run_stays_under_triangle}
 use Rattle.trlab_traffic.proofs.Going.{run_like}
 use Rattle.trlab_traffic.proofs.RoomAhead.{taken_or_empty}
 
@@ -154,5 +154,5 @@ peak v k d n m cells by_cells by_limit whole =
 
 pub run_keeps_below_peak : RunKeepsBelowPeak
 run_keeps_below_peak seed sheet step road sum legal comes =
-    let within = run_keeps_to_capacity seed sheet step road sum legal comes in
+    let within = run_stays_under_triangle seed sheet step road sum legal comes in
     peak seed.road.limit (step - seed.warm) sum.distance (cars seed.road) (empty_cells seed.road) (all_cells seed.road) within.by_empty_cells within.by_limit (taken_or_empty seed.road)

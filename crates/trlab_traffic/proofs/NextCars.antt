@@ -48,18 +48,18 @@ step_keeps_next_car rule dice old new tally number next none is order =
     let phase = motion_alone rule dice old new tally none is in
     let speeds = phase.0 in
     let fits = answers_fit rule.motion dice old speeds phase.1 in
-    let on = on_lane old l x (car.number, car.speed) order.stands in
+    let on = on_lane old l x (car.number, car.speed) order.on_road in
     let m = phase.2.each_lane l on in
     let p = next_place lane x in
-    let there = next_there old car order.next_car order.follows order.next_stands in
+    let there = next_there old car order.next_car order.follows order.next_on_road in
     record {
       car = car_in l (ahead (length lane) x (speeds l x)) car.number (speeds l x);
       next_car = car_in l (ahead (length lane) p (speeds l p)) order.next_car.number (speeds l p);
-      stands = m.arrives x car.number car.speed order.stands;
-      next_stands = m.arrives p order.next_car.number order.next_car.speed there;
+      on_road = m.arrives x car.number car.speed order.on_road;
+      next_on_road = m.arrives p order.next_car.number order.next_car.speed there;
       numbered = order.numbered;
       next_numbered = order.next_numbered;
-      follows = record { same_lane = refl; ahead = sym (next_place_after (speeds l) lane (lane_of new l) m (fits.each_lane l on) x car.number car.speed order.stands) };
+      follows = record { same_lane = refl; ahead = sym (next_place_after (speeds l) lane (lane_of new l) m (fits.each_lane l on) x car.number car.speed order.on_road) };
     }
 
 pub run_keeps_next_car : RunKeepsNextCar
@@ -81,8 +81,8 @@ each_car_has_next road car here =
       record {
         car = car;
         next_car = car_in l (next_place lane car.place) next.0.0 next.0.1;
-        stands = here;
-        next_stands = next.1;
+        on_road = here;
+        next_on_road = next.1;
         numbered = refl;
         next_numbered = refl;
         follows = record { same_lane = refl; ahead = refl };
@@ -91,9 +91,9 @@ each_car_has_next road car here =
 
 pub next_car_is_one : NextCarIsUnique
 next_car_is_one road number next other legal a b =
-    let same = legal.once a.car b.car a.stands b.stands (a.numbered ∙ sym b.numbered) in
-    let one = next_there road a.car a.next_car a.follows a.next_stands in
-    let two = next_there road b.car b.next_car b.follows b.next_stands in
+    let same = legal.once a.car b.car a.on_road b.on_road (a.numbered ∙ sym b.numbered) in
+    let one = next_there road a.car a.next_car a.follows a.next_on_road in
+    let two = next_there road b.car b.next_car b.follows b.next_on_road in
     let e : at (lane_of road a.car.lane) (next_place (lane_of road a.car.lane) a.car.place) ≡ at (lane_of road b.car.lane) (next_place (lane_of road b.car.lane) b.car.place) =
     ap (λ l. at (lane_of road l) (next_place (lane_of road l) a.car.place)) same.0 ∙ ap (λ x. at (lane_of road b.car.lane) (next_place (lane_of road b.car.lane) x)) same.1 in
     let both = sym one ∙ e ∙ two in

@@ -16,8 +16,8 @@ use Rattle.trlab_step.specs.Next.{IsNext}
 use Rattle.trlab_step.specs.Run.{IsRoadAt, Seed, dice_at}
 use Rattle.trlab_step.proofs.NextLaws.{next_road_is_one}
 use Rattle.trlab_step.proofs.RunLaws.{road_at_is_one, run_comes_to_road}
-use Rattle.trlab_traffic.specs.Capacity.{all_cells, lane_cells}
-use Rattle.trlab_traffic.specs.Certainty.{IsDeterministic}
+use Rattle.trlab_traffic.specs.Triangle.{all_cells, lane_cells}
+use Rattle.trlab_traffic.specs.Determinism.{IsDeterministic}
 use Rattle.trlab_traffic.specs.Periods.{DeterministicRunsBecomePeriodic}
 use Rattle.trlab_traffic.specs.Runs.{always}
 use Rattle.trlab_traffic.proofs.Certainties.{step_is_deterministic}
@@ -196,8 +196,8 @@ module _ (rule : Programs) (seed : Seed) (certain : IsDeterministic rule) (is : 
         let other = step_is_deterministic rule (dice_at seed last) (dice_at seed step) before later b.1.3 certain from in
         (next_road_is_one rule (dice_at seed step) before later road b.1.3 a.1.3 other mine).0
 
-pub certain_rules_become_periodic : DeterministicRunsBecomePeriodic
-certain_rules_become_periodic rule seed certain is legal =
+pub deterministic_runs_become_periodic : DeterministicRunsBecomePeriodic
+deterministic_runs_become_periodic rule seed certain is legal =
     let lanes = length seed.road.lanes in
     let cells = length (lane_of seed.road 0) in
     let limit = seed.road.limit in

@@ -3,7 +3,7 @@ use Rattle.std.proofs.Common.{◌≡◌, ℕ, zero, suc, ◌+◌, ◌-◌, ◌*�
 use Rattle.std.proofs.Math.Nat.{add-mod_right, add-mul-mod_self_left, div-add-mod, mod-add-mod}
 use Rattle.std.proofs.lemmas.Bool.{cases_Bool, cases_eq, cond-true, cond-false, true≢false}
 use Rattle.trlab_road.specs.Cells.{Lane, at}
-use Rattle.trlab_road.specs.Gaps.{ahead, behind, gap, greatest, is_clear}
+use Rattle.trlab_road.specs.Gaps.{ahead, behind, gap, largest, is_clear}
 use Rattle.trlab_road.specs.Motion.{IsClearAhead}
 use Rattle.trlab_road.proofs.ListGaps.{clear_from}
 use Rattle.trlab_road.proofs.Ring.{inside}
@@ -48,26 +48,26 @@ behind_ahead n x low =
 pub ahead_behind : (n x : ℕ) → x < n → behind n (ahead n x 1) 1 ≡ x
 ahead_behind n x low = ahead_swap n x 1 (n - 1) ∙ behind_ahead n x low
 
--- what passes is no more than the greatest
-at_least : (test : ℕ → Bool) (n g : ℕ) → g ≤ n → test g ≡ true → g ≤ greatest test n
+-- a number that passes is at most the largest that does
+at_least : (test : ℕ → Bool) (n g : ℕ) → g ≤ n → test g ≡ true → g ≤ largest test n
 at_least test zero g low passes = low
 at_least test (suc n) g low passes =
     elim (cases_Bool (test (suc n))) [
-      | inl top ↦ rw (cond-true (test (suc n)) (suc n) (greatest test n) top) low
-      | inr failed ↦ rw (cond-false (test (suc n)) (suc n) (greatest test n) failed) (elim (cases_eq g (suc n)) [
+      | inl top ↦ rw (cond-true (test (suc n)) (suc n) (largest test n) top) low
+      | inr failed ↦ rw (cond-false (test (suc n)) (suc n) (largest test n) failed) (elim (cases_eq g (suc n)) [
         | inl e ↦ absurd (true≢false (sym passes ∙ ap test e ∙ failed))
         | inr other ↦ at_least test n g (omega arith) passes
       ])
     ]
 
--- the greatest is within the bound
-greatest_within : (test : ℕ → Bool) (n : ℕ) → greatest test n ≤ n
+-- the largest is within the bound
+greatest_within : (test : ℕ → Bool) (n : ℕ) → largest test n ≤ n
 greatest_within test zero = omega arith
 greatest_within test (suc n) =
     let rest = greatest_within test n in
     elim (cases_Bool (test (suc n))) [
-      | inl top ↦ rw (cond-true (test (suc n)) (suc n) (greatest test n) top) (omega arith)
-      | inr failed ↦ rw (cond-false (test (suc n)) (suc n) (greatest test n) failed) (omega (arith, rest))
+      | inl top ↦ rw (cond-true (test (suc n)) (suc n) (largest test n) top) (omega arith)
+      | inr failed ↦ rw (cond-false (test (suc n)) (suc n) (largest test n) failed) (omega (arith, rest))
     ]
 
 -- empty cells ahead are within the gap

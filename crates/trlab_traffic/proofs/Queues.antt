@@ -109,7 +109,7 @@ queue_waits seed sheet step road x n j car nobody queued some most is =
     let l = car.lane in
     let lane = lane_of seed.road l in
     let row : Row lane car.place j = subst (λ p. Row lane p j) (sym queued.place) (row_of lane x n j queued.queue queued.within) in
-    let now = waits seed sheet nobody l step road car.place j car.number car.speed row queued.stands most is in
+    let now = waits seed sheet nobody l step road car.place j car.number car.speed row queued.on_road most is in
     subst (λ v. at (lane_of road l) car.place ≡ Some (car.number, v)) (now.stopped some) now.here
 
 -- a car with a gap moves, whatever its speed and the limit
@@ -213,10 +213,10 @@ queue_starts seed rule road x n j car nasch legal queued room is =
     let m = motion_of seed rule nasch legal l j road (subst (λ k. IsRoadAt seed (always rule) k road) e is) in
     let before = m.before in
     let old = lane_of before l in
-    let own = waits seed (always rule) (stays seed rule nasch legal l) l j before p j car.number car.speed row queued.stands (omega arith) m.so_far in
-    let size : length old ≡ length lane = (run_lanes seed (always rule) j before m.so_far.0 m.so_far.1).size l (on_lane seed.road l p (car.number, car.speed) queued.stands) in
+    let own = waits seed (always rule) (stays seed rule nasch legal l) l j before p j car.number car.speed row queued.on_road (omega arith) m.so_far in
+    let size : length old ≡ length lane = (run_lanes seed (always rule) j before m.so_far.0 m.so_far.1).size l (on_lane seed.road l p (car.number, car.speed) queued.on_road) in
     let head = subst (λ k. 1 ≤ gap lane (ahead (length lane) k j)) (sym queued.place) (head_room lane x n j queued.queue queued.within room) in
-    let free = ready seed rule nasch legal l j before p car.number car.speed row queued.stands head m.so_far in
+    let free = ready seed rule nasch legal l j before p car.number car.speed row queued.on_road head m.so_far in
     let safe = m.motion.safe (car_in l p car.number own.speed) own.here in
     let slow = ap (λ v. safe_speed v before.limit (gap old p)) (own.stopped queued.behind_head) in
     let one = goes_one before.limit (gap old p) m.some_limit free in

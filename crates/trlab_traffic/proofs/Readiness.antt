@@ -1,5 +1,5 @@
--- Without randomization cars are held back by acceleration in the first steps alone; from then on each moves at the
--- limit or its gap, whichever is less, and the lane comes to its capacity.
+-- Without randomization acceleration holds cars back only in the first steps; from then on each moves by the
+-- limit or its gap, whichever is smaller, and the lane reaches its triangle.
 use Rattle.std.proofs.Common.{◌≡◌, ℕ, zero, suc, ◌+◌, ◌-◌, ◌*◌, ◌%◌, ◌<◌, ◌≤◌, ◌⊎◌, min, is_some, Some, [], ◌∷◌, length, refl, sym, ◌∙◌, ap, subst, inl, inr, arith, mod-eq_of_lt, mul_comm, suc-mul}
 use Rattle.std.specs.Prelude.{sum_by}
 use Rattle.std.proofs.lemmas.Bool.{cases_lt}
@@ -17,8 +17,8 @@ use Rattle.trlab_rules.specs.Rules.{Programs}
 use Rattle.trlab_rules.specs.StandardRules.{IsNasch}
 use Rattle.trlab_step.specs.declared.tally.StepTally.{StepTally}
 use Rattle.trlab_step.specs.Run.{ComesTo, Seed}
-use Rattle.trlab_traffic.specs.Capacity.{capacity, lane_capacity, lane_cells, lane_empty_cells}
-use Rattle.trlab_traffic.specs.Diagram.{NaschComesToCapacity, NaschComesToCapacityByLane, Rule184ComesToCapacity}
+use Rattle.trlab_traffic.specs.Triangle.{max_distance, lane_max_distance, lane_cells, lane_empty_cells}
+use Rattle.trlab_traffic.specs.Diagram.{NaschReachesTriangle, NaschReachesTriangleByLane, Rule184ReachesTriangle}
 use Rattle.trlab_traffic.specs.Rule184.{digit, is_taken}
 use Rattle.trlab_traffic.proofs.Freely.{sum_by-same}
 use Rattle.trlab_traffic.proofs.GapsAfter.{gap_after, next_taken}
@@ -262,28 +262,28 @@ to_capacity limit count cells some_limit some_cell = record {
 
 -- the capacities of the lanes of a legal road, by the cells that their cars leave empty
 capacities : (road : Cells) → IsLegal road → let cells = length (lane_of road 0) in let count : ℕ → ℕ = λ l. lane_car_count (lane_of road l) in
-    total (λ l. min (road.limit * count l) (cells - count l)) (length road.lanes) ≡ sum_by (lane_capacity road.limit) road.lanes
+    total (λ l. min (road.limit * count l) (cells - count l)) (length road.lanes) ≡ sum_by (lane_max_distance road.limit) road.lanes
 capacities road legal =
     let cells = length (lane_of road 0) in
     let count : ℕ → ℕ = λ l. lane_car_count (lane_of road l) in
-    total_same (λ l. min (road.limit * count l) (cells - count l)) (λ l. lane_capacity road.limit (lane_of road l)) (length road.lanes) (λ l on.
+    total_same (λ l. min (road.limit * count l) (cells - count l)) (λ l. lane_max_distance road.limit (lane_of road l)) (length road.lanes) (λ l on.
     let whole = lane_taken_or_empty (lane_of road l) in
     let size = legal.shape.equal l on in
     let e : cells - count l ≡ lane_empty_cells (lane_of road l) = omega (arith, whole, size) in
     ap (min (road.limit * count l)) e)
-    ∙ sym (by_lane (lane_capacity road.limit) road.lanes)
+    ∙ sym (by_lane (lane_max_distance road.limit) road.lanes)
 
 -- that of the lane is that of the road where it has one
-one_capacity : (road : Cells) → length road.lanes ≡ 1 → sum_by (lane_capacity road.limit) road.lanes ≡ capacity road
+one_capacity : (road : Cells) → length road.lanes ≡ 1 → sum_by (lane_max_distance road.limit) road.lanes ≡ max_distance road
 one_capacity road one =
     let lane = lane_of road 0 in
-    one_sum (lane_capacity road.limit) road.lanes one
+    one_sum (lane_max_distance road.limit) road.lanes one
     ∙ ap (λ k. min (road.limit * k) (lane_empty_cells lane)) (sym (one_sum lane_car_count road.lanes one))
     ∙ ap (min (road.limit * cars road)) (sym (one_sum lane_empty_cells road.lanes one))
 
-pub nasch_comes_to_capacity_by_lane : NaschComesToCapacityByLane
+pub nasch_reaches_triangle_by_lane : NaschReachesTriangleByLane
 unfolding to_capacity
-nasch_comes_to_capacity_by_lane rule seed step road sum is legal late comes =
+nasch_reaches_triangle_by_lane rule seed step road sum is legal late comes =
     let limit = seed.road.limit in
     let cells = length (lane_of seed.road 0) in
     let count : ℕ → ℕ = λ l. lane_car_count (lane_of seed.road l) in
@@ -299,10 +299,10 @@ nasch_comes_to_capacity_by_lane rule seed step road sum is legal late comes =
     (λ l. to_capacity limit (count l) cells some_limit some_cell) start step road sum comes in
     way.gone late ∙ ap (λ k. (step - seed.warm) * k) (capacities seed.road legal)
 
-pub nasch_comes_to_capacity : NaschComesToCapacity
-nasch_comes_to_capacity rule seed step road sum is legal one late comes =
+pub nasch_reaches_triangle : NaschReachesTriangle
+nasch_reaches_triangle rule seed step road sum is legal one late comes =
     let size = one_sum lane_cells seed.road.lanes one in
-    nasch_comes_to_capacity_by_lane rule seed step road sum is legal (omega (arith, late, size)) comes
+    nasch_reaches_triangle_by_lane rule seed step road sum is legal (omega (arith, late, size)) comes
     ∙ ap (λ k. (step - seed.warm) * k) (one_capacity seed.road one)
 
 -- with the limit 1 acceleration holds no car back, and so a lane leaps from the start
@@ -325,7 +325,7 @@ to_capacity_at_once count cells some_cell = record {
 }
 
 rule_184_by_lane : (rule : Programs) (seed : Seed) (step : ℕ) (road : Cells) (sum : StepTally) → IsNasch 0 rule → IsLegal seed.road → seed.road.limit ≡ 1 → length (lane_of seed.road 0) ≤ seed.warm + 1
-    → ComesTo seed ((0, rule) ∷ []) step road sum → sum.distance ≡ (step - seed.warm) * sum_by (lane_capacity seed.road.limit) seed.road.lanes
+    → ComesTo seed ((0, rule) ∷ []) step road sum → sum.distance ≡ (step - seed.warm) * sum_by (lane_max_distance seed.road.limit) seed.road.lanes
 unfolding to_capacity_at_once
 rule_184_by_lane rule seed step road sum is legal slow late comes =
     let cells = length (lane_of seed.road 0) in
@@ -338,8 +338,8 @@ rule_184_by_lane rule seed step road sum is legal slow late comes =
     let same = ap (λ v. total (λ l. min (v * count l) (cells - count l)) (length seed.road.lanes)) (sym slow) in
     way.gone late ∙ ap (λ k. (step - seed.warm) * k) (same ∙ capacities seed.road legal)
 
-pub rule_184_comes_to_capacity : Rule184ComesToCapacity
-rule_184_comes_to_capacity rule seed step road sum is legal one slow late comes =
+pub rule_184_reaches_triangle : Rule184ReachesTriangle
+rule_184_reaches_triangle rule seed step road sum is legal one slow late comes =
     let size = one_sum lane_cells seed.road.lanes one in
     rule_184_by_lane rule seed step road sum is legal slow (omega (arith, late, size)) comes
     ∙ ap (λ k. (step - seed.warm) * k) (one_capacity seed.road one)

@@ -26,9 +26,9 @@ use Rattle.trlab_traffic.proofs.Places.{ahead_below}
 use Rattle.trlab_traffic.proofs.RoomAhead.{taken_or_empty}
 use Rattle.trlab_traffic.proofs.RunLanes.{run_lanes, middle_lanes}
 use Rattle.trlab_traffic.proofs.Sums.{by_lane, sum_range, total, total_add, total_none, total_same, total_swap}
-use Rattle.trlab_traffic.specs.Capacity.{empty_cells, lane_empty_cells}
+use Rattle.trlab_traffic.specs.Triangle.{empty_cells, lane_empty_cells}
 use Rattle.trlab_traffic.specs.Detector.{cars_ahead_of, passages, all_passages, cells_ahead_to}
-use Rattle.trlab_traffic.specs.DetectorRuns.{DifferByAtMost, Counts}
+use Rattle.trlab_traffic.specs.DetectorRuns.{DifferByAtMost, DetectorHasCounted}
 use Rattle.trlab_traffic.specs.Rows.{RowMeasuresFlow, RowsAgree, RunSatisfiesContinuityByRows, StepIsContinuousByRows, cars_ahead_of_row, row_passages}
 use Rattle.trlab_traffic.specs.Rule184.{digit, is_taken}
 use Rattle.trlab_verify.specs.CheckedProgram.{CheckedProgram}
@@ -133,7 +133,7 @@ module _ (seed : Seed) (sheet : Sheet) (legal : IsLegal seed.road) (x k : ℕ) (
   abbrev m : ℕ
   m = length seed.road.lanes
 
-  nothing : (y step : ℕ) (count : ℕ → ℕ) → step ≤ seed.warm → ((l : ℕ) → Counts seed sheet l y step (count l)) → total count m ≡ 0
+  nothing : (y step : ℕ) (count : ℕ → ℕ) → step ≤ seed.warm → ((l : ℕ) → DetectorHasCounted seed sheet l y step (count l)) → total count m ≡ 0
   nothing y step count early counts = total_none count m (λ l on. none_counted seed sheet l y step (count l) early (counts l))
 
   -- what the detectors of a place count in one step more
@@ -146,7 +146,7 @@ module _ (seed : Seed) (sheet : Sheet) (legal : IsLegal seed.road) (x k : ℕ) (
       omega (arith, same, both, lanes, sizes)
 
   by_rows : (step : ℕ) (start road : Cells) (first second : ℕ → ℕ) → seed.warm ≤ step → IsRoadAt seed sheet seed.warm start → IsRoadAt seed sheet step road
-      → ((l : ℕ) → Counts seed sheet l x step (first l)) → ((l : ℕ) → Counts seed sheet l end step (second l))
+      → ((l : ℕ) → DetectorHasCounted seed sheet l x step (first l)) → ((l : ℕ) → DetectorHasCounted seed sheet l end step (second l))
       → cars_ahead_of_row road x k + total second m ≡ cars_ahead_of_row start x k + total first m
   by_rows zero start road first second late begins here firsts seconds =
       let e : seed.warm ≡ 0 = omega (arith, late) in
@@ -169,8 +169,8 @@ module _ (seed : Seed) (sheet : Sheet) (legal : IsLegal seed.road) (x k : ℕ) (
             let old = comes.0 in
             let go = comes.5 in
             let counted = le-leb seed.warm step on_count in
-            let one : (l : ℕ) → (b : ℕ) × (Counts seed sheet l x step b × (first l ≡ (if nat_le seed.warm step then b + passages (lane_of road l) x else b))) = λ l. counts_on seed sheet step road l x (first l) here (firsts l) in
-            let two : (l : ℕ) → (b : ℕ) × (Counts seed sheet l end step b × (second l ≡ (if nat_le seed.warm step then b + passages (lane_of road l) end else b))) = λ l. counts_on seed sheet step road l end (second l) here (seconds l) in
+            let one : (l : ℕ) → (b : ℕ) × (DetectorHasCounted seed sheet l x step b × (first l ≡ (if nat_le seed.warm step then b + passages (lane_of road l) x else b))) = λ l. counts_on seed sheet step road l x (first l) here (firsts l) in
+            let two : (l : ℕ) → (b : ℕ) × (DetectorHasCounted seed sheet l end step b × (second l ≡ (if nat_le seed.warm step then b + passages (lane_of road l) end else b))) = λ l. counts_on seed sheet step road l end (second l) here (seconds l) in
             let so_far = by_rows step start old (λ l. (one l).0) (λ l. (two l).0) on_count begins (comes.1, comes.4) (λ l. (one l).1.0) (λ l. (two l).1.0) in
             let like = run_like seed sheet step old comes.1 legal comes.4 in
             let kept = run_lanes seed sheet step old comes.1 comes.4 in
@@ -252,7 +252,7 @@ on_road seed sheet step road sum x k legal comes round =
 
 module _ (seed : Seed) (sheet : Sheet) (legal : IsLegal seed.road) where
   rows_agree_totals : (step : ℕ) (road : Cells) (sum : StepTally) (x k : ℕ) (first second : ℕ → ℕ) → ComesTo seed sheet step road sum → x < length (lane_of seed.road 0) → k ≤ length (lane_of seed.road 0)
-      → ((l : ℕ) → Counts seed sheet l x step (first l)) → ((l : ℕ) → Counts seed sheet l (ahead (length (lane_of seed.road 0)) x k) step (second l))
+      → ((l : ℕ) → DetectorHasCounted seed sheet l x step (first l)) → ((l : ℕ) → DetectorHasCounted seed sheet l (ahead (length (lane_of seed.road 0)) x k) step (second l))
       → DifferByAtMost (min (cars seed.road) (empty_cells seed.road)) (total first (length seed.road.lanes)) (total second (length seed.road.lanes))
   rows_agree_totals step road sum x k first second comes low round firsts seconds =
       let m = length seed.road.lanes in
@@ -271,7 +271,7 @@ module _ (seed : Seed) (sheet : Sheet) (legal : IsLegal seed.road) where
       ]
 
   -- all detectors of all lanes together count the distance
-  all_count : (step : ℕ) (road : Cells) (sum : StepTally) (count : ℕ → ℕ → ℕ) → ComesTo seed sheet step road sum → ((y l : ℕ) → Counts seed sheet l y step (count y l))
+  all_count : (step : ℕ) (road : Cells) (sum : StepTally) (count : ℕ → ℕ → ℕ) → ComesTo seed sheet step road sum → ((y l : ℕ) → DetectorHasCounted seed sheet l y step (count y l))
       → total (λ y. total (λ l. count y l) (length seed.road.lanes)) (length (lane_of seed.road 0)) ≡ sum.distance
   all_count zero road sum count comes counts =
       total_none (λ y. total (λ l. count y l) (length seed.road.lanes)) (length (lane_of seed.road 0)) (λ y low. total_none (λ l. count y l) (length seed.road.lanes) (λ l on. counts y l))
@@ -282,7 +282,7 @@ module _ (seed : Seed) (sheet : Sheet) (legal : IsLegal seed.road) where
       let old = comes.0 in
       let on = comes.5 in
       let tally = comes.3 in
-      let before : (y l : ℕ) → (b : ℕ) × (Counts seed sheet l y step b × (count y l ≡ (if nat_le seed.warm step then b + passages (lane_of road l) y else b))) =
+      let before : (y l : ℕ) → (b : ℕ) × (DetectorHasCounted seed sheet l y step b × (count y l ≡ (if nat_le seed.warm step then b + passages (lane_of road l) y else b))) =
       λ y l. counts_on seed sheet step road l y (count y l) (sum, comes) (counts y l) in
       let so_far = all_count step old comes.1 (λ y l. (before y l).0) comes.4 (λ y l. (before y l).1.0) in
       elim (cases_lt step seed.warm) [
@@ -335,12 +335,12 @@ pub row_measures_flow : RowMeasuresFlow
 row_measures_flow seed sheet step road sum x count legal comes low counts =
     let n = length (lane_of seed.road 0) in
     let m = length seed.road.lanes in
-    let each : (y l : ℕ) → (c : ℕ) × Counts seed sheet l y step c = λ y l. count_exists seed sheet step road sum l y comes in
+    let each : (y l : ℕ) → (c : ℕ) × DetectorHasCounted seed sheet l y step c = λ y l. count_exists seed sheet step road sum l y comes in
     let all = all_count seed sheet legal step road sum (λ y l. (each y l).0) comes (λ y l. (each y l).1) in
     let near = total_near (λ y. total (λ l. (each y l).0) m) (total count m) (min (cars seed.road) (empty_cells seed.road)) n (λ y high.
     let short : cells_ahead_to n x y < n = ahead_below n y (n - x) (omega (arith, low)) in
     rows_agree_totals seed sheet legal step road sum x (cells_ahead_to n x y) count (λ l. (each y l).0) comes low (let k : cells_ahead_to n x y ≤ n = omega (arith, short) in k) counts
-    (λ l. subst (λ z. Counts seed sheet l z step (each y l).0) (sym (way_reaches n x y low high)) (each y l).1)) in
+    (λ l. subst (λ z. DetectorHasCounted seed sheet l z step (each y l).0) (sym (way_reaches n x y low high)) (each y l).1)) in
     let here = ap (λ k. n * k) (by_range count m) in
     let less = near.no_less in
     let more = near.no_more in

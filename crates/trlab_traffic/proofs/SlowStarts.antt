@@ -17,7 +17,7 @@ use Rattle.trlab_road.proofs.MotionInOrder.{moves_by}
 use Rattle.trlab_road.proofs.MotionLaws.{one_road_only}
 use Rattle.trlab_road.proofs.Ring.{car_in, inside}
 use Rattle.trlab_road.proofs.StandingOrder.{length-standing_from_lane, standing_cell}
-use Rattle.trlab_rules.specs.Published.{brake, safe_speed, vdr_chance, vdr_speed}
+use Rattle.trlab_rules.specs.Published.{brake, safe_speed, vdr_braking_chance, vdr_speed}
 use Rattle.trlab_rules.specs.Rules.{Programs}
 use Rattle.trlab_rules.specs.StandardRules.{IsVdr}
 use Rattle.trlab_step.specs.declared.tally.StepTally.{StepTally}
@@ -31,7 +31,7 @@ use Rattle.trlab_traffic.proofs.NaschMoves.{answered, motion_alone, never}
 use Rattle.trlab_traffic.proofs.Places.{ahead_none}
 
 -- the chance by which a car that moves brakes
-moving_chance : (p p0 speed limit : ℕ) → 1 ≤ limit → speed ≡ limit → vdr_chance p p0 speed ≡ p
+moving_chance : (p p0 speed limit : ℕ) → 1 ≤ limit → speed ≡ limit → vdr_braking_chance p p0 speed ≡ p
 moving_chance p p0 speed limit some fast = ap (λ (b : Bool). if b then p0 else p) (ne_eqb speed 0 (λ e. omega (arith, e, some, fast)))
 
 free_motion : (p0 : ℕ) (rule : Programs) (dice : Dice) (old new : Cells) (tally : StepTally) → IsVdr 0 p0 rule → IsLegal old → IsInFreeFlow old → IsNext rule dice old new tally → FreeMotion old new
@@ -105,7 +105,7 @@ step_stays_stopped p rule dice old new tally is legal still next =
     let word = slice_index (words_of dice car.number) 0 in
     let g = gap (lane_of old car.lane) car.place in
     answered (vdr_speed p CERTAIN) rule.motion dice old phase.0 is.motion.moves legal phase.1 car here
-    ∙ ap (λ (speed : ℕ). brake (happens_on (vdr_chance p CERTAIN speed) word) (safe_speed speed old.limit g)) (still.stopped car here)
+    ∙ ap (λ (speed : ℕ). brake (happens_on (vdr_braking_chance p CERTAIN speed) word) (safe_speed speed old.limit g)) (still.stopped car here)
     ∙ ap (λ (b : Bool). brake b (safe_speed 0 old.limit g)) (always word (random_words_small dice.key dice.road car.number dice.step 0))
     ∙ stays_stopped old.limit g in
     one_road_only none_moves old new old (moves_by phase.0 none_moves old new slow phase.2) (nobody_moves old still)

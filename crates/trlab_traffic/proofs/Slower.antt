@@ -16,7 +16,7 @@ use Rattle.trlab_road.specs.declared.car.Car.{Car}
 use Rattle.trlab_road.specs.Cells.{IsAt, AgreeAtCars, Cells}
 use Rattle.trlab_road.specs.Standing.{standing}
 use Rattle.trlab_road.proofs.StandingOrder.{length-standing_from_lane, standing_cell, in_order_at}
-use Rattle.trlab_rules.specs.Published.{brake, nasch_speed, safe_speed, vdr_chance, vdr_speed}
+use Rattle.trlab_rules.specs.Published.{brake, nasch_speed, safe_speed, vdr_braking_chance, vdr_speed}
 use Rattle.trlab_step.specs.Answers.{motion_view_of, AnswersSpeeds}
 use Rattle.trlab_traffic.specs.Randomization.{RandomizationSlowsSteps, IsNoFasterStep, SlowStartsSlowSteps}
 use Rattle.trlab_traffic.proofs.AnyRule.{answers_fit}
@@ -161,7 +161,7 @@ slow_starts_slow p q p0 q0 light heavy dice road next other fast slow more more0
     let one = answered (vdr_speed p p0) light.motion dice road speeds is_light.motion.moves legal a car here in
     let two = answered (vdr_speed q q0) heavy.motion dice road others is_heavy.motion.moves legal b car here in
     let chance = more_chance (nat_eq view.speed 0) p q p0 q0 more more0 in
-    let both = brakes (vdr_chance p p0 view.speed) (vdr_chance q q0 view.speed) (slice_index words 0) (safe_speed view.speed view.limit view.gap) chance in
+    let both = brakes (vdr_braking_chance p p0 view.speed) (vdr_braking_chance q q0 view.speed) (slice_index words 0) (safe_speed view.speed view.limit view.gap) chance in
     let least = both.least in
     let most = both.most in
     record { least = omega (arith, one, two, least); most = omega (arith, one, two, most) })

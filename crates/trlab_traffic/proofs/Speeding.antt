@@ -18,7 +18,7 @@ use Rattle.trlab_road.proofs.EvenRoads.{even_count, even_legal, no_fault}
 use Rattle.trlab_road.proofs.MotionLaws.{on_lane}
 use Rattle.trlab_road.proofs.Ring.{car_in, clear_within_gap}
 use Rattle.trlab_road.proofs.StandingOrder.{lane_car_count-some}
-use Rattle.trlab_traffic.specs.Capacity.{lane_cells}
+use Rattle.trlab_traffic.specs.Triangle.{lane_cells}
 use Rattle.trlab_traffic.specs.FreeFlow.{IsInFreeFlow}
 use Rattle.trlab_traffic.specs.Metastable.{IsRing, IsStopped, TwoFlowsAtOneDensity}
 use Rattle.trlab_traffic.proofs.EvenGaps.{gap_low, who}
@@ -219,6 +219,6 @@ two_flows_at_one_density cells limit n rule is fits few =
       flows = λ seed step after sum start comes.
           let way = slow_starts_keep_free_flow CERTAIN rule seed step after sum is (subst IsLegal (sym start) free_ring.legal) (subst IsInFreeFlow (sym start) free) comes in
           way.1 ∙ ap (λ m. (step - seed.warm) * m) (ap (λ (r : Cells). r.limit * cars r) start ∙ ap (λ k. k * cars (sped_road road.limit road)) ring.same_limit ∙ ap (λ k. limit * k) free_ring.same_cars);
-      stands = λ seed step after sum start comes.
+      stays = λ seed step after sum start comes.
           (slow_starts_keep_jams 0 rule seed step after sum is (subst IsLegal (sym start) ring.legal) (subst IsStopped (sym start) (stopped cells limit n road even)) comes).1;
     }

@@ -1,21 +1,21 @@
--- What is seen on a lane that is turned.
+-- Rotated lanes: their gaps, their motion and their lane change.
 use Rattle.std.proofs.Common.{◌≡◌, ℕ, zero, suc, ◌+◌, ◌-◌, ◌%◌, ◌<◌, ◌&&◌, Bool, cond, Some, None, List, [], ◌∷◌, length, get_or, map, refl, sym, ◌∙◌, ap, subst, arith}
 use Rattle.std.specs.Prelude.{is_none}
 use Rattle.std.proofs.lemmas.List.{ext_get_or, length-map}
 use Rattle.std.proofs.lemmas.List.FromFn.{get_or-map-range_with_len, length-map-range_with_len}
 use Rattle.trlab_road.specs.Cells.{Cell, Cells, Lane, at, lane_of}
-use Rattle.trlab_road.specs.Gaps.{ahead, behind, clear_cells, gap, greatest, headspeed, is_clear, side, sideback, sidegap, speed_in}
+use Rattle.trlab_road.specs.Gaps.{ahead, behind, clear_cells, gap, largest, headspeed, is_clear, side, sideback, sidegap, speed_in}
 use Rattle.trlab_road.specs.LaneChange.{LaneCrosses, cell_after_change}
 use Rattle.trlab_road.specs.Motion.{ComesFrom, LaneMoves}
 use Rattle.trlab_road.proofs.Ring.{inside}
-use Rattle.trlab_traffic.specs.Homogeneity.{turned, turned_lane}
+use Rattle.trlab_traffic.specs.Homogeneity.{rotate_road, rotate_lane}
 use Rattle.trlab_traffic.proofs.Places.{ahead_below, ahead_more, ahead_none, ahead_once, ahead_swap, back_ahead}
 
--- tests that agree have one greatest number
-greatest_same : (test other : ℕ → Bool) (n : ℕ) → ((k : ℕ) → test k ≡ other k) → greatest test n ≡ greatest other n
+-- tests that agree have the same largest number
+greatest_same : (test other : ℕ → Bool) (n : ℕ) → ((k : ℕ) → test k ≡ other k) → largest test n ≡ largest other n
 greatest_same test other zero same = refl
 greatest_same test other (suc n) same =
-    ap (λ (b : Bool). cond b (suc n) (greatest test n)) (same (suc n)) ∙ ap (λ k. cond (other (suc n)) (suc n) k) (greatest_same test other n same)
+    ap (λ (b : Bool). cond b (suc n) (largest test n)) (same (suc n)) ∙ ap (λ k. cond (other (suc n)) (suc n) k) (greatest_same test other n same)
 
 -- ways over the same cells are as clear
 clear_same : (lane other : Lane) (way there : ℕ → ℕ) (g : ℕ) → ((j : ℕ) → at lane (way j) ≡ at other (there j)) → is_clear lane way g ≡ is_clear other there g
@@ -27,43 +27,43 @@ clear_same lane other way there (suc g) same =
 cells_same : (lane other : Lane) (way there : ℕ → ℕ) → length lane ≡ length other → ((j : ℕ) → at lane (way j) ≡ at other (there j)) → clear_cells lane way ≡ clear_cells other there
 cells_same lane other way there size same =
     greatest_same (is_clear lane way) (is_clear other there) (length lane - 1) (λ g. clear_same lane other way there g same)
-    ∙ ap (λ n. greatest (is_clear other there) (n - 1)) size
+    ∙ ap (λ n. largest (is_clear other there) (n - 1)) size
 
--- the lane of a road that is turned
-pub lanes_turned : (r : ℕ) (lanes : List Lane) (l : ℕ) → get_or (map (turned_lane r) lanes) l [] ≡ turned_lane r (get_or lanes l [])
+-- the lane of a road that is rotated
+pub lanes_turned : (r : ℕ) (lanes : List Lane) (l : ℕ) → get_or (map (rotate_lane r) lanes) l [] ≡ rotate_lane r (get_or lanes l [])
 lanes_turned r [] l = refl
 lanes_turned r (lane ∷ lanes) zero = refl
 lanes_turned r (lane ∷ lanes) (suc l) = lanes_turned r lanes l
 
-pub lane_turned : (r : ℕ) (road : Cells) (l : ℕ) → lane_of (turned r road) l ≡ turned_lane r (lane_of road l)
+pub lane_turned : (r : ℕ) (road : Cells) (l : ℕ) → lane_of (rotate_road r road) l ≡ rotate_lane r (lane_of road l)
 lane_turned r road l = lanes_turned r road.lanes l
 
-pub length-turned : (r : ℕ) (lane : Lane) → length (turned_lane r lane) ≡ length lane
+pub length-turned : (r : ℕ) (lane : Lane) → length (rotate_lane r lane) ≡ length lane
 length-turned r lane = length-map-range_with_len (λ x. at lane (ahead (length lane) x r)) 0 (length lane)
 
-pub turned_at : (r : ℕ) (lane : Lane) (x : ℕ) → x < length lane → at (turned_lane r lane) x ≡ at lane (ahead (length lane) x r)
+pub turned_at : (r : ℕ) (lane : Lane) (x : ℕ) → x < length lane → at (rotate_lane r lane) x ≡ at lane (ahead (length lane) x r)
 turned_at r lane x low = get_or-map-range_with_len (λ y. at lane (ahead (length lane) y r)) 0 (length lane) x x None low (let e : 0 + x ≡ x = omega arith in e)
 
 -- what stood where a car is seen
-pub turned_car : (r : ℕ) (lane : Lane) (x : ℕ) (car : ℕ × ℕ) → at (turned_lane r lane) x ≡ Some car → x < length lane
-turned_car r lane x car here = subst (λ n. x < n) (length-turned r lane) (inside (turned_lane r lane) x car here)
+pub turned_car : (r : ℕ) (lane : Lane) (x : ℕ) (car : ℕ × ℕ) → at (rotate_lane r lane) x ≡ Some car → x < length lane
+turned_car r lane x car here = subst (λ n. x < n) (length-turned r lane) (inside (rotate_lane r lane) x car here)
 
--- a lane that is turned by no cell, and one that is turned twice
-lane_turned_none : (lane : Lane) → turned_lane 0 lane ≡ lane
+-- a lane that is rotated by no cell, and one that is rotated twice
+lane_turned_none : (lane : Lane) → rotate_lane 0 lane ≡ lane
 lane_turned_none lane =
-    ext_get_or None (turned_lane 0 lane) lane (length-turned 0 lane) (λ x below.
+    ext_get_or None (rotate_lane 0 lane) lane (length-turned 0 lane) (λ x below.
     let low : x < length lane = subst (λ n. x < n) (length-turned 0 lane) below in
     turned_at 0 lane x low ∙ ap (at lane) (ahead_none (length lane) x low))
 
-lane_turned_more : (a b : ℕ) (lane : Lane) → turned_lane a (turned_lane b lane) ≡ turned_lane (a + b) lane
+lane_turned_more : (a b : ℕ) (lane : Lane) → rotate_lane a (rotate_lane b lane) ≡ rotate_lane (a + b) lane
 lane_turned_more a b lane =
     let n = length lane in
-    let size = length-turned a (turned_lane b lane) in
-    ext_get_or None (turned_lane a (turned_lane b lane)) (turned_lane (a + b) lane) (size ∙ length-turned b lane ∙ sym (length-turned (a + b) lane)) (λ x below.
-    let on : x < length (turned_lane b lane) = subst (λ k. x < k) size below in
+    let size = length-turned a (rotate_lane b lane) in
+    ext_get_or None (rotate_lane a (rotate_lane b lane)) (rotate_lane (a + b) lane) (size ∙ length-turned b lane ∙ sym (length-turned (a + b) lane)) (λ x below.
+    let on : x < length (rotate_lane b lane) = subst (λ k. x < k) size below in
     let low : x < n = subst (λ k. x < k) (length-turned b lane) on in
-    turned_at a (turned_lane b lane) x on
-    ∙ ap (λ k. at (turned_lane b lane) (ahead k x a)) (length-turned b lane)
+    turned_at a (rotate_lane b lane) x on
+    ∙ ap (λ k. at (rotate_lane b lane) (ahead k x a)) (length-turned b lane)
     ∙ turned_at b lane (ahead n x a) (ahead_below n x a (omega (arith, low)))
     ∙ ap (at lane) (ahead_more n x a b)
     ∙ sym (turned_at (a + b) lane x low))
@@ -77,18 +77,18 @@ pub same_road : (road other : Cells) → road.limit ≡ other.limit → length r
 same_road road other limit count same =
     ap (λ (v : ℕ). made v road.lanes) limit ∙ ap (made other.limit) (ext_get_or [] road.lanes other.lanes count same)
 
-pub turned_none : (road : Cells) → turned 0 road ≡ road
+pub turned_none : (road : Cells) → rotate_road 0 road ≡ road
 turned_none road =
-    same_road (turned 0 road) road refl (length-map road.lanes (turned_lane 0)) (λ l on. lane_turned 0 road l ∙ lane_turned_none (lane_of road l))
+    same_road (rotate_road 0 road) road refl (length-map road.lanes (rotate_lane 0)) (λ l on. lane_turned 0 road l ∙ lane_turned_none (lane_of road l))
 
-pub turned_more : (a b : ℕ) (road : Cells) → turned a (turned b road) ≡ turned (a + b) road
+pub turned_more : (a b : ℕ) (road : Cells) → rotate_road a (rotate_road b road) ≡ rotate_road (a + b) road
 turned_more a b road =
-    same_road (turned a (turned b road)) (turned (a + b) road) refl
-    (length-map (map (turned_lane b) road.lanes) (turned_lane a) ∙ length-map road.lanes (turned_lane b) ∙ sym (length-map road.lanes (turned_lane (a + b))))
-    (λ l on. lane_turned a (turned b road) l ∙ ap (turned_lane a) (lane_turned b road l) ∙ lane_turned_more a b (lane_of road l) ∙ sym (lane_turned (a + b) road l))
+    same_road (rotate_road a (rotate_road b road)) (rotate_road (a + b) road) refl
+    (length-map (map (rotate_lane b) road.lanes) (rotate_lane a) ∙ length-map road.lanes (rotate_lane b) ∙ sym (length-map road.lanes (rotate_lane (a + b))))
+    (λ l on. lane_turned a (rotate_road b road) l ∙ ap (rotate_lane a) (lane_turned b road l) ∙ lane_turned_more a b (lane_of road l) ∙ sym (lane_turned (a + b) road l))
 
 -- the cells ahead
-pub turned_ahead : (r : ℕ) (lane : Lane) (x j : ℕ) → 0 < length lane → at (turned_lane r lane) (ahead (length lane) x j) ≡ at lane (ahead (length lane) (ahead (length lane) x r) j)
+pub turned_ahead : (r : ℕ) (lane : Lane) (x j : ℕ) → 0 < length lane → at (rotate_lane r lane) (ahead (length lane) x j) ≡ at lane (ahead (length lane) (ahead (length lane) x r) j)
 turned_ahead r lane x j some =
     turned_at r lane (ahead (length lane) x j) (ahead_below (length lane) x j some) ∙ ap (at lane) (ahead_swap (length lane) x j r)
 
@@ -96,59 +96,59 @@ module _ (r : ℕ) (lane : Lane) (x : ℕ) (some : 0 < length lane) where
   abbrev y : ℕ
   y = ahead (length lane) x r
 
-  way_ahead : (j : ℕ) → at (turned_lane r lane) (ahead (length (turned_lane r lane)) x j) ≡ at lane (ahead (length lane) y j)
-  way_ahead j = ap (λ m. at (turned_lane r lane) (ahead m x j)) (length-turned r lane) ∙ turned_ahead r lane x j some
+  way_ahead : (j : ℕ) → at (rotate_lane r lane) (ahead (length (rotate_lane r lane)) x j) ≡ at lane (ahead (length lane) y j)
+  way_ahead j = ap (λ m. at (rotate_lane r lane) (ahead m x j)) (length-turned r lane) ∙ turned_ahead r lane x j some
 
-  way_behind : (j : ℕ) → at (turned_lane r lane) (behind (length (turned_lane r lane)) x j) ≡ at lane (behind (length lane) y j)
-  way_behind j = ap (λ m. at (turned_lane r lane) (behind m x j)) (length-turned r lane) ∙ turned_ahead r lane x (length lane - j) some
+  way_behind : (j : ℕ) → at (rotate_lane r lane) (behind (length (rotate_lane r lane)) x j) ≡ at lane (behind (length lane) y j)
+  way_behind j = ap (λ m. at (rotate_lane r lane) (behind m x j)) (length-turned r lane) ∙ turned_ahead r lane x (length lane - j) some
 
-  clear_ahead : clear_cells (turned_lane r lane) (ahead (length (turned_lane r lane)) x) ≡ clear_cells lane (ahead (length lane) y)
-  clear_ahead = cells_same (turned_lane r lane) lane (ahead (length (turned_lane r lane)) x) (ahead (length lane) y) (length-turned r lane) way_ahead
+  clear_ahead : clear_cells (rotate_lane r lane) (ahead (length (rotate_lane r lane)) x) ≡ clear_cells lane (ahead (length lane) y)
+  clear_ahead = cells_same (rotate_lane r lane) lane (ahead (length (rotate_lane r lane)) x) (ahead (length lane) y) (length-turned r lane) way_ahead
 
-  clear_behind : clear_cells (turned_lane r lane) (behind (length (turned_lane r lane)) x) ≡ clear_cells lane (behind (length lane) y)
-  clear_behind = cells_same (turned_lane r lane) lane (behind (length (turned_lane r lane)) x) (behind (length lane) y) (length-turned r lane) way_behind
+  clear_behind : clear_cells (rotate_lane r lane) (behind (length (rotate_lane r lane)) x) ≡ clear_cells lane (behind (length lane) y)
+  clear_behind = cells_same (rotate_lane r lane) lane (behind (length (rotate_lane r lane)) x) (behind (length lane) y) (length-turned r lane) way_behind
 
   -- the gap, and the speed of the next car
-  pub gap_turned : gap (turned_lane r lane) x ≡ gap lane y
+  pub gap_turned : gap (rotate_lane r lane) x ≡ gap lane y
   gap_turned = clear_ahead
 
-  pub headspeed_turned : headspeed (turned_lane r lane) x ≡ headspeed lane y
+  pub headspeed_turned : headspeed (rotate_lane r lane) x ≡ headspeed lane y
   headspeed_turned =
-      ap (λ g. speed_in (at (turned_lane r lane) (ahead (length (turned_lane r lane)) x (g + 1)))) gap_turned
+      ap (λ g. speed_in (at (rotate_lane r lane) (ahead (length (rotate_lane r lane)) x (g + 1)))) gap_turned
       ∙ ap speed_in (way_ahead (gap lane y + 1))
 
   -- what is beside a car
   module _ (low : x < length lane) where
-    pub side_turned : side (turned_lane r lane) x ≡ side lane y
+    pub side_turned : side (rotate_lane r lane) x ≡ side lane y
     side_turned = ap is_none (turned_at r lane x low)
 
-    pub sidegap_turned : sidegap (turned_lane r lane) x ≡ sidegap lane y
+    pub sidegap_turned : sidegap (rotate_lane r lane) x ≡ sidegap lane y
     sidegap_turned =
-        ap (λ (b : Bool). cond b (clear_cells (turned_lane r lane) (ahead (length (turned_lane r lane)) x)) 0) side_turned
+        ap (λ (b : Bool). cond b (clear_cells (rotate_lane r lane) (ahead (length (rotate_lane r lane)) x)) 0) side_turned
         ∙ ap (λ g. cond (side lane y) g 0) clear_ahead
 
-    pub sideback_turned : sideback (turned_lane r lane) x ≡ sideback lane y
+    pub sideback_turned : sideback (rotate_lane r lane) x ≡ sideback lane y
     sideback_turned =
-        ap (λ (b : Bool). cond b (clear_cells (turned_lane r lane) (behind (length (turned_lane r lane)) x)) 0) side_turned
+        ap (λ (b : Bool). cond b (clear_cells (rotate_lane r lane) (behind (length (rotate_lane r lane)) x)) 0) side_turned
         ∙ ap (λ g. cond (side lane y) g 0) clear_behind
 
--- the motion of a lane that is turned
+-- the motion of a lane that is rotated
 module _ (r : ℕ) (answer : ℕ → ℕ) (old new : Lane) (m : LaneMoves answer old new) where
-  arrives_turned : (x number speed : ℕ) → at (turned_lane r old) x ≡ Some (number, speed)
-      → at (turned_lane r new) (ahead (length (turned_lane r old)) x (answer (ahead (length old) x r))) ≡ Some (number, answer (ahead (length old) x r))
+  arrives_turned : (x number speed : ℕ) → at (rotate_lane r old) x ≡ Some (number, speed)
+      → at (rotate_lane r new) (ahead (length (rotate_lane r old)) x (answer (ahead (length old) x r))) ≡ Some (number, answer (ahead (length old) x r))
   arrives_turned x number speed here =
       let low = turned_car r old x (number, speed) here in
       let y = ahead (length old) x r in
       let a = answer y in
       let size = m.same_length in
       let arrived = m.arrives y number speed (sym (turned_at r old x low) ∙ here) in
-      ap (λ k. at (turned_lane r new) (ahead k x a)) (length-turned r old ∙ sym size)
+      ap (λ k. at (rotate_lane r new) (ahead k x a)) (length-turned r old ∙ sym size)
       ∙ turned_ahead r new x a (omega (arith, low, size))
       ∙ ap (λ k. at new (ahead k (ahead k x r) a)) size
       ∙ arrived
 
-  came_turned : (y number speed : ℕ) → at (turned_lane r new) y ≡ Some (number, speed)
-      → (x : ℕ) × ((before : ℕ) × ComesFrom (λ z. answer (ahead (length old) z r)) (turned_lane r old) y number speed x before)
+  came_turned : (y number speed : ℕ) → at (rotate_lane r new) y ≡ Some (number, speed)
+      → (x : ℕ) × ((before : ℕ) × ComesFrom (λ z. answer (ahead (length old) z r)) (rotate_lane r old) y number speed x before)
   came_turned y number speed there =
       let n = length old in
       let size = m.same_length in
@@ -175,7 +175,7 @@ module _ (r : ℕ) (answer : ℕ → ℕ) (old new : Lane) (m : LaneMoves answer
         ),
       )
 
-  pub lane_moves_turned : LaneMoves (λ x. answer (ahead (length old) x r)) (turned_lane r old) (turned_lane r new)
+  pub lane_moves_turned : LaneMoves (λ x. answer (ahead (length old) x r)) (rotate_lane r old) (rotate_lane r new)
   lane_moves_turned = record {
     same_length = length-turned r new ∙ m.same_length ∙ sym (length-turned r old);
     arrives = arrives_turned;
@@ -185,9 +185,9 @@ module _ (r : ℕ) (answer : ℕ → ℕ) (old new : Lane) (m : LaneMoves answer
 same_change : (p q s t : Bool) (a b c d : Cell) → p ≡ s → q ≡ t → a ≡ c → b ≡ d → cell_after_change p q a b ≡ cell_after_change s t c d
 same_change p q s t a b c d e f g h = rw (e, f, g, h) refl
 
--- the lane change of a lane that is turned
+-- the lane change of a lane that is rotated
 pub lane_crosses_turned : (r : ℕ) (p q : ℕ → Bool) (own beside new : Lane) → length beside ≡ length own → LaneCrosses p q own beside new
-    → LaneCrosses (λ x. p (ahead (length own) x r)) (λ x. q (ahead (length beside) x r)) (turned_lane r own) (turned_lane r beside) (turned_lane r new)
+    → LaneCrosses (λ x. p (ahead (length own) x r)) (λ x. q (ahead (length beside) x r)) (rotate_lane r own) (rotate_lane r beside) (rotate_lane r new)
 lane_crosses_turned r p q own beside new equal m = record {
   same_length = length-turned r new ∙ m.same_length ∙ sym (length-turned r own);
   each_cell = λ x below.
@@ -198,6 +198,6 @@ lane_crosses_turned r p q own beside new equal m = record {
       turned_at r new x (omega (arith, low, size))
       ∙ ap (λ k. at new (ahead k x r)) size
       ∙ m.each_cell y (ahead_below (length own) x r (omega (arith, low)))
-      ∙ same_change (p y) (q y) (p y) (q (ahead (length beside) x r)) (at own y) (at beside y) (at (turned_lane r own) x) (at (turned_lane r beside) x)
+      ∙ same_change (p y) (q y) (p y) (q (ahead (length beside) x r)) (at own y) (at beside y) (at (rotate_lane r own) x) (at (rotate_lane r beside) x)
       refl (ap q (sym to)) (sym (turned_at r own x low)) (ap (at beside) (sym to) ∙ sym (turned_at r beside x (omega (arith, low, equal))));
 }

@@ -5,11 +5,11 @@ use Rattle.trlab_road.specs.Cells.{Cell, Cells, Lane, at, cell, lane_of}
 use Rattle.trlab_road.specs.Gaps.{ahead, behind, gap}
 use Rattle.trlab_road.specs.Motion.{LaneMoves}
 use Rattle.trlab_road.proofs.Ring.{car_in, clear_within_gap, inside}
-use Rattle.trlab_traffic.specs.Rule184.{EmptyCellsGoBack, IsElementaryStep, NaschIsRule184, elementary}
+use Rattle.trlab_traffic.specs.Rule184.{Rule184HasParticleHoleSymmetry, IsElementaryStep, NaschIsRule184, elementary_rule}
 use Rattle.trlab_traffic.proofs.NaschMoves.{SafeMotion, safe_motion}
 use Rattle.trlab_traffic.proofs.Places.{ahead_behind, ahead_none, behind_ahead, clear_is_gap}
 
-pub empty_cells_go_back : EmptyCellsGoBack
+pub empty_cells_go_back : Rule184HasParticleHoleSymmetry
 empty_cells_go_back true true true = refl
 empty_cells_go_back true true false = refl
 empty_cells_go_back true false true = refl
@@ -118,7 +118,7 @@ module _ (answer : ℕ → ℕ) (old new : Lane) (m : LaneMoves answer old new)
       ])
 
   by_cells : (y : ℕ) (b o a : Cell) → y < length old → at old (behind (length old) y 1) ≡ b → at old y ≡ o → at old (ahead (length old) y 1) ≡ a
-      → is_some (at new y) ≡ elementary 184 (is_some b) (is_some o) (is_some a)
+      → is_some (at new y) ≡ elementary_rule 184 (is_some b) (is_some o) (is_some a)
   by_cells y None (Some car) (Some next) low before here there = stays y car next here there
   by_cells y (Some last) (Some car) (Some next) low before here there = stays y car next here there
   by_cells y None (Some car) None low before here there = leaves y car here there

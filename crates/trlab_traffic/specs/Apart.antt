@@ -1,4 +1,4 @@
--- Independent lanes: if nobody changes lanes, the other lane has no influence.
+-- Independent lanes: if no car changes lanes, the other lane has no influence.
 use Rattle.std.specs.Prelude.{◌≡◌, ℕ}
 use Rattle.trlab_road.specs.Cells.{Cells, lane_of}
 use Rattle.trlab_rules.specs.Rules.{Programs}
@@ -15,12 +15,12 @@ pub record ShareLane (l : ℕ) (road other : Cells) : Type 0 where
   pub same_lane : lane_of other l ≡ lane_of road l
 
 -- without lane changes the next state of lane `l` does not depend on the other lane: if `road` and `other`
--- share lane `l`, so do their next roads, `next` and `beside`, under the same rule and with the same dice
+-- share lane `l`, so do their next roads, `next` and `next_other`, under the same rule and with the same dice
 abbrev pub StepKeepsLanesApart : Type 0
 StepKeepsLanesApart =
-    (rule : Programs) (dice : Dice) (road other next beside : Cells) (tally count : StepTally) (l : ℕ)
-    → StaysInLane rule → IsNext rule dice road next tally → IsNext rule dice other beside count
-    → ShareLane l road other → ShareLane l next beside
+    (rule : Programs) (dice : Dice) (road other next next_other : Cells) (tally count : StepTally) (l : ℕ)
+    → StaysInLane rule → IsNext rule dice road next tally → IsNext rule dice other next_other count
+    → ShareLane l road other → ShareLane l next next_other
 
 -- without lane changes the run of lane `l` does not depend on the other lane: if two starts share lane `l`,
 -- so do their roads after each number of steps, under the same sheet of rules and with the same key and road

@@ -1,4 +1,4 @@
--- How many cars change lanes: at most all cars, and at most as many as there are empty cells.
+-- Bounds on the number of lane changes in a step: the number of cars, and the number of empty cells.
 use Rattle.std.specs.Prelude.{ℕ, ◌*◌, ◌≤◌}
 use Rattle.trlab_road.specs.Cells.{Cells, cars}
 use Rattle.trlab_road.specs.Legal.{IsLegal}
@@ -7,7 +7,7 @@ use Rattle.trlab_machine.specs.declared.dice.Dice.{Dice}
 use Rattle.trlab_step.specs.declared.tally.StepTally.{StepTally}
 use Rattle.trlab_step.specs.Next.{IsNext}
 use Rattle.trlab_step.specs.Run.{Seed, Sheet, ComesTo}
-use Rattle.trlab_traffic.specs.Capacity.{empty_cells}
+use Rattle.trlab_traffic.specs.Triangle.{empty_cells}
 use Rattle.trlab_traffic.specs.Runs.{counted_steps}
 
 -- `changes`, the number of lane changes in `steps` steps of a road, is bounded: per step it is at most the

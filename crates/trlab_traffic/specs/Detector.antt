@@ -1,5 +1,5 @@
--- Detectors: each counts the cars that pass the end of a cell in a step. Their counts, and the cars between
--- two of them.
+-- Detectors, each of which counts the cars that pass the end of a cell in a step, and the cars between two
+-- detectors.
 use Rattle.std.specs.Prelude.{◌≡◌, ℕ, ◌+◌, ◌-◌, ◌<◌, ◌≤◌, Bool, count_by, length, nat_lt, sum_by}
 use Rattle.std.specs.List.{range_with_len}
 use Rattle.trlab_road.specs.declared.car.Car.{Car}
@@ -53,7 +53,8 @@ DetectorCountsAtMostOne =
     → IsNext rule dice road next tally → x < length (lane_of next l) → passages (lane_of next l) x ≤ 1
 
 -- the number of cars in the k cells of a lane that are ahead of cell x; if k is larger than the number of
--- cells, those that come again after a lap count again
+-- cells, cars are counted again after a lap. For example, on `0.0..` with x = 0 it is 1 for k = 2, and 2 for
+-- k = 5
 abbrev pub cars_ahead_of : Lane → ℕ → ℕ → ℕ
 cars_ahead_of lane x k = count_by (λ j. is_taken lane (ahead (length lane) x j)) (range_with_len 1 k)
 

@@ -1,4 +1,4 @@
--- The counts of detectors in a run, from the first step on that its tally counts.
+-- The counts of detectors in a run. Like the tally, they begin at step `warm`.
 use Rattle.std.specs.Prelude.{◌≡◌, ℕ, zero, suc, ◌+◌, ◌*◌, ◌<◌, ◌≤◌, if◌then◌else◌, length, min, nat_le, sum_by}
 use Rattle.std.specs.List.{range_with_len}
 use Rattle.trlab_road.specs.Cells.{Cells, Lane, lane_car_count, lane_of}
@@ -6,38 +6,39 @@ use Rattle.trlab_road.specs.Gaps.{ahead}
 use Rattle.trlab_road.specs.Legal.{IsLegal}
 use Rattle.trlab_step.specs.declared.tally.StepTally.{StepTally}
 use Rattle.trlab_step.specs.Run.{Seed, Sheet, ComesTo, IsRoadAt}
-use Rattle.trlab_traffic.specs.Capacity.{lane_empty_cells}
+use Rattle.trlab_traffic.specs.Triangle.{lane_empty_cells}
 use Rattle.trlab_traffic.specs.Detector.{ContinuityHolds, passages}
 use Rattle.trlab_traffic.specs.Runs.{EachRule, StaysInLane}
 
--- the detector at the end of cell x on lane l has counted `count` cars after `step` steps of a run: none
--- after 0 steps, and in each step from step `warm` on the cars that pass it
-abbrev pub Counts : Seed → Sheet → ℕ → ℕ → ℕ → ℕ → Type 0
-Counts seed sheet l x zero count = count ≡ 0
-Counts seed sheet l x (suc step) count =
-    (road : Cells) × (before : ℕ) × IsRoadAt seed sheet (suc step) road × Counts seed sheet l x step before
+-- after `step` steps of a run the detector at the end of cell x on lane l has counted `count` cars: all that
+-- passed it in step `warm` or later
+abbrev pub DetectorHasCounted : Seed → Sheet → ℕ → ℕ → ℕ → ℕ → Type 0
+DetectorHasCounted seed sheet l x zero count = count ≡ 0
+DetectorHasCounted seed sheet l x (suc step) count =
+    (road : Cells) × (before : ℕ) × IsRoadAt seed sheet (suc step) road
+    × DetectorHasCounted seed sheet l x step before
     × (count ≡ (if nat_le seed.warm step then before + passages (lane_of road l) x else before))
 
--- after each number of steps of a run each detector has a count
-abbrev pub CountExists : Type 0
-CountExists =
+-- after any number of steps of a run the detector at the end of any cell has a count
+abbrev pub DetectorCountExists : Type 0
+DetectorCountExists =
     (seed : Seed) (sheet : Sheet) (step : ℕ) (road : Cells) (sum : StepTally) (l x : ℕ)
-    → ComesTo seed sheet step road sum → (count : ℕ) × Counts seed sheet l x step count
+    → ComesTo seed sheet step road sum → (count : ℕ) × DetectorHasCounted seed sheet l x step count
 
--- two detectors on lane l have these counts after `step` steps of a run: `first` at the end of cell x, and
--- `second` at the end of the cell k cells ahead
-pub record CountBoth (seed : Seed) (sheet : Sheet) (step l x k first second : ℕ) : Type 0 where
+-- after `step` steps of a run two detectors on lane l have counted `first` cars, at the end of cell x, and
+-- `second` cars, at the end of the cell k cells ahead
+pub record DetectorsHaveCounted (seed : Seed) (sheet : Sheet) (step l x k first second : ℕ) : Type 0 where
   pub is_cell : x < length (lane_of seed.road l)
-  pub here : Counts seed sheet l x step first
-  pub there : Counts seed sheet l (ahead (length (lane_of seed.road l)) x k) step second
+  pub here : DetectorHasCounted seed sheet l x step first
+  pub there : DetectorHasCounted seed sheet l (ahead (length (lane_of seed.road l)) x k) step second
 
 -- under any sheet of rules without lane changes the continuity equation holds for any two detectors of a
--- lane, from the road at step `warm`, at which they begin to count, to the road at each step from there on
+-- lane, from the road at step `warm`, at which they begin to count, to the road at any later step
 abbrev pub RunSatisfiesContinuity : Type 0
 RunSatisfiesContinuity =
     (seed : Seed) (sheet : Sheet) (step : ℕ) (start road : Cells) (l x k first second : ℕ)
     → EachRule StaysInLane sheet → seed.warm ≤ step → IsRoadAt seed sheet seed.warm start
-    → IsRoadAt seed sheet step road → CountBoth seed sheet step l x k first second
+    → IsRoadAt seed sheet step road → DetectorsHaveCounted seed sheet step l x k first second
     → ContinuityHolds (lane_of start l) (lane_of road l) x k first second
 
 -- the numbers `first` and `second` differ by at most k
@@ -51,7 +52,7 @@ abbrev pub DetectorsAgree : Type 0
 DetectorsAgree =
     (seed : Seed) (sheet : Sheet) (step : ℕ) (road : Cells) (sum : StepTally) (l x k first second : ℕ)
     → EachRule StaysInLane sheet → ComesTo seed sheet step road sum
-    → CountBoth seed sheet step l x k first second → DifferByAtMost k first second
+    → DetectorsHaveCounted seed sheet step l x k first second → DifferByAtMost k first second
 
 -- the number of cars of a lane or the number of its empty cells, whichever is smaller
 abbrev pub min_of_cars_and_empty_cells : Lane → ℕ
@@ -63,7 +64,7 @@ abbrev pub DetectorsAgreeByCars : Type 0
 DetectorsAgreeByCars =
     (seed : Seed) (sheet : Sheet) (step : ℕ) (road : Cells) (sum : StepTally) (l x k first second : ℕ)
     → EachRule StaysInLane sheet → ComesTo seed sheet step road sum → k ≤ length (lane_of seed.road l)
-    → CountBoth seed sheet step l x k first second
+    → DetectorsHaveCounted seed sheet step l x k first second
     → DifferByAtMost (min_of_cars_and_empty_cells (lane_of seed.road l)) first second
 
 -- in a run on one lane, under any sheet of rules, the counts of all detectors add up to the distance;
@@ -72,7 +73,7 @@ abbrev pub DetectorsCountRun : Type 0
 DetectorsCountRun =
     (seed : Seed) (sheet : Sheet) (step : ℕ) (road : Cells) (sum : StepTally) (count : ℕ → ℕ)
     → length seed.road.lanes ≡ 1 → ComesTo seed sheet step road sum
-    → ((x : ℕ) → Counts seed sheet 0 x step (count x))
+    → ((x : ℕ) → DetectorHasCounted seed sheet 0 x step (count x))
     → sum_by count (range_with_len 0 (length (lane_of seed.road 0))) ≡ sum.distance
 
 -- `count` measures the flow on a ring of n cells: n times `count` differs from `distance` by at most n times
@@ -87,7 +88,7 @@ abbrev pub DetectorMeasuresFlow : Type 0
 DetectorMeasuresFlow =
     (seed : Seed) (sheet : Sheet) (step : ℕ) (road : Cells) (sum : StepTally) (x count : ℕ)
     → EachRule StaysInLane sheet → length seed.road.lanes ≡ 1 → ComesTo seed sheet step road sum
-    → x < length (lane_of seed.road 0) → Counts seed sheet 0 x step count
+    → x < length (lane_of seed.road 0) → DetectorHasCounted seed sheet 0 x step count
     → MeasuresFlow (lane_of seed.road 0) count sum.distance
 
 -- under any sheet of rules without lane changes a detector counts at most v cars in the first v + 1 counted
@@ -96,4 +97,5 @@ abbrev pub DetectorCountsBelowPeak : Type 0
 DetectorCountsBelowPeak =
     (seed : Seed) (sheet : Sheet) (step l x count : ℕ)
     → EachRule StaysInLane sheet → IsLegal seed.road → x < length (lane_of seed.road l)
-    → step ≤ seed.warm + seed.road.limit + 1 → Counts seed sheet l x step count → count ≤ seed.road.limit
+    → step ≤ seed.warm + seed.road.limit + 1 → DetectorHasCounted seed sheet l x step count
+    → count ≤ seed.road.limit

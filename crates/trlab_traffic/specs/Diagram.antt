@@ -1,6 +1,5 @@
--- The fundamental diagram without randomization: each lane of a run comes to its capacity, and stays at it.
--- So the diagram of one lane is a triangle: its flow is the smaller of the limit times the density, and one
--- minus the density.
+-- The fundamental diagram of the Nagel-Schreckenberg model without randomization is a triangle: the flow of
+-- one lane reaches min(v_max * density, 1 - density), and keeps this value.
 use Rattle.std.specs.Prelude.{◌≡◌, ℕ, ◌+◌, ◌*◌, ◌≤◌, length, sum_by}
 use Rattle.trlab_road.specs.Legal.{IsLegal}
 use Rattle.trlab_road.specs.Cells.{Cells, lane_of}
@@ -9,49 +8,50 @@ use Rattle.trlab_rules.specs.Rules.{Programs}
 use Rattle.trlab_rules.specs.StandardRules.{IsNasch}
 use Rattle.trlab_step.specs.declared.tally.StepTally.{StepTally}
 use Rattle.trlab_step.specs.Run.{Seed, ComesTo}
-use Rattle.trlab_traffic.specs.Capacity.{all_cells, capacity, lane_capacity}
+use Rattle.trlab_traffic.specs.Triangle.{all_cells, max_distance, lane_max_distance}
 use Rattle.trlab_traffic.specs.Runs.{always, counted_steps}
 
--- a run flows at capacity: the distance of its counted steps is their number times the capacity of the road
--- of the start
-abbrev pub FlowsAtCapacity : Seed → ℕ → StepTally → Type 0
-FlowsAtCapacity seed step sum = sum.distance ≡ counted_steps seed step * capacity seed.road
+-- the flow of a run is on the triangle, min(v_max * density, 1 - density): per counted step its distance
+-- is v_max times the number of cars, or the number of empty cells, whichever is smaller
+abbrev pub FlowsOnTriangle : Seed → ℕ → StepTally → Type 0
+FlowsOnTriangle seed step sum = sum.distance ≡ counted_steps seed step * max_distance seed.road
 
--- under the rule of 1992 without randomization a run from any legal road of one lane flows at capacity, if
--- `warm` + 1 is at least the limit plus the number of cells: time to reach the limit, and then to go once
--- round the ring
-abbrev pub NaschComesToCapacity : Type 0
-NaschComesToCapacity =
+-- in the Nagel-Schreckenberg model without randomization the flow of a run from any legal road of one lane
+-- with L cells is min(v_max * density, 1 - density) if `warm` is at least v_max + L - 1: time to reach v_max,
+-- and then to go once round the ring
+abbrev pub NaschReachesTriangle : Type 0
+NaschReachesTriangle =
     (rule : Programs) (seed : Seed) (step : ℕ) (road : Cells) (sum : StepTally)
     → IsNasch 0 rule → IsLegal seed.road → length seed.road.lanes ≡ 1
     → seed.road.limit + all_cells seed.road ≤ seed.warm + 1 → ComesTo seed (always rule) step road sum
-    → FlowsAtCapacity seed step sum
+    → FlowsOnTriangle seed step sum
 
--- under the rule of 1992 without randomization a run from a legal road flows at the sum of the capacities of
--- its lanes, if `warm` + 1 is at least the limit plus the length of a lane. This sum is less than the
--- capacity of the road if one lane is held back by the limit and another by its empty cells
-abbrev pub NaschComesToCapacityByLane : Type 0
-NaschComesToCapacityByLane =
+-- in the Nagel-Schreckenberg model without randomization the distance of a run from a legal road is, per
+-- counted step, the sum over its lanes of v_max times the number of cars or the number of empty cells,
+-- whichever is smaller on the lane, if `warm` is at least v_max + L - 1, with L cells per lane. This is less
+-- than the minimum for the whole road if v_max bounds one lane and the empty cells bound the other
+abbrev pub NaschReachesTriangleByLane : Type 0
+NaschReachesTriangleByLane =
     (rule : Programs) (seed : Seed) (step : ℕ) (road : Cells) (sum : StepTally)
     → IsNasch 0 rule → IsLegal seed.road → seed.road.limit + length (lane_of seed.road 0) ≤ seed.warm + 1
     → ComesTo seed (always rule) step road sum
-    → sum.distance ≡ counted_steps seed step * sum_by (lane_capacity seed.road.limit) seed.road.lanes
+    → sum.distance ≡ counted_steps seed step * sum_by (lane_max_distance seed.road.limit) seed.road.lanes
 
--- under the rule of 1992 without randomization and with the limit 1, which is rule 184, a run from any legal
--- road of one lane flows at capacity, if `warm` + 1 is at least the number of cells: time to go once round
--- the ring
-abbrev pub Rule184ComesToCapacity : Type 0
-Rule184ComesToCapacity =
+-- in the Nagel-Schreckenberg model without randomization and with v_max = 1, which is Wolfram's rule 184, the
+-- flow of a run from any legal road of one lane with L cells is min(density, 1 - density) if `warm` is at
+-- least L - 1: time to go once round the ring
+abbrev pub Rule184ReachesTriangle : Type 0
+Rule184ReachesTriangle =
     (rule : Programs) (seed : Seed) (step : ℕ) (road : Cells) (sum : StepTally)
     → IsNasch 0 rule → IsLegal seed.road → length seed.road.lanes ≡ 1 → seed.road.limit ≡ 1
     → all_cells seed.road ≤ seed.warm + 1 → ComesTo seed (always rule) step road sum
-    → FlowsAtCapacity seed step sum
+    → FlowsOnTriangle seed step sum
 
--- under the rule of 1992 without randomization a run from n evenly spaced, stopped cars on one lane flows at
--- capacity, if `warm` + 1 is at least the limit: time to reach the limit
-abbrev pub EvenCarsFlowAtCapacity : Type 0
-EvenCarsFlowAtCapacity =
+-- in the Nagel-Schreckenberg model without randomization the flow of a run from n evenly spaced, stopped cars
+-- on one lane is min(v_max * density, 1 - density) if `warm` is at least v_max - 1: time to reach v_max
+abbrev pub EvenCarsFlowOnTriangle : Type 0
+EvenCarsFlowOnTriangle =
     (cells limit n : ℕ) (rule : Programs) (seed : Seed) (step : ℕ) (road : Cells) (sum : StepTally)
     → IsNasch 0 rule → CanSpread 1 cells limit n → IsEvenlySpaced 1 cells limit n seed.road
     → limit ≤ seed.warm + 1 → ComesTo seed (always rule) step road sum
-    → FlowsAtCapacity seed step sum
+    → FlowsOnTriangle seed step sum

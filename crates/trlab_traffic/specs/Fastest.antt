@@ -1,5 +1,5 @@
--- Which rule is faster: runs from the same start, with the same key and without lane changes, compared car by
--- car.
+-- Runs under different rules, from the same start, with the same key and without lane changes, compared car
+-- by car.
 use Rattle.std.specs.Prelude.{◌≡◌, ℕ, ◌+◌, ◌≤◌, List, [], ◌∷◌, min}
 use Rattle.trlab_code.specs.declared.instruction.Input.TheVariants.{Limit, Gap}
 use Rattle.trlab_code.specs.declared.instruction.Instr.TheVariants.{Get, Min, Go}
@@ -35,16 +35,17 @@ AcceleratesByAtMostOne rule =
     (view : View) (words : List ℕ) (speed n : ℕ) → IsViewInRange view
     → EndsWith Motion rule.motion.program.instrs view words (Goes speed) n → speed ≤ view.speed + 1
 
--- the rule of 1992 accelerates by at most one, for every probability p
+-- the Nagel-Schreckenberg model accelerates by at most one, for every braking probability p / 2 ^ 31
 abbrev pub NaschAcceleratesByAtMostOne : Type 0
 NaschAcceleratesByAtMostOne = (p : ℕ) (rule : Programs) → IsNasch p rule → AcceleratesByAtMostOne rule
 
--- the rule of 1998 accelerates by at most one, for all probabilities p and p0
+-- the VDR model of Barlovic et al. (1998) accelerates by at most one, for all braking probabilities
+-- p / 2 ^ 31 of moving cars and p0 / 2 ^ 31 of stopped cars
 abbrev pub VdrAcceleratesByAtMostOne : Type 0
 VdrAcceleratesByAtMostOne = (p p0 : ℕ) (rule : Programs) → IsVdr p p0 rule → AcceleratesByAtMostOne rule
 
 -- a run from a legal road, under any sheet of rules that accelerate by at most one and have no lane changes,
--- is never faster than the run under the rule of 1992 without randomization
+-- is never faster than the run of the Nagel-Schreckenberg model without randomization
 abbrev pub NobodyBeatsNasch : Type 0
 NobodyBeatsNasch =
     (rule : Programs) (sheet : Sheet) (seed : Seed) (step : ℕ)
@@ -57,8 +58,7 @@ pub record ReachesSpeedAtOnce (rule : Programs) : Type 0 where
   pub motion : ComputesSpeed (λ view words. min view.limit view.gap) rule.motion.program
   pub stays : StaysInLane rule
 
--- a motion program that answers the limit or the car's gap, whichever is smaller, and does not read the car's
--- speed
+-- the motion program that answers the limit or the car's gap, whichever is smaller
 abbrev pub gap_program : Program
 gap_program = record { kind = Motion; instrs = Get R0 Limit ∷ Get R1 Gap ∷ Min R0 R0 R1 ∷ Go R0 ∷ [] }
 
@@ -75,17 +75,18 @@ NobodyBeatsGap =
     → ReachesSpeedAtOnce rule → EachRule StaysInLane sheet → IsLegal seed.road
     → IsNoFaster seed sheet (always rule) step
 
--- with the limit 1 a run under the rule of 1992 with probability q of braking is never faster than the run
--- with p from the same legal road and with the same key, if p is at most q; with a larger limit it may be
+-- in the Nagel-Schreckenberg model with v_max = 1 a run with braking probability q / 2 ^ 31 is never faster
+-- than the run with p / 2 ^ 31 from the same legal road and with the same key, if p is at most q; for larger
+-- v_max it may be
 abbrev pub RandomizationSlowsRuns : Type 0
 RandomizationSlowsRuns =
     (p q : ℕ) (light heavy : Programs) (seed : Seed) (step : ℕ)
     → p ≤ q → IsNasch p light → IsNasch q heavy → IsLegal seed.road → seed.road.limit ≡ 1
     → IsNoFaster seed (always heavy) (always light) step
 
--- with the limit 1 a run under the rule of 1998 with probabilities q and q0 of braking, for moving and for
--- stopped cars, is never faster than the run under the rule of 1992 with p from the same legal road and with
--- the same key, if p is at most q and q0
+-- with v_max = 1 a run of the VDR model of Barlovic et al. (1998), with braking probabilities q / 2 ^ 31 of
+-- moving and q0 / 2 ^ 31 of stopped cars, is never faster than the run of the Nagel-Schreckenberg model with
+-- p / 2 ^ 31 from the same legal road and with the same key, if p is at most q and at most q0
 abbrev pub SlowStartsSlowRuns : Type 0
 SlowStartsSlowRuns =
     (p q q0 : ℕ) (light heavy : Programs) (seed : Seed) (step : ℕ)

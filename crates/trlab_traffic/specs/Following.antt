@@ -11,8 +11,8 @@ use Rattle.trlab_step.specs.Next.{IsNext}
 use Rattle.trlab_step.specs.Published.{AllMoveAhead, car_after_motion}
 use Rattle.trlab_traffic.specs.Runs.{StaysInLane}
 
--- `next` is at the place of the next car ahead of `car`, on the same lane; this is the place of `car` itself
--- if the lane has no other car
+-- `next` is on the lane of `car`, at the place of the next car ahead; this is the place of `car` itself if
+-- the lane has no other car
 pub record IsNextAhead (road : Cells) (car next : Car) : Type 0 where
   pub same_lane : next.lane ≡ car.lane
   pub ahead : next.place ≡ next_place (lane_of road car.lane) car.place

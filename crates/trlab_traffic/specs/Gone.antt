@@ -7,8 +7,8 @@ use Rattle.trlab_road.specs.Legal.{IsLegal}
 use Rattle.trlab_step.specs.declared.tally.StepTally.{StepTally}
 use Rattle.trlab_step.specs.Run.{Seed, Sheet, ComesTo, IsRoadAt}
 
--- the car with this number has gone `far` cells in the first `step` steps of a run: its speeds after each of
--- these steps, added up
+-- the car with this number has gone `far` cells in the first `step` steps of a run: the sum of its speeds
+-- after each of these steps
 abbrev pub HasGone : Seed → Sheet → ℕ → ℕ → ℕ → Type 0
 HasGone seed sheet zero number far = far ≡ 0
 HasGone seed sheet (suc step) number far =

@@ -7,10 +7,10 @@ use Rattle.trlab_road.specs.Gaps.{gap}
 use Rattle.trlab_road.specs.Standing.{standing_from}
 use Rattle.trlab_step.specs.declared.tally.StepTally.{StepTally}
 use Rattle.trlab_step.specs.Run.{Seed, Sheet, ComesTo}
-use Rattle.trlab_traffic.specs.Capacity.{lane_empty_cells}
+use Rattle.trlab_traffic.specs.Triangle.{lane_empty_cells}
 use Rattle.trlab_traffic.specs.Runs.{EachRule, StaysInLane}
 
--- the gaps of the cars of a lane, by rising place; for example, 1 and 3 on a ring of 6 cells with cars in
+-- the gaps of the cars of a lane, in order of place; for example, 1 and 3 on a ring of 6 cells with cars in
 -- cells 1 and 3
 abbrev pub lane_gaps : Lane → List ℕ
 lane_gaps lane = map (λ (car : Car). gap lane car.place) (standing_from 0 0 lane)

@@ -1,7 +1,7 @@
--- words for rules and runs
+-- definitions for rules and runs
 pub mod Runs
 -- how far cars go
-pub mod Capacity
+pub mod Triangle
 pub mod Moving
 pub mod Changing
 pub mod FreeFlow
@@ -20,7 +20,7 @@ pub mod Fastest
 pub mod Homogeneity
 pub mod Symmetry
 pub mod Apart
-pub mod Certainty
+pub mod Determinism
 pub mod Periods
 -- rules that have the same steps as others
 pub mod Reduction

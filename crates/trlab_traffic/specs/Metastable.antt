@@ -1,6 +1,6 @@
--- Slow starts make free flow metastable (Barlovic and others 1998). If moving cars never brake at random,
--- free flow lasts for ever. If stopped cars always brake, a road of stopped cars never moves, however few
--- they are. So at one density there are two flows, and the initial state decides which.
+-- Slow starts make free flow metastable (the VDR model of Barlovic et al. 1998). If moving cars never brake
+-- at random, free flow lasts for ever. If stopped cars always brake and all cars are stopped, no car ever
+-- moves, however few there are. So at one density there are two flows, and the initial state decides which.
 use Rattle.std.specs.Prelude.{◌≡◌, ℕ, ◌+◌, ◌*◌, ◌≤◌, length}
 use Rattle.trlab_bounds.specs.declared.programs.TheConstants.{CERTAIN}
 use Rattle.trlab_road.specs.declared.car.Car.{Car}
@@ -11,7 +11,7 @@ use Rattle.trlab_rules.specs.Rules.{Programs}
 use Rattle.trlab_rules.specs.StandardRules.{IsVdr}
 use Rattle.trlab_step.specs.declared.tally.StepTally.{StepTally}
 use Rattle.trlab_step.specs.Run.{Seed, ComesTo}
-use Rattle.trlab_traffic.specs.Capacity.{all_cells}
+use Rattle.trlab_traffic.specs.Triangle.{all_cells}
 use Rattle.trlab_traffic.specs.FreeFlow.{FlowsFreely, IsInFreeFlow, MovesAsOne}
 use Rattle.trlab_traffic.specs.Runs.{always, counted_steps}
 
@@ -19,24 +19,25 @@ use Rattle.trlab_traffic.specs.Runs.{always, counted_steps}
 pub record IsStopped (road : Cells) : Type 0 where
   pub stopped : (car : Car) → IsAt road car → car.speed ≡ 0
 
--- under the rule of 1998, if moving cars brake with probability 0, a run from a legal road in free flow stays
--- in free flow; the probability p0 for stopped cars does not matter
+-- in the VDR model of Barlovic et al. (1998), if moving cars brake with probability 0, a run from a legal
+-- road in free flow stays in free flow, for any braking probability p0 / 2 ^ 31 of stopped cars
 abbrev pub SlowStartsKeepFreeFlow : Type 0
 SlowStartsKeepFreeFlow =
     (p0 : ℕ) (rule : Programs) (seed : Seed) (step : ℕ) (road : Cells) (sum : StepTally)
     → IsVdr 0 p0 rule → IsLegal seed.road → IsInFreeFlow seed.road → ComesTo seed (always rule) step road sum
     → FlowsFreely seed step road sum
 
--- under the rule of 1998, if moving cars brake with probability 0, a run from a legal road in free flow moves
--- as one; the probability p0 for stopped cars does not matter
+-- in the VDR model of Barlovic et al. (1998), if moving cars brake with probability 0, all cars of a run from
+-- a legal road in free flow move as one, for any braking probability p0 / 2 ^ 31 of stopped cars
 abbrev pub SlowStartsMoveFreeFlowAsOne : Type 0
 SlowStartsMoveFreeFlowAsOne =
     (p0 : ℕ) (rule : Programs) (seed : Seed) (step : ℕ) (road : Cells) (sum : StepTally)
     → IsVdr 0 p0 rule → IsLegal seed.road → IsInFreeFlow seed.road → ComesTo seed (always rule) step road sum
     → MovesAsOne seed step road
 
--- under the rule of 1998, if stopped cars brake with probability 1, a run from a legal road of stopped cars
--- keeps this road, and its distance is 0; the probability p for moving cars does not matter
+-- in the VDR model of Barlovic et al. (1998), if stopped cars brake with probability 1, a run from a legal
+-- road of stopped cars keeps this road, and its distance is 0, for any braking probability p / 2 ^ 31 of
+-- moving cars
 abbrev pub SlowStartsKeepJams : Type 0
 SlowStartsKeepJams =
     (p : ℕ) (rule : Programs) (seed : Seed) (step : ℕ) (road : Cells) (sum : StepTally)
@@ -51,9 +52,9 @@ pub record IsRing (cells limit n : ℕ) (road : Cells) : Type 0 where
   pub same_limit : road.limit ≡ limit
   pub same_cars : cars road ≡ n
 
--- the rule has two flows on rings of `cells` cells with n cars and this limit: in each run from the ring
--- `free` all cars drive at the limit in each counted step, and in each run from the ring `jam` no car moves
--- in a counted step
+-- the rule has two flows on rings of `cells` cells with n cars and this limit: there is a ring `free` such
+-- that in each counted step of a run from it all cars drive at the limit, and a ring `jam` such that no car
+-- moves
 pub record HasTwoFlows (cells limit n : ℕ) (rule : Programs) : Type 0 where
   pub free : Cells
   pub jam : Cells
@@ -61,11 +62,12 @@ pub record HasTwoFlows (cells limit n : ℕ) (rule : Programs) : Type 0 where
   pub jam_ring : IsRing cells limit n jam
   pub flows : (seed : Seed) (step : ℕ) (road : Cells) (sum : StepTally) → seed.road ≡ free
       → ComesTo seed (always rule) step road sum → sum.distance ≡ counted_steps seed step * (limit * n)
-  pub stands : (seed : Seed) (step : ℕ) (road : Cells) (sum : StepTally) → seed.road ≡ jam
+  pub stays : (seed : Seed) (step : ℕ) (road : Cells) (sum : StepTally) → seed.road ≡ jam
       → ComesTo seed (always rule) step road sum → sum.distance ≡ 0
 
--- the rule of 1998, if moving cars brake with probability 0 and stopped cars with 1, has two flows on rings
--- at each density that leaves room to drive at the limit: n cars need n * (limit + 1) cells
+-- the VDR model of Barlovic et al. (1998), if moving cars brake with probability 0 and stopped cars with 1,
+-- has two flows on rings at each density that leaves room to drive at the limit: n cars need n * (limit + 1)
+-- cells. Without cars (n = 0) both flows are 0
 abbrev pub TwoFlowsAtOneDensity : Type 0
 TwoFlowsAtOneDensity =
     (cells limit n : ℕ) (rule : Programs)

@@ -7,12 +7,12 @@ use Rattle.trlab_machine.specs.declared.dice.Dice.{Dice}
 use Rattle.trlab_step.specs.declared.tally.StepTally.{StepTally}
 use Rattle.trlab_step.specs.Next.{IsNext}
 use Rattle.trlab_step.specs.Run.{Seed, Sheet, ComesTo}
-use Rattle.trlab_traffic.specs.Capacity.{distance_at_limit}
+use Rattle.trlab_traffic.specs.Triangle.{distance_at_limit}
 use Rattle.trlab_traffic.specs.Runs.{counted_steps}
 
 -- the mean speed of moving cars in `steps` steps of a road, with the tally `sum`, is from 1 to the limit: if
--- there are m moves, one per car and step in which the car is not stopped, the distance is from m to the
--- limit times m; m is `steps` times the number of cars, minus `sum.stopped`
+-- cars move m times, which is `steps` times the number of cars, minus `sum.stopped`, then the distance is
+-- from m to the limit times m
 pub record BoundsMovingSpeed (road : Cells) (steps : ℕ) (sum : StepTally) : Type 0 where
   pub cell_each : steps * cars road ≤ sum.distance + sum.stopped
   pub limit_each : sum.distance + road.limit * sum.stopped ≤ steps * distance_at_limit road

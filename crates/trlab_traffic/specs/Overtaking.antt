@@ -11,13 +11,13 @@ use Rattle.trlab_step.specs.Run.{Seed, Sheet, ComesTo}
 use Rattle.trlab_traffic.specs.Following.{IsNextAhead}
 use Rattle.trlab_traffic.specs.Runs.{EachRule, StaysInLane}
 
--- the car with number `next` is the next car ahead of the car with number `number`, on the same lane; the two
--- are the same car if the lane has no other
+-- the car numbered `next` is the next car ahead of the car numbered `number`, on the same lane; the two are
+-- the same car if the lane has no other
 pub record IsNextOf (road : Cells) (number next : ℕ) : Type 0 where
   pub car : Car
   pub next_car : Car
-  pub stands : IsAt road car
-  pub next_stands : IsAt road next_car
+  pub on_road : IsAt road car
+  pub next_on_road : IsAt road next_car
   pub numbered : car.number ≡ number
   pub next_numbered : next_car.number ≡ next
   pub follows : IsNextAhead road car next_car

@@ -5,8 +5,8 @@ use Rattle.trlab_road.specs.Legal.{IsLegal}
 use Rattle.trlab_rules.specs.Rules.{Programs}
 use Rattle.trlab_step.specs.Laws.{IsRuleFor}
 use Rattle.trlab_step.specs.Run.{Seed, Sheet, IsRoadAt}
-use Rattle.trlab_traffic.specs.Capacity.{all_cells}
-use Rattle.trlab_traffic.specs.Certainty.{IsDeterministic}
+use Rattle.trlab_traffic.specs.Triangle.{all_cells}
+use Rattle.trlab_traffic.specs.Determinism.{IsDeterministic}
 use Rattle.trlab_traffic.specs.Runs.{always}
 
 -- a run is periodic: from step `first` on the road of each step comes again `period` steps later, and
@@ -16,8 +16,8 @@ pub record IsPeriodic (seed : Seed) (sheet : Sheet) (first period : ℕ) : Type 
   pub comes_again : (step : ℕ) (road later : Cells) → first ≤ step
       → IsRoadAt seed sheet step road → IsRoadAt seed sheet (step + period) later → later ≡ road
 
--- the number of ways to give each car of a road one of all cells and a speed from 0 to the limit, even if
--- cars share a cell: a bound on the number of roads that its cars can form
+-- an upper bound on the number of roads that the cars of a road can form: each car has one of all cells, and
+-- a speed from 0 to the limit
 abbrev pub state_count : Cells → ℕ
 state_count road = (all_cells road * (road.limit + 1)) ^ cars road
 

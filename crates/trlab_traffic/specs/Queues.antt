@@ -13,7 +13,8 @@ use Rattle.trlab_traffic.specs.Jams.{stopped_car}
 use Rattle.trlab_traffic.specs.Rule184.{is_taken}
 use Rattle.trlab_traffic.specs.Runs.{EachRule, StaysInLane, always}
 
--- a queue of n + 1 cars on a lane: the head is in cell x, and each of the n cells behind it holds a car
+-- a queue of n + 1 cars on a lane: the head is in cell x, and each of the n cells behind it holds a car. For
+-- example, `..000.` has a queue with x = 4 and n = 2
 abbrev pub IsQueue : Lane → ℕ → ℕ → Type 0
 IsQueue lane x n = (j : ℕ) → j ≤ n → is_taken lane (behind (length lane) x j) ≡ true
 
@@ -23,7 +24,7 @@ pub record IsQueued (road : Cells) (x n j : ℕ) (car : Car) : Type 0 where
   pub queue : IsQueue (lane_of road car.lane) x n
   pub behind_head : 1 ≤ j
   pub within : j ≤ n
-  pub stands : IsAt road car
+  pub on_road : IsAt road car
   pub place : car.place ≡ behind (length (lane_of road car.lane)) x j
 
 -- under any sheet of rules without lane changes the j-th car behind the head of a queue is stopped in its
@@ -34,8 +35,8 @@ QueueWaits =
     → EachRule StaysInLane sheet → IsQueued seed.road x n j car
     → 1 ≤ step → step ≤ j → IsRoadAt seed sheet step road → IsAt road (stopped_car car)
 
--- under the rule of 1992 without randomization the j-th car behind the head of a queue has moved one cell
--- after j + 1 steps, and has speed 1, if the head has a gap at the start
+-- in the Nagel-Schreckenberg model without randomization the j-th car behind the head of a queue has moved
+-- one cell after j + 1 steps, and has speed 1, if the head has a gap at the start
 abbrev pub QueueStarts : Type 0
 QueueStarts =
     (seed : Seed) (rule : Programs) (road : Cells) (x n j : ℕ) (car : Car)

@@ -16,17 +16,17 @@ pub record IsNoFasterStep (road : Cells) (fast slow : StepTally) : Type 0 where
   pub cell_each : fast.distance ≤ slow.distance + cars road
   pub no_fewer_stop : fast.stopped ≤ slow.stopped
 
--- under the rule of 1992 a step with probability q of braking is no faster than one with p, if p is at most
--- q; both start from the same legal road, with the same dice
+-- in the Nagel-Schreckenberg model a step with braking probability q / 2 ^ 31 is no faster than one with
+-- p / 2 ^ 31, if p is at most q; both start from the same legal road, with the same dice
 abbrev pub RandomizationSlowsSteps : Type 0
 RandomizationSlowsSteps =
     (p q : ℕ) (light heavy : Programs) (dice : Dice) (road next other : Cells) (fast slow : StepTally)
     → p ≤ q → IsNasch p light → IsNasch q heavy → IsLegal road
     → IsNext light dice road next fast → IsNext heavy dice road other slow → IsNoFasterStep road fast slow
 
--- under the rule of 1998 a step with probabilities q and q0 of braking, for moving and for stopped cars, is
--- no faster than one with p and p0, if p is at most q and p0 at most q0; both start from the same legal road,
--- with the same dice
+-- in the VDR model of Barlovic et al. (1998) a step with braking probabilities q / 2 ^ 31 of moving and
+-- q0 / 2 ^ 31 of stopped cars is no faster than one with p / 2 ^ 31 and p0 / 2 ^ 31, if p is at most q and p0
+-- at most q0; both start from the same legal road, with the same dice
 abbrev pub SlowStartsSlowSteps : Type 0
 SlowStartsSlowSteps =
     (p q p0 q0 : ℕ) (light heavy : Programs) (dice : Dice) (road next other : Cells) (fast slow : StepTally)

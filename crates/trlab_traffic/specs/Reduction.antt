@@ -17,14 +17,15 @@ HaveSameSteps lanes rule other =
     (dice : Dice) (road next : Cells) (tally : StepTally) → IsLegal road → length road.lanes ≡ lanes
     → IsNext rule dice road next tally ↔ IsNext other dice road next tally
 
--- the rule of 1998, if stopped and moving cars brake with the same probability p, has the same steps as the
--- rule of 1992 with p, for any number of lanes
+-- the VDR model of Barlovic et al. (1998), if stopped and moving cars brake with the same probability
+-- p / 2 ^ 31, has the same steps as the Nagel-Schreckenberg model with this probability, for any number of
+-- lanes
 abbrev pub VdrReducesToNasch : Type 0
 VdrReducesToNasch =
     (p lanes : ℕ) (rule other : Programs) → IsVdr p p rule → IsNasch p other → HaveSameSteps lanes rule other
 
--- on two lanes the rule of 1996 with probability 0 of a lane change has the same steps as the rule of 1992
--- with the same probability p of braking
+-- on two lanes the model of Rickert et al. (1996) with probability 0 of a lane change has the same steps as
+-- the Nagel-Schreckenberg model with the same braking probability p / 2 ^ 31
 abbrev pub RickertReducesToNasch : Type 0
 RickertReducesToNasch =
     (p : ℕ) (rule other : Programs) → IsRickert p 0 rule → IsNasch p other → HaveSameSteps 2 rule other

@@ -1,5 +1,5 @@
--- Rows of detectors, one on each lane at the same place, and the cars between two rows. Lane changes take no
--- car past a row.
+-- Rows of detectors, with one detector on each lane at the same place, and the cars between two rows. Lane
+-- changes take no car past a row.
 use Rattle.std.specs.Prelude.{◌≡◌, ℕ, ◌+◌, ◌*◌, ◌<◌, ◌≤◌, length, min, sum_by}
 use Rattle.std.specs.List.{range_with_len}
 use Rattle.trlab_road.specs.Cells.{Cells, Lane, cars, lane_of}
@@ -10,9 +10,9 @@ use Rattle.trlab_machine.specs.declared.dice.Dice.{Dice}
 use Rattle.trlab_step.specs.declared.tally.StepTally.{StepTally}
 use Rattle.trlab_step.specs.Next.{IsNext}
 use Rattle.trlab_step.specs.Run.{Seed, Sheet, ComesTo, IsRoadAt}
-use Rattle.trlab_traffic.specs.Capacity.{empty_cells}
+use Rattle.trlab_traffic.specs.Triangle.{empty_cells}
 use Rattle.trlab_traffic.specs.Detector.{cars_ahead_of, passages}
-use Rattle.trlab_traffic.specs.DetectorRuns.{DifferByAtMost, Counts}
+use Rattle.trlab_traffic.specs.DetectorRuns.{DifferByAtMost, DetectorHasCounted}
 
 -- the number of cars in the k cells ahead of place x, on all lanes together
 abbrev pub cars_ahead_of_row : Cells → ℕ → ℕ → ℕ
@@ -40,8 +40,8 @@ RunSatisfiesContinuityByRows =
     (seed : Seed) (sheet : Sheet) (step : ℕ) (start road : Cells) (x k : ℕ) (first second : ℕ → ℕ)
     → IsLegal seed.road → x < length (lane_of seed.road 0) → seed.warm ≤ step
     → IsRoadAt seed sheet seed.warm start → IsRoadAt seed sheet step road
-    → ((l : ℕ) → Counts seed sheet l x step (first l))
-    → ((l : ℕ) → Counts seed sheet l (ahead (length (lane_of seed.road 0)) x k) step (second l))
+    → ((l : ℕ) → DetectorHasCounted seed sheet l x step (first l))
+    → ((l : ℕ) → DetectorHasCounted seed sheet l (ahead (length (lane_of seed.road 0)) x k) step (second l))
     → let lanes = range_with_len 0 (length seed.road.lanes) in
     cars_ahead_of_row road x k + sum_by second lanes ≡ cars_ahead_of_row start x k + sum_by first lanes
 
@@ -53,8 +53,8 @@ RowsAgree =
     (seed : Seed) (sheet : Sheet) (step : ℕ) (road : Cells) (sum : StepTally) (x k : ℕ) (first second : ℕ → ℕ)
     → IsLegal seed.road → ComesTo seed sheet step road sum
     → x < length (lane_of seed.road 0) → k ≤ length (lane_of seed.road 0)
-    → ((l : ℕ) → Counts seed sheet l x step (first l))
-    → ((l : ℕ) → Counts seed sheet l (ahead (length (lane_of seed.road 0)) x k) step (second l))
+    → ((l : ℕ) → DetectorHasCounted seed sheet l x step (first l))
+    → ((l : ℕ) → DetectorHasCounted seed sheet l (ahead (length (lane_of seed.road 0)) x k) step (second l))
     → let lanes = range_with_len 0 (length seed.road.lanes) in
     DifferByAtMost (min (cars seed.road) (empty_cells seed.road)) (sum_by first lanes) (sum_by second lanes)
 
@@ -65,7 +65,7 @@ abbrev pub RowMeasuresFlow : Type 0
 RowMeasuresFlow =
     (seed : Seed) (sheet : Sheet) (step : ℕ) (road : Cells) (sum : StepTally) (x : ℕ) (count : ℕ → ℕ)
     → IsLegal seed.road → ComesTo seed sheet step road sum → x < length (lane_of seed.road 0)
-    → ((l : ℕ) → Counts seed sheet l x step (count l))
+    → ((l : ℕ) → DetectorHasCounted seed sheet l x step (count l))
     → let cells = length (lane_of seed.road 0) in
     let row = sum_by count (range_with_len 0 (length seed.road.lanes)) in
     DifferByAtMost (cells * min (cars seed.road) (empty_cells seed.road)) (cells * row) sum.distance

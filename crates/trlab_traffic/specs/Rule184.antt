@@ -1,5 +1,5 @@
--- Lanes as cells that are taken or empty: the rule of 1992 with the limit 1 and without randomization is rule
--- 184 of Wolfram's elementary cellular automata (1983).
+-- Lanes as cells that are taken or empty: the Nagel-Schreckenberg model with v_max = 1 and without
+-- randomization is rule 184 of Wolfram's elementary cellular automata (1983).
 use Rattle.std.specs.Prelude.{◌≡◌, ℕ, ◌+◌, ◌*◌, ◌/◌, ◌%◌, ◌^◌, ◌<◌, Bool, not, is_some, length, nat_eq, if◌then◌else◌}
 use Rattle.trlab_road.specs.Cells.{Cells, Lane, at, lane_of}
 use Rattle.trlab_road.specs.Gaps.{ahead, behind}
@@ -22,8 +22,8 @@ digit taken = if taken then 1 else 0
 -- binary, counted from 0 at the right, is 1; the binary digits of k are the cells behind, own and ahead
 -- before the step, 1 if taken. For example, 184 is 10111000, and cells 1, 0, 0 give k = 4: a car comes from
 -- behind
-abbrev pub elementary : ℕ → Bool → Bool → Bool → Bool
-elementary number behind own ahead =
+abbrev pub elementary_rule : ℕ → Bool → Bool → Bool → Bool
+elementary_rule number behind own ahead =
     nat_eq (number / 2 ^ (4 * digit behind + 2 * digit own + digit ahead) % 2) 1
 
 -- lane `new` is lane `old`, a ring, after a step of the elementary automaton `number`: the state of each cell
@@ -32,18 +32,18 @@ abbrev pub IsElementaryStep : ℕ → Lane → Lane → Type 0
 IsElementaryStep number old new = (x : ℕ) → x < length old
     → let taken_behind = is_taken old (behind (length old) x 1) in
     let taken_ahead = is_taken old (ahead (length old) x 1) in
-    is_taken new x ≡ elementary number taken_behind (is_taken old x) taken_ahead
+    is_taken new x ≡ elementary_rule number taken_behind (is_taken old x) taken_ahead
 
--- with the limit 1 and without randomization the rule of 1992 takes each lane of a legal road through a step
--- of rule 184, for any speeds of its cars
+-- with v_max = 1 and without randomization a step of the Nagel-Schreckenberg model is a step of rule 184 on
+-- each lane of a legal road, for any speeds of its cars
 abbrev pub NaschIsRule184 : Type 0
 NaschIsRule184 =
     (rule : Programs) (dice : Dice) (old new : Cells) (tally : StepTally) (l : ℕ)
     → IsNasch 0 rule → IsLegal old → old.limit ≡ 1 → IsNext rule dice old new tally
     → l < length old.lanes → IsElementaryStep 184 (lane_of old l) (lane_of new l)
 
--- exchanging taken with empty, and behind with ahead, leaves rule 184 as it is: empty cells move as cars do,
--- in the other direction round the ring
-abbrev pub EmptyCellsGoBack : Type 0
-EmptyCellsGoBack = (behind own ahead : Bool)
-    → not (elementary 184 behind own ahead) ≡ elementary 184 (not ahead) (not own) (not behind)
+-- particle-hole symmetry: exchanging taken with empty, and behind with ahead, leaves rule 184 as it is, so
+-- empty cells move as cars do, in the other direction round the ring
+abbrev pub Rule184HasParticleHoleSymmetry : Type 0
+Rule184HasParticleHoleSymmetry = (behind own ahead : Bool)
+    → not (elementary_rule 184 behind own ahead) ≡ elementary_rule 184 (not ahead) (not own) (not behind)

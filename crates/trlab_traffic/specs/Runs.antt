@@ -1,4 +1,4 @@
--- Words for rules and runs that several laws have in common.
+-- Definitions for rules and runs that several laws have in common.
 use Rattle.std.specs.Prelude.{◌≡◌, ℕ, ◌-◌, All, None, [], ◌∷◌}
 use Rattle.trlab_rules.specs.Rules.{Programs}
 use Rattle.trlab_step.specs.Run.{Seed, Sheet}
@@ -16,7 +16,7 @@ EachRule Property sheet = All (λ (entry : ℕ × Programs). Property entry.1) s
 abbrev pub always : Programs → Sheet
 always rule = (0, rule) ∷ []
 
--- the number of counted steps among the first `step` steps of a run: all but the first `warm`, so none if
+-- the number of counted steps among the first `step` steps of a run: all but the first `warm` steps, and 0 if
 -- `step` is at most `warm`
 abbrev pub counted_steps : Seed → ℕ → ℕ
 counted_steps seed step = step - seed.warm

@@ -12,9 +12,9 @@ use Rattle.trlab_step.specs.Next.{IsNext}
 use Rattle.trlab_step.specs.Run.{Seed, Sheet, ComesTo}
 use Rattle.trlab_traffic.specs.Runs.{EachRule}
 
--- a road of two lanes with its lanes exchanged; the cars keep their places, numbers and speeds
-abbrev pub exchanged : Cells → Cells
-exchanged road = record { limit = road.limit; lanes = lane_of road 1 ∷ lane_of road 0 ∷ [] }
+-- the road of two lanes with its lanes exchanged; the cars keep their places, numbers and speeds
+abbrev pub exchange_lanes : Cells → Cells
+exchange_lanes road = record { limit = road.limit; lanes = lane_of road 1 ∷ lane_of road 0 ∷ [] }
 
 -- does an instruction read the car's lane?
 abbrev pub reads_lane : Instr → Bool
@@ -27,7 +27,8 @@ abbrev pub IgnoresLane : Programs → Type 0
 IgnoresLane rule =
     IfSome rule.change (λ change. All (λ instr. reads_lane instr ≡ false) change.program.instrs)
 
--- the rule of 1996 does not read the car's lane, for any probabilities p and c
+-- the change program of Rickert et al. (1996) does not read the car's lane, for any probabilities p / 2 ^ 31
+-- of braking and c / 2 ^ 31 of a lane change
 abbrev pub RickertIgnoresLane : Type 0
 RickertIgnoresLane = (p c : ℕ) (rule : Programs) → IsRickert p c rule → IgnoresLane rule
 
@@ -37,12 +38,12 @@ abbrev pub StepIsSymmetric : Type 0
 StepIsSymmetric =
     (rule : Programs) (dice : Dice) (road next : Cells) (tally : StepTally)
     → IgnoresLane rule → length road.lanes ≡ 2 → IsNext rule dice road next tally
-    → IsNext rule dice (exchanged road) (exchanged next) tally
+    → IsNext rule dice (exchange_lanes road) (exchange_lanes next) tally
 
--- under a sheet of rules that do not read the car's lane, exchanging the lanes of the start exchanges the
--- lanes of the road at each step, and the sums of tallies stay the same
+-- under a sheet of rules that do not read the car's lane, exchanging the lanes of the initial road exchanges
+-- the lanes of the road at each step, and the sums of tallies stay the same
 abbrev pub RunIsSymmetric : Type 0
 RunIsSymmetric =
     (seed : Seed) (sheet : Sheet) (step : ℕ) (road : Cells) (sum : StepTally)
     → EachRule IgnoresLane sheet → length seed.road.lanes ≡ 2 → ComesTo seed sheet step road sum
-    → ComesTo (record seed { road = exchanged seed.road }) sheet step (exchanged road) sum
+    → ComesTo (record seed { road = exchange_lanes seed.road }) sheet step (exchange_lanes road) sum

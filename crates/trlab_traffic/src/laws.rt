@@ -3,16 +3,16 @@
 //! Each law is the contract of a function with an empty body.
 
 ghost use Rattle.trlab_traffic.specs.Apart.{RunKeepsLanesApart, StepKeepsLanesApart};
-ghost use Rattle.trlab_traffic.specs.Capacity.{CellsAreTakenOrEmpty, RunKeepsToCapacity, StepKeepsToCapacity};
-ghost use Rattle.trlab_traffic.specs.Capacity.{RunKeepsBelowPeak};
-ghost use Rattle.trlab_traffic.specs.Certainty.{NaschWithoutRandomizationIsDeterministic, RunIsDeterministic, StepIsDeterministic};
+ghost use Rattle.trlab_traffic.specs.Triangle.{CellsAreTakenOrEmpty, RunStaysUnderTriangle, StepStaysUnderTriangle};
+ghost use Rattle.trlab_traffic.specs.Triangle.{RunKeepsBelowPeak};
+ghost use Rattle.trlab_traffic.specs.Determinism.{NaschWithoutRandomizationIsDeterministic, RunIsDeterministic, StepIsDeterministic};
 ghost use Rattle.trlab_traffic.specs.Changing.{RunBoundsLaneChanges, StepBoundsLaneChanges};
 ghost use Rattle.trlab_traffic.specs.Detector.{DetectorCountsAtMostOne, DetectorsCountDistance, StepSatisfiesContinuity};
-ghost use Rattle.trlab_traffic.specs.DetectorRuns.{CountExists, DetectorMeasuresFlow, DetectorsAgree};
+ghost use Rattle.trlab_traffic.specs.DetectorRuns.{DetectorCountExists, DetectorMeasuresFlow, DetectorsAgree};
 ghost use Rattle.trlab_traffic.specs.DetectorRuns.{DetectorCountsBelowPeak, DetectorsAgreeByCars};
 ghost use Rattle.trlab_traffic.specs.DetectorRuns.{DetectorsCountRun, RunSatisfiesContinuity};
-ghost use Rattle.trlab_traffic.specs.Diagram.{EvenCarsFlowAtCapacity, NaschComesToCapacity};
-ghost use Rattle.trlab_traffic.specs.Diagram.{NaschComesToCapacityByLane, Rule184ComesToCapacity};
+ghost use Rattle.trlab_traffic.specs.Diagram.{EvenCarsFlowOnTriangle, NaschReachesTriangle};
+ghost use Rattle.trlab_traffic.specs.Diagram.{NaschReachesTriangleByLane, Rule184ReachesTriangle};
 ghost use Rattle.trlab_traffic.specs.Fastest.{GapProgramReachesSpeedAtOnce, NaschAcceleratesByAtMostOne, NobodyBeatsGap};
 ghost use Rattle.trlab_traffic.specs.Fastest.{NobodyBeatsNasch, RandomizationSlowsRuns, SlowStartsSlowRuns};
 ghost use Rattle.trlab_traffic.specs.Fastest.{VdrAcceleratesByAtMostOne};
@@ -32,29 +32,30 @@ ghost use Rattle.trlab_traffic.specs.Randomization.{RandomizationSlowsSteps, Slo
 ghost use Rattle.trlab_traffic.specs.Reduction.{RickertReducesToNasch, SameStepsGiveSameRuns, VdrReducesToNasch};
 ghost use Rattle.trlab_traffic.specs.Rows.{RowMeasuresFlow, RowsAgree};
 ghost use Rattle.trlab_traffic.specs.Rows.{RunSatisfiesContinuityByRows, StepIsContinuousByRows};
-ghost use Rattle.trlab_traffic.specs.Rule184.{EmptyCellsGoBack, NaschIsRule184};
+ghost use Rattle.trlab_traffic.specs.Rule184.{Rule184HasParticleHoleSymmetry, NaschIsRule184};
 ghost use Rattle.trlab_traffic.specs.Symmetry.{RickertIgnoresLane, RunIsSymmetric, StepIsSymmetric};
 
-/// The distance of a step is at most the number of empty cells, and at most the limit times the number of cars: the
-/// capacity. This holds for every rule and every legal road.
-pub fn step_keeps_to_capacity()
-    ensures { StepKeepsToCapacity }
+/// The distance of a step is at most the number of empty cells, and at most v_max times the number of cars, under every
+/// rule and on every legal road. So flow against density is always on or under the triangle min(v_max * density,
+/// 1 - density).
+pub fn step_stays_under_triangle()
+    ensures { StepStaysUnderTriangle }
 {}
 
-/// The distance of a run is at most the capacity per counted step, under any schedule of rules. The number of cells of
-/// a road is that of its cars plus that of its empty cells.
-pub fn run_keeps_to_capacity()
+/// The mean distance of the counted steps of a run is at most the number of empty cells, and at most v_max times the
+/// number of cars, under any schedule of rules. The cars and the empty cells of a road add up to all its cells.
+pub fn run_stays_under_triangle()
     ensures cells { CellsAreTakenOrEmpty }
-    ensures run { RunKeepsToCapacity }
+    ensures run { RunStaysUnderTriangle }
 {}
 
-/// No flow is above v / (v + 1), the peak of the triangle, at any density and under any rules; v is the limit.
+/// No flow is above v_max / (v_max + 1), the peak of the triangle, at any density and under any rules.
 pub fn run_keeps_below_peak()
     ensures { RunKeepsBelowPeak }
 {}
 
-/// A car that is not stopped moves at least one cell per step, and at most as many as the limit. So distances
-/// and stops bound each other, in steps and in runs.
+/// A car that is not stopped moves at least one cell per step, and at most v_max cells. So the distance and the number
+/// of stopped cars bound each other, in steps and in runs.
 pub fn moving_cars_go()
     ensures step { StepBoundsMovingSpeed }
     ensures run { RunBoundsMovingSpeed }
@@ -67,12 +68,12 @@ pub fn few_cars_change_lanes()
     ensures run { RunBoundsLaneChanges }
 {}
 
-/// Free flow stays free for ever under the rule of 1992 without randomization: all cars drive at the limit, so
-/// the road moves as one (Nagel and Schreckenberg 1992, J. Phys. I France 2, 2221).
+/// Free flow stays free for ever in the Nagel-Schreckenberg model without randomization: all cars drive at v_max, so
+/// they move as one (Nagel and Schreckenberg 1992, J. Phys. I France 2, 2221).
 pub fn free_flow_stays_free()
     ensures step { FreeFlowGoesOn }
     ensures run { FreeFlowStaysFree }
-    ensures turned { FreeFlowMovesAsOne }
+    ensures rotated { FreeFlowMovesAsOne }
 {}
 
 /// Slow starts make free flow metastable: if moving cars never brake at random, free flow goes on for ever; if stopped
@@ -80,32 +81,31 @@ pub fn free_flow_stays_free()
 /// Phys. J. B 5, 793).
 pub fn slow_starts_are_metastable()
     ensures free { SlowStartsKeepFreeFlow }
-    ensures turned { SlowStartsMoveFreeFlowAsOne }
+    ensures rotated { SlowStartsMoveFreeFlowAsOne }
     ensures jam { SlowStartsKeepJams }
 {}
 
-/// At every density that leaves room to drive at the limit there are two roads with the same numbers of cars and cells,
-/// such that the cars of one drive at the limit for ever and those of the other never move. This is so under the rule
-/// of 1998, if moving cars never brake at random and stopped cars always do.
+/// In the VDR model of Barlovic et al. (1998), if moving cars never brake at random and stopped cars always do, there
+/// are two flows at every density that leaves room to drive at v_max: on one road all cars drive at v_max for ever, and
+/// on another road with the same numbers of cars and cells no car ever moves.
 pub fn two_flows_at_one_density()
     ensures { TwoFlowsAtOneDensity }
 {}
 
-/// With a larger probability of braking the cars of a road move less far in a step, by at most one cell each,
-/// and no fewer of them stop: under the rules of 1992 and of 1998.
+/// A larger braking probability slows a step, in the Nagel-Schreckenberg model and in the VDR model of Barlovic et al.
+/// (1998): the distance does not grow, it shrinks by at most one cell per car, and no fewer cars stop.
 pub fn randomization_slows()
     ensures nasch { RandomizationSlowsSteps }
     ensures vdr { SlowStartsSlowSteps }
 {}
 
-/// The gap of a car changes by the distance of the next car ahead minus its own, under any rule without lane
-/// changes.
+/// In a step without lane changes a car's gap changes by the new speed of the next car ahead minus its own new speed.
 pub fn gaps_follow()
     ensures { GapChangesBySpeedDifference }
 {}
 
-/// The gaps of a lane with a car add up to its empty cells, so the mean gap is the number of empty cells per car; and
-/// without lane changes each lane of a run keeps its number of cars.
+/// The gaps of a lane add up to its empty cells, if it has a car, so the mean gap is the number of empty cells per car.
+/// Without lane changes each lane of a run keeps its number of cars.
 pub fn gaps_fill_lanes()
     ensures gaps { GapsFillLane }
     ensures cars { RunKeepsLaneCars }
@@ -117,8 +117,8 @@ pub fn car_without_gap_stops()
 {}
 
 /// A queue dissolves from its front, one car per step. Under any rules without lane changes the j-th car behind the
-/// head is stopped in its cell for j steps. Under the rule of 1992 without randomization it moves by one cell in the
-/// next step, if the head has a gap at the start.
+/// head is stopped in its cell for j steps. In the Nagel-Schreckenberg model without randomization it moves by one cell
+/// in the next step, if the head has a gap at the start.
 pub fn queue_dissolves_from_front()
     ensures waits { QueueWaits }
     ensures starts { QueueStarts }
@@ -133,7 +133,7 @@ pub fn nobody_overtakes()
     ensures run { RunKeepsNextCar }
 {}
 
-/// Every car of a run has gone exactly one distance, and if every step is counted, these distances add up to the
+/// Each car of a run has gone exactly one distance. If every step is counted, the distances of all cars add up to the
 /// distance of the run.
 pub fn cars_go_distance()
     ensures each { EachCarHasGone }
@@ -141,9 +141,9 @@ pub fn cars_go_distance()
     ensures all { CarsGoDistance }
 {}
 
-/// Nobody beats the Nagel-Schreckenberg rule without randomization, car by car and step by step: in runs from one
-/// start, without lane changes and under rules that accelerate by at most one, no car ever gets further. The rules of
-/// 1992 and of 1998 are such rules.
+/// Nobody beats the Nagel-Schreckenberg model without randomization, car by car and step by step: in runs from one
+/// start, without lane changes and under rules that accelerate by at most one, no car ever gets further. With
+/// randomization, this model and the VDR model of Barlovic et al. (1998) are such rules.
 pub fn nobody_beats_nasch()
     ensures run { NobodyBeatsNasch }
     ensures nasch { NaschAcceleratesByAtMostOne }
@@ -157,22 +157,24 @@ pub fn nobody_beats_gap()
     ensures program { GapProgramReachesSpeedAtOnce }
 {}
 
-/// With the limit 1 a greater probability of braking slows whole runs, car by car: under the rules of 1992 and of 1998,
-/// each compared with the rule of 1992 with no greater probability. With a greater limit it need not.
+/// If v_max is 1, a larger braking probability slows whole runs, car by car: runs of the Nagel-Schreckenberg model and
+/// of the VDR model of Barlovic et al. (1998), compared with the Nagel-Schreckenberg model with a probability that is
+/// not larger. If v_max is larger, this need not hold.
 pub fn randomization_slows_runs()
     ensures nasch { RandomizationSlowsRuns }
     ensures vdr { SlowStartsSlowRuns }
 {}
 
-/// All places of a ring are alike: under any rule, if a legal road is rotated, its next road is rotated by as many
-/// cells, with the same tally. The same holds for runs.
+/// All places of a ring are alike: under any rule, if a legal road is rotated, its next road is rotated by the same
+/// number of cells, with the same tally. The same holds for runs.
 pub fn ring_is_homogeneous()
     ensures step { StepIsHomogeneous }
     ensures run { RunIsHomogeneous }
 {}
 
-/// Both lanes are alike: under rules whose programs do not read the lane, such as that of 1996, if the lanes of a road
-/// are exchanged, those of its next road are exchanged too, with the same tally. The same holds for runs.
+/// Both lanes are alike under rules whose programs do not read the lane, such as the lane-change rules of Rickert et
+/// al. (1996): if the lanes of a road are exchanged, the lanes of its next road are too, with the same tally. The
+/// same holds for runs.
 pub fn lanes_are_symmetric()
     ensures rickert { RickertIgnoresLane }
     ensures step { StepIsSymmetric }
@@ -186,57 +188,57 @@ pub fn lanes_are_apart()
 {}
 
 /// If programs are deterministic, the key does not matter: a road has one next road for all dice, and a run is
-/// the same under all keys. The rule of 1992 without randomization is such a rule.
-pub fn certain_rules_are_deterministic()
+/// the same for all keys. The Nagel-Schreckenberg model without randomization is deterministic.
+pub fn deterministic_rules_ignore_key()
     ensures nasch { NaschWithoutRandomizationIsDeterministic }
     ensures step { StepIsDeterministic }
     ensures run { RunIsDeterministic }
 {}
 
 /// A run under a deterministic rule becomes periodic: from some step on its roads repeat for ever. The number of this
-/// step plus the period is at most the number of states of the cars.
-pub fn certain_rules_become_periodic()
+/// step plus the period is at most (cells * (v_max + 1)) ^ cars, an upper bound on the number of roads.
+pub fn deterministic_runs_become_periodic()
     ensures { DeterministicRunsBecomePeriodic }
 {}
 
-/// Two rules reduce to that of Nagel and Schreckenberg (1992): that of 1998 if stopped cars brake with the same
-/// probability as all others (Barlovic and others), and that of 1996 on two lanes if the probability of a lane
-/// change is 0 (Rickert, Nagel, Schreckenberg and Latour 1996, Physica A 231, 534). Rules with the same steps
-/// have the same runs.
+/// Two models reduce to the Nagel-Schreckenberg model: the VDR model of Barlovic et al. (1998), if stopped and moving
+/// cars brake with the same probability, and the two-lane model of Rickert, Nagel, Schreckenberg and Latour (1996,
+/// Physica A 231, 534), if the probability of a lane change is 0. Rules with the same steps have the same runs.
 pub fn rules_reduce_to_nasch()
     ensures vdr { VdrReducesToNasch }
     ensures rickert { RickertReducesToNasch }
     ensures runs { SameStepsGiveSameRuns }
 {}
 
-/// With the limit 1 and without randomization the rule of 1992 takes each lane through a step of rule 184 (Wolfram
-/// 1983, Rev. Mod. Phys. 55, 601). Backwards round the ring, empty cells follow rule 184 too.
+/// With v_max = 1 and without randomization a step of the Nagel-Schreckenberg model is a step of rule 184 on each lane
+/// (Wolfram 1983, Rev. Mod. Phys. 55, 601). Backwards round the ring, empty cells follow rule 184 too.
 pub fn nasch_is_rule_184()
     ensures rule { NaschIsRule184 }
-    ensures holes { EmptyCellsGoBack }
+    ensures holes { Rule184HasParticleHoleSymmetry }
 {}
 
-/// Without randomization a run on one lane reaches the capacity of its road from any initial state, for every
-/// limit: the fundamental diagram is a triangle (Fukui and Ishibashi 1996, J. Phys. Soc. Japan 65, 1868, of
-/// cars that reach their speed at once). On several lanes each reaches its own capacity.
-pub fn nasch_comes_to_capacity()
-    ensures one_lane { NaschComesToCapacity }
-    ensures by_lane { NaschComesToCapacityByLane }
+/// In the Nagel-Schreckenberg model without randomization the fundamental diagram of one lane is a triangle: from any
+/// initial state and for every v_max the flow reaches min(v_max * density, 1 - density). On several lanes each lane
+/// reaches its own triangle. (For cars that reach their speed at once: Fukui and Ishibashi 1996, J. Phys. Soc. Japan
+/// 65, 1868.)
+pub fn nasch_reaches_triangle()
+    ensures one_lane { NaschReachesTriangle }
+    ensures by_lane { NaschReachesTriangleByLane }
 {}
 
-/// With limit 1 a run on one lane reaches the capacity one step sooner: rule 184 relaxes within one lap of the ring
+/// With v_max = 1 a run on one lane reaches the triangle one step sooner: rule 184 relaxes within one lap of the ring
 /// (Krug and Spohn 1988, Phys. Rev. A 38, 4271).
-pub fn rule_184_comes_to_capacity()
-    ensures { Rule184ComesToCapacity }
+pub fn rule_184_reaches_triangle()
+    ensures { Rule184ReachesTriangle }
 {}
 
-/// Evenly spaced cars reach the capacity of their road as soon as they could have reached the limit.
-pub fn even_cars_flow_at_capacity()
-    ensures { EvenCarsFlowAtCapacity }
+/// Evenly spaced, stopped cars reach the triangle within v_max - 1 steps, the time to reach v_max.
+pub fn even_cars_flow_on_triangle()
+    ensures { EvenCarsFlowOnTriangle }
 {}
 
-/// Detectors count the flow: all detectors of a road together count the distance of a step, under any rule, and
-/// each counts at most one car. Between two detectors of a lane no car is lost or created if nobody changes
+/// Detectors measure the flow: all detectors of a road together count the distance of a step, under any rule, and
+/// each counts at most one car. Between two detectors of a lane no car is lost or created if no car changes
 /// lanes: the continuity equation (Lighthill and Whitham 1955, Proc. R. Soc. London A 229, 317).
 pub fn detectors_count_flow()
     ensures distance { DetectorsCountDistance }
@@ -244,11 +246,11 @@ pub fn detectors_count_flow()
     ensures step { StepSatisfiesContinuity }
 {}
 
-/// If nobody changes lanes, continuity also holds for the counted steps of a run. The counts of two detectors then
-/// never differ by more than the cells between them, and within one lap by no more than the lane has cars, or empty
-/// cells. On one lane all detectors together count the distance, and each by itself measures the flow.
+/// If no car changes lanes, continuity also holds for the counted steps of a run. The counts of two detectors then
+/// differ by at most the number of cells between them, and within one lap by at most the number of cars and the number
+/// of empty cells of the lane. On one lane all detectors together count the distance, and each one measures the flow.
 pub fn detectors_count_runs()
-    ensures exists { CountExists }
+    ensures exists { DetectorCountExists }
     ensures run { RunSatisfiesContinuity }
     ensures agree { DetectorsAgree }
     ensures by_cars { DetectorsAgreeByCars }
@@ -256,15 +258,14 @@ pub fn detectors_count_runs()
     ensures flow { DetectorMeasuresFlow }
 {}
 
-/// In at most v + 1 consecutive steps a detector counts at most v cars if nobody changes lanes, because two
-/// passages need room between them; v is the limit.
+/// In v_max + 1 consecutive steps a detector counts at most v_max cars if no car changes lanes.
 pub fn detector_counts_below_peak()
     ensures { DetectorCountsBelowPeak }
 {}
 
 /// Even if cars change lanes, none is lost or created between two rows of detectors, each with one detector on each
-/// lane. So within one lap the counts of two rows differ by at most all cars, or all empty cells, and each row by
-/// itself measures the flow.
+/// lane. So within one lap the counts of two rows differ by at most the number of cars and the number of empty cells of
+/// the road, and each row measures the flow.
 pub fn rows_of_detectors_count()
     ensures step { StepIsContinuousByRows }
     ensures run { RunSatisfiesContinuityByRows }

@@ -2,7 +2,7 @@
 //! `trlab_step`.
 //!
 //! ```text
-//! // The flow of every run is at most limit / (limit + 1): a proof that calls this law may use it.
+//! // The flow of every run is at most v_max / (v_max + 1): a proof that calls this law may use it.
 //! run_keeps_below_peak();
 //! ```
 #![tactic(auto)]

@@ -16,7 +16,7 @@ use Rattle.trlab_notes.specs.Order.{join, IsNoStronger}
 use Rattle.trlab_verify.specs.Longest.{Follows}
 use Rattle.trlab_verify.specs.Incoming.{add_note, add_notes, if_here, next_note_to, jump_note_to, is_target, incoming, note_at}
 use Rattle.trlab_verify.specs.Verdict.{IsAccepted}
-use Rattle.trlab_verify.specs.Tables.{IsNoStrongerAt}
+use Rattle.trlab_verify.specs.Tables.{IsNoStrongerThanVerdictNote}
 use Rattle.trlab_verify.proofs.Checking.{ChecksBy}
 use Rattle.trlab_notes.proofs.Order.{Closed, On, through_on, join_most_on}
 use Rattle.trlab_notes.proofs.Monotone.{Reaches, BothOn, fall_up, jump_up, clear_up, passes, All_variables, all_closed, on_all, all_on, reaches_all}
@@ -187,7 +187,7 @@ module _ (kind : Kind) (program : Program) (note : ℕ → Note) (checks : Check
     jumps = λ pc t i lt e et l. on_all _ _ ((checks.each pc i e).jumps t et l);
   }
 
-  pub best : (pc : ℕ) → pc < length code → IsNoStrongerAt kind program pc (note pc)
+  pub best : (pc : ℕ) → pc < length code → IsNoStrongerThanVerdictNote kind program pc (note pc)
   best pc lt = let (n, e, f) = all_best All_variables all_closed kind code note (length code) (below (length code)) (suc pc) pc (omega arith) lt (omega arith) in (n, e, all_on _ _ f)
 
   pub accepted : IsAccepted kind program

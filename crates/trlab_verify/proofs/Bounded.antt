@@ -13,7 +13,7 @@ use Rattle.trlab_code.specs.Program.{Program}
 use Rattle.trlab_code.specs.Flow.{target, destination}
 use Rattle.trlab_notes.specs.declared.note.AbstractValue.{AbstractValue}
 use Rattle.trlab_notes.specs.declared.note.AbstractValue.TheVariants.{Nothing, Between, Implies}
-use Rattle.trlab_notes.specs.Notes.{Note, known_level, level_between, same_variable, entry, entry_level, entry_said}
+use Rattle.trlab_notes.specs.Notes.{Note, known_level, level_between, same_variable, entry, entry_level, entry_values}
 use Rattle.trlab_notes.specs.Order.{join}
 use Rattle.trlab_notes.specs.Transfer.{sharpen, slacken, chain, least, most, result_value, result_to, to_result, register_to, assign, assign_destination, refine_order, refine_flag, next_note, jump_note}
 use Rattle.trlab_verify.specs.Incoming.{add_note, add_notes, if_here, next_note_to, jump_note_to, is_target, incoming}
@@ -56,14 +56,14 @@ module _ (m : Note) (f : HasValidLevels m) where
   unfolding assign known_level update
   assign_two d s to from p q x y = at (same_variable x (variable.Register d)) (same_variable y (variable.Register d))
     where
-      at : (b c : Bool) → level_between (cond b s (m.said x)) (cond c s (m.said y)) (same_variable x y) (cond b (to y) (cond c (from x) (m.level x y))) ≤ 2
+      at : (b c : Bool) → level_between (cond b s (m.values x)) (cond c s (m.values y)) (same_variable x y) (cond b (to y) (cond c (from x) (m.level x y))) ≤ 2
       at true c = known_two _ _ (same_variable x y) (to y) (p y)
       at false true = known_two _ _ (same_variable x y) (from x) (q x)
       at false false = f x y
 
   refine_two : (p q : Variable) (k : ℕ) → k ≤ 2 → HasValidLevels (refine_order m p q k)
   unfolding refine_order known_level
-  refine_two p q k l x y = known_max (m.said x) (m.said y) (same_variable x y) (m.level x y) _ (f x y) (chain_two _ k _ (f x p) l (f q y))
+  refine_two p q k l x y = known_max (m.values x) (m.values y) (same_variable x y) (m.level x y) _ (f x y) (chain_two _ k _ (f x p) l (f q y))
 
   flag_two : (a : Register) → HasValidLevels (refine_flag m a)
   unfolding refine_flag known_level
@@ -110,7 +110,7 @@ join_two m n f x y = known_two _ _ (same_variable x y) _ (omega (arith, f x y))
 
 entry_two : (kind : Kind) → HasValidLevels (entry kind)
 unfolding entry known_level
-entry_two kind x y = known_two (entry_said kind x) (entry_said kind y) (same_variable x y) (entry_level x y) (levels x y)
+entry_two kind x y = known_two (entry_values kind x) (entry_values kind y) (same_variable x y) (entry_level x y) (levels x y)
   where
     levels : (x y : Variable) → entry_level x y ≤ 2
     levels (variable.Input Speed) (variable.Input Limit) = omega arith

@@ -8,7 +8,7 @@ use Rattle.trlab_code.specs.Program.{Program}
 use Rattle.trlab_notes.specs.Notes.{Note, entry, closure, maybe_closure}
 use Rattle.trlab_verify.specs.declared.note.Note.{Note as Form}
 use Rattle.trlab_verify.specs.Incoming.{note_at}
-use Rattle.trlab_verify.specs.TableForm.{HasInputRanges, meaning, meaning_at, table_of, empty_form}
+use Rattle.trlab_verify.specs.TableForm.{HasInputRanges, meaning, meaning_at, table_of, form_without_marks}
 use Rattle.trlab_verify.specs.Tables.{AreFirstNotes, empty_note, note_in, noted_count}
 use Rattle.trlab_verify.specs.Verdict.{IsRefused, reason_number_at}
 use Rattle.trlab_verify.proofs.Inputs.{incoming_shows, closure_shows}
@@ -65,7 +65,7 @@ module _ (kind : Kind) (program : Program) (at reason : ℕ) (refused : IsRefuse
   first_notes stored notes h len first later = record { one_each = length-map notes (meaning kind) ∙ len; each = each }
     where
       listed : (pc : ℕ) → pc < noted_count at reason → meaning_at kind notes pc ≡ note_in (table_of kind notes) pc
-      listed pc lt = sym (get_or-map (meaning kind) notes pc empty_form empty_note (subst (λ n. pc < n) (sym len) lt))
+      listed pc lt = sym (get_or-map (meaning kind) notes pc form_without_marks empty_note (subst (λ n. pc < n) (sym len) lt))
 
       each : (pc : ℕ) → pc < noted_count at reason → note_at kind program.instrs pc ≡ Some (note_in (table_of kind notes) pc)
       each zero lt = ap Some (sym (first lt) ∙ listed zero lt)

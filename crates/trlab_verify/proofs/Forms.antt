@@ -4,7 +4,7 @@ use Rattle.std.specs.Prelude.{slice_get, IfSome}
 use Rattle.trlab_code.specs.declared.program.Kind.{Kind}
 use Rattle.trlab_code.specs.declared.instruction.Instr.{Instr}
 use Rattle.trlab_code.specs.Flow.{target}
-use Rattle.trlab_notes.specs.Notes.{Note, level_between, known_level, same_variable, entry, entry_said, entry_level, closure, maybe_closure}
+use Rattle.trlab_notes.specs.Notes.{Note, level_between, known_level, same_variable, entry, entry_values, entry_level, closure, maybe_closure}
 use Rattle.trlab_notes.specs.Transfer.{next_note, jump_note}
 use Rattle.trlab_notes.specs.Reasons.{reason_against}
 use Rattle.trlab_notes.specs.Order.{IsNoStronger}
@@ -35,36 +35,36 @@ pub record Shown (kind : Kind) (code : List Instr) (len : ℕ) (note : ℕ → N
   pub jumps : (t : ℕ) → target i ≡ Some t → t < len → IsNoStronger (note t) (jump_note m i)
 
 -- the levels of the note that a form means are those that its variables and its table give
-module _ (kind : Kind) (form : Form) (said : List AbstractValue) (h : (x : Variable) → value_in said x ≡ form_value kind form x) where
-  form_known : (x y : Variable) → known_level (meaning kind form) x y ≡ known_level_from said (variable_number x) (variable_number y) (level_at form.levels (variable_number x) (variable_number y))
+module _ (kind : Kind) (form : Form) (values : List AbstractValue) (h : (x : Variable) → value_in values x ≡ form_value kind form x) where
+  form_known : (x y : Variable) → known_level (meaning kind form) x y ≡ known_level_from values (variable_number x) (variable_number y) (level_at form.levels (variable_number x) (variable_number y))
   form_known x y =
       known_unfolds (meaning kind form) x y
       ∙ (λ i. level_between (sym (h x) i) (sym (h y) i) (same_variable x y) (level_at form.levels (variable_number x) (variable_number y)))
 
-  pub levels_below : HasValidLevels (meaning kind form) → AreValidLevels said form.levels
+  pub levels_below : HasValidLevels (meaning kind form) → AreValidLevels values form.levels
   levels_below f x y lx ly =
-      at_numbers (λ a. known_level_from said a y (level_at form.levels a y) ≤ 2)
-      (λ p. at_numbers (λ b. known_level_from said (variable_number p) b (level_at form.levels (variable_number p) b) ≤ 2) (λ q. subst (λ k. k ≤ 2) (form_known p q) (f p q)) y ly) x lx
+      at_numbers (λ a. known_level_from values a y (level_at form.levels a y) ≤ 2)
+      (λ p. at_numbers (λ b. known_level_from values (variable_number p) b (level_at form.levels (variable_number p) b) ≤ 2) (λ q. subst (λ k. k ≤ 2) (form_known p q) (f p q)) y ly) x lx
 
-  pub levels_above : AreValidLevels said form.levels → HasValidLevels (meaning kind form)
+  pub levels_above : AreValidLevels values form.levels → HasValidLevels (meaning kind form)
   levels_above f x y = subst (λ k. k ≤ 2) (sym (form_known x y)) (f (variable_number x) (variable_number y) (below x) (below y))
 
   -- the note that is stored is the closure of what the form means
-  pub read_is : closure (record { said = value_in said; level = levels_in form.levels; side = form.side }) ≡ closure (meaning kind form)
-  read_is = ap closure (note_same (record { said = value_in said; level = levels_in form.levels; side = form.side }) (meaning kind form) (fun_ext h) refl refl)
+  pub read_is : closure (record { values = value_in values; level = levels_in form.levels; side = form.side }) ≡ closure (meaning kind form)
+  read_is = ap closure (note_same (record { values = value_in values; level = levels_in form.levels; side = form.side }) (meaning kind form) (fun_ext h) refl refl)
 
 -- what a form says, by the numbers of the variables
-pub form_says : (kind : Kind) (form : Form) (said : List AbstractValue) → ((x : ℕ) → x < 8 → mark_value (get_or form.regs x Unset) ≡ get_or said x Nothing) →
-    ((k : Input) → value_in said (variable.Input k) ≡ entry_said kind (variable.Input k)) → (x : Variable) → form_value kind form x ≡ value_in said x
-form_says kind form said h k (variable.Register r) = h (register_number r) (register_below r)
-form_says kind form said h k (variable.Input i) = sym (k i)
+pub form_says : (kind : Kind) (form : Form) (values : List AbstractValue) → ((x : ℕ) → x < 8 → mark_value (get_or form.regs x Unset) ≡ get_or values x Nothing) →
+    ((k : Input) → value_in values (variable.Input k) ≡ entry_values kind (variable.Input k)) → (x : Variable) → form_value kind form x ≡ value_in values x
+form_says kind form values h k (variable.Register r) = h (register_number r) (register_below r)
+form_says kind form values h k (variable.Input i) = sym (k i)
 
 -- the first note has the levels of the start
 pub first_is : (kind : Kind) (form : Form) (levels : List (List ℕ)) → meaning kind form ≡ closure (entry kind) →
     ((x y : Variable) → levels_in levels x y ≡ entry_level x y) → meaning kind (record form { levels = levels }) ≡ entry kind
 unfolding entry
 first_is kind form levels e h =
-    note_same _ _ (ap (λ n. n.said) e ∙ said_same (entry kind)) (level_same _ _ h) (ap (λ n. n.side) e ∙ side_same (entry kind))
+    note_same _ _ (ap (λ n. n.values) e ∙ said_same (entry kind)) (level_same _ _ h) (ap (λ n. n.side) e ∙ side_same (entry kind))
 
 -- no stronger than a closure
 pub under_settled : (l n : Note) → IsNoStronger l (closure n) → IsNoStronger l n

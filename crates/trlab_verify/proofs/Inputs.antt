@@ -13,8 +13,8 @@ use Rattle.trlab_code.specs.Machine.{update, register_number, input_number, allo
 use Rattle.trlab_code.specs.Flow.{target, destination}
 use Rattle.trlab_notes.specs.declared.note.AbstractValue.{AbstractValue}
 use Rattle.trlab_notes.specs.declared.note.AbstractValue.TheVariants.{Nothing, Between, Implies}
-use Rattle.trlab_notes.specs.declared.rows.Stored.{Stored}
-use Rattle.trlab_notes.specs.Notes.{Note, with_side, value_with_side, entry, entry_said, input_range, closure}
+use Rattle.trlab_notes.specs.declared.rows.StoredNote.{StoredNote}
+use Rattle.trlab_notes.specs.Notes.{Note, with_side, value_with_side, entry, entry_values, input_range, closure}
 use Rattle.trlab_notes.specs.Order.{join, join_values}
 use Rattle.trlab_notes.specs.Reasons.{is_flag}
 use Rattle.trlab_notes.specs.Stored.{note_of, maybe_note}
@@ -33,7 +33,7 @@ range_plain SideBack = refl
 range_plain Lane = refl
 range_plain Headspeed = refl
 
-plain : (kind : Kind) (k : Input) (b : Bool) → allows_input kind k ≡ b → is_flag (entry_said kind (variable.Input k)) ≡ false
+plain : (kind : Kind) (k : Input) (b : Bool) → allows_input kind k ≡ b → is_flag (entry_values kind (variable.Input k)) ≡ false
 plain kind k true e = rw e (range_plain k)
 plain kind k false e = rw e refl
 
@@ -83,7 +83,7 @@ module _ (kind : Kind) where
 
   join_shows : (m n : Note) → HasInputRanges kind m → HasInputRanges kind n → HasInputRanges kind (join m n)
   unfolding join value_with_side
-  join_shows m n f g k = both_same m.side n.side (entry_said kind (variable.Input k)) (m.said (variable.Input k)) (n.said (variable.Input k)) (plain kind k (allows_input kind k) refl) (f k) (g k)
+  join_shows m n f g k = both_same m.side n.side (entry_values kind (variable.Input k)) (m.values (variable.Input k)) (n.values (variable.Input k)) (plain kind k (allows_input kind k) refl) (f k) (g k)
 
   edge_shows : (old new : Option Note) → IfSome old (HasInputRanges kind) → IfSome new (HasInputRanges kind) → IfSome (add_note old new) (HasInputRanges kind)
   edge_shows old None f g = f
@@ -113,19 +113,19 @@ pub closure_shows : (kind : Kind) (m : Note) → HasInputRanges kind m → HasIn
 unfolding closure
 closure_shows kind m h = h
 
-pub same_shown : (kind : Kind) (o : Option Stored) (n : Stored) (m : Note) → o ≡ Some n → maybe_note o ≡ Some m → HasInputRanges kind m → HasInputRanges kind (note_of n)
+pub same_shown : (kind : Kind) (o : Option StoredNote) (n : StoredNote) (m : Note) → o ≡ Some n → maybe_note o ≡ Some m → HasInputRanges kind m → HasInputRanges kind (note_of n)
 same_shown kind None n m e f h = absurd (cc e)
 same_shown kind (Some k) n m e f h =
     let a : k ≡ n = some_noted k n e in
     let b : note_of k ≡ m = some_note (note_of k) m f in
     subst (λ z. HasInputRanges kind (note_of z)) a (subst (λ z. HasInputRanges kind z) (sym b) h)
   where
-    some_noted : (a b : Stored) → Some a ≡ Some b → a ≡ b
+    some_noted : (a b : StoredNote) → Some a ≡ Some b → a ≡ b
     some_noted a b e = cc e
 
     some_note : (a b : Note) → Some a ≡ Some b → a ≡ b
     some_note a b e = cc e
 
-pub never_none : (o : Option Stored) (m : Note) → o ≡ None → maybe_note o ≡ Some m → ⊥
+pub never_none : (o : Option StoredNote) (m : Note) → o ≡ None → maybe_note o ≡ Some m → ⊥
 never_none None m e f = absurd (cc f)
 never_none (Some n) m e f = absurd (cc e)

@@ -9,7 +9,7 @@ use Rattle.trlab_code.specs.declared.instruction.Instr.TheVariants.{Get}
 use Rattle.trlab_code.specs.Machine.{allows_input}
 use Rattle.trlab_code.specs.Program.{Program}
 use Rattle.trlab_notes.specs.declared.note.AbstractValue.{AbstractValue}
-use Rattle.trlab_notes.specs.Notes.{Note, with_side, value_with_side, level_between, known_level, same_variable, entry, entry_said, entry_level}
+use Rattle.trlab_notes.specs.Notes.{Note, with_side, value_with_side, level_between, known_level, same_variable, entry, entry_values, entry_level}
 use Rattle.trlab_notes.specs.Transfer.{next_note}
 use Rattle.trlab_notes.specs.Reasons.{reason_against, reason_number, is_of_kind}
 use Rattle.trlab_notes.specs.declared.reasons.Reason.{Reason}
@@ -60,23 +60,23 @@ seen_by : (kind : Kind) (k : Input) → allows_input Motion k ≡ true → allow
 seen_by Motion k h = h
 seen_by Change k h = refl
 
-same_entry : (kind own : Kind) (x : Variable) → Both x → entry_said own x ≡ entry_said kind x
+same_entry : (kind own : Kind) (x : Variable) → Both x → entry_values own x ≡ entry_values kind x
 same_entry kind own (variable.Register r) h = refl
 same_entry kind own (variable.Input k) h = rw (seen_by own k h, seen_by kind k h) refl
 
 entry_on : (kind own : Kind) (m : Note) → IsNoStronger m (entry own) → On Both m (entry kind)
 unfolding entry value_with_side known_level
 entry_on kind own m f = record {
-  said = λ x l. subst (λ z. IsNoMorePrecise (value_with_side m x) (with_side false z)) (same_entry kind own x l) (f.said x);
+  values = λ x l. subst (λ z. IsNoMorePrecise (value_with_side m x) (with_side false z)) (same_entry kind own x l) (f.values x);
   order = λ x y l k.
       let level : AbstractValue → AbstractValue → ℕ = λ s t. level_between s t (same_variable x y) (entry_level x y) in
-      let own_first : known_level m x y ≤ level (entry_said kind x) (entry_said own y) = subst (λ z. known_level m x y ≤ level z (entry_said own y)) (same_entry kind own x l) (f.order x y) in
-      subst (λ z. known_level m x y ≤ level (entry_said kind x) z) (same_entry kind own y k) own_first;
+      let own_first : known_level m x y ≤ level (entry_values kind x) (entry_values own y) = subst (λ z. known_level m x y ≤ level z (entry_values own y)) (same_entry kind own x l) (f.order x y) in
+      subst (λ z. known_level m x y ≤ level (entry_values kind x) z) (same_entry kind own y k) own_first;
   beside = f.beside;
 }
 
 on_both : (m n : Note) → IsNoStronger m n → On Both m n
-on_both m n f = record { said = λ x l. f.said x; order = λ x y l k. f.order x y; beside = f.beside }
+on_both m n f = record { values = λ x l. f.values x; order = λ x y l k. f.order x y; beside = f.beside }
 
 if_both : (t : Note) (o : Option Note) → IfSome o (IsNoStronger t) → IfSome o (On Both t)
 if_both t None h = h

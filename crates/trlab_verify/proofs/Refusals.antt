@@ -3,7 +3,7 @@ use Rattle.std.proofs.Common.{◌≡◌, ◌≢◌, ◌∙◌, ◌⊎◌, ℕ, r
 use Rattle.trlab_code.specs.declared.program.Kind.{Kind}
 use Rattle.trlab_code.specs.declared.program.Kind.TheVariants.{Motion, Change}
 use Rattle.trlab_code.specs.Program.{Program}
-use Rattle.trlab_verify.specs.Tables.{SomeTableChecks, note_in}
+use Rattle.trlab_verify.specs.Tables.{HasCertificate, note_in}
 use Rattle.trlab_verify.specs.Verdict.{IsRefused}
 use Rattle.trlab_verify.proofs.Checking.{by_notes}
 use Rattle.trlab_verify.proofs.Best.{accepted}
@@ -13,7 +13,7 @@ none_and_some : (o : Option ℕ) (r : ℕ) → o ≡ None → o ≡ Some r → �
 none_and_some o r e f = cc (sym e ∙ f)
 
 -- none for the kind that it was called as
-pub called : (kind : Kind) (program : Program) (at reason : ℕ) → IsRefused kind program at reason → ¬ (SomeTableChecks kind program)
+pub called : (kind : Kind) (program : Program) (at reason : ℕ) → IsRefused kind program at reason → ¬ (HasCertificate kind program)
 called kind program at reason refused (table, h) =
     none_and_some _ reason (accepted kind program (note_in table) (by_notes kind program table h) at refused.within) refused.here
 
@@ -24,9 +24,9 @@ same_kind Change Motion = inr (λ e. cc e)
 same_kind Change Change = inl refl
 
 -- none for its own kind, unless an instruction is of the wrong kind
-pub own : (kind : Kind) (program : Program) (at reason : ℕ) → IsRefused kind program at reason → reason ≢ 2 → ¬ (SomeTableChecks program.kind program)
+pub own : (kind : Kind) (program : Program) (at reason : ℕ) → IsRefused kind program at reason → reason ≢ 2 → ¬ (HasCertificate program.kind program)
 own kind program at reason refused other (table, h) =
     elim (same_kind kind program.kind) [
-      | inl e ↦ called kind program at reason refused (subst (λ z. SomeTableChecks z program) (sym e) (table, h))
+      | inl e ↦ called kind program at reason refused (subst (λ z. HasCertificate z program) (sym e) (table, h))
       | inr ne ↦ other (other_kind kind program (note_in table) (by_notes program.kind program table h) ne at reason refused)
     ]

@@ -26,7 +26,7 @@ use Rattle.trlab_code.specs.declared.instruction.Variable.{Variable}
 use Rattle.trlab_code.specs.declared.instruction.Variable.TheVariants as variable
 use Rattle.trlab_code.specs.Machine.{Unset, allows_input}
 use Rattle.trlab_notes.specs.declared.note.AbstractValue.TheVariants.{Nothing}
-use Rattle.trlab_notes.specs.Notes.{entry_said, entry_level, input_range}
+use Rattle.trlab_notes.specs.Notes.{entry_values, entry_level, input_range}
 use Rattle.trlab_notes.proofs.Variables.{register_below}
 use Rattle.trlab_verify.proofs.Reasons.{noted}
 use Rattle.trlab_notes.proofs.Fits.{number_is, Fits, FitsSaid, Ahead, joined_left, joined_right, fits_from}
@@ -166,11 +166,11 @@ input_fits view h SideBack = (omega arith, h.sideback)
 input_fits view h Lane = (omega arith, h.lane)
 input_fits view h Headspeed = (omega arith, omega (arith, h.headspeed, h.limit))
 
-allowed_fits : (side b : Bool) (said : AbstractValue) (n : ℕ) → FitsSaid side said (Number n) → FitsSaid side (cond b said Nothing) (cond b (Number n) Unset)
-allowed_fits side true said n f = f
-allowed_fits side false said n f = tt
+allowed_fits : (side b : Bool) (values : AbstractValue) (n : ℕ) → FitsSaid side values (Number n) → FitsSaid side (cond b values Nothing) (cond b (Number n) Unset)
+allowed_fits side true values n f = f
+allowed_fits side false values n f = tt
 
-variable_fits : (kind : Kind) (view : View) → IsViewInRange view → (x : Variable) → FitsSaid view.side (entry_said kind x) (start kind view x)
+variable_fits : (kind : Kind) (view : View) → IsViewInRange view → (x : Variable) → FitsSaid view.side (entry_values kind x) (start kind view x)
 unfolding start
 variable_fits kind view h (variable.Register r) = tt
 variable_fits kind view h (variable.Input k) = allowed_fits view.side (allows_input kind k) (input_range k) (seen view k) (input_fits view h k)

@@ -29,7 +29,7 @@ module _ (kind : Kind) (code : List Instr) (q : ℕ) where
       ]
     where
       here : Sends kind code k q n → Under n (incoming kind code (suc k) q)
-      here s = rw (s.noted, s.stands) (elim s.sent [
+      here s = rw (s.before_is, s.instr_is) (elim s.sent [
         | inl falls ↦ under_old n (add_note (incoming kind code k q) (next_note_to k s.before s.instr q)) (jump_note_to s.before s.instr q) (rw falls (under_new n (incoming kind code k q)))
         | inr jumps ↦ rw jumps (under_new n (add_note (incoming kind code k q) (next_note_to k s.before s.instr q)))
       ])
@@ -51,7 +51,7 @@ module _ (kind : Kind) (code : List Instr) (q : ℕ) where
       edge : (m : Note) (i : Instr) → note_at kind code k ≡ Some m → slice_get code k ≡ Some i → (o : Option Note) →
           ((n : Note) → o ≡ Some n → (next_note_to k m i q ≡ Some n) ⊎ (jump_note_to m i q ≡ Some n)) → IfSome o (IsNoStronger l)
       edge m i em ei None s = tt
-      edge m i em ei (Some n) s = h n (inr (k, le, record { before = m; instr = i; noted = em; stands = ei; sent = s n refl }))
+      edge m i em ei (Some n) s = h n (inr (k, le, record { before = m; instr = i; before_is = em; instr_is = ei; sent = s n refl }))
 
       at : IfSome (incoming kind code k q) (IsNoStronger l) → (note : Option Note) (i : Option Instr) → note_at kind code k ≡ note → slice_get code k ≡ i → IfSome (add_notes k note i q (incoming kind code k q)) (IsNoStronger l)
       at so_far None i em ei = so_far

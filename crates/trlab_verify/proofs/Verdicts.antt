@@ -5,7 +5,7 @@ use Rattle.std.proofs.lemmas.Bool.{eqb-true, eqb-false, leb-false}
 use Rattle.trlab_code.specs.Flow.{target, on_target}
 use Rattle.trlab_code.specs.declared.program.Kind.{Kind}
 use Rattle.trlab_code.specs.declared.instruction.Instr.{Instr}
-use Rattle.trlab_notes.specs.declared.rows.Stored.{Stored}
+use Rattle.trlab_notes.specs.declared.rows.StoredNote.{StoredNote}
 use Rattle.trlab_notes.proofs.Closure.{joined_settled, settled_joins, join_is_settled, fall_settled, jump_settled, reason_settled}
 use Rattle.trlab_notes.specs.Reasons.{reason_against}
 use Rattle.trlab_notes.specs.Notes.{Note, entry, closure, maybe_closure}
@@ -18,7 +18,7 @@ use Rattle.trlab_notes.specs.Reasons.{reason_number}
 use Rattle.trlab_verify.specs.Incoming.{incoming, note_at, add_note, add_notes, next_note_to, jump_note_to, if_here, is_target}
 use Rattle.trlab_verify.specs.Verdict.{first_reason_at, reason_number_at}
 
-pub set_is : (table : List (Option Stored)) (q : ℕ) (o : Option Stored) → q < length table → (x : ℕ) →
+pub set_is : (table : List (Option StoredNote)) (q : ℕ) (o : Option StoredNote) → q < length table → (x : ℕ) →
     stored_note_at (slice_set table q o) x ≡ cond (nat_eq x q) (maybe_note o) (stored_note_at table x)
 set_is table q o h x = at x (nat_eq x q) refl
   where
@@ -53,16 +53,16 @@ one_more kind code pc q m i old em ei eo =
     let h2 = subst (λ z. add_notes pc (Some m) z q (incoming kind code pc q) ≡ incoming kind code (suc pc) q) ei h1 in
     subst (λ z. add_notes pc (Some m) (Some i) q z ≡ incoming kind code (suc pc) q) (sym eo) h2
 
-pub joins_none : (table : List (Option Stored)) (q : ℕ) (n j : Stored) (new : Option Stored) → get_or table q None ≡ None →
+pub joins_none : (table : List (Option StoredNote)) (q : ℕ) (n j : StoredNote) (new : Option StoredNote) → get_or table q None ≡ None →
     new ≡ Some j → note_of j ≡ join (note_of n) (note_of n) → maybe_note new ≡ add_note (stored_note_at table q) (Some (note_of n))
 joins_none table q n j new e f g = subst (λ z. maybe_note new ≡ add_note (maybe_note z) (Some (note_of n))) (sym e) (ap maybe_note f ∙ ap Some g)
 
-pub joins_some : (table : List (Option Stored)) (q : ℕ) (old n j : Stored) (new : Option Stored) →
+pub joins_some : (table : List (Option StoredNote)) (q : ℕ) (old n j : StoredNote) (new : Option StoredNote) →
     get_or table q None ≡ Some old → new ≡ Some j → note_of j ≡ join (note_of old) (note_of n) →
     maybe_note new ≡ add_note (stored_note_at table q) (Some (note_of n))
 joins_some table q old n j new e f g = subst (λ z. maybe_note new ≡ add_note (maybe_note z) (Some (note_of n))) (sym e) (ap maybe_note f ∙ ap Some g)
 
-pub is_none : (o : Option Stored) → ((n : Stored) → o ≡ Some n → ⊥) → o ≡ None
+pub is_none : (o : Option StoredNote) → ((n : StoredNote) → o ≡ Some n → ⊥) → o ≡ None
 is_none None h = refl
 is_none (Some n) h = absurd (h n refl)
 

@@ -4,19 +4,18 @@ use Rattle.trlab_code.specs.declared.program.Kind.{Kind}
 use Rattle.trlab_code.specs.Program.{Program}
 use Rattle.trlab_verify.specs.declared.verify.VerifyFault.{VerifyFault}
 use Rattle.trlab_verify.specs.declared.verify.VerifyFault.TheVariants.{Why, Memory}
-use Rattle.trlab_verify.specs.Tables.{SomeTableChecks}
+use Rattle.trlab_verify.specs.Tables.{HasCertificate}
 use Rattle.trlab_verify.specs.Verdict.{IsRefused}
 
--- a fault of the program as one of a kind: with `Why` the verdict rejects the program, at the instruction
--- `at` and for this reason; `Memory` is always possible
+-- a possible fault of verifying the program as one of kind `kind`: `Why` if the verdict rejects the program at
+-- the instruction `at` for this reason; `Memory` always
 abbrev pub IsFaultOf : Kind → Program → VerifyFault → Type 0
 IsFaultOf kind program (Why at reason) = IsRefused kind program at reason
 IsFaultOf kind program Memory = Unit {0}
 
--- a fault excludes tables: if it rejects the program as one of a kind, no table of notes checks for that
--- kind, nor for the program's own kind unless the reason is 2, an instruction of the wrong kind; `Memory`
--- excludes none
-abbrev pub NoTableChecks : Kind → Program → VerifyFault → Type 0
-NoTableChecks kind program (Why at reason) =
-    ¬ (SomeTableChecks kind program) × (reason ≢ 2 → ¬ (SomeTableChecks program.kind program))
-NoTableChecks kind program Memory = Unit {0}
+-- the fault excludes certificates: a program that is rejected as one of kind `kind` has none for this kind, nor
+-- for its own kind unless the reason is 2 (an instruction of the wrong kind); `Memory` excludes none
+abbrev pub ExcludesCertificates : Kind → Program → VerifyFault → Type 0
+ExcludesCertificates kind program (Why at reason) =
+    ¬ (HasCertificate kind program) × (reason ≢ 2 → ¬ (HasCertificate program.kind program))
+ExcludesCertificates kind program Memory = Unit {0}

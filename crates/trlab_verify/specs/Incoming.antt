@@ -58,8 +58,8 @@ note_at kind code pc = incoming kind code pc pc
 pub record Sends (kind : Kind) (code : List Instr) (p q : ℕ) (note : Note) : Type 0 where
   pub before : Note
   pub instr : Instr
-  pub noted : note_at kind code p ≡ Some before
-  pub stands : slice_get code p ≡ Some instr
+  pub before_is : note_at kind code p ≡ Some before
+  pub instr_is : slice_get code p ≡ Some instr
   pub sent : (next_note_to p before instr q ≡ Some note) ⊎ (jump_note_to before instr q ≡ Some note)
 
 -- a note is sent to the instruction at pc: by an earlier instruction; or it is the entry note, and pc is 0

@@ -15,7 +15,7 @@ HasPath code pc zero = ⊥
 HasPath code pc (suc zero) = (instr : Instr) × (slice_get code pc ≡ Some instr) × IsTrue (is_end instr)
 HasPath code pc (suc (suc n)) = (q : ℕ) × Follows code pc q × HasPath code q (suc n)
 
--- the longest path from pc to an end of the program has n instructions; there may be several of this length
+-- the longest path from pc to an end of the program has n instructions, those at pc and at the end included
 pub record IsLongest (code : List Instr) (pc n : ℕ) : Type 0 where
   pub way : HasPath code pc n
   pub most : (m : ℕ) → HasPath code pc m → m ≤ n

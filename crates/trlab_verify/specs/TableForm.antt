@@ -6,9 +6,10 @@ use Rattle.trlab_code.specs.declared.instruction.Variable.{Variable}
 use Rattle.trlab_code.specs.declared.instruction.Variable.TheVariants as variable
 use Rattle.trlab_code.specs.Machine.{register_number}
 use Rattle.trlab_code.specs.Program.{Program}
+use Rattle.trlab_notes.specs.declared.note.TheConstants.{BELOW}
 use Rattle.trlab_notes.specs.declared.note.AbstractValue.{AbstractValue}
 use Rattle.trlab_notes.specs.declared.note.AbstractValue.TheVariants.{Nothing, Between, Implies}
-use Rattle.trlab_notes.specs.Notes.{Note, known_level, entry_said}
+use Rattle.trlab_notes.specs.Notes.{Note, known_level, entry_values}
 use Rattle.trlab_notes.specs.Rows.{levels_in}
 use Rattle.trlab_verify.specs.declared.note.Mark.{Mark}
 use Rattle.trlab_verify.specs.declared.note.Mark.TheVariants.{Unset, Num, Flag}
@@ -23,38 +24,38 @@ mark_value Unset = Nothing
 mark_value (Num lo hi) = Between lo hi
 mark_value (Flag imp) = Implies imp
 
--- the abstract value of a variable in a form: for a register that of its mark, and nothing if it has no mark;
--- for an input its range, if programs of this kind may read it
+-- the abstract value of a variable in a form: for a register, the value that its mark means, and `Nothing` if
+-- it has no mark; for an input, its range, or `Nothing` if programs of kind `kind` may not read it
 abbrev pub form_value : Kind → Form → Variable → AbstractValue
 form_value kind form (variable.Register r) = mark_value (slice_index_or form.regs (register_number r) Unset)
-form_value kind form (variable.Input k) = entry_said kind (variable.Input k)
+form_value kind form (variable.Input k) = entry_values kind (variable.Input k)
 
--- the note that a form means for programs of this kind
+-- the note that a form means for programs of kind `kind`
 abbrev pub meaning : Kind → Form → Note
-meaning kind form = record { said = form_value kind form; level = levels_in form.levels; side = form.side }
+meaning kind form = record { values = form_value kind form; level = levels_in form.levels; side = form.side }
 
--- the table of the notes that these forms mean for programs of this kind
+-- the table of the notes that the forms mean for programs of kind `kind`, in the same order
 abbrev pub table_of : Kind → List Form → List Note
 table_of kind forms = map (meaning kind) forms
 
--- the form in which nothing is known
-abbrev pub empty_form : Form
-empty_form = record { regs = []; levels = []; side = false }
+-- the form without marks and levels; the note that it means knows only the ranges of the inputs
+abbrev pub form_without_marks : Form
+form_without_marks = record { regs = []; levels = []; side = false }
 
 -- the note that the form of the instruction at pc means; if there is no such form, the note of the empty form
 abbrev pub meaning_at : Kind → List Form → ℕ → Note
-meaning_at kind forms pc = meaning kind (slice_index_or forms pc empty_form)
+meaning_at kind forms pc = meaning kind (slice_index_or forms pc form_without_marks)
 
--- each known level of a note is at most 2, the largest level
+-- each known level of a note is at most BELOW, the largest level
 abbrev pub HasValidLevels : Note → Type 0
-HasValidLevels note = (x y : Variable) → known_level note x y ≤ 2
+HasValidLevels note = (x y : Variable) → known_level note x y ≤ BELOW
 
--- a note gives each input its abstract value at the start of programs of this kind
+-- for every input, the note has its range, or `Nothing` if programs of kind `kind` may not read it
 abbrev pub HasInputRanges : Kind → Note → Type 0
-HasInputRanges kind note = (k : Input) → note.said (variable.Input k) ≡ entry_said kind (variable.Input k)
+HasInputRanges kind note = (k : Input) → note.values (variable.Input k) ≡ entry_values kind (variable.Input k)
 
--- a fault instead of the notes of a program: with `Refused` the verdict rejects the program as one of its own
--- kind; `Memory` is always possible
+-- a possible fault instead of the notes of a program: `Refused` if the verdict rejects the program as one of
+-- its own kind; `Memory` always
 abbrev pub IsNotesFaultOf : Program → NotesFault → Type 0
 IsNotesFaultOf program Refused = (at : ℕ) × (reason : ℕ) × IsRefused program.kind program at reason
 IsNotesFaultOf program Memory = Unit {0}

@@ -15,7 +15,7 @@ use Rattle.trlab_verify.specs.Verdict.{IsRefused}
 
 -- the empty note, in which nothing is known
 abbrev pub empty_note : Note
-empty_note = record { said = λ x. Nothing; level = λ x y. 0; side = false }
+empty_note = record { values = λ x. Nothing; level = λ x y. 0; side = false }
 
 -- the note of the instruction at pc in a table; the empty note if the table has none
 abbrev pub note_in : List Note → ℕ → Note
@@ -31,7 +31,7 @@ pub record ChecksAt (kind : Kind) (program : Program) (note : ℕ → Note) (pc 
   pub jumps : (t : ℕ) → target i ≡ Some t → t < length program.instrs
       → IsNoStronger (note t) (jump_note (note pc) i)
 
--- a table checks for the program as one of this kind: it has one note per instruction, its first note is no
+-- a table checks for the program as one of kind `kind`: it has one note per instruction, its first note is no
 -- stronger than the entry note, and its notes check at each instruction
 pub record Checks (kind : Kind) (program : Program) (table : List Note) : Type 0 where
   pub one_each : length table ≡ length program.instrs
@@ -39,23 +39,23 @@ pub record Checks (kind : Kind) (program : Program) (table : List Note) : Type 0
   pub each : (pc : ℕ) (i : Instr) → slice_get program.instrs pc ≡ Some i
       → ChecksAt kind program (note_in table) pc i
 
--- the program has a certificate: some table of notes checks for it as one of this kind
-abbrev pub SomeTableChecks : Kind → Program → Type 0
-SomeTableChecks kind program = (table : List Note) × Checks kind program table
+-- some table of notes checks for the program as one of kind `kind`, and so certifies that the program is safe
+abbrev pub HasCertificate : Kind → Program → Type 0
+HasCertificate kind program = (table : List Note) × Checks kind program table
 
--- the table has one note per instruction of the program, the note from which the verdict judges the
--- instruction
+-- the table has one note per instruction of the program: the verdict's note, which is the join of the notes
+-- that are sent to the instruction
 pub record AreVerdictNotes (kind : Kind) (program : Program) (table : List Note) : Type 0 where
   pub one_each : length table ≡ length program.instrs
   pub each : (pc : ℕ) → pc < length program.instrs → note_at kind program.instrs pc ≡ Some (note_in table pc)
 
--- a note is no stronger than the verdict's note of the instruction at pc, which exists
-abbrev pub IsNoStrongerAt : Kind → Program → ℕ → Note → Type 0
-IsNoStrongerAt kind program pc note =
+-- the verdict has a note for the instruction at pc, and `note` is no stronger than this note
+abbrev pub IsNoStrongerThanVerdictNote : Kind → Program → ℕ → Note → Type 0
+IsNoStrongerThanVerdictNote kind program pc note =
     (best : Note) × (note_at kind program.instrs pc ≡ Some best) × IsNoStronger note best
 
--- the number of instructions up to `at`, the rejected one, that have a note: all of them, but without `at`
--- itself if it is unreachable, which is reason 1
+-- the number of instructions with a note if the verdict rejects instruction `at` for this reason: those up to
+-- `at`, but without `at` itself if it is unreachable, which is reason 1
 abbrev pub noted_count : ℕ → ℕ → ℕ
 noted_count at reason = if reason == 1 then at else at + 1
 
@@ -64,8 +64,8 @@ pub record AreFirstNotes (kind : Kind) (program : Program) (count : ℕ) (table 
   pub one_each : length table ≡ count
   pub each : (pc : ℕ) → pc < count → note_at kind program.instrs pc ≡ Some (note_in table pc)
 
--- the verdict rejects the program as one of this kind, and the table has the notes up to the rejected
+-- the verdict rejects the program as one of kind `kind`, and the table has the notes up to the rejected
 -- instruction, which has a note unless it is unreachable
-abbrev pub AreNotesOfRefused : Kind → Program → List Note → Type 0
-AreNotesOfRefused kind program table = (at : ℕ) × (reason : ℕ)
+abbrev pub AreNotesOfRejected : Kind → Program → List Note → Type 0
+AreNotesOfRejected kind program table = (at : ℕ) × (reason : ℕ)
     × IsRefused kind program at reason × AreFirstNotes kind program (noted_count at reason) table

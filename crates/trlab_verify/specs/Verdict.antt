@@ -26,12 +26,12 @@ reason_number_at kind program pc =
     let instr = slice_get program.instrs pc in
     option_map reason_number (first_reason_at kind program.kind (length program.instrs) pc note instr)
 
--- the program is accepted as one of a kind: no reason holds against any of its instructions
+-- the verdict accepts the program as one of kind `kind`: no reason holds against any of its instructions
 abbrev pub IsAccepted : Kind → Program → Type 0
 IsAccepted kind program = (pc : ℕ) → pc < length program.instrs → reason_number_at kind program pc ≡ None
 
--- the verdict rejects the program as one of a kind: `at` is the first instruction against which a reason
--- holds, and `reason` is the number of the first reason there
+-- the verdict rejects the program as one of kind `kind`: `at` is its first instruction against which a reason
+-- holds, and `reason` is the number of the first reason that holds there
 pub record IsRefused (kind : Kind) (program : Program) (at reason : ℕ) : Type 0 where
   pub within : at < length program.instrs
   pub here : reason_number_at kind program at ≡ Some reason

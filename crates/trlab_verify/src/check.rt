@@ -1,5 +1,5 @@
-//! Checks tables of notes, without allocating. A table that checks proves that its program is safe, no matter how
-//! the table was computed (docs/VERIFIER.md).
+//! Checks tables of notes without allocating. A table that checks is a certificate: it proves that its program is
+//! safe, no matter how the table was computed (docs/VERIFIER.md).
 
 ghost use Rattle.std.specs.Prelude.{◌≡◌, ◌↔◌, ℕ, suc, ◌<◌, ◌≤◌, ◌||◌, ◌&&◌, All, IfSome, IsTrue, Some, false, length, nat_eq, slice_get};
 ghost use Rattle.trlab_code.specs.declared.instruction.Instr.{Instr as AnInstr};
@@ -16,7 +16,7 @@ ghost use Rattle.trlab_verify.specs.Tables.{Checks, ChecksAt};
 
 use crate::note::{Note, read};
 use trlab_code::{Code, Instr, Kind, MAX_INSTRUCTIONS};
-use trlab_notes::{Stored, is_no_stronger, jump_note, next_note, reason_against};
+use trlab_notes::{StoredNote, is_no_stronger, jump_note, next_note, reason_against};
 
 /// Whether an instruction jumps to q.
 fn jumps_to(instr: Instr, q: usize) -> bool
@@ -28,7 +28,7 @@ fn jumps_to(instr: Instr, q: usize) -> bool
     }
 }
 
-/// Whether control may pass from pc to q.
+/// Whether control may go from the instruction at pc to q.
 fn follows(instr: Instr, pc: usize, q: usize) -> bool
     requires { pc < MAX_INSTRUCTIONS }
     ensures { result ≡ ((falls instr && nat_eq q (suc pc)) || on_target (nat_eq q) (target instr)) }
@@ -50,7 +50,7 @@ fn is_reached(instrs: &[Instr], q: usize) -> bool
 }
 
 /// Whether the note that a form means is no stronger than another.
-fn is_within(kind: Kind, form: &Note, note: &Stored) -> bool
+fn is_within(kind: Kind, form: &Note, note: &StoredNote) -> bool
     ensures { IsTrue result ↔ IsNoStronger (meaning kind form.now) (note_of note.now) }
 {
     match read(kind, form) {
@@ -59,8 +59,8 @@ fn is_within(kind: Kind, form: &Note, note: &Stored) -> bool
     }
 }
 
-/// Whether the note at the next instruction is no stronger than the one that `pc` sends there.
-fn fall_checks(kind: Kind, table: &[Note], pc: usize, note: &Stored, instr: Instr) -> bool
+/// Whether the next instruction's note in the table is no stronger than the note that `pc` sends there.
+fn checks_next(kind: Kind, table: &[Note], pc: usize, note: &StoredNote, instr: Instr) -> bool
     requires inside { pc < length table.now }
     requires in_range { IsInRange instr }
     requires fits { may_be_too_large (note_of note.now) instr ≡ false }
@@ -77,8 +77,8 @@ fn fall_checks(kind: Kind, table: &[Note], pc: usize, note: &Stored, instr: Inst
     }
 }
 
-/// Whether the note at a jump's target is no stronger than the one that is sent there.
-fn jump_checks(kind: Kind, table: &[Note], note: &Stored, instr: Instr) -> bool
+/// Whether the note of a jump's target in the table is no stronger than the note that the jump sends there.
+fn checks_target(kind: Kind, table: &[Note], note: &StoredNote, instr: Instr) -> bool
     ensures { IsTrue result ↔ ((t : ℕ) → target instr ≡ Some t → t < length table.now →
         IsNoStronger (meaning_at kind table.now t) (jump_note (note_of note.now) instr)) }
 {
@@ -109,7 +109,7 @@ fn checks_at(kind: Kind, instrs: &[Instr], table: &[Note], pc: usize) -> bool
     if reason_against(kind, kind, instrs.len(), pc, &note, instr).is_some() {
         return false;
     }
-    fall_checks(kind, table, pc, &note, instr) && jump_checks(kind, table, &note, instr)
+    checks_next(kind, table, pc, &note, instr) && checks_target(kind, table, &note, instr)
 }
 
 /// Whether a table of notes checks for a program of its own kind: the first note is no stronger than the entry
@@ -130,7 +130,7 @@ pub fn check_notes(code: &Code, table: &[Note]) -> bool
     if table.len() != instrs.len() {
         return false;
     }
-    if !is_within(kind, &table[0], &Stored::entry(kind)) {
+    if !is_within(kind, &table[0], &StoredNote::entry(kind)) {
         return false;
     }
     for pc in 0..instrs.len() {

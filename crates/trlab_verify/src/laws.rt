@@ -12,7 +12,7 @@ ghost use Rattle.trlab_notes.specs.Order.{IsNoStronger};
 ghost use Rattle.trlab_verify.specs.Incoming.{IsSent, note_at};
 ghost use Rattle.trlab_verify.specs.CheckedProgram.{IsChecked};
 ghost use Rattle.trlab_verify.specs.Longest.{IsLongest};
-ghost use Rattle.trlab_verify.specs.Tables.{IsNoStrongerAt, Checks, AreVerdictNotes, SomeTableChecks, note_in};
+ghost use Rattle.trlab_verify.specs.Tables.{IsNoStrongerThanVerdictNote, Checks, AreVerdictNotes, HasCertificate, note_in};
 ghost use Rattle.trlab_verify.specs.Verdict.{IsAccepted, IsRefused};
 
 /// Each program that is accepted as one of a kind is safe within its longest path.
@@ -54,12 +54,12 @@ pub fn note_is_strongest()
 
 /// If some table of notes checks, the program is accepted, and the verdict's notes are at least as strong at
 /// each instruction. The verdict's notes of an accepted program are such a table, and therefore the best one: a
-/// program is accepted exactly if some table checks.
+/// program is accepted exactly if it has a certificate, a table that checks.
 pub fn notes_are_best()
     ensures accepted { (kind : Kind) (program : Program) (table : List Note) →
         Checks kind program table → IsAccepted kind program }
     ensures best { (kind : Kind) (program : Program) (table : List Note) (pc : ℕ) →
-        Checks kind program table → pc < length program.instrs → IsNoStrongerAt kind program pc (note_in table pc) }
+        Checks kind program table → pc < length program.instrs → IsNoStrongerThanVerdictNote kind program pc (note_in table pc) }
     ensures checks { (kind : Kind) (program : Program) → IsAccepted kind program →
         (table : List Note) × AreVerdictNotes kind program table × Checks kind program table }
 {}
@@ -68,9 +68,9 @@ pub fn notes_are_best()
 /// of the wrong kind (reason 2), no table then checks for the program's own kind either.
 pub fn refused_without_notes()
     ensures called { (kind : Kind) (program : Program) (at reason : ℕ) →
-        IsRefused kind program at reason → ¬ (SomeTableChecks kind program) }
+        IsRefused kind program at reason → ¬ (HasCertificate kind program) }
     ensures own { (kind : Kind) (program : Program) (at reason : ℕ) →
-        IsRefused kind program at reason → reason ≢ 2 → ¬ (SomeTableChecks program.kind program) }
+        IsRefused kind program at reason → reason ≢ 2 → ¬ (HasCertificate program.kind program) }
 {}
 
 /// In a table that checks, no two variables have a known level above 2.

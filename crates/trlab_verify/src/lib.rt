@@ -20,5 +20,5 @@ mod verify;
 pub use check::check_notes;
 pub use note::{Mark, Note};
 pub use program::{AcceptedProgram, Change, ChangeKind, Motion, MotionKind, ProgramKind};
-pub use table::{NotesFault, notes, notes_of_refused};
+pub use table::{NotesFault, notes, notes_of_rejected};
 pub use verify::{VerifyFault, verify_as, verify_change, verify_motion};

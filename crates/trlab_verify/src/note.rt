@@ -3,13 +3,14 @@
 
 ghost use Rattle.std.specs.Prelude.{◌≡◌, ◌↔◌, ℕ, ◌<◌, ◌≤◌, IfSome, IsTrue, None, slice_index};
 ghost use Rattle.trlab_code.specs.declared.instruction.Variable.{Variable as AVariable};
+ghost use Rattle.trlab_notes.specs.declared.note.TheConstants.{BELOW};
 ghost use Rattle.trlab_notes.specs.Notes.{closure, entry};
 ghost use Rattle.trlab_notes.specs.Rows.{AreValidLevels, known_level_from, value_in};
 ghost use Rattle.trlab_notes.specs.Stored.{note_of};
 ghost use Rattle.trlab_verify.specs.TableForm.{form_value, mark_value, meaning, HasValidLevels, HasInputRanges};
 
 use trlab_code::{Kind, VARIABLES};
-use trlab_notes::{AbstractValue, Stored, entry_levels, entry_said, level_between};
+use trlab_notes::{AbstractValue, BELOW, StoredNote, entry_levels, entry_values, level_between};
 
 /// The abstract value of a register.
 #[derive(Clone, Copy, PartialEq, Eq)]
@@ -19,7 +20,7 @@ pub enum Mark {
     /// It holds a number from the first to the second, both included. If the first is above the second, control
     /// never comes here.
     Num(u32, u32),
-    /// It holds a flag. `true`: if the flag is true, the side cell is empty.
+    /// It holds a flag. With `true`, the side cell is empty if the flag is true.
     Flag(bool),
 }
 
@@ -32,12 +33,12 @@ pub struct Note {
     /// and 0 if nothing is known beyond the ranges. The variables are `r0` to `r7`, speed, limit, gap, sidegap,
     /// sideback, lane and headspeed. Entries with x = y, or of a variable that is not a number, are not used.
     pub levels: [[u8; VARIABLES]; VARIABLES],
-    /// Is the side cell known to be empty?
+    /// Whether the side cell is known to be empty.
     pub side: bool,
 }
 
 /// The abstract value of a mark.
-fn said_by(mark: Mark) -> AbstractValue
+fn mark_value(mark: Mark) -> AbstractValue
     ensures { result ≡ mark_value mark }
 {
     match mark {
@@ -48,10 +49,10 @@ fn said_by(mark: Mark) -> AbstractValue
 }
 
 /// The mark of an abstract value.
-fn mark_of(said: AbstractValue) -> Mark
-    ensures { mark_value result ≡ said }
+fn mark_of(value: AbstractValue) -> Mark
+    ensures { mark_value result ≡ value }
 {
-    match said {
+    match value {
         AbstractValue::Nothing => Mark::Unset,
         AbstractValue::Between(low, high) => Mark::Num(low, high),
         AbstractValue::Implies(imp) => Mark::Flag(imp),
@@ -62,60 +63,60 @@ fn mark_of(said: AbstractValue) -> Mark
 fn variables(kind: Kind, form: &Note) -> [AbstractValue; VARIABLES]
     ensures { (x : AVariable) → value_in result x ≡ form_value kind form.now x }
 {
-    let mut variables = entry_said(kind);
+    let mut variables = entry_values(kind);
     for x in 0..8 {
-        variables[x] = said_by(form.regs[x]);
+        variables[x] = mark_value(form.regs[x]);
     }
     variables
 }
 
-/// Whether no known level of the variable with the number x is above 2.
-fn has_levels_from(said: &[AbstractValue; VARIABLES], levels: &[u8; VARIABLES], x: usize) -> bool
+/// Whether no known level of the variable with the number x is above `BELOW`.
+fn has_levels_from(values: &[AbstractValue; VARIABLES], levels: &[u8; VARIABLES], x: usize) -> bool
     requires { x < VARIABLES }
     ensures { IsTrue result ↔ ((y : ℕ) → y < VARIABLES →
-        known_level_from said.now x y (slice_index levels.now y) ≤ 2) }
+        known_level_from values.now x y (slice_index levels.now y) ≤ BELOW) }
 {
     for y in 0..VARIABLES {
-        if level_between(said[x], said[y], x == y, levels[y]) > 2 {
+        if level_between(values[x], values[y], x == y, levels[y]) > BELOW {
             return false;
         }
     }
     true
 }
 
-/// Whether no known level is above 2.
-fn has_levels(said: &[AbstractValue; VARIABLES], levels: &[[u8; VARIABLES]; VARIABLES]) -> bool
-    ensures { IsTrue result ↔ AreValidLevels said.now levels.now }
+/// Whether no known level is above `BELOW`, the largest level.
+fn has_levels(values: &[AbstractValue; VARIABLES], levels: &[[u8; VARIABLES]; VARIABLES]) -> bool
+    ensures { IsTrue result ↔ AreValidLevels values.now levels.now }
 {
     for x in 0..VARIABLES {
-        if !has_levels_from(said, &levels[x], x) {
+        if !has_levels_from(values, &levels[x], x) {
             return false;
         }
     }
     true
 }
 
-/// The note that a form means, as it is stored; `None` if a known level is above 2.
-pub fn read(kind: Kind, form: &Note) -> Option<Stored>
+/// The note that a form means, as it is stored; `None` if a known level is above `BELOW`.
+pub fn read(kind: Kind, form: &Note) -> Option<StoredNote>
     ensures none { result ≡ None → ¬ (HasValidLevels (meaning kind form.now)) }
     ensures some { IfSome result (λ stored. HasValidLevels (meaning kind form.now)) }
     ensures stored { IfSome result (λ stored. note_of stored ≡ closure (meaning kind form.now)) }
 {
-    let said = variables(kind, form);
-    if !has_levels(&said, &form.levels) {
+    let values = variables(kind, form);
+    if !has_levels(&values, &form.levels) {
         return None;
     }
-    Some(Stored::new(said, &form.levels, form.side))
+    Some(StoredNote::new(values, &form.levels, form.side))
 }
 
 /// The form of a note. The note must have the ranges of the inputs, because a form does not list them.
-pub fn write(kind: Kind, note: &Stored) -> Note
+pub fn write(kind: Kind, note: &StoredNote) -> Note
     requires { HasInputRanges kind (note_of note.now) }
     ensures { meaning kind result ≡ note_of note.now }
 {
     let mut regs = [Mark::Unset; 8];
     for x in 0..8 {
-        regs[x] = mark_of(note.said[x]);
+        regs[x] = mark_of(note.values[x]);
     }
     Note {
         regs,
@@ -124,11 +125,11 @@ pub fn write(kind: Kind, note: &Stored) -> Note
     }
 }
 
-/// The form of the first instruction's note, with only the levels at the start.
+/// The form of the entry note. Its levels are the levels at the start of a program, except those that ranges imply.
 pub fn first_note(kind: Kind) -> Note
     ensures { meaning kind result ≡ entry kind }
 {
-    let mut note = write(kind, &Stored::entry(kind));
+    let mut note = write(kind, &StoredNote::entry(kind));
     let levels = entry_levels();
     note.levels = levels;
     note

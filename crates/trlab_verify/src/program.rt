@@ -12,6 +12,7 @@ use std::alloc::{AllocError, Global};
 use std::marker::{Model, PhantomData};
 use trlab_code::{Code, Kind};
 
+/// Copies a program.
 pub fn copy_of(alloc: Global, code: &Code) -> Result<Code, AllocError>
     ensures { IfOk result (λ copy. copy ≡ code.now) }
 {
@@ -22,13 +23,14 @@ pub fn copy_of(alloc: Global, code: &Code) -> Result<Code, AllocError>
     }
 }
 
+/// Whether two programs have the same kind and the same instructions.
 pub fn are_same(code: &Code, other: &Code) -> bool
     ensures { IsTrue result ↔ (code.now ≡ other.now) }
 {
     code.kind() == other.kind() && code.instrs() == other.instrs()
 }
 
-/// A kind of programs as a type.
+/// A kind of programs, as a type.
 pub trait ProgramKind {
     ghost KIND: { AKind };
 
@@ -103,6 +105,7 @@ impl<K: ProgramKind> AcceptedProgram<K> {
         }
     }
 
+    /// The program without its budget.
     pub fn code(&self) -> &Code
         ensures value { result.now ≡ self.now.program }
         ensures checked { IsChecked K.KIND self.now }

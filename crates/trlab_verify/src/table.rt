@@ -7,7 +7,7 @@ ghost use Rattle.trlab_notes.specs.Stored.{note_of, stored_note_at};
 ghost use Rattle.trlab_verify.specs.declared.table.NotesFault.TheVariants.{Memory};
 ghost use Rattle.trlab_verify.specs.Incoming.{incoming};
 ghost use Rattle.trlab_verify.specs.TableForm.{IsNotesFaultOf, HasInputRanges, meaning, meaning_at, table_of};
-ghost use Rattle.trlab_verify.specs.Tables.{Checks, AreVerdictNotes, AreNotesOfRefused, noted_count};
+ghost use Rattle.trlab_verify.specs.Tables.{Checks, AreVerdictNotes, AreNotesOfRejected, noted_count};
 ghost use Rattle.trlab_verify.specs.Verdict.{IsAccepted};
 ghost use Rattle.trlab_notes.specs.Reasons.{reason_number};
 
@@ -16,7 +16,7 @@ use crate::verdict::{Rejection, judge, start_notes};
 use std::alloc::{AllocError, Global};
 use thiserror::Error;
 use trlab_code::{Code, Instr, Kind, MAX_INSTRUCTIONS};
-use trlab_notes::{Reason, Stored};
+use trlab_notes::{Reason, StoredNote};
 
 /// Why a program has no notes.
 #[derive(Debug, Drop, Error)]
@@ -38,7 +38,7 @@ impl From<AllocError> for NotesFault {
 }
 
 /// The form of the stored note of the instruction at `pc`. The first form has only the levels at the start.
-fn write_at(kind: Kind, pc: usize, stored: &Stored) -> Note
+fn write_at(kind: Kind, pc: usize, stored: &StoredNote) -> Note
     requires { HasInputRanges kind (note_of stored.now) }
     ensures first { pc ≡ 0 → meaning kind result ≡ entry kind }
     ensures later { 0 < pc → meaning kind result ≡ note_of stored.now }
@@ -50,11 +50,11 @@ fn write_at(kind: Kind, pc: usize, stored: &Stored) -> Note
     }
 }
 
-/// The forms of the stored notes.
+/// The forms of the stored notes, of which none may be missing.
 pub fn write_all(
     alloc: Global,
     kind: Kind,
-    stored: &[Option<Stored>],
+    stored: &[Option<StoredNote>],
 ) -> Result<Vec<Note>, AllocError>
     requires { (pc : ℕ) → pc < length stored.now →
         (note : ANote) × (stored_note_at stored.now pc ≡ Some note) × HasInputRanges kind note }
@@ -78,7 +78,7 @@ fn judge_notes(
     alloc: Global,
     kind: Kind,
     instrs: &[Instr],
-    stored: &mut [Option<Stored>],
+    stored: &mut [Option<StoredNote>],
 ) -> Result<Vec<Note>, NotesFault>
     requires few { length instrs.now ≤ MAX_INSTRUCTIONS }
     requires in_range { All IsInRange instrs.now }
@@ -118,22 +118,22 @@ pub fn notes(alloc: Global, code: &Code) -> Result<Vec<Note>, NotesFault>
     judge_notes(alloc, kind, instrs, &mut stored)
 }
 
-/// The number of instructions with a note, if the verdict ends at this rejection.
-fn noted_count(refusal: Rejection) -> usize
-    ensures { result ≡ noted_count refusal.at (reason_number refusal.reason) }
+/// The number of instructions with a note if the verdict is this rejection.
+fn noted_count(rejection: Rejection) -> usize
+    ensures { result ≡ noted_count rejection.at (reason_number rejection.reason) }
 {
-    match refusal.reason {
-        Reason::Unreachable => refusal.at as usize,
-        _ => refusal.at as usize + 1,
+    match rejection.reason {
+        Reason::Unreachable => rejection.at as usize,
+        _ => rejection.at as usize + 1,
     }
 }
 
 /// The forms of the notes with which a program is rejected as one of its own kind; none if it is accepted.
-fn judge_refused(
+fn judge_rejected(
     alloc: Global,
     kind: Kind,
     instrs: &[Instr],
-    stored: &mut [Option<Stored>],
+    stored: &mut [Option<StoredNote>],
 ) -> Result<Option<Vec<Note>>, AllocError>
     requires few { length instrs.now ≤ MAX_INSTRUCTIONS }
     requires in_range { All IsInRange instrs.now }
@@ -142,12 +142,12 @@ fn judge_refused(
         stored_note_at stored.old q ≡ maybe_closure (incoming kind instrs.now 0 q) }
     ensures { let program : Program = record { kind = kind; instrs = instrs.now } in
         IfOk result (λ notes. MatchOption notes (IsAccepted kind program)
-        (λ notes. AreNotesOfRefused kind program (table_of kind notes.items))) }
+        (λ notes. AreNotesOfRejected kind program (table_of kind notes.items))) }
 {
     match judge(kind, kind, instrs, stored) {
         None => Ok(None),
-        Some(refusal) => {
-            let (judged, _) = stored.split_at(noted_count(refusal));
+        Some(rejection) => {
+            let (judged, _) = stored.split_at(noted_count(rejection));
             Ok(Some(write_all(alloc, kind, judged)?))
         }
     }
@@ -159,12 +159,12 @@ fn judge_refused(
 /// # Errors
 ///
 /// If an allocation fails.
-pub fn notes_of_refused(alloc: Global, code: &Code) -> Result<Option<Vec<Note>>, AllocError>
+pub fn notes_of_rejected(alloc: Global, code: &Code) -> Result<Option<Vec<Note>>, AllocError>
     ensures { IfOk result (λ notes. MatchOption notes (IsAccepted code.now.kind code.now)
-        (λ notes. AreNotesOfRefused code.now.kind code.now (table_of code.now.kind notes.items))) }
+        (λ notes. AreNotesOfRejected code.now.kind code.now (table_of code.now.kind notes.items))) }
 {
     let instrs = code.instrs();
     let kind = code.kind();
     let mut stored = start_notes(alloc, kind, instrs)?;
-    judge_refused(alloc, kind, instrs, &mut stored)
+    judge_rejected(alloc, kind, instrs, &mut stored)
 }

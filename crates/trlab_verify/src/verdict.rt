@@ -12,10 +12,10 @@ ghost use Rattle.trlab_verify.specs.Verdict.{IsAccepted, IsRefused};
 
 use std::alloc::{AllocError, Global};
 use trlab_code::{Code, Instr, Kind, MAX_INSTRUCTIONS};
-use trlab_notes::{Reason, Stored, join, join_itself, jump_note, next_note, reason_against};
+use trlab_notes::{Reason, StoredNote, join, join_itself, jump_note, next_note, reason_against};
 
-/// Joins a note with those that arrived at `pc` before.
-fn add_incoming(notes: &mut [Option<Stored>], pc: usize, note: Stored)
+/// Joins a note with the notes that arrived at `pc` before.
+fn add_incoming(notes: &mut [Option<StoredNote>], pc: usize, note: StoredNote)
     requires { pc < length notes.old }
     ensures { (q : ℕ) → stored_note_at notes.new q ≡ (if nat_eq q pc
         then add_note (stored_note_at notes.old pc) (Some (note_of note)) else stored_note_at notes.old q) }
@@ -27,7 +27,7 @@ fn add_incoming(notes: &mut [Option<Stored>], pc: usize, note: Stored)
 }
 
 /// Sends a note from the instruction at `pc` to the next one.
-fn send_next(notes: &mut [Option<Stored>], pc: usize, note: &Stored, instr: Instr)
+fn send_next(notes: &mut [Option<StoredNote>], pc: usize, note: &StoredNote, instr: Instr)
     requires inside { pc < length notes.old }
     requires in_range { IsInRange instr }
     requires fits { may_be_too_large (note_of note.now) instr ≡ false }
@@ -45,7 +45,7 @@ fn send_next(notes: &mut [Option<Stored>], pc: usize, note: &Stored, instr: Inst
 }
 
 /// Sends a note to the target of a jump.
-fn send_jump(notes: &mut [Option<Stored>], note: &Stored, instr: Instr)
+fn send_jump(notes: &mut [Option<StoredNote>], note: &StoredNote, instr: Instr)
     ensures { (q : ℕ) → q < length notes.old →
         stored_note_at notes.new q ≡ add_note (stored_note_at notes.old q) (jump_note_to (note_of note.now) instr q) }
 {
@@ -58,7 +58,7 @@ fn send_jump(notes: &mut [Option<Stored>], note: &Stored, instr: Instr)
 }
 
 /// Sends the notes of the instruction at `pc` to the next instruction and to its jump's target.
-pub fn send(notes: &mut [Option<Stored>], pc: usize, note: &Stored, instr: Instr)
+pub fn send(notes: &mut [Option<StoredNote>], pc: usize, note: &StoredNote, instr: Instr)
     requires inside { pc < length notes.old }
     requires in_range { IsInRange instr }
     requires fits { may_be_too_large (note_of note.now) instr ≡ false }
@@ -70,7 +70,7 @@ pub fn send(notes: &mut [Option<Stored>], pc: usize, note: &Stored, instr: Instr
     send_jump(notes, note, instr);
 }
 
-/// The first rejected instruction, and the first reason there.
+/// The first rejected instruction, counted from 0, and the first reason there.
 #[derive(Clone, Copy)]
 pub struct Rejection {
     pub at: u32,
@@ -82,14 +82,14 @@ pub fn start_notes(
     alloc: Global,
     kind: Kind,
     instrs: &[Instr],
-) -> Result<Vec<Option<Stored>>, AllocError>
+) -> Result<Vec<Option<StoredNote>>, AllocError>
     requires { 1 ≤ length instrs.now }
     ensures one_each { IfOk result (λ notes. length notes.items ≡ length instrs.now) }
     ensures begins { IfOk result (λ notes. (q : ℕ) → q < length instrs.now →
         stored_note_at notes.items q ≡ maybe_closure (incoming kind instrs.now 0 q)) }
 {
     let mut notes = vec![in alloc; None; instrs.len()]?;
-    notes[0] = Some(Stored::entry(kind));
+    notes[0] = Some(StoredNote::entry(kind));
     Ok(notes)
 }
 
@@ -98,7 +98,7 @@ pub fn judge(
     kind: Kind,
     own: Kind,
     instrs: &[Instr],
-    notes: &mut [Option<Stored>],
+    notes: &mut [Option<StoredNote>],
 ) -> Option<Rejection>
     requires few { length instrs.now ≤ MAX_INSTRUCTIONS }
     requires in_range { All IsInRange instrs.now }
@@ -106,10 +106,11 @@ pub fn judge(
     requires begins { (q : ℕ) → q < length instrs.now →
         stored_note_at notes.old q ≡ maybe_closure (incoming kind instrs.now 0 q) }
     ensures verdict { let program : Program = record { kind = own; instrs = instrs.now } in
-        MatchOption result (IsAccepted kind program) (λ no. IsRefused kind program no.at (reason_number no.reason)) }
+        MatchOption result (IsAccepted kind program)
+        (λ rejection. IsRefused kind program rejection.at (reason_number rejection.reason)) }
     ensures stored { result ≡ None → (q : ℕ) → q < length instrs.now →
         stored_note_at notes.new q ≡ maybe_closure (note_at kind instrs.now q) }
-    ensures judged { IfSome result (λ no. (q : ℕ) → q ≤ no.at →
+    ensures judged { IfSome result (λ rejection. (q : ℕ) → q ≤ rejection.at →
         stored_note_at notes.new q ≡ maybe_closure (note_at kind instrs.now q)) }
 {
     for pc in 0..instrs.len() {
@@ -131,11 +132,11 @@ pub fn judge(
     None
 }
 
-/// The rejection of a program as one of this kind, or `None` if it is accepted.
+/// The verdict on a program as one of kind `kind`: its rejection, or `None` if it is accepted.
 pub fn verdict(alloc: Global, kind: Kind, code: &Code) -> Result<Option<Rejection>, AllocError>
-    ensures { IfOk result (λ refusal.
-        MatchOption refusal (IsAccepted kind code.now)
-        (λ no. IsRefused kind code.now no.at (reason_number no.reason))) }
+    ensures { IfOk result (λ rejection.
+        MatchOption rejection (IsAccepted kind code.now)
+        (λ found. IsRefused kind code.now found.at (reason_number found.reason))) }
 {
     let instrs = code.instrs();
     let mut notes = start_notes(alloc, kind, instrs)?;

@@ -1,7 +1,7 @@
 -- The first column round of a block, done in two parts.
 use Rattle.std.proofs.Common.{◌≡◌, ℕ, ◌<◌, ◌+◌, ◌*◌, ◌/◌, ◌%◌, ◌^◌, List, slice_index, ◌≢◌, arith, refl}
 use Rattle.rand_chacha.specs.Block.{column_round, initial_state}
-use Rattle.trlab_words.specs.FirstRound.{with_car, step_state, other_columns, car_column}
+use Rattle.trlab_words.specs.FirstRound.{with_car, step_state, shared_columns, car_column}
 use Rattle.trlab_words.proofs.LaneLemmas.{below_sixteen}
 
 -- the words but that of the car stay
@@ -27,7 +27,7 @@ module _ (key : List ℕ) (road step car : ℕ) (small : car < 2 ^ 32) where
   started = rw (high, low_of_both, high_of_both) refl
 
   -- both parts of the first column round
-  pub both_parts : car_column (with_car (other_columns (step_state key road step)) car)
+  pub both_parts : car_column (with_car (shared_columns (step_state key road step)) car)
       ≡ column_round (initial_state key step (road * 2 ^ 32 + car))
-  unfolding other_columns car_column column_round
+  unfolding shared_columns car_column column_round
   both_parts = rw (high, low_of_both, high_of_both) refl

@@ -15,9 +15,10 @@ with_car state car_number =
 abbrev pub step_state : List ℕ → ℕ → ℕ → List ℕ
 step_state key road_number step = initial_state key step (road_number * 2 ^ 32)
 
--- the state after a quarter round on each of its four columns but the third, which has word 14
-unfoldable pub other_columns : List ℕ → List ℕ
-other_columns state =
+-- the state after a quarter round on each of the three columns that are the same for all cars: all but the
+-- third, which has word 14
+unfoldable pub shared_columns : List ℕ → List ℕ
+shared_columns state =
     let q0 = quarter_round_at state 0 4 8 12 in
     let q1 = quarter_round_at state 1 5 9 13 in
     let q3 = quarter_round_at state 3 7 11 15 in
@@ -40,4 +41,4 @@ car_column state =
 abbrev pub StartsStep : List ℕ → ℕ → ℕ → List ℕ → List ℕ → Type 0
 StartsStep key road_number step initial columns =
     (initial ≡ step_state key road_number step)
-    × (columns ≡ other_columns (step_state key road_number step))
+    × (columns ≡ shared_columns (step_state key road_number step))

@@ -11,7 +11,7 @@ use crate::lanes::{add, bytes_of, rotate_by_8, rotate_by_16, words_of, xor, xor_
 use crate::step_start::StepStart;
 use std::simd::{u8x32, u32x8};
 
-// The double rounds of ChaCha20.
+// The number of double rounds of ChaCha20.
 const DOUBLE_ROUNDS: u32 = 10;
 
 // Four words of the states: a column or a diagonal. The quarter round rotates the last of them only by 16 and
@@ -24,7 +24,7 @@ struct Quarter {
     d: u8x32,
 }
 
-// The states of eight blocks, by their columns.
+// The states of eight blocks, column by column.
 #[derive(Clone, Copy)]
 struct States {
     first: Quarter,

@@ -45,8 +45,8 @@ impl Chance {
     }
 }
 
-/// Does an event of this probability happen on a random word? It does if half of the word, rounded down, is below the
-/// probability times 2^31.
+/// Whether an event of this probability happens on a random word: it does if half of the word, rounded down, is below
+/// the probability times 2^31.
 pub fn happens(word: u32, chance: Chance) -> bool
     ensures { result ≡ happens_on chance word }
 {

@@ -32,57 +32,50 @@ pub fn words(key: &Key, road: u32, car: u32, step: u32) -> [u32; 16]
     list
 }
 
-/// A key as eight words of 32 bits, read once for many calls. It also keeps the start of one step's blocks: this makes
-/// the random words of that step faster to compute, and does not change them.
+/// A key prepared for many calls: its eight words of 32 bits, and the start of one step's blocks, which makes the
+/// random words of this step faster to compute, but does not change them.
 #[derive(Drop)]
-pub struct KeyWords {
-    words: [u32; 8],
+pub struct PreparedKey {
+    key_words: [u32; 8],
     start: StepStart,
 }
 
-impl Model for KeyWords {
+impl Model for PreparedKey {
     ghost Value = { List ℕ };
 
-    ghost view = { λ key. seed_of key.words };
+    ghost view = { λ key. seed_of key.key_words };
 
-    ghost invariant = { λ key. All (λ word. word < 2 ^ 32) key.words
-        × StartsStep key.words key.start.road key.start.step key.start.initial key.start.columns };
+    ghost invariant = { λ key. All (λ word. word < 2 ^ 32) key.key_words
+        × StartsStep key.key_words key.start.road key.start.step key.start.initial key.start.columns };
 }
 
-impl KeyWords {
+impl PreparedKey {
     /// A copy of the key. It allocates nothing.
-    pub fn copy(&self) -> KeyWords
+    pub fn copy(&self) -> PreparedKey
         ensures { result ≡ self.now }
     {
-        KeyWords {
-            words: self.words,
+        PreparedKey {
+            key_words: self.key_words,
             start: self.start,
         }
     }
 }
 
 impl Key {
-    /// The key's eight words, prepared for step 0 of road 0.
-    pub fn words(&self) -> KeyWords
+    /// The key, prepared for the random words of one step of a road.
+    pub fn prepare(&self, road: u32, step: u32) -> PreparedKey
         ensures { result ≡ self.now.0 }
     {
-        self.words_for_step(0, 0)
-    }
-
-    /// The key's eight words, prepared for the random words of one step of a road.
-    pub fn words_for_step(&self, road: u32, step: u32) -> KeyWords
-        ensures { result ≡ self.now.0 }
-    {
-        let words = read_words(&self.0);
-        KeyWords {
-            words,
-            start: StepStart::new(&words, road, step),
+        let key_words = read_key_words(&self.0);
+        PreparedKey {
+            key_words,
+            start: StepStart::new(&key_words, road, step),
         }
     }
 }
 
-// The words of a key's bytes: each of four bytes, the low byte first.
-fn read_words(bytes: &[u8]) -> [u32; 8]
+// The eight words of a key: four bytes each, the low byte first.
+fn read_key_words(bytes: &[u8]) -> [u32; 8]
     requires { length bytes.now ≡ 32 }
     ensures bytes { seed_of result ≡ bytes.now }
     ensures small { All (λ word. word < 2 ^ 32) result }
@@ -99,15 +92,15 @@ fn read_words(bytes: &[u8]) -> [u32; 8]
     ]
 }
 
-/// Word `k`, 0 to 15, of each of eight cars in a step of a road: entry `k` of `words` for that car. This is faster for
-/// the road and the step for which the key was prepared.
-pub fn word_of_cars(key: &KeyWords, road: u32, cars: [u32; 8], step: u32, k: usize) -> [u32; 8]
+/// Random word `k`, 0 to 15, of each of eight cars in a step of a road: entry `k` of the car's `words`. This is faster
+/// for the road and the step for which the key was prepared.
+pub fn word_of_cars(key: &PreparedKey, road: u32, cars: [u32; 8], step: u32, k: usize) -> [u32; 8]
     requires { k < 16 }
     ensures { (j : ℕ) → j < 8 → slice_index result j ≡ random_word key.now road (slice_index cars j) step k }
 {
     if key.start.road == road && key.start.step == step {
         block_word_of_cars(&key.start, cars, k)
     } else {
-        block_word_of_cars(&StepStart::new(&key.words, road, step), cars, k)
+        block_word_of_cars(&StepStart::new(&key.key_words, road, step), cars, k)
     }
 }

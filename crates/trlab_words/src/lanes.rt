@@ -26,7 +26,7 @@ pub(crate) fn xor_rotate(a: u32x8, b: u32x8, k: u32) -> u32x8
     (x << u32x8::splat(k)) | (x >> u32x8::splat(32 - k))
 }
 
-// The bytes of these words.
+// The bytes of eight words, the low byte of each word first.
 #[inline(always)]
 pub(crate) fn bytes_of(words: u32x8) -> u8x32
     ensures { (j : ℕ) → j < 8 → u32_at result j ≡ slice_index words j }
@@ -34,7 +34,7 @@ pub(crate) fn bytes_of(words: u32x8) -> u8x32
     words.to_le_bytes()
 }
 
-// The words of these bytes.
+// The eight words of 32 bytes, the low byte of each word first.
 #[inline(always)]
 pub(crate) fn words_of(bytes: u8x32) -> u32x8
     ensures { (j : ℕ) → j < 8 → slice_index result j ≡ u32_at bytes j }

@@ -14,5 +14,5 @@ mod lanes;
 mod step_start;
 
 pub use chance::{Chance, happens};
-pub use key::{Key, KeyWords, word_of_cars, words};
+pub use key::{Key, PreparedKey, word_of_cars, words};
 pub use trlab_bounds::programs::CERTAIN;

@@ -1,8 +1,8 @@
-//! How the blocks of a step begin: the part of the block function that is the same for all cars.
+//! The start of the blocks of a step: the part of the block function that is the same for all cars.
 
 ghost use Rattle.std.specs.Prelude.{◌≡◌};
 ghost use Rattle.rand_chacha.specs.Block.{quarter_round};
-ghost use Rattle.trlab_words.specs.FirstRound.{step_state, other_columns, StartsStep};
+ghost use Rattle.trlab_words.specs.FirstRound.{step_state, shared_columns, StartsStep};
 
 // The start of the blocks of a step of a road. Only word 14 of a block's initial state depends on the car
 // (the number of the road is word 15), so three of the four columns of the first round are shared.
@@ -17,7 +17,7 @@ pub(crate) struct StepStart {
 }
 
 impl StepStart {
-    // The start of a step of a road, under the eight words of a key.
+    // The start of a step of a road, from the eight words of a key.
     pub(crate) fn new(key: &[u32; 8], road: u32, step: u32) -> StepStart
         ensures road { result.road ≡ road }
         ensures step { result.step ≡ step }
@@ -28,13 +28,12 @@ impl StepStart {
             road,
             step,
             initial,
-            columns: other_columns(&initial),
+            columns: shared_columns(&initial),
         }
     }
 }
 
-// The initial state of a step (RFC 8439, 2.3), with 0 for the number of the car. The first four words spell
-// "expand 32-byte k".
+// The initial state of a step (RFC 8439, 2.3) for car 0. The first four words spell "expand 32-byte k".
 fn initial_state(key: &[u32; 8], road: u32, step: u32) -> [u32; 16]
     ensures { result ≡ step_state key.now road step }
 {
@@ -59,8 +58,8 @@ fn initial_state(key: &[u32; 8], road: u32, step: u32) -> [u32; 16]
 }
 
 // The quarter round on each column but the third.
-fn other_columns(x: &[u32; 16]) -> [u32; 16]
-    ensures { result ≡ other_columns x.now }
+fn shared_columns(x: &[u32; 16]) -> [u32; 16]
+    ensures { result ≡ shared_columns x.now }
 {
     let (a0, b0, c0, d0) = quarter_round(x[0], x[4], x[8], x[12]);
     let (a1, b1, c1, d1) = quarter_round(x[1], x[5], x[9], x[13]);

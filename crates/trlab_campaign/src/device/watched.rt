@@ -39,41 +39,43 @@ impl Transcript {
 #[derive(Drop)]
 pub struct Watched<X> {
     inner: X,
+    /// Whether a call has failed.
     failed: bool,
     given: Transcript,
     accepted: Transcript,
-    handed_on: bool,
+    /// Whether everything that was written has been flushed.
+    is_flushed: bool,
     flushes: Flushes,
 }
 
 impl<X> Watched<X> {
-    ghost use Rattle.trlab_campaign.specs.Watched.{inner_of, has_failed, given_of, accepted_of, flushes_of};
+    ghost use Rattle.trlab_campaign.specs.Watched.{inner_device, has_failed, given_bytes, accepted_bytes, flush_count};
 
     /// Wraps a reader or writer. The wrapper starts without a failure, a flush or transferred bytes.
     pub fn new(inner: X) -> Watched<X>
-        ensures inner { inner_of result ≡ inner }
+        ensures inner { inner_device result ≡ inner }
         ensures fresh { has_failed result ≡ false }
-        ensures none_given { given_of result ≡ [] }
-        ensures none_accepted { accepted_of result ≡ [] }
-        ensures unflushed { flushes_of result ≡ Never }
+        ensures none_given { given_bytes result ≡ [] }
+        ensures none_accepted { accepted_bytes result ≡ [] }
+        ensures unflushed { flush_count result ≡ Never }
     {
         Watched {
             inner,
             failed: false,
             given: Transcript::new(),
             accepted: Transcript::new(),
-            handed_on: false,
+            is_flushed: false,
             flushes: Flushes::Never,
         }
     }
 }
 
 impl<X: Read> Source for Watched<X> {
-    ghost use Rattle.trlab_campaign.specs.Watched.{inner_of, has_failed, given_of};
+    ghost use Rattle.trlab_campaign.specs.Watched.{inner_device, has_failed, given_bytes};
 
-    ghost left = { λ watched. X.remaining (inner_of watched) };
+    ghost left = { λ watched. X.remaining (inner_device watched) };
 
-    ghost given = { given_of };
+    ghost given = { given_bytes };
 
     ghost failed = { has_failed };
 
@@ -92,20 +94,20 @@ impl<X: Read> Source for Watched<X> {
 }
 
 impl<X: Write> Sink for Watched<X> {
-    ghost use Rattle.trlab_campaign.specs.Watched.{inner_of, has_failed, has_handed_on, accepted_of, flushes_of};
+    ghost use Rattle.trlab_campaign.specs.Watched.{inner_device, has_failed, has_flushed_all, accepted_bytes, flush_count};
 
-    ghost written = { λ watched. X.contents (inner_of watched) };
+    ghost written = { λ watched. X.contents (inner_device watched) };
 
-    ghost accepted = { accepted_of };
+    ghost accepted = { accepted_bytes };
 
-    ghost handed_on = { has_handed_on };
+    ghost is_flushed = { has_flushed_all };
 
-    ghost flushes = { flushes_of };
+    ghost flushes = { flush_count };
 
     ghost failed = { has_failed };
 
     fn put(&mut self, bytes: &[u8]) -> Result<usize, DeviceError> {
-        self.handed_on = false;
+        self.is_flushed = false;
         match self.inner.write(bytes) {
             Ok(count) => {
                 // Without this error, `write_text` would loop forever if the writer takes no bytes.
@@ -127,7 +129,7 @@ impl<X: Write> Sink for Watched<X> {
         self.flushes = self.flushes.once_more();
         match self.inner.flush() {
             Ok(()) => {
-                self.handed_on = true;
+                self.is_flushed = true;
                 Ok(())
             }
             Err(_) => {

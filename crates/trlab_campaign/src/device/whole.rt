@@ -73,13 +73,11 @@ pub fn write_text<K: Sink>(writer: &mut K, text: &[u8]) -> Result<(), DeviceErro
 pub fn write_last<K: Sink>(writer: &mut K, text: &[u8]) -> Result<(), DeviceError>
     ensures wrote { AddsByResult result (bytes_of K.Sink writer.old) (bytes_of K.Sink writer.new) text.now }
     ensures handed { OnOk result
-        (FlushedOnce (K.handed_on writer.new) (K.flushes writer.old) (K.flushes writer.new)) }
+        (FlushedOnce (K.is_flushed writer.new) (K.flushes writer.old) (K.flushes writer.new)) }
     ensures flushed { FlushedAtMostOnce (K.flushes writer.old) (K.flushes writer.new) }
     ensures fails { K.failed writer.new ≡ (K.failed writer.old || is_err result) }
 {
     write_text(writer, text)?;
-    match writer.flush() {
-        Ok(()) => Ok(()),
-        Err(DeviceError) => Err(DeviceError),
-    }
+    writer.flush()?;
+    Ok(())
 }

@@ -23,7 +23,7 @@ use trlab_step::{Caller, Run, Schedule, StepTally};
 pub fn even_road(alloc: Global, sweep: &Sweep, cars: u32) -> Result<Road, AllocError>
     requires { CanSpreadOn sweep.now.setup.shape cars }
     ensures even { IfOk result (λ road. IsEvenlySpaced sweep.now.setup.shape.lanes
-        sweep.now.setup.shape.cells sweep.now.setup.shape.limit cars road) }
+        sweep.now.setup.shape.length sweep.now.setup.shape.limit cars road) }
     ensures legal { IfOk result IsLegal }
 {
     match Road::even(alloc, sweep.lanes, sweep.length, sweep.limit, cars) {
@@ -34,7 +34,7 @@ pub fn even_road(alloc: Global, sweep: &Sweep, cars: u32) -> Result<Road, AllocE
 }
 
 /// The run of point `number`, at its start.
-fn run_of(alloc: Global, sweep: &Sweep, number: u32, road: Road) -> Result<Run, AllocError>
+fn run_of_point(alloc: Global, sweep: &Sweep, number: u32, road: Road) -> Result<Run, AllocError>
     requires { length road.lanes ≡ sweep.now.setup.shape.lanes }
     ensures { IfOk result (λ run.
         run ≡ at_start (point_seed sweep.now.setup number road) (sweep_sheet sweep.now.setup)) }
@@ -61,7 +61,7 @@ fn tally_of(alloc: Global, sweep: &Sweep, number: u32, road: Road) -> Result<Ste
     ensures { IfOk result (λ tally. IsTallyAt (point_seed sweep.now.setup number road)
         (sweep_sheet sweep.now.setup) (all_steps sweep.now.setup.span) tally) }
 {
-    let mut run = run_of(alloc, sweep, number, road)?;
+    let mut run = run_of_point(alloc, sweep, number, road)?;
     let tally = count_run(alloc, &mut run, sweep.warm + sweep.measure);
     drop(run);
     tally
@@ -93,7 +93,7 @@ pub fn run_point(
 ) -> Result<Point, AllocError>
     requires spreads { CanSpreadOn sweep.now.setup.shape cars }
     requires even { IsEvenlySpaced sweep.now.setup.shape.lanes
-        sweep.now.setup.shape.cells sweep.now.setup.shape.limit cars road }
+        sweep.now.setup.shape.length sweep.now.setup.shape.limit cars road }
     ensures is { IfOk result (λ point. IsPoint sweep.now.setup number cars point) }
     ensures measured { IfOk result IsMeasured }
 {
@@ -125,24 +125,24 @@ fn is_sheet_of(sweep: &Sweep, sheet: &BookSheet) -> bool
 
 /// The point `number`, which starts from `road`, from a snapshot of the book; `None` unless the snapshot shows this
 /// point after its last step.
-pub fn point_seen(
+pub fn point_from_snapshot(
     sweep: &Sweep,
     number: u32,
     cars: u32,
     road: &Road,
-    seen: &Snapshot,
+    snapshot: &Snapshot,
 ) -> Option<Point>
     requires spreads { CanSpreadOn sweep.now.setup.shape cars }
     requires even { IsEvenlySpaced sweep.now.setup.shape.lanes
-        sweep.now.setup.shape.cells sweep.now.setup.shape.limit cars road.now }
+        sweep.now.setup.shape.length sweep.now.setup.shape.limit cars road.now }
     ensures is { IfSome result (λ point. IsPoint sweep.now.setup number cars point) }
     ensures measured { IfSome result IsMeasured }
 {
-    if seen.step() == sweep.warm + sweep.measure
-        && is_sheet_of(sweep, seen.sheet())
-        && is_seed_of(sweep, number, road, seen.seed())
+    if snapshot.step() == sweep.warm + sweep.measure
+        && is_sheet_of(sweep, snapshot.sheet())
+        && is_seed_of(sweep, number, road, snapshot.seed())
     {
-        Some(point_of(sweep, cars, seen.tally()))
+        Some(point_of(sweep, cars, snapshot.tally()))
     } else {
         None
     }

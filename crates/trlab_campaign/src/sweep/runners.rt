@@ -4,12 +4,12 @@
 ghost use Rattle.std.specs.Prelude.{◌≡◌, ◌<◌, ◌≤◌, ◌-◌, All, IfOk, OnOk, get_or, length};
 ghost use Rattle.trlab_bounds.specs.declared.runs.TheConstants.{MAX_RUNNERS, MAX_WORKERS};
 ghost use Rattle.trlab_diagram.specs.Flow.{IsMeasured};
-ghost use Rattle.trlab_book.specs.Desks.{parts_of};
+ghost use Rattle.trlab_book.specs.Desks.{part_count};
 ghost use Rattle.trlab_campaign.specs.SweepOutput.{AreFirstPoints, ArePoints, IsPoint};
 ghost use Rattle.trlab_strands.specs.Tokens.{name_of};
 
 use crate::progress::ProgressObserver;
-use crate::sweep::points::{even_road, point_seen, run_point};
+use crate::sweep::points::{even_road, point_from_snapshot, run_point};
 use crate::sweep::work::WorkGate;
 use std::alloc::{AllocError, Global};
 use std::marker::Brand;
@@ -18,11 +18,9 @@ use std::thread::Threads;
 use trlab_book::{Desk, SharedBook, run_jobs};
 use trlab_diagram::Point;
 use trlab_jobs::Sweep;
+use trlab_jobs::limits::MAX_CARS_IN_MEMORY;
 use trlab_sequential_book::{Event, Seed};
 use trlab_strands::{Blank, Ledger};
-
-/// The maximum number of cars on the roads of a batch together: as many as on 32 roads of the largest size.
-const MAX_AT_ONCE: u32 = 6_400_000;
 
 /// The points from `first` up to, but not including, `end` of a sweep, whose roads are in memory at the same time.
 #[derive(Clone, Copy)]
@@ -41,7 +39,7 @@ fn end_of_batch(sweep: &Sweep, first: usize) -> usize
     let mut cars = sweep.cars[first];
     for number in first + 1..sweep.cars.len() {
         cars = cars.saturating_add(sweep.cars[number]);
-        if cars > MAX_AT_ONCE {
+        if cars > MAX_CARS_IN_MEMORY {
             return number;
         }
     }
@@ -74,7 +72,7 @@ impl Batch {
     }
 
     /// Maps the index of a point in the batch to the index of its job, and back. If the numbers of cars rise, the order
-    /// is reversed: a runner that began the slowest road last would drive it while the others have nothing left.
+    /// is reversed: a runner that began the slowest road last would drive it while the others have nothing to do.
     fn place(self, index: u32) -> u32
         requires { index < self.end - self.first }
         ensures { result < self.end - self.first }
@@ -87,19 +85,19 @@ impl Batch {
     }
 }
 
-/// The 1 to 16 runners of a sweep, each with 1 to 16 workers. The workers pass the gate of the sweep.
+/// The runners of a sweep, each with its workers. The workers pass the gate of the sweep.
 #[derive(Drop)]
 pub struct Runners<'a, R, O> {
     pub rt: &'a R,
     pub alloc: Global,
     pub sweep: &'a Sweep,
     pub gate: &'a WorkGate<'a, O>,
+    /// The number of runners.
     pub count: u32,
+    /// The number of workers of each runner.
     pub workers: u32,
-    ghost some_runner: { 0 < count },
-    ghost few_runners: { count ≤ MAX_RUNNERS },
-    ghost some_worker: { 0 < workers },
-    ghost few_workers: { workers ≤ MAX_WORKERS },
+    ghost runner_count: { (0 < count) × (count ≤ MAX_RUNNERS) },
+    ghost worker_count: { (0 < workers) × (workers ≤ MAX_WORKERS) },
     ghost same_points: { gate.now.count ≡ length sweep.now.cars },
 }
 
@@ -114,7 +112,7 @@ impl<'a, R: Threads + Wait + Sync, O: ProgressObserver + Sync> Runners<'a, R, O>
     ) -> Result<(), AllocError>
         requires some { batch.first ≤ batch.end }
         requires inside { batch.end ≤ length self.now.sweep.now.cars }
-        ensures { parts_of desk.new ≡ parts_of desk.old }
+        ensures { part_count desk.new ≡ part_count desk.old }
     {
         let sweep = self.sweep;
         for job in 0..batch.len() {
@@ -152,7 +150,7 @@ impl<'a, R: Threads + Wait + Sync, O: ProgressObserver + Sync> Runners<'a, R, O>
         let cars = sweep.cars[number as usize];
         let road = even_road(self.alloc, sweep, cars)?;
         if let Ok(seen) = book.read(self.rt, self.alloc, desk, job)
-            && let Some(point) = point_seen(sweep, number, cars, &road, &seen)
+            && let Some(point) = point_from_snapshot(sweep, number, cars, &road, &seen)
         {
             return Ok(point);
         }
@@ -226,7 +224,7 @@ impl<'a, R: Threads + Wait + Sync, O: ProgressObserver + Sync> Runners<'a, R, O>
         while points.len() < sweep.cars.len() {
             let blank = Blank::new(self.alloc)?;
             self.add_batch::<Brand>(blank, &mut points)?;
-            self.gate.collected(points.len());
+            self.gate.count_points(points.len());
         }
         Ok(points)
     }

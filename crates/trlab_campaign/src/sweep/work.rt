@@ -3,17 +3,17 @@
 
 ghost use Rattle.std.specs.Prelude.{◌≡◌, ◌≤◌, length};
 
-use crate::progress::{Milestone, ProgressObserver, newly_reached};
+use crate::progress::{Milestone, ProgressObserver, milestone_between};
 use std::sync::atomic::{AtomicU64, Ordering};
 use trlab_jobs::Sweep;
 use trlab_segments::{Asked, Gate};
 use trlab_verify::Motion;
 
 /// A gate that counts the work of a sweep and reports progress. A step counts when its motion begins, and each
-/// hundredth is reported by the worker whose step reaches it.
+/// percent is reported by the worker whose step reaches it.
 ///
-/// Steps of a revoked lease are run again and count again. So the gate itself does not report the last hundredth:
-/// `finished` does, when all points are complete.
+/// Steps of a revoked lease are run again and count again. So the gate itself does not report the last percent:
+/// `report_end` does, when all points are complete.
 #[derive(Drop)]
 pub struct WorkGate<'a, O> {
     progress: &'a O,
@@ -66,7 +66,7 @@ impl<'a, O: ProgressObserver> WorkGate<'a, O> {
 
     /// Counts the first `points` points of the sweep as done. The steps that the caller ran passed no gate, and
     /// count now.
-    pub fn collected(&self, points: usize)
+    pub fn count_points(&self, points: usize)
         requires at_least_one { 1 ≤ points }
         requires at_most_all { points ≤ self.now.count }
     {
@@ -81,25 +81,25 @@ impl<'a, O: ProgressObserver> WorkGate<'a, O> {
         }
     }
 
-    /// Reports the hundredth that the work has reached, unless it is the last one or was reached before.
+    /// Reports the percentage that the work has reached, unless it is 100 or was reached before.
     /// `number` is the current point.
     fn report(&self, before: u64, after: u64, number: u32)
         requires rises { before ≤ after }
         requires from_one { 1 ≤ number }
         requires to_last { number ≤ self.now.count }
     {
-        if let Some(milestone) = newly_reached(before, after, self.whole, number, self.count)
-            && milestone.hundredths < 100
+        if let Some(milestone) = milestone_between(before, after, self.whole, number, self.count)
+            && milestone.percent < 100
         {
             self.progress.reached(milestone);
         }
     }
 
-    /// Reports the last hundredth, when all points are complete.
-    pub fn finished(&self) {
+    /// Reports 100 percent, when all points are complete.
+    pub fn report_end(&self) {
         if self.is_watching && self.count > 0 {
             self.progress.reached(Milestone {
-                hundredths: 100,
+                percent: 100,
                 number: self.count,
                 count: self.count,
             });

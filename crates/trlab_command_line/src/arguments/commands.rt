@@ -46,6 +46,7 @@ fn job_command<'a>(
         .arg(progress_flag(alloc))
 }
 
+/// The command `sweep`.
 fn sweep_command<'a>(alloc: Global) -> Result<Command<'a>, AllocError>
     ensures app { IfOk result (λ command. app_of command ≡ sweep_command) }
     ensures local { IfOk result (λ command. (fields_of command).has_globals ≡ false) }
@@ -56,6 +57,7 @@ fn sweep_command<'a>(alloc: Global) -> Result<Command<'a>, AllocError>
         .arg(progress_flag(alloc))
 }
 
+/// The command `explain`.
 pub fn explain_command<'a>(alloc: Global) -> Result<Command<'a>, AllocError>
     ensures app { IfOk result (λ command. app_of command ≡ explain_command) }
     ensures local { IfOk result (λ command. (fields_of command).has_globals ≡ false) }
@@ -96,11 +98,11 @@ fn with_command<'a>(
 pub fn command_line<'a>(alloc: Global) -> Result<Command<'a>, AllocError>
     ensures { IfOk result (λ command. app_of command ≡ command_line) }
 {
-    let first = with_command(program(alloc)?, Ok(bare_command(alloc, "check", CHECK)))?;
+    let with_check = with_command(program(alloc)?, Ok(bare_command(alloc, "check", CHECK)))?;
     let run = job_command(alloc, "run", RUN, SHOWN_EVERY_HELP, SHOWN_FROM_HELP);
-    let second = with_command(first, run)?;
-    let third = with_command(second, sweep_command(alloc))?;
+    let with_run = with_command(with_check, run)?;
+    let with_sweep = with_command(with_run, sweep_command(alloc))?;
     let series = job_command(alloc, "series", SERIES, EVERY_HELP, FROM_HELP);
-    let fourth = with_command(third, series)?;
-    with_command(fourth, explain_command(alloc))
+    let with_series = with_command(with_sweep, series)?;
+    with_command(with_series, explain_command(alloc))
 }

@@ -11,14 +11,14 @@ use clap::{Arg, ArgAction, value_parser};
 use std::alloc::Global;
 use trlab_bounds::runs::MAX_WORKERS;
 
-/// The parser of a number from `least` to `most`.
+/// A parser of numbers from `least` to `most`, both included.
 fn number_parser<'a>(least: u32, most: u32) -> ValueParser<'a>
     ensures { result ≡ Signed (pos least) (pos most) }
 {
     value_parser!(u32).range(i64::from(least)..=i64::from(most))
 }
 
-/// The option `--name n`, with the range of n and its default.
+/// The option `--name n`, n from `least` to `most`, with the default `default`.
 pub fn number_option<'a>(
     alloc: Global,
     name: &'a str,
@@ -46,6 +46,7 @@ pub fn count_option<'a>(alloc: Global, name: &'a str, most: u32, help: &'a str) 
     number_option(alloc, name, 1, most, "1", help)
 }
 
+/// The option `--workers n`, n from 1 to `MAX_WORKERS`, with the default 1.
 pub fn workers_option<'a>(alloc: Global) -> Arg<'a>
     ensures rule { rule_of result ≡ workers_option }
     ensures local { result.global ≡ false }
@@ -53,6 +54,7 @@ pub fn workers_option<'a>(alloc: Global) -> Arg<'a>
     count_option(alloc, "workers", MAX_WORKERS, WORKERS_HELP)
 }
 
+/// The flag `--name`, an option without a value.
 pub fn flag<'a>(alloc: Global, name: &'a str, help: &'a str) -> Arg<'a>
     ensures rule { rule_of result ≡ flag name.now }
     ensures local { result.global ≡ false }
@@ -63,6 +65,7 @@ pub fn flag<'a>(alloc: Global, name: &'a str, help: &'a str) -> Arg<'a>
         .help(help)
 }
 
+/// The flag `--progress`.
 pub fn progress_flag<'a>(alloc: Global) -> Arg<'a>
     ensures rule { rule_of result ≡ progress_flag }
     ensures local { result.global ≡ false }

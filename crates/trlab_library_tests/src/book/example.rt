@@ -1,10 +1,10 @@
 //! The example of the guide to the book: two runners, and a rule that is replaced while they run.
 
 ghost use Rattle.std.specs.Prelude.{◌≡◌, ◌≤◌};
-ghost use Rattle.trlab_book.specs.Desks.{parts_of};
+ghost use Rattle.trlab_book.specs.Desks.{part_count};
 ghost use Rattle.trlab_strands.specs.Tokens.{name_of};
 
-use crate::book::common::books::{ended, events_of, new_blank, replace, submit};
+use crate::book::common::books::{desk_and_success, events_of, new_blank, replace, submit};
 use crate::book::common::jobs::{ALWAYS, two_cars};
 use std::alloc::Global;
 use std::marker::Brand;
@@ -14,6 +14,12 @@ use trlab_book::{Desk, SharedBook, run_jobs};
 use trlab_segments::OpenGate;
 use trlab_sequential_book::{Event, Snapshot};
 use trlab_strands::{Blank, Ledger};
+
+/// The number of runners.
+const RUNNERS: u32 = 2;
+
+/// The number of workers of each runner.
+const WORKERS: u32 = 1;
 
 /// Replaces the rule of job 0. Returns the step from which the new rule is in force, or `None` if all steps were
 /// ordered by then.
@@ -43,8 +49,8 @@ fn run_and_replace<L: Ledger + Send + Sync, R: Threads + Wait + Sync>(
         rt,
         || replace_late(rt, alloc, book, theirs),
         || -> (Desk<L>, bool)
-            requires { 2 ≤ parts_of mine }
-        { ended(run_jobs(rt, alloc, book, mine, 2, 1, &OpenGate)) },
+            requires { 2 ≤ part_count mine }
+        { desk_and_success(run_jobs(rt, alloc, book, mine, RUNNERS, WORKERS, &OpenGate)) },
     );
     (book.gather(mine, theirs), ran, entered)
 }
@@ -58,7 +64,7 @@ fn has_entered(seen: &Snapshot, entered: Option<u32>) -> bool {
     }
 }
 
-/// Whether job 0 has come to its end, with the rule that entered.
+/// Whether job 0 has done its 100 steps, and its sheet has the rule that entered.
 fn has_ended<L: Ledger, R: Wait>(
     rt: &R,
     alloc: Global,
@@ -72,7 +78,7 @@ fn has_ended<L: Ledger, R: Wait>(
     }
 }
 
-/// Whether the new rule is in the sheet of a job that two runners run meanwhile, and the book closes.
+/// Whether the sheet of job 0 has the rule that replaces its first one while two runners run it, and the book closes.
 fn is_in_the_sheet<L: Ledger + Send + Sync, R: Threads + Wait + Sync>(
     rt: &R,
     alloc: Global,
@@ -84,8 +90,8 @@ fn is_in_the_sheet<L: Ledger + Send + Sync, R: Threads + Wait + Sync>(
     let submitted = submit(rt, alloc, &book, &mut desk, &two_cars(0, 100)) == Ok(0)
         && submit(rt, alloc, &book, &mut desk, &two_cars(1, 100)) == Ok(1);
     let (mut desk, ran, entered) = run_and_replace(rt, alloc, &book, desk);
-    let right = has_ended(rt, alloc, &book, &mut desk, entered);
-    events_of(book, desk).is_some() && submitted && ran && right
+    let is_right = has_ended(rt, alloc, &book, &mut desk, entered);
+    events_of(book, desk).is_some() && submitted && ran && is_right
 }
 
 #[test]

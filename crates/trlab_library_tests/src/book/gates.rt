@@ -1,11 +1,11 @@
 //! A book can be called while a gate holds its runner.
 
 ghost use Rattle.std.specs.Prelude.{◌≡◌, ◌≤◌};
-ghost use Rattle.trlab_book.specs.Desks.{parts_of};
+ghost use Rattle.trlab_book.specs.Desks.{part_count};
 ghost use Rattle.trlab_strands.specs.Tokens.{name_of};
 
-use crate::book::common::books::{ended, history_of, new_blank, reads, replace, submit};
-use crate::book::common::expected::Shown;
+use crate::book::common::books::{desk_and_success, history_of, new_blank, reads, replace, submit};
+use crate::book::common::expected::ExpectedRead;
 use crate::book::common::jobs::{ALWAYS, NEVER, two_cars};
 use crate::book::common::meeting::waits_for;
 use std::alloc::Global;
@@ -18,17 +18,23 @@ use trlab_segments::Gate;
 use trlab_sequential_book::{BookFault, Call, Event, Reply};
 use trlab_strands::{Blank, Ledger};
 
-/// Sets `came` when a segment comes, and holds the segment until `goes_on` is set.
+/// The number of runners.
+const RUNNERS: u32 = 1;
+
+/// The number of workers of the runner.
+const WORKERS: u32 = 1;
+
+/// A gate that sets `has_come` when a segment comes, and holds the segment until `is_open` is set.
 #[derive(Drop)]
 struct Barrier {
-    came: AtomicBool,
-    goes_on: AtomicBool,
+    has_come: AtomicBool,
+    is_open: AtomicBool,
 }
 
 impl Gate for Barrier {
     fn pass(&self, _number: u32, _worker: u32, _phase: u32, _segment: u32) {
-        self.came.store(true, Ordering::SeqCst);
-        waits_for(&self.goes_on);
+        self.has_come.store(true, Ordering::SeqCst);
+        waits_for(&self.is_open);
     }
 }
 
@@ -66,9 +72,9 @@ fn end_held<L: Ledger, R: Wait>(
     gate: &Barrier,
     end: LeaseEnd,
 ) -> (Desk<L>, bool) {
-    let came = waits_for(&gate.came);
+    let came = waits_for(&gate.has_come);
     let ended = end_lease(rt, alloc, book, &mut desk, end);
-    gate.goes_on.store(true, Ordering::SeqCst);
+    gate.is_open.store(true, Ordering::SeqCst);
     (desk, came && ended)
 }
 
@@ -85,25 +91,33 @@ fn run_held<L: Ledger + Send + Sync, R: Threads + Wait + Sync>(
         return (mine, false);
     }
     let gate = Barrier {
-        came: AtomicBool::new(false),
-        goes_on: AtomicBool::new(false),
+        has_come: AtomicBool::new(false),
+        is_open: AtomicBool::new(false),
     };
     let theirs = book.split(&mut mine);
-    let ((theirs, answered), (mine, ran)) = join(
+    let ((theirs, ended), (mine, ran)) = join(
         rt,
         || end_held(rt, alloc, book, theirs, &gate, end),
         || -> (Desk<L>, bool)
-            requires { 1 ≤ parts_of mine }
-        { ended(run_jobs(rt, alloc, book, mine, 1, 1, &gate)) },
+            requires { 1 ≤ part_count mine }
+        { desk_and_success(run_jobs(rt, alloc, book, mine, RUNNERS, WORKERS, &gate)) },
     );
-    (book.gather(mine, theirs), answered && ran)
+    (book.gather(mine, theirs), ended && ran)
 }
 
-/// The expected read: all steps are done under two rules, or none because the job was cancelled.
-fn end_of(end: LeaseEnd) -> Shown<'static> {
+/// The expected read of the job: its four steps are done under two rules, or none because it was cancelled.
+fn expected_read(end: LeaseEnd) -> ExpectedRead<'static> {
     match end {
-        LeaseEnd::Revoked => (4, b".0....1...", &[(0, NEVER), (1, ALWAYS)]),
-        LeaseEnd::Cancelled => (0, b"0.0.......", &[(0, NEVER)]),
+        LeaseEnd::Revoked => ExpectedRead {
+            steps: 4,
+            picture: b".0....1...",
+            rules: &[(0, NEVER), (1, ALWAYS)],
+        },
+        LeaseEnd::Cancelled => ExpectedRead {
+            steps: 0,
+            picture: b"0.0.......",
+            rules: &[(0, NEVER)],
+        },
     }
 }
 
@@ -120,14 +134,14 @@ fn is_refused_once<L: Ledger + Send + Sync, R: Threads + Wait + Sync>(
     let (book, mut desk) = SharedBook::<L>::start(alloc, blank);
     let submitted = submit(rt, alloc, &book, &mut desk, &two_cars(0, 4)) == Ok(0);
     let (mut desk, ended) = run_held(rt, alloc, &book, desk, end);
-    let right = reads(rt, alloc, &book, &mut desk, 0, &end_of(end));
+    let is_right = reads(rt, alloc, &book, &mut desk, 0, &expected_read(end));
     match history_of(book, desk) {
-        Some(history) => submitted && ended && right && refused_orders(&history, end) == 1,
+        Some(history) => submitted && ended && is_right && refused_orders(&history, end) == 1,
         None => false,
     }
 }
 
-/// The number of events that refuse an order because of this end.
+/// The number of orders in the history that are refused because the lease has ended in this way.
 fn refused_orders(history: &[Event], end: LeaseEnd) -> u32 {
     let fault = match end {
         LeaseEnd::Revoked => BookFault::StrangerLease,

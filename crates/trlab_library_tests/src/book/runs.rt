@@ -5,9 +5,11 @@
 //! would stay out and its job unfinished.
 
 ghost use Rattle.std.specs.Prelude.{◌≡◌, ◌<◌, ◌≤◌};
+ghost use Rattle.trlab_bounds.specs.declared.runs.TheConstants.{MAX_RUNNERS, MAX_WORKERS};
 ghost use Rattle.trlab_strands.specs.Tokens.{name_of};
 
-use crate::book::common::books::{ended, events_of, new_blank, reads, submit};
+use crate::book::common::books::{desk_and_success, events_of, new_blank, reads, submit};
+use crate::book::common::expected::ExpectedRead;
 use crate::book::common::jobs::{BY_HALF, NEVER, TestJob};
 use crate::book::common::meeting::Meeting;
 use std::alloc::Global;
@@ -19,17 +21,43 @@ use trlab_segments::{Gate, OpenGate};
 use trlab_sequential_book::Event;
 use trlab_strands::{Blank, Ledger};
 
-/// The steps of each job.
+/// The number of steps of each job.
 const STEPS: u32 = 40;
 
-/// The kinds of jobs, by the numbers of their roads: the cars at the start, their probability to brake, times 2^31, and
-/// the cars after the last step, as one worker computes them.
-const KINDS: [(&[u8], u32, &[u8]); 4] = [
+/// A kind of jobs, on one lane.
+#[derive(Clone, Copy)]
+struct JobKind {
+    /// The picture at the start.
+    start: &'static [u8],
+    /// The braking probability times 2^31.
+    chance: u32,
+    /// The picture after the last step, as one worker computes it.
+    end: &'static [u8],
+}
+
+/// The kinds of jobs, by the numbers of their roads.
+const KINDS: [JobKind; 4] = [
     // From the fifth step on, each car drives 4 cells per step, with a gap of 4 cells.
-    (b"0.0.......", NEVER, b".4....4..."),
-    (b"0.00......", BY_HALF, b"..0.1..1.."),
-    (b"0.........", BY_HALF, b"........5."),
-    (b"..........", BY_HALF, b".........."),
+    JobKind {
+        start: b"0.0.......",
+        chance: NEVER,
+        end: b".4....4...",
+    },
+    JobKind {
+        start: b"0.00......",
+        chance: BY_HALF,
+        end: b"..0.1..1..",
+    },
+    JobKind {
+        start: b"0.........",
+        chance: BY_HALF,
+        end: b"........5.",
+    },
+    JobKind {
+        start: b"..........",
+        chance: BY_HALF,
+        end: b"..........",
+    },
 ];
 
 /// Submits a job of the kind of its number. Returns whether the book accepts it under this number.
@@ -41,9 +69,9 @@ fn is_submitted<L: Ledger, R: Wait>(
     number: u32,
 ) -> bool {
     let kind = number % 4;
-    let (picture, chance, _) = KINDS[kind as usize];
+    let JobKind { start, chance, .. } = KINDS[kind as usize];
     let job = TestJob {
-        picture,
+        picture: start,
         number: kind,
         chance,
         steps: STEPS,
@@ -51,7 +79,7 @@ fn is_submitted<L: Ledger, R: Wait>(
     submit(rt, alloc, book, desk, &job) == Ok(number)
 }
 
-/// Submits `jobs` jobs. Returns whether the book accepts them.
+/// Submits jobs 0 to `jobs` - 1. Returns whether the book accepts them.
 fn fill<L: Ledger, R: Wait>(
     rt: &R,
     alloc: Global,
@@ -86,8 +114,8 @@ fn run<L: Ledger + Send + Sync, R: Threads + Wait + Sync, G: Gate + Sync>(
     runners: Workforce,
     gate: &G,
 ) -> (Desk<L>, bool)
-    requires workers { (0 < runners.workers) × (runners.workers ≤ 16) }
-    requires count { (0 < runners.count) × (runners.count ≤ 16) }
+    requires workers { (0 < runners.workers) × (runners.workers ≤ MAX_WORKERS) }
+    requires count { (0 < runners.count) × (runners.count ≤ MAX_RUNNERS) }
 {
     let Workforce { count, workers } = runners;
     if desk.parts() < count {
@@ -95,13 +123,13 @@ fn run<L: Ledger + Send + Sync, R: Threads + Wait + Sync, G: Gate + Sync>(
     }
     match run_jobs(rt, alloc, book, desk, count, workers, gate) {
         Err((desk, RunFault::Memory)) => {
-            ended(run_jobs(rt, alloc, book, desk, count, workers, gate))
+            desk_and_success(run_jobs(rt, alloc, book, desk, count, workers, gate))
         }
-        ran => ended(ran),
+        ran => desk_and_success(ran),
     }
 }
 
-/// Whether reads of all jobs show the last steps of their kinds. Each job is read twice if an allocation fails.
+/// Whether each job has come to the end of its kind. A job is read twice if an allocation fails.
 fn are_right<L: Ledger, R: Wait>(
     rt: &R,
     alloc: Global,
@@ -110,12 +138,16 @@ fn are_right<L: Ledger, R: Wait>(
     jobs: u32,
 ) -> bool {
     for job in 0..jobs {
-        let (_, chance, end) = KINDS[(job % 4) as usize];
+        let JobKind { chance, end, .. } = KINDS[(job % 4) as usize];
         let rules = [(0u32, chance)];
-        let wanted = (STEPS, end, rules.as_slice());
-        let right = reads(rt, alloc, book, desk, job, &wanted)
+        let wanted = ExpectedRead {
+            steps: STEPS,
+            picture: end,
+            rules: rules.as_slice(),
+        };
+        let is_right = reads(rt, alloc, book, desk, job, &wanted)
             || reads(rt, alloc, book, desk, job, &wanted);
-        if !right {
+        if !is_right {
             return false;
         }
     }
@@ -131,26 +163,26 @@ fn passes<L: Ledger + Send + Sync, R: AllocGlobal + Threads + Wait + Sync, G: Ga
     gate: &G,
 ) -> bool
     requires name { name_of blank ≡ L.name }
-    requires workers { (0 < runners.workers) × (runners.workers ≤ 16) }
-    requires count { (0 < runners.count) × (runners.count ≤ 16) }
+    requires workers { (0 < runners.workers) × (runners.workers ≤ MAX_WORKERS) }
+    requires count { (0 < runners.count) × (runners.count ≤ MAX_RUNNERS) }
 {
     let alloc = rt.alloc();
     let (book, mut desk) = SharedBook::<L>::start(alloc, blank);
     let filled = fill(rt, alloc, &book, &mut desk, jobs);
     let (mut desk, ran) = run(rt, alloc, &book, desk, runners, gate);
-    let right = are_right(rt, alloc, &book, &mut desk, jobs);
-    events_of(book, desk).is_some() && filled && ran && right
+    let are_right = are_right(rt, alloc, &book, &mut desk, jobs);
+    events_of(book, desk).is_some() && filled && ran && are_right
 }
 
-/// `passes`, with a new blank.
+/// `passes` with a new blank.
 fn passes_anew<R: AllocGlobal + Threads + Wait + Sync, G: Gate + Sync>(
     rt: &R,
     jobs: u32,
     runners: Workforce,
     gate: &G,
 ) -> bool
-    requires workers { (0 < runners.workers) × (runners.workers ≤ 16) }
-    requires count { (0 < runners.count) × (runners.count ≤ 16) }
+    requires workers { (0 < runners.workers) × (runners.workers ≤ MAX_WORKERS) }
+    requires count { (0 < runners.count) × (runners.count ≤ MAX_RUNNERS) }
 {
     match new_blank(rt.alloc()) {
         Ok(blank) => passes::<Brand, _, _>(rt, blank, jobs, runners, gate),

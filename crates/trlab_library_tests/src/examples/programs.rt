@@ -42,7 +42,8 @@ fn print_gap(alloc: Global) -> Option<bool> {
 /// From `trlab_notes`: the level between two values.
 fn compare() -> u8 {
     let (slow, fast) = (AbstractValue::Between(0, 2), AbstractValue::Between(3, 5));
-    let level = level_between(slow, fast, false, 0);
+    let (is_same, known_level) = (false, 0);
+    let level = level_between(slow, fast, is_same, known_level);
     level
 }
 

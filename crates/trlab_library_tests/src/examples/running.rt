@@ -13,7 +13,7 @@ use trlab_strands::{Blank, Ledger};
 use trlab_traffic::laws::run_keeps_below_peak;
 use trlab_words::{Chance, Key};
 
-/// From `trlab_strands` and `trlab_traffic`.
+/// From `trlab_strands`: adds an event to a strand. From `trlab_traffic`: uses a law.
 fn note<L: Ledger>(blank: Blank<u32>)
     requires { name_of blank ≡ L.name }
 {
@@ -29,8 +29,9 @@ fn a_strand_has_its_event(rt: HostRuntime) {
 
 /// Ten stopped cars, evenly spaced on a lane of 100 cells.
 fn new_seed(alloc: Global) -> Option<Seed> {
+    let (lanes, length, limit, cars) = (1, 100, 5, 10);
     Some(Seed {
-        road: Road::even(alloc, 1, 100, 5, 10).ok()?,
+        road: Road::even(alloc, lanes, length, limit, cars).ok()?,
         key: Key([0; 32]),
         number: 0,
         warm: 0,
@@ -45,7 +46,7 @@ fn submit(alloc: Global, book: &mut Book) -> Option<u32> {
     Some(job)
 }
 
-/// Runs the next job.
+/// Leases the next free job, runs it to its last step and gives it back.
 fn run(alloc: Global, book: &mut Book) -> Option<()> {
     if let Some(mut lease) = book.lease(alloc).ok()? {
         while lease.step() < lease.steps() {
@@ -58,7 +59,7 @@ fn run(alloc: Global, book: &mut Book) -> Option<()> {
 }
 
 /// The number of steps that a job has done.
-fn done(alloc: Global, book: &mut Book, job: u32) -> Option<u32> {
+fn steps_done(alloc: Global, book: &mut Book, job: u32) -> Option<u32> {
     let snapshot = book.read(alloc, job).ok()?;
     Some(snapshot.step())
 }
@@ -68,5 +69,5 @@ fn a_job_is_run(rt: HostRuntime) {
     let mut book = Book::new(rt.alloc());
     let alloc = rt.alloc();
     let ran = submit(alloc, &mut book) == Some(0) && run(alloc, &mut book).is_some();
-    assert!(rt; ran && done(alloc, &mut book, 0) == Some(200));
+    assert!(rt; ran && steps_done(alloc, &mut book, 0) == Some(200));
 }

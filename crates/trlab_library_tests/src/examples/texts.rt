@@ -5,7 +5,7 @@ use trlab_diagram::{Point, flow, points_text};
 use trlab_jobs::read_job;
 use trlab_texts::{Excerpt, LineName, Quantity};
 
-/// From `trlab_texts`: the number of a line.
+/// From `trlab_texts`: the number of a line `steps n`.
 fn read_steps() -> Option<u32> {
     let line = b"steps 20";
     let steps = Excerpt::number_after(LineName::Steps, 0, 100, Quantity::Other, line).ok()?;

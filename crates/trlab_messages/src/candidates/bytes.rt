@@ -2,8 +2,8 @@
 
 use crate::Result;
 use crate::candidates::{Candidates, DIGITS};
-use crate::fault::Fault;
-use crate::found::{BEFORE_CELLS, KEY_DIGITS, first_non_digit};
+use crate::fault::{ByteSpan, Fault};
+use crate::problem::{BEFORE_CELLS, KEY_DIGITS, first_non_hex_digit};
 use std::alloc::Global;
 use trlab_lines::{Place, bytes_at};
 use trlab_texts::word::without_prefix;
@@ -18,18 +18,18 @@ fn long_key(alloc: Global, word: &[u8]) -> Result<Vec<u8>> {
 
 /// Adds candidates that delete `0x`, replace a letter by the digit that was meant, or put zeros before a short key.
 pub fn hex_candidates(list: &mut Candidates, fault: &Fault<'_>) {
-    let Some((at, length)) = fault.word() else {
+    let Some(ByteSpan { start: at, length }) = fault.word() else {
         return;
     };
     let word = bytes_at(fault.line, at, length);
     if word.starts_with(b"0x") {
-        list.in_line(DIGITS, at, 2, b"");
+        list.edit_in_line(DIGITS, at, 2, b"");
     }
-    if let Some(place) = first_non_digit(word) {
+    if let Some(place) = first_non_hex_digit(word) {
         let digit_at = at.saturating_add(place);
         match word.get(place) {
-            Some(b'o' | b'O') => list.in_line(DIGITS, digit_at, 1, b"0"),
-            Some(b'l' | b'I') => list.in_line(DIGITS, digit_at, 1, b"1"),
+            Some(b'o' | b'O') => list.edit_in_line(DIGITS, digit_at, 1, b"0"),
+            Some(b'l' | b'I') => list.edit_in_line(DIGITS, digit_at, 1, b"1"),
             _ => {}
         }
     } else if fault.cause == Cause::Key && length < KEY_DIGITS {
@@ -42,7 +42,7 @@ pub fn hex_candidates(list: &mut Candidates, fault: &Fault<'_>) {
 pub fn version_candidate(list: &mut Candidates, fault: &Fault<'_>) {
     if let Some(space) = fault.line.iter().rposition(|byte| *byte == b' ') {
         let mistake = "the version is 1 if no instruction reads `headspeed`.";
-        list.in_line(mistake, space.saturating_add(9), 2, b"01");
+        list.edit_in_line(mistake, space.saturating_add(9), 2, b"01");
     }
 }
 
@@ -55,7 +55,7 @@ pub fn cell_candidate(list: &mut Candidates, fault: &Fault<'_>, cell: u32) {
     let mistake = "a car is a digit or a lower-case letter.";
     match fault.line.get(at) {
         Some(letter) if letter.is_ascii_uppercase() => {
-            list.in_line(mistake, at, 1, &[letter.to_ascii_lowercase()])
+            list.edit_in_line(mistake, at, 1, &[letter.to_ascii_lowercase()])
         }
         _ => {}
     }

@@ -79,9 +79,9 @@ fn comment_candidate(list: &mut Candidates, fault: &Fault<'_>, byte: u8) {
         Some(end) => {
             let kept = end.saturating_add(1);
             let removed = fault.line.len().saturating_sub(kept);
-            list.in_line(COMMENT, kept, removed, b"");
+            list.edit_in_line(COMMENT, kept, removed, b"");
         }
-        None => list.without_line(fault, COMMENT),
+        None => list.delete_line(fault, COMMENT),
     }
 }
 
@@ -89,10 +89,10 @@ fn comment_candidate(list: &mut Candidates, fault: &Fault<'_>, byte: u8) {
 fn odd_candidates(list: &mut Candidates, fault: &Fault<'_>) {
     if without_prefix(b"\xef\xbb\xbf", fault.line).is_some() {
         let mistake = "the file begins with a byte order mark: save it as plain ASCII.";
-        list.in_line(mistake, 0, 3, b"");
+        list.edit_in_line(mistake, 0, 3, b"");
     }
     if fault.line.is_empty() {
-        list.without_line(fault, "empty lines are allowed only inside programs.");
+        list.delete_line(fault, "empty lines are allowed only inside programs.");
     }
     blanks_candidate(list, fault);
     comment_candidate(list, fault, b';');
@@ -112,13 +112,13 @@ fn nearest_wanted(alloc: Global, fault: &Fault<'_>, word: &[u8]) -> Result<Optio
 
 /// Adds the names of valid lines that the first word may mean.
 fn name_candidates(list: &mut Candidates, fault: &Fault<'_>, word: &[u8]) {
-    list.misspelled(0, word, nearest_wanted(list.alloc, fault, word));
+    list.fix_spelling(0, word, nearest_wanted(list.alloc, fault, word));
     if word.eq_ignore_ascii_case(b"density") && fault.wants(LineName::Cars) {
         density_candidate(list, fault);
     }
     for (other, name) in &OTHER_WORDS {
         if word.eq_ignore_ascii_case(*other) && fault.wants(*name) {
-            list.misspelled(0, word, Ok(Some(name.word())));
+            list.fix_spelling(0, word, Ok(Some(name.word())));
         }
     }
 }
@@ -129,7 +129,7 @@ fn rule_candidate(list: &mut Candidates, fault: &Fault<'_>) {
         let name = head_word(rest);
         let at = fault.line.len().saturating_sub(rest.len());
         let meant = nearest_word(list.alloc, name, &RULE_NAMES);
-        list.misspelled(at, name, meant);
+        list.fix_spelling(at, name, meant);
     }
 }
 
@@ -138,7 +138,7 @@ fn missing_candidates(list: &mut Candidates, fault: &Fault<'_>, mistake: &'stati
     for line in &LineName::ALL {
         match line {
             LineName::Motion | LineName::Change | LineName::At | LineName::End => {}
-            _ if fault.wants(*line) => list.above(fault, mistake, *line),
+            _ if fault.wants(*line) => list.insert_above(fault, mistake, *line),
             _ => {}
         }
     }
@@ -161,7 +161,7 @@ fn word_candidates(list: &mut Candidates, fault: &Fault<'_>, word: &[u8]) {
     if is_name_of_line(word) {
         let missing = "a line is missing above this one, for example this one.";
         missing_candidates(list, fault, missing);
-        list.without_line(fault, LATE);
+        list.delete_line(fault, LATE);
     }
 }
 
@@ -177,7 +177,7 @@ pub fn line_candidates(list: &mut Candidates, fault: &Fault<'_>) {
     } else if mnemonic_named(name_and_operands(fault.line).0).is_some() {
         for line in &[LineName::Motion, LineName::Change] {
             if fault.subject == Subject::Check || fault.wants(*line) {
-                list.above(fault, "the first line of the program is missing.", *line);
+                list.insert_above(fault, "the first line of the program is missing.", *line);
             }
         }
     } else {
@@ -185,8 +185,8 @@ pub fn line_candidates(list: &mut Candidates, fault: &Fault<'_>) {
         command_candidate(list, fault, word);
         if fault.subject == Subject::Check {
             let meant = nearest_word(list.alloc, word, &CHECK_NAMES);
-            list.misspelled(0, word, meant);
-            list.without_line(fault, LATE);
+            list.fix_spelling(0, word, meant);
+            list.delete_line(fault, LATE);
         } else {
             word_candidates(list, fault, word);
         }

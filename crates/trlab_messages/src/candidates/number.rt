@@ -9,8 +9,18 @@ use trlab_lines::{bytes_at, cut, next_line};
 use trlab_texts::word::number_after;
 use trlab_texts::{Quantity, Wanted};
 
-/// How a probability is written, and the whole of which it is a part.
-pub const PROBABILITY: (&str, u32) = ("a probability p is written as p x 2147483648.", CERTAIN);
+/// A quantity that may by mistake be written as a fraction, from 0 to 1, of a whole.
+#[derive(Clone, Copy)]
+pub struct Fraction {
+    pub mistake: &'static str,
+    pub whole: u32,
+}
+
+/// A probability p, which is written as p x 2^31.
+pub const PROBABILITY: Fraction = Fraction {
+    mistake: "a probability p is written as p x 2147483648.",
+    whole: CERTAIN,
+};
 
 const DENSITY: &str =
     "`cars` takes a number of cars, not a density; this is that density on this road.";
@@ -30,18 +40,14 @@ fn number_above(fault: &Fault<'_>, name: &[u8], most: u32) -> u32 {
     0
 }
 
-/// Adds the number that the word after `at` bytes of the line may mean: a part of the whole, or the number itself.
-pub fn meanings(
-    list: &mut Candidates,
-    at: usize,
-    word: &[u8],
-    of_whole: Option<(&'static str, u32)>,
-) {
+/// Adds the number that the word after `at` bytes of the line may mean: this fraction of the whole, or the
+/// number itself.
+pub fn value_candidates(list: &mut Candidates, at: usize, word: &[u8], part: Option<Fraction>) {
     let Some(value) = value_of(word) else {
         return;
     };
-    let (mistake, number) = match of_whole {
-        Some((mistake, whole)) if value <= 1.0 => (mistake, Some(nearest_part(value, whole))),
+    let (mistake, number) = match part {
+        Some(part) if value <= 1.0 => (part.mistake, Some(nearest_part(value, part.whole))),
         _ => (DIGITS, whole_number(value)),
     };
     if let Some(number) = number {
@@ -66,15 +72,19 @@ pub fn density_candidate(list: &mut Candidates, fault: &Fault<'_>) {
 
 /// Adds the number that the word at fault in a job or sweep may mean: a part of 2^31 or of the cells, or as it is.
 pub fn number_candidates(list: &mut Candidates, fault: &Fault<'_>) {
-    let (Some((at, length)), Wanted::Number { quantity, .. }) = (fault.word(), fault.wanted) else {
+    let (Some(span), Wanted::Number { quantity, .. }) = (fault.word(), fault.wanted) else {
         return;
     };
-    let of_whole = match quantity {
+    let part = match quantity {
         Quantity::Probability => Some(PROBABILITY),
-        Quantity::Cars { cells } => Some((DENSITY, *cells)),
+        Quantity::Cars { cells } => Some(Fraction {
+            mistake: DENSITY,
+            whole: *cells,
+        }),
         Quantity::Other => None,
     };
-    meanings(list, at, bytes_at(fault.line, at, length), of_whole);
+    let word = bytes_at(fault.line, span.start, span.length);
+    value_candidates(list, span.start, word, part);
 }
 
 /// The value of a number without a sign, for example `0.25`, `.25`, `1e4` or `007`.

@@ -3,9 +3,9 @@
 use crate::Result;
 use crate::alike::{NearestName, edits_within, nearest_name};
 use crate::candidates::line::joined;
-use crate::candidates::number::{PROBABILITY, meanings};
+use crate::candidates::number::{PROBABILITY, value_candidates};
 use crate::candidates::{Candidates, END, ENDLESS, OTHER_COMMENT};
-use crate::fault::Fault;
+use crate::fault::{ByteSpan, Fault};
 use crate::instruction::{OperandWord, operand_at_fault, start_of_name};
 use std::alloc::Global;
 use trlab_asm::{INPUTS, MNEMONICS, OperandKind, REGISTERS, Why, is_label, mnemonic_named};
@@ -35,51 +35,62 @@ fn is_like_end(alloc: Global, line: &[u8]) -> Result<bool> {
     Ok(edits_within(alloc, name, b"end", 1)?.is_some())
 }
 
-/// Places for a missing line `end` in the last program of a text: the position and length of a line that may be `end`
-/// with something after it, and the position of the first other line that may follow a program.
-fn end_places(alloc: Global, text: &[u8]) -> Result<(Option<(usize, usize)>, Option<usize>)> {
-    let mut like_end: Option<(usize, usize)> = None;
-    let mut next: Option<usize> = None;
+/// Places for a missing line `end` in the last program of a text.
+#[derive(Clone, Copy)]
+struct EndPlaces {
+    /// A line that may be `end`, misspelled or with something after it.
+    like_end: Option<ByteSpan>,
+    /// The number of bytes before the first other line that may follow a program.
+    next: Option<usize>,
+}
+
+const NOWHERE: EndPlaces = EndPlaces {
+    like_end: None,
+    next: None,
+};
+
+fn end_places(alloc: Global, text: &[u8]) -> Result<EndPlaces> {
+    let mut places = NOWHERE;
     let mut left = text;
     for _ in 0..text.len() {
         let Some((line, rest)) = next_line(left) else {
             break;
         };
-        let at = text.len().saturating_sub(left.len());
+        let start = text.len().saturating_sub(left.len());
         if PROGRAM_HEADS.contains(&head_word(line)) {
-            like_end = None;
-            next = None;
-        } else if like_end.is_none() && is_like_end(alloc, line)? {
-            like_end = Some((at, line.len()));
-        } else if next.is_none() && FOLLOWING.contains(&head_word(line)) {
-            next = Some(at);
+            places = NOWHERE;
+        } else if places.like_end.is_none() && is_like_end(alloc, line)? {
+            let length = line.len();
+            places.like_end = Some(ByteSpan { start, length });
+        } else if places.next.is_none() && FOLLOWING.contains(&head_word(line)) {
+            places.next = Some(start);
         }
         left = rest;
     }
-    Ok((like_end, next))
+    Ok(places)
 }
 
 /// Adds candidates with the line `end` in the last program of an input that has ended.
 pub fn end_candidates(list: &mut Candidates, fault: &Fault<'_>) {
     let places = end_places(list.alloc, fault.place.text);
-    let (like_end, next) = list.value(places).unwrap_or((None, None));
-    if let Some((at, length)) = like_end {
-        list.edit(END, at, length, b"end".to_vec(list.alloc));
+    let EndPlaces { like_end, next } = list.ok_or_fail(places).unwrap_or(NOWHERE);
+    if let Some(line) = like_end {
+        list.edit(END, line.start, line.length, b"end".to_vec(list.alloc));
     }
     if let Some(at) = next {
         list.edit(ENDLESS, at, 0, b"end\n".to_vec(list.alloc));
     }
-    list.above(fault, ENDLESS, LineName::End);
+    list.insert_above(fault, ENDLESS, LineName::End);
 }
 
 /// Adds candidates that write `;` instead of the comment mark of other languages.
 fn other_comment_candidates(list: &mut Candidates, fault: &Fault<'_>) {
     let line = without_comment(fault.line);
     if let Some((front, _)) = cut(line, b'#') {
-        list.in_line(OTHER_COMMENT, front.len(), 1, b";");
+        list.edit_in_line(OTHER_COMMENT, front.len(), 1, b";");
     }
     match cut(line, b'/') {
-        Some((front, [b'/', ..])) => list.in_line(OTHER_COMMENT, front.len(), 2, b";"),
+        Some((front, [b'/', ..])) => list.edit_in_line(OTHER_COMMENT, front.len(), 2, b";"),
         _ => {}
     }
 }
@@ -88,9 +99,9 @@ fn other_comment_candidates(list: &mut Candidates, fault: &Fault<'_>) {
 fn like_end_candidate(list: &mut Candidates, fault: &Fault<'_>) {
     if fault.subject == Subject::Check {
         let mistake = "`trlab check` takes no line `end`: the program ends where the input ends.";
-        list.without_line(fault, mistake);
+        list.delete_line(fault, mistake);
     } else {
-        list.in_line(END, 0, fault.line.len(), b"end");
+        list.edit_in_line(END, 0, fault.line.len(), b"end");
     }
 }
 
@@ -100,14 +111,14 @@ pub fn unknown_word_candidates(list: &mut Candidates, fault: &Fault<'_>) {
     let (label, _) = label_and_rest(without_comment(fault.line));
     let (name, _) = name_and_operands(fault.line);
     if fault.subject != Subject::Check && FOLLOWING.contains(&name) {
-        list.above(fault, ENDLESS, LineName::End);
+        list.insert_above(fault, ENDLESS, LineName::End);
     }
-    if let Some(true) = list.value(is_like_end(list.alloc, fault.line)) {
+    if let Some(true) = list.ok_or_fail(is_like_end(list.alloc, fault.line)) {
         like_end_candidate(list, fault);
     }
     if !matches!(label, Some(label) if !is_label(label)) {
         let meant = nearest_name(list.alloc, name, &MNEMONICS);
-        list.misspelled(start_of_name(fault.line), name, meant);
+        list.fix_spelling(start_of_name(fault.line), name, meant);
     }
 }
 
@@ -139,8 +150,8 @@ fn nearest_label<'a>(alloc: Global, place: &Place<'a>, word: &[u8]) -> Result<Op
 pub fn label_candidate(list: &mut Candidates, fault: &Fault<'_>) {
     if let Some(OperandWord { at, word, .. }) = operand_at_fault(fault.line, Why::NoLabel) {
         let meant = nearest_label(list.alloc, &fault.place, word);
-        if let Some(Some(label)) = list.value(meant) {
-            list.in_line("probably a misspelled label.", at, word.len(), label);
+        if let Some(Some(label)) = list.ok_or_fail(meant) {
+            list.edit_in_line("probably a misspelled label.", at, word.len(), label);
         }
     }
 }
@@ -152,18 +163,18 @@ fn word_candidate(list: &mut Candidates, found: OperandWord<'_>) {
     match operand {
         OperandKind::Register | OperandKind::Result if !is_number => {
             let meant = nearest_name(list.alloc, word, &REGISTERS);
-            list.misspelled(at, word, meant);
+            list.fix_spelling(at, word, meant);
         }
         OperandKind::Input if !is_number => {
             let meant = nearest_name(list.alloc, word, &INPUTS);
-            list.misspelled(at, word, meant);
+            list.fix_spelling(at, word, meant);
         }
         OperandKind::Target if is_numeral(word) => {
-            list.in_line("put `@` before the number of an instruction.", at, 0, b"@");
+            list.edit_in_line("put `@` before the number of an instruction.", at, 0, b"@");
         }
-        OperandKind::Chance => meanings(list, at, word, Some(PROBABILITY)),
+        OperandKind::Chance => value_candidates(list, at, word, Some(PROBABILITY)),
         OperandKind::Number | OperandKind::Divisor | OperandKind::Word => {
-            meanings(list, at, word, None);
+            value_candidates(list, at, word, None);
         }
         OperandKind::Register | OperandKind::Result | OperandKind::Input | OperandKind::Target => {}
     }

@@ -2,14 +2,14 @@
 
 use crate::body::{Body, Rejection};
 use crate::program::Listing;
-use crate::program::marks::push_fact;
+use crate::program::register_facts::push_register_fact;
 use crate::reasons::{advice, reason_meaning};
 use crate::sentence::{Draft, Quoted, Shown};
 use std::alloc::Global;
 use trlab_asm::register_text;
 use trlab_code::{Instr, Register};
 use trlab_notes::{Operands, Reason};
-use trlab_verify::{Mark, Note, notes_of_refused};
+use trlab_verify::{Mark, Note, notes_of_rejected};
 
 /// Adds the facts about the registers that an instruction reads.
 fn push_operands(known: &mut Draft, note: &Note, instr: Instr) {
@@ -18,9 +18,9 @@ fn push_operands(known: &mut Draft, note: &Note, instr: Instr) {
         Operands::Value(a) | Operands::Number(a) | Operands::Flag(a) => (a, a),
         Operands::Numbers(a, b) | Operands::Flags(a, b) => (a, b),
     };
-    push_fact(known, note, first);
+    push_register_fact(known, note, first);
     if first != second {
-        push_fact(known, note, second);
+        push_register_fact(known, note, second);
     }
 }
 
@@ -32,6 +32,7 @@ fn maximum_of(note: &Note, register: Register) -> u64 {
     }
 }
 
+/// Adds how large the result of an instruction may be.
 fn push_largest(known: &mut Draft, largest: u64) {
     writeln!(known, "The result may be as large as {largest}.");
 }
@@ -57,52 +58,52 @@ fn push_obstacle(known: &mut Draft, reason: Reason, note: &Note, instr: Instr) {
         }
         (Reason::MaybeAboveGap | Reason::MaybeAboveLimit, Instr::Go(a)) => {
             let name = Shown(register_text(a));
-            let most = if reason == Reason::MaybeAboveGap {
+            let bound = if reason == Reason::MaybeAboveGap {
                 "gap"
             } else {
                 "limit"
             };
-            writeln!(known, "{name} is not known to be at most the {most}.")
+            writeln!(known, "{name} is not known to be at most the {bound}.")
         }
         _ => {}
     }
 }
 
-/// Whether the instruction at `pc` can be followed by the one at `at`.
-fn is_followed(program: Listing<'_>, pc: u32, at: u32) -> bool {
-    match program.code.instrs().get(pc as usize) {
+/// Whether control can pass from one instruction to another.
+fn is_followed(program: Listing<'_>, from: u32, to: u32) -> bool {
+    match program.code.instrs().get(from as usize) {
         Some(instr) => {
-            let continues = instr.falls() && pc.checked_add(1) == Some(at);
-            continues || instr.target() == Some(at)
+            let continues = instr.falls() && from.checked_add(1) == Some(to);
+            continues || instr.target() == Some(to)
         }
         None => false,
     }
 }
 
 /// Adds the instructions from which control can pass to the rejected one, if there are several.
-fn push_paths(facts: &mut Draft, program: Listing<'_>, at: u32) {
-    let paths = (0..at).filter(|pc| is_followed(program, *pc, at)).count();
-    if paths < 2 {
+fn push_paths(facts: &mut Draft, program: Listing<'_>, rejected: u32) {
+    let paths = (0..rejected).filter(|pc| is_followed(program, *pc, rejected));
+    if paths.count() < 2 {
         return;
     }
-    facts.line("Several paths lead here; only facts that hold on all of them are kept:");
-    for pc in 0..at {
-        if is_followed(program, pc, at) {
+    facts.push_line("Several paths lead here; only facts that hold on all of them are kept:");
+    for pc in 0..rejected {
+        if is_followed(program, pc, rejected) {
             program.push_instruction(facts, pc);
-            facts.say("\n");
+            facts.push_str("\n");
         }
     }
 }
 
 /// The instruction at which a program is rejected, and why.
-fn rejection_at(alloc: Global, program: Listing<'_>, at: u32, reason: Reason) -> Rejection {
+fn rejection_at(alloc: Global, program: Listing<'_>, pc: u32, reason: Reason) -> Rejection {
     let mut text = Draft::new(alloc);
-    write!(text, "{}", Quoted(program.line(at).1));
+    write!(text, "{}", Quoted(program.line(pc).line));
     let mut instruction = Draft::new(alloc);
-    program.push_instruction(&mut instruction, at);
+    program.push_instruction(&mut instruction, pc);
     Rejection {
-        at,
-        line: program.line_number(at, 1),
+        pc,
+        line_number: program.line_number(pc, 1),
         text,
         instruction,
         reason: reason.number(),
@@ -112,26 +113,26 @@ fn rejection_at(alloc: Global, program: Listing<'_>, at: u32, reason: Reason) ->
 }
 
 /// Adds why a program with these notes is rejected at an instruction.
-fn add_reason(body: &mut Body, program: Listing<'_>, notes: &[Note], at: u32, reason: Reason) {
-    body.rejection = Some(rejection_at(body.alloc, program, at, reason));
+fn add_reason(body: &mut Body, program: Listing<'_>, notes: &[Note], pc: u32, reason: Reason) {
+    body.rejection = Some(rejection_at(body.alloc, program, pc, reason));
     if reason == Reason::Unreachable {
         let facts = &mut body.facts;
-        facts.line("The instruction above never continues here, and no jump comes here:");
-        program.push_instruction(facts, at.saturating_sub(1));
-        return facts.say("\n");
+        facts.push_line("The instruction above never continues here, and no jump comes here:");
+        program.push_instruction(facts, pc.saturating_sub(1));
+        return facts.push_str("\n");
     }
-    let instr = program.code.instrs().get(at as usize);
-    if let (Some(note), Some(instr)) = (notes.get(at as usize), instr) {
+    let instr = program.code.instrs().get(pc as usize);
+    if let (Some(note), Some(instr)) = (notes.get(pc as usize), instr) {
         push_operands(&mut body.known, note, *instr);
         push_obstacle(&mut body.known, reason, note, *instr);
     }
-    push_paths(&mut body.facts, program, at);
+    push_paths(&mut body.facts, program, pc);
 }
 
 /// Adds why a program is rejected at an instruction.
-pub fn add_rejection(body: &mut Body, program: Listing<'_>, at: u32, reason: Reason) {
-    let notes = notes_of_refused(body.alloc, program.code);
-    if let Some(Some(notes)) = body.value(notes) {
-        add_reason(body, program, &notes, at, reason);
+pub fn add_rejection(body: &mut Body, program: Listing<'_>, pc: u32, reason: Reason) {
+    let notes = notes_of_rejected(body.alloc, program.code);
+    if let Some(Some(notes)) = body.ok_or_fail(notes) {
+        add_reason(body, program, &notes, pc, reason);
     }
 }

@@ -22,22 +22,22 @@ use trlab_road::Road;
 use trlab_step::{Caller, Executor, StepObserver};
 use trlab_verify::{Change, Motion};
 
-/// How often the caller checks whether a helper is left before it yields to other threads.
-const LOOKS: u32 = 1000;
+/// The number of times that the caller checks whether a helper is left before it yields to other threads.
+const SPINS_BEFORE_YIELD: u32 = 1000;
 
-/// Waits until no helper has the phase, and returns it.
-fn alone<A, P: Asked<A>, R: Wait>(rt: &R, task: Arc<Task<A, P>, Global>) -> Task<A, P>
+/// Waits until no helper holds the task, and returns it.
+fn wait_for_helpers<A, P: Asked<A>, R: Wait>(rt: &R, task: Arc<Task<A, P>, Global>) -> Task<A, P>
     ensures { result ≡ arc_value task }
 {
     let mut task = task;
-    let mut looks = 0u32;
+    let mut spins = 0u32;
     for _ in rt.forever() {
         match Arc::try_unwrap(task) {
             Ok(task) => return task,
             Err(shared) => task = shared,
         }
-        if looks < LOOKS {
-            looks += 1;
+        if spins < SPINS_BEFORE_YIELD {
+            spins += 1;
             hint::spin_loop();
         } else {
             thread::yield_now();
@@ -121,7 +121,7 @@ impl<'a, R: Wait, G: Gate> Pool<'a, R, G> {
         self.open(slot, &task, observer);
         let parts = draw_all(alloc, &task.brief, &mut mine, 0, self.gate);
         slot.set_task(self.rt, None);
-        alone(self.rt, task).settle(self.rt, answers, mine, parts)
+        wait_for_helpers(self.rt, task).settle(self.rt, answers, mine, parts)
     }
 
     /// Replaces a list by the answers of a program to all cars of a road, in standing order. The road moves to the
@@ -140,7 +140,7 @@ impl<'a, R: Wait, G: Gate> Pool<'a, R, G> {
         observer: &mut O,
     ) -> Result<(), AllocError>
         requires lanes { P.can_ask road.old }
-        ensures same { road.new ≡ road.old }
+        ensures unchanged { road.new ≡ road.old }
         ensures seen { O.observes observer.old road.old observer.new }
         ensures answers { OnOk result (
             P.answers program.now dice.now road.old 0 (cars road.old) answers.new.items) }

@@ -19,7 +19,8 @@ use trlab_road::Road;
 /// The number of segments per worker if each has enough cars.
 const SEGMENTS_PER_WORKER: u32 = 16;
 
-/// The minimum number of cars per segment: drawing a segment then costs little compared with asking its cars.
+/// The minimum number of cars per segment on a road that is cut into more segments than in a single step: drawing a
+/// segment then costs little compared with asking its cars.
 const CARS_PER_SEGMENT: u32 = 256;
 
 /// A program to run for all cars of a road, with these dice, and the tickets of the segments into which the cars are
@@ -36,16 +37,15 @@ pub struct Brief<P> {
 /// no worker waits long for the last one. Their blocks are full, or nearly so, because a block of few cars takes as
 /// long as a full one.
 fn segments_for(cars: u32, workers: u32) -> u32
-    requires some { 0 < workers }
-    requires few { workers ≤ MAX_WORKERS }
+    requires { (0 < workers) × (workers ≤ MAX_WORKERS) }
     ensures { first_car cars result result ≡ cars }
 {
     let block = BLOCK_CARS as u32;
     let blocks = cars.div_ceil(block);
-    let each = blocks
+    let blocks_each = blocks
         .div_ceil(SEGMENTS_PER_WORKER * workers)
         .max(CARS_PER_SEGMENT / block);
-    segment_count(cars, workers).max(blocks.div_ceil(each))
+    segment_count(cars, workers).max(blocks.div_ceil(blocks_each))
 }
 
 /// The brief of a phase for `workers` workers, and the first drawer of its tickets. The road moves into the brief, and
@@ -61,24 +61,24 @@ pub fn brief_of<A, P: Asked<A> + Drop>(
     road: &mut Road,
     workers: u32,
 ) -> Result<(Brief<P>, Drawer), AllocError>
-    requires some { 0 < workers }
-    requires few { workers ≤ MAX_WORKERS }
+    requires { (0 < workers) × (workers ≤ MAX_WORKERS) }
     ensures asked { IfOk result (λ r. IsBriefOf program.now dice.now road.old r.0) }
     ensures cut { IfOk result (λ r. CoversAllCars r.0) }
     ensures new { IfOk result (λ r. HasDrawnNone r.0.tickets r.1) }
-    ensures err { OnErr result (road.new ≡ road.old) }
+    ensures unchanged { OnErr result (road.new ≡ road.old) }
 {
     let count = segments_for(road.cars(), workers);
-    let Ok(other) = Road::even(alloc, 1, 1, 1, 0) else {
+    // An empty road: one lane of one cell, maximum speed 1, no cars.
+    let Ok(empty) = Road::even(alloc, 1, 1, 1, 0) else {
         return Err(AllocError);
     };
-    let program = program.copied(alloc)?;
+    let program = program.copy(alloc)?;
     let (tickets, drawer) = Tickets::start(alloc, count, workers)?;
-    let whole = mem::replace(road, other);
+    let road = mem::replace(road, empty);
     let brief = Brief {
         program,
         dice: dice.copy(),
-        road: whole,
+        road,
         tickets,
     };
     Ok((brief, drawer))

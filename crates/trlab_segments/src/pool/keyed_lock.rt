@@ -2,7 +2,7 @@
 //! value knows that it fits, and puts back a value that fits too.
 
 ghost use Rattle.std.specs.Prelude.{◌≡◌, IfOk};
-ghost use Rattle.trlab_segments.specs.KeyedLocks.{Acquires, ObeysLockRule, HasTakenSlot};
+ghost use Rattle.trlab_segments.specs.KeyedLocks.{Acquires, SatisfiesLockInvariant, HasTakenSlot};
 
 use atomic_table::{Play, Refused, Seat, Table, TableRule};
 use std::alloc::{AllocError, Global};
@@ -16,7 +16,7 @@ pub trait Keyed<K> {
     ghost fits: { K → Self → Type 0 };
 }
 
-/// The rule of the lock: while its word is 0, the value is in its slot and fits the key.
+/// The invariant of the lock: while its word is 0, the value is in its slot and fits the key.
 pub struct LockRule<T, K> {
     marker: PhantomData<(T, K)>,
 }
@@ -27,7 +27,7 @@ struct Acquire<T, K> {
 }
 
 impl<K, T: Keyed<K>> TableRule<Option<T>, K, K> for LockRule<T, K> {
-    ghost holds = { λ key. ObeysLockRule (T.fits key) };
+    ghost holds = { λ key. SatisfiesLockInvariant (T.fits key) };
 
     ghost first = { λ key. key };
 }

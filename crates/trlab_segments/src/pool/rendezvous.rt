@@ -11,11 +11,11 @@ use std::sync::atomic::{AtomicBool, AtomicU64, Ordering};
 use std::thread::{Threads, join};
 use trlab_verify::{Change, Motion};
 
-/// How often a watchful helper looks for the next phase before it sleeps. This takes slightly longer than the calling
-/// thread's own work between two phases on a road of about ten thousand cars.
-const LOOKS: u32 = 30000;
+/// The number of times that a helper checks for the next phase before it sleeps. This takes slightly longer than the
+/// calling thread's own work between two phases on a road of about 10,000 cars.
+pub const SPINS_BEFORE_SLEEP: u32 = 30000;
 
-/// After a helper has looked without success, it sleeps at once, without looking, for this number of phases.
+/// After a helper has checked for a phase without success, the number of phases for which it sleeps without a check.
 const NAPS: u32 = 32;
 
 /// The open phase, at most one at a time, and a number that grows with each phase.
@@ -23,37 +23,28 @@ const NAPS: u32 = 32;
 pub struct Rendezvous {
     pub motions: TaskSlot<u8, Motion>,
     pub changes: TaskSlot<bool, Change>,
-    turn: AtomicU64,
+    phase_number: AtomicU64,
     closed: AtomicBool,
-    /// How often a helper looks for the next phase before it sleeps.
-    looks: u32,
+    /// The number of times that a helper checks for the next phase before it sleeps.
+    spins: u32,
 }
 
 impl Rendezvous {
-    /// A rendezvous with no phase, whose helpers sleep until they are woken.
-    pub fn new() -> Rendezvous {
-        Rendezvous::with_looks(0)
-    }
-
-    /// A rendezvous with no phase, whose helpers look for the next one before they sleep.
-    pub fn watchful() -> Rendezvous {
-        Rendezvous::with_looks(LOOKS)
-    }
-
-    fn with_looks(looks: u32) -> Rendezvous {
+    /// A rendezvous with no phase. Each helper checks for the next one `spins` times before it sleeps.
+    pub fn new(spins: u32) -> Rendezvous {
         Rendezvous {
             motions: TaskSlot::new(),
             changes: TaskSlot::new(),
-            turn: AtomicU64::new(0),
+            phase_number: AtomicU64::new(0),
             closed: AtomicBool::new(false),
-            looks,
+            spins,
         }
     }
 
     /// Wakes all helpers, because a phase is open or the run has ended.
     pub fn wake(&self) {
-        self.turn.fetch_add(1, Ordering::SeqCst);
-        self.turn.wake_all();
+        self.phase_number.fetch_add(1, Ordering::SeqCst);
+        self.phase_number.wake_all();
     }
 
     /// Shuts down all helpers.
@@ -69,21 +60,21 @@ impl Rendezvous {
 
     /// Sleeps until the phase number differs from `seen`, and returns it. The system compares the number before a
     /// thread sleeps, so no wake-up is missed.
-    fn next<R: Wait>(&self, rt: &R, seen: u64) -> u64 {
+    fn wait_for_phase<R: Wait>(&self, rt: &R, seen: u64) -> u64 {
         for _ in rt.forever() {
-            let now = self.turn.load(Ordering::SeqCst);
+            let now = self.phase_number.load(Ordering::SeqCst);
             if now != seen {
                 return now;
             }
-            self.turn.park(rt, (seen & 0xffff_ffff) as u32);
+            self.phase_number.park(rt, (seen & 0xffff_ffff) as u32);
         }
         unreachable!()
     }
 
-    /// Looks at the phase number up to `looks` times, and returns whether it differs from `seen`.
-    fn changes_soon(&self, seen: u64) -> bool {
-        for _ in 0..self.looks {
-            if self.turn.load(Ordering::SeqCst) != seen {
+    /// Checks the phase number up to `spins` times, and returns whether it differs from `seen`.
+    fn has_phase_soon(&self, seen: u64) -> bool {
+        for _ in 0..self.spins {
+            if self.phase_number.load(Ordering::SeqCst) != seen {
                 return true;
             }
             hint::spin_loop();
@@ -91,12 +82,12 @@ impl Rendezvous {
         false
     }
 
-    /// Looks for the next phase, unless the helper is to sleep at once for `naps` more phases. Returns the new value of
-    /// `naps`.
+    /// Checks for the next phase, unless the helper is to sleep at once for `naps` more phases. Returns the new value
+    /// of `naps`.
     fn watch(&self, seen: u64, naps: u32) -> u32 {
         if naps > 0 {
             naps - 1
-        } else if self.changes_soon(seen) {
+        } else if self.has_phase_soon(seen) {
             0
         } else {
             NAPS
@@ -109,7 +100,7 @@ impl Rendezvous {
         let mut naps = 0;
         for _ in rt.forever() {
             naps = self.watch(seen, naps);
-            seen = self.next(rt, seen);
+            seen = self.wait_for_phase(rt, seen);
             if self.is_closed() {
                 return;
             }
@@ -123,8 +114,8 @@ impl Rendezvous {
     }
 }
 
-/// Runs helpers that serve at a rendezvous, each in its own thread. Each starts the next one, unless the run has ended
-/// by then.
+/// Runs `helpers` helpers of a rendezvous, each in its own thread, until the rendezvous is closed. Each helper starts
+/// the next one, unless the run has ended by then.
 pub fn help_all<R: Threads + Wait + Sync, G: Gate + Sync>(
     rt: &R,
     alloc: Global,

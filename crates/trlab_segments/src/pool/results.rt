@@ -4,7 +4,7 @@ ghost use Rattle.std.specs.Prelude.{IfSome};
 ghost use Rattle.trlab_segments.specs.Results.{AreResults, IsRightResult};
 ghost use Rattle.trlab_segments.specs.Drawers.{IsDrawerOf, IsJoined, HasDrawnNone};
 
-use crate::parts::{Part, joined};
+use crate::parts::{Part, join_parts};
 use crate::phase::Asked;
 use crate::pool::brief::Brief;
 use crate::pool::keyed_lock::Keyed;
@@ -89,7 +89,7 @@ pub fn deposit<A: Drop, P: Asked<A>>(
     Results {
         reserve,
         done: Some(one_drawer(&brief.tickets, done, drawer)),
-        parts: joined(parts, more),
+        parts: join_parts(parts, more),
     }
 }
 
@@ -105,12 +105,12 @@ fn one_drawer(tickets: &Tickets, before: Option<Drawer>, drawer: Drawer) -> Draw
     }
 }
 
-/// One drawer with all passes that came back, and all parts.
+/// The drawer with all passes that came back, and the parts of all workers, in one list.
 ///
 /// # Errors
 ///
 /// The second part is an error if an allocation failed, in a helper or in the caller.
-pub fn gathered<A: Drop, P: Asked<A>>(
+pub fn gather_results<A: Drop, P: Asked<A>>(
     brief: &Brief<P>,
     results: Results<A>,
     mine: Drawer,
@@ -127,5 +127,5 @@ pub fn gathered<A: Drop, P: Asked<A>>(
     } = results;
     let drawn = one_drawer(&brief.tickets, done, mine);
     let drawer = one_drawer(&brief.tickets, reserve, drawn);
-    (drawer, joined(theirs, parts))
+    (drawer, join_parts(theirs, parts))
 }

@@ -9,7 +9,7 @@ use crate::parts::Part;
 use crate::phase::Asked;
 use crate::pool::brief::{Brief, draw_all, finish};
 use crate::pool::keyed_lock::{Guard, KeyedLock};
-use crate::pool::results::{Results, deposit, gathered, take_pass};
+use crate::pool::results::{Results, deposit, gather_results, take_pass};
 use crate::segment::Gate;
 use crate::tickets::Drawer;
 use std::alloc::{AllocError, Global};
@@ -106,7 +106,7 @@ impl<A: Copy + Drop, P: Asked<A> + Drop> Task<A, P> {
             brief,
             results: _results,
         } = self;
-        let (drawer, parts) = gathered(&brief, found, mine, parts);
+        let (drawer, parts) = gather_results(&brief, found, mine, parts);
         match parts {
             Ok(parts) => finish(answers, brief, drawer, &parts),
             Err(_) => (brief.into_road(), Err(AllocError)),

@@ -4,5 +4,5 @@ use Rattle.trlab_asm.proofs.assembly.instrs_of.Goals as goal
 
 pub returns-else-is_empty-clause-told : goal.returns-else-is_empty-clause-told
 returns-else-is_empty-clause-told c =
-    let says = some_instrs (stored_parts c.args.parts.now) c.reads-reads.result.now (pcs c.labels.result.now) c.if-is_empty.ensures c.reads-reads.ensures.value c.labels.ensures in
+    let says = some_instrs (stored_parts c.args.parts.now) c.drafts-drafts.result.now (pcs c.labels.result.now) c.if-is_empty.ensures c.drafts-drafts.ensures.value c.labels.ensures in
     rw says c.resolve_all.ensures.told

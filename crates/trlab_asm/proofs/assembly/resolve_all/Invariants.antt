@@ -5,9 +5,9 @@ use Rattle.trlab_asm.specs.Assembly.{second_pass}
 use Rattle.trlab_asm.proofs.Passes.{following}
 use Rattle.trlab_asm.proofs.assembly.resolve_all.Given as goal
 
-abbrev pub invariant-loop-read : goal.invariant-loop-read
-invariant-loop-read l = record {
-  says : following l.instrs.items (second_pass (pcs l.labels) (drop l.read-index l.reads)) ≡ second_pass (pcs l.labels) l.reads;
-  count : length l.instrs.items ≡ l.read-index;
+abbrev pub invariant-loop-line_draft : goal.invariant-loop-line_draft
+invariant-loop-line_draft l = record {
+  says : following l.instrs.items (second_pass (pcs l.labels) (drop l.line_draft-index l.drafts)) ≡ second_pass (pcs l.labels) l.drafts;
+  count : length l.instrs.items ≡ l.line_draft-index;
   in_range : All IsInRange l.instrs.items;
 }

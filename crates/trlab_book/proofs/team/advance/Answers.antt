@@ -4,8 +4,8 @@ use Rattle.trlab_book.proofs.team.advance.Goals as goal
 pub returns-clause-ok : goal.returns-clause-ok
 returns-clause-ok g c = search rules
 
-pub returns-clause-err : goal.returns-clause-err
-returns-clause-err g c = search rules
+pub returns-clause-unchanged : goal.returns-clause-unchanged
+returns-clause-unchanged g c = search rules
 
 pub returns-clause-wrong : goal.returns-clause-wrong
 returns-clause-wrong g c = search rules

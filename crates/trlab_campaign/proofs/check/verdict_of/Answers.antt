@@ -8,12 +8,12 @@ use Rattle.trlab_campaign.proofs.check.verdict_of.Goals as goal
 
 pub returns-in-Ok : goal.returns-in-Ok
 returns-in-Ok c = rw (← c.check.view_is)
-    (accepted_said c.accepted_verdict.result (λ verdict. verdict.refused) (λ verdict. verdict.text.items) (check_of c.check.inside.question c.check.inside.code) OfMotion c.code.result.now c.in-Ok.motion.program c.budget.result
+    (accepted_said c.accepted_verdict.result (λ verdict. verdict.is_refusal) (λ verdict. verdict.text.items) (check_of c.check.inside.question c.check.inside.code) OfMotion c.code.result.now c.in-Ok.motion.program c.budget.result
     (sym c.kind.ensures ∙ c.in-Motion.is) c.in-Ok.ensures.accepted c.code.ensures.value c.in-Ok.ensures.same c.budget.ensures.longest c.accepted_verdict.ensures)
 
 pub returns-in-Ok-verify_change : goal.returns-in-Ok-verify_change
 returns-in-Ok-verify_change c = rw (← c.check.view_is)
-    (accepted_said c.accepted_verdict-in-Ok-verify_change.result (λ verdict. verdict.refused) (λ verdict. verdict.text.items) (check_of c.check.inside.question c.check.inside.code) OfChange
+    (accepted_said c.accepted_verdict-in-Ok-verify_change.result (λ verdict. verdict.is_refusal) (λ verdict. verdict.text.items) (check_of c.check.inside.question c.check.inside.code) OfChange
     c.code-in-Ok-verify_change.result.now c.in-Ok-verify_change.change.program c.budget-in-Ok-verify_change.result (sym c.kind.ensures ∙ c.in-Change.is) c.in-Ok-verify_change.ensures.accepted
     c.code-in-Ok-verify_change.ensures.value c.in-Ok-verify_change.ensures.same c.budget-in-Ok-verify_change.ensures.longest c.accepted_verdict-in-Ok-verify_change.ensures)
 

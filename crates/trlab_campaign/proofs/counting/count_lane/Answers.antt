@@ -17,12 +17,12 @@ returns-then-lanes-lane-clause-stopped c =
 
 pub returns-clause-cars : goal.returns-clause-cars
 returns-clause-cars c =
-    ap (λ (count : LaneCount). count.cars) c.count_line.ensures.value ∙ line_cars c.args.road.now c.args.lane c.line_of.result.now c.line_of.ensures.line
+    ap (λ (count : LaneCount). count.cars) c.count_cars.ensures.value ∙ line_cars c.args.road.now c.args.lane c.line_of.result.now c.line_of.ensures.line
 
 pub returns-clause-distance : goal.returns-clause-distance
 returns-clause-distance c =
-    ap (λ (count : LaneCount). count.distance) c.count_line.ensures.value ∙ line_speed c.args.road.now c.args.lane c.line_of.result.now c.line_of.ensures.line
+    ap (λ (count : LaneCount). count.distance) c.count_cars.ensures.value ∙ line_speed c.args.road.now c.args.lane c.line_of.result.now c.line_of.ensures.line
 
 pub returns-clause-stopped : goal.returns-clause-stopped
 returns-clause-stopped c =
-    ap (λ (count : LaneCount). count.stopped) c.count_line.ensures.value ∙ line_stopped c.args.road.now c.args.lane c.line_of.result.now c.line_of.ensures.line
+    ap (λ (count : LaneCount). count.stopped) c.count_cars.ensures.value ∙ line_stopped c.args.road.now c.args.lane c.line_of.result.now c.line_of.ensures.line

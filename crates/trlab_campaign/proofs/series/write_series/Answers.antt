@@ -33,7 +33,7 @@ returns g c =
     let heading = c.in_ok-write_line.ensures.wrote (line_text series_heading) c.series_heading.ensures in
     let writer = c.write_windows-written.ensures.writer in
     record {
-      wrote = series_wrote c.args.job windows.every windows.from count c.job.inside.steps c.run_of-run.result stored c.run_of-run.ensures (ap (λ (job : Job). job.steps) c.job.view_is) c.count-count.ensures
+      wrote = series_wrote c.args.job windows.every windows.from count c.job.inside.steps c.run_of_job-run.result stored c.run_of_job-run.ensures (ap (λ (job : Job). job.steps) c.job.view_is) c.count-count.ensures
           c.write_windows-written.result _ _ (λ roads tallies course.
           then_wrote c.write_windows-written.result (line_text series_heading) (flat_map window_text (first_windows roads tallies windows.every windows.from count)) _ _ _ heading
           (c.write_windows-written.ensures.wrote roads tallies course));

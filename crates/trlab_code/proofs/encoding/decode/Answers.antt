@@ -24,7 +24,7 @@ needless_version : (c : After-drop-code) → IsFirstCodeFault c.args.bytes.now f
 needless_version c =
     let read = c.in_ok-instrs.ensures in
     let program : Program = record { kind = c.in_ok-header.header.kind; instrs = c.in_ok-instrs.instrs.items } in
-    let its : c.version.result ≡ version_of program = c.version.ensures ∙ ap version_of c.of-code.ensures in
+    let its : c.version.result ≡ version_of program = c.version.ensures ∙ ap version_of c.from_valid-code.ensures in
     let other : version_of program ≢ stated_version c.args.bytes.now = λ e. c.if-version-header.true (its ∙ e ∙ c.in_ok-header.ensures.version) in
     (read.rows, needless c.args.bytes.now program read.length read.spelt read.rows other)
 
@@ -41,7 +41,7 @@ trailing : (c : After-drop-code-then-header-bytes) → IsFirstCodeFault c.args.b
 trailing c =
     let read = c.in_ok-instrs.ensures in
     let program : Program = record { kind = c.in_ok-header.header.kind; instrs = c.in_ok-instrs.instrs.items } in
-    let its : c.version.result ≡ version_of program = c.version.ensures ∙ ap version_of c.of-code.ensures in
+    let its : c.version.result ≡ version_of program = c.version.ensures ∙ ap version_of c.from_valid-code.ensures in
     let same : version_of program ≡ stated_version c.args.bytes.now = sym its ∙ c.if-version-header.false ∙ sym c.in_ok-header.ensures.version in
     (read.rows, (needs_version c.args.bytes.now program read.length read.spelt same, omega (arith, c.in_ok-header.ensures.count)))
 
@@ -59,15 +59,15 @@ returns-clause-exact c =
     let head = c.in_ok-header.ensures in
     let read = c.in_ok-instrs.ensures in
     let program : Program = record { kind = c.in_ok-header.header.kind; instrs = c.in_ok-instrs.instrs.items } in
-    let its : c.version.result ≡ version_of program = c.version.ensures ∙ ap version_of c.of-code.ensures in
+    let its : c.version.result ≡ version_of program = c.version.ensures ∙ ap version_of c.from_valid-code.ensures in
     let rows = read.spelt ∙ ap (λ (n : ℕ). take (8 * n) (drop 8 c.args.bytes.now)) head.count in
-    rw c.of-code.ensures (spelling_of_parts c.args.bytes.now program c.in_ok-header.header.version c.in_ok-header.header.count (sym its ∙ c.if-version-header.false) (read.length ∙ head.count) head.spelt rows c.if-header-bytes.false)
+    rw c.from_valid-code.ensures (spelling_of_parts c.args.bytes.now program c.in_ok-header.header.version c.in_ok-header.header.count (sym its ∙ c.if-version-header.false) (read.length ∙ head.count) head.spelt rows c.if-header-bytes.false)
 
 pub returns-clause-found : goal.returns-clause-found
 returns-clause-found c = found_program _ _ (returns-clause-exact c)
 
 pub returns-clause-program : goal.returns-clause-program
-returns-clause-program c = rw c.of-code.ensures (search rules)
+returns-clause-program c = rw c.from_valid-code.ensures (search rules)
 
 pub returns-clause-told : goal.returns-clause-told
 returns-clause-told c = told_program _ _ (returns-clause-program c) (returns-clause-exact c)

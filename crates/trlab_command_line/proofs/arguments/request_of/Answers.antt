@@ -6,84 +6,84 @@ use Rattle.trlab_command_line.proofs.CommandLine.{entered_name}
 use Rattle.trlab_command_line.proofs.Levels.{explain, flag_of as flag_has, number_of as number_has, option_of, run, series, sweep}
 use Rattle.trlab_command_line.proofs.arguments.request_of.Goals as goal
 
-pub count_of-requires : goal.count_of-requires
-count_of-requires c =
+pub thread_count_of-requires : goal.thread_count_of-requires
+thread_count_of-requires c =
     let rows = rows_of (found_of c.args.matches.now) in
     let entered : IsEntered (codes "run") rows = subst (λ n. IsEntered n rows) c.in-run.is c.requires in
     option_of run (codes "workers") (codes "1") 1 MAX_WORKERS refl rows entered
 
-pub number_of-requires : goal.number_of-requires
-number_of-requires c =
+pub option_number-requires : goal.option_number-requires
+option_number-requires c =
     let rows = rows_of (found_of c.args.matches.now) in
     let entered : IsEntered (codes "run") rows = subst (λ n. IsEntered n rows) c.in-run.is c.requires in
     let given = option_of run (codes "every") (codes "1") 1 MAX_STEPS refl rows entered in
     (1, MAX_STEPS, given.0, omega arith, given.1)
 
-pub number_of-requires-in-run : goal.number_of-requires-in-run
-number_of-requires-in-run c =
+pub option_number-requires-in-run : goal.option_number-requires-in-run
+option_number-requires-in-run c =
     let rows = rows_of (found_of c.args.matches.now) in
     let entered : IsEntered (codes "run") rows = subst (λ n. IsEntered n rows) c.in-run.is c.requires in
     let given = option_of run (codes "from") (codes "0") 0 MAX_STEPS refl rows entered in
     (0, MAX_STEPS, given.0, omega arith, given.1)
 
-pub flag_of-requires : goal.flag_of-requires
-flag_of-requires c =
+pub is_flag_given-requires : goal.is_flag_given-requires
+is_flag_given-requires c =
     let rows = rows_of (found_of c.args.matches.now) in
     let entered : IsEntered (codes "run") rows = subst (λ n. IsEntered n rows) c.in-run.is c.requires in
     flag_has run (codes "progress") refl rows entered
 
-pub count_of-requires-in-sweep : goal.count_of-requires-in-sweep
-count_of-requires-in-sweep c =
+pub thread_count_of-requires-in-sweep : goal.thread_count_of-requires-in-sweep
+thread_count_of-requires-in-sweep c =
     let rows = rows_of (found_of c.args.matches.now) in
     let entered : IsEntered (codes "sweep") rows = subst (λ n. IsEntered n rows) c.in-sweep.is c.requires in
     option_of sweep (codes "runners") (codes "1") 1 MAX_RUNNERS refl rows entered
 
-pub count_of-requires-in-sweep-2 : goal.count_of-requires-in-sweep-2
-count_of-requires-in-sweep-2 c =
+pub thread_count_of-requires-in-sweep-2 : goal.thread_count_of-requires-in-sweep-2
+thread_count_of-requires-in-sweep-2 c =
     let rows = rows_of (found_of c.args.matches.now) in
     let entered : IsEntered (codes "sweep") rows = subst (λ n. IsEntered n rows) c.in-sweep.is c.requires in
     option_of sweep (codes "workers") (codes "1") 1 MAX_WORKERS refl rows entered
 
-pub flag_of-requires-in-sweep : goal.flag_of-requires-in-sweep
-flag_of-requires-in-sweep c =
+pub is_flag_given-requires-in-sweep : goal.is_flag_given-requires-in-sweep
+is_flag_given-requires-in-sweep c =
     let rows = rows_of (found_of c.args.matches.now) in
     let entered : IsEntered (codes "sweep") rows = subst (λ n. IsEntered n rows) c.in-sweep.is c.requires in
     flag_has sweep (codes "progress") refl rows entered
 
-pub count_of-requires-in-series : goal.count_of-requires-in-series
-count_of-requires-in-series c =
+pub thread_count_of-requires-in-series : goal.thread_count_of-requires-in-series
+thread_count_of-requires-in-series c =
     let rows = rows_of (found_of c.args.matches.now) in
     let entered : IsEntered (codes "series") rows = subst (λ n. IsEntered n rows) c.in-series.is c.requires in
     option_of series (codes "workers") (codes "1") 1 MAX_WORKERS refl rows entered
 
-pub number_of-requires-in-series : goal.number_of-requires-in-series
-number_of-requires-in-series c =
+pub option_number-requires-in-series : goal.option_number-requires-in-series
+option_number-requires-in-series c =
     let rows = rows_of (found_of c.args.matches.now) in
     let entered : IsEntered (codes "series") rows = subst (λ n. IsEntered n rows) c.in-series.is c.requires in
     let given = option_of series (codes "every") (codes "1") 1 MAX_STEPS refl rows entered in
     (1, MAX_STEPS, given.0, omega arith, given.1)
 
-pub number_of-requires-in-series-2 : goal.number_of-requires-in-series-2
-number_of-requires-in-series-2 c =
+pub option_number-requires-in-series-2 : goal.option_number-requires-in-series-2
+option_number-requires-in-series-2 c =
     let rows = rows_of (found_of c.args.matches.now) in
     let entered : IsEntered (codes "series") rows = subst (λ n. IsEntered n rows) c.in-series.is c.requires in
     let given = option_of series (codes "from") (codes "0") 0 MAX_STEPS refl rows entered in
     (0, MAX_STEPS, given.0, omega arith, given.1)
 
-pub flag_of-requires-in-series : goal.flag_of-requires-in-series
-flag_of-requires-in-series c =
+pub is_flag_given-requires-in-series : goal.is_flag_given-requires-in-series
+is_flag_given-requires-in-series c =
     let rows = rows_of (found_of c.args.matches.now) in
     let entered : IsEntered (codes "series") rows = subst (λ n. IsEntered n rows) c.in-series.is c.requires in
     flag_has series (codes "progress") refl rows entered
 
-pub explaining_of-requires-clause-number : goal.explaining_of-requires-clause-number
-explaining_of-requires-clause-number c =
+pub explain_request_from_matches-requires-clause-number : goal.explain_request_from_matches-requires-clause-number
+explain_request_from_matches-requires-clause-number c =
     let rows = rows_of (found_of c.args.matches.now) in
     let entered : IsEntered (codes "explain") rows = subst (λ n. IsEntered n rows) c.in-explain.is c.requires in
     number_has explain refl rows entered
 
-pub explaining_of-requires-clause-json : goal.explaining_of-requires-clause-json
-explaining_of-requires-clause-json c =
+pub explain_request_from_matches-requires-clause-json : goal.explain_request_from_matches-requires-clause-json
+explain_request_from_matches-requires-clause-json c =
     let rows = rows_of (found_of c.args.matches.now) in
     let entered : IsEntered (codes "explain") rows = subst (λ n. IsEntered n rows) c.in-explain.is c.requires in
     flag_has explain (codes "json") refl rows entered
@@ -92,22 +92,22 @@ pub returns-in-run-clause-counts : goal.returns-in-run-clause-counts
 returns-in-run-clause-counts c =
     let rows = rows_of (found_of c.args.matches.now) in
     let entered : IsEntered (codes "run") rows = subst (λ n. IsEntered n rows) c.in-run.is c.requires in
-    let workers = c.count_of.ensures in
+    let workers = c.thread_count_of.ensures in
     let every = option_of run (codes "every") (codes "1") 1 MAX_STEPS refl rows entered in
     let from = option_of run (codes "from") (codes "0") 0 MAX_STEPS refl rows entered in
-    let some = c.number_of.ensures.within 1 MAX_STEPS every.0 (omega arith) every.1 in
-    let few = c.number_of-in-run.ensures.within 0 MAX_STEPS from.0 (omega arith) from.1 in
+    let some = c.option_number.ensures.within 1 MAX_STEPS every.0 (omega arith) every.1 in
+    let few = c.option_number-in-run.ensures.within 0 MAX_STEPS from.0 (omega arith) from.1 in
     ((workers.some, workers.few), some, few.1)
 
 pub returns-in-series-clause-counts : goal.returns-in-series-clause-counts
 returns-in-series-clause-counts c =
     let rows = rows_of (found_of c.args.matches.now) in
     let entered : IsEntered (codes "series") rows = subst (λ n. IsEntered n rows) c.in-series.is c.requires in
-    let workers = c.count_of-in-series.ensures in
+    let workers = c.thread_count_of-in-series.ensures in
     let every = option_of series (codes "every") (codes "1") 1 MAX_STEPS refl rows entered in
     let from = option_of series (codes "from") (codes "0") 0 MAX_STEPS refl rows entered in
-    let some = c.number_of-in-series.ensures.within 1 MAX_STEPS every.0 (omega arith) every.1 in
-    let few = c.number_of-in-series-2.ensures.within 0 MAX_STEPS from.0 (omega arith) from.1 in
+    let some = c.option_number-in-series.ensures.within 1 MAX_STEPS every.0 (omega arith) every.1 in
+    let few = c.option_number-in-series-2.ensures.within 0 MAX_STEPS from.0 (omega arith) from.1 in
     ((workers.some, workers.few), some, few.1)
 
 pub unreachable-requires : goal.unreachable-requires

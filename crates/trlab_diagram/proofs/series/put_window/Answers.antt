@@ -1,7 +1,7 @@
 use Rattle.std.proofs.Common.{◌≡◌, ℕ, ◌<◌, ◌^◌, map, decimal, arith, rules}
 use Rattle.csv.specs.Records.{fields_of}
 use Rattle.trlab_diagram.specs.Flow.{flow_of}
-use Rattle.trlab_diagram.specs.Series.{window_numbers}
+use Rattle.trlab_diagram.specs.Series.{window_columns}
 use Rattle.trlab_diagram.proofs.Rows.{AreSmall, window_row}
 use Rattle.trlab_diagram.proofs.series.put_window.Goals as goal
 
@@ -12,11 +12,11 @@ fits n small = omega (arith, small)
 pub returns : goal.returns
 returns c =
     let w = c.args.window.now in
-    let fields : fields_of c.push_counts-2.new.row ≡ map decimal (window_numbers w) = search rules in
+    let fields : fields_of c.push_counts-2.new.row ≡ map decimal (window_columns w) = search rules in
     let flow : flow_of w.point < 2 ^ 128 = omega (arith, c.flow.ensures, c.flow.type_inv) in
     let road = c.push_counts.ensures.small in
     let lanes = c.push_counts-2.ensures.small in
-    let small : AreSmall (window_numbers w) = (
+    let small : AreSmall (window_columns w) = (
       fits _ (road 0 0 (omega arith)),
       (
         fits _ (road 1 0 (omega arith)),

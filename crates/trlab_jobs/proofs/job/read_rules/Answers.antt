@@ -15,7 +15,7 @@ use Rattle.trlab_jobs.proofs.job.read_rules.Goals as goal
 pub returns-in_err-first : goal.returns-in_err-first
 returns-in_err-first c =
     let fault = handed_on c.from_residual.result c.in_err-first.field-0.0 c.from_residual.ensures.0 c.from_residual.ensures.1 in
-    let told = subst (λ n. Reports {A = Programs × Rest} (rule n c.args.rest) (Err c.in_err-first.field-0.0)) c.lanes-count.ensures.value c.in_err-first.ensures.told in
+    let told = subst (λ n. Reports {A = Programs × Rest} (rule n c.args.rest) (Err c.in_err-first.field-0.0)) c.lanes.ensures.value c.in_err-first.ensures.told in
     record {
       told = rw fault (ends_in_fault (after_lanes c.args.key c.args.road) c.args.rest c.in_err-first.field-0.0
           (stops (rule (length c.args.road.lanes)) (after_rule c.args.key c.args.road) c.args.rest c.in_err-first.field-0.0 told));
@@ -25,7 +25,7 @@ returns-in_err-first c =
 pub returns-in_err-steps : goal.returns-in_err-steps
 returns-in_err-steps c =
     let fault = handed_on c.from_residual-in_err-steps.result c.in_err-steps.field-0.0 c.from_residual-in_err-steps.ensures.0 c.from_residual-in_err-steps.ensures.1 in
-    let first = rw c.lanes-count.ensures.value at c.in_ok-first.ensures.told in
+    let first = rw c.lanes.ensures.value at c.in_ok-first.ensures.told in
     record {
       told = rw fault (ends_in_fault (after_lanes c.args.key c.args.road) c.args.rest c.in_err-steps.field-0.0
           (behind_rule c.args.key c.args.road c.in_ok-first.first c.args.rest c.in_ok-first.rest (Err c.in_err-steps.field-0.0) first
@@ -36,8 +36,8 @@ returns-in_err-steps c =
 pub returns-in_err-later : goal.returns-in_err-later
 returns-in_err-later c =
     let fault = handed_on c.from_residual-in_err-later.result c.in_err-later.field-0.0 c.from_residual-in_err-later.ensures.0 c.from_residual-in_err-later.ensures.1 in
-    let first = rw c.lanes-count.ensures.value at c.in_ok-first.ensures.told in
-    let told = subst (λ n. Reports {A = Sheet × Rest} (later_rules n c.in_ok-steps.steps c.in_ok-steps.rest) (Err c.in_err-later.field-0.0)) c.lanes-count.ensures.value c.in_err-later.ensures.told in
+    let first = rw c.lanes.ensures.value at c.in_ok-first.ensures.told in
+    let told = subst (λ n. Reports {A = Sheet × Rest} (later_rules n c.in_ok-steps.steps c.in_ok-steps.rest) (Err c.in_err-later.field-0.0)) c.lanes.ensures.value c.in_err-later.ensures.told in
     record {
       told = rw fault (ends_in_fault (after_lanes c.args.key c.args.road) c.args.rest c.in_err-later.field-0.0
           (behind_rule c.args.key c.args.road c.in_ok-first.first c.args.rest c.in_ok-first.rest (Err c.in_err-later.field-0.0) first
@@ -50,8 +50,8 @@ pub returns-clause-told : goal.returns-clause-told
 returns-clause-told c =
     let after : Rest = c.in_ok-later.field-0-1 in
     let say : Job = record { key = c.args.key; road = c.args.road; first = c.in_ok-first.first; later = c.in_ok-later.later.items; steps = c.in_ok-steps.steps } in
-    let first = rw c.lanes-count.ensures.value at c.in_ok-first.ensures.told in
-    let later = rw c.lanes-count.ensures.value at c.in_ok-later.ensures.told in (
+    let first = rw c.lanes.ensures.value at c.in_ok-first.ensures.told in
+    let later = rw c.lanes.ensures.value at c.in_ok-later.ensures.told in (
       after,
       behind_rule c.args.key c.args.road c.in_ok-first.first c.args.rest c.in_ok-first.rest (Ok (say, after)) first
           (behind_steps c.args.key c.args.road c.in_ok-first.first c.in_ok-steps.steps c.in_ok-first.rest c.in_ok-steps.rest (Ok (say, after)) (line_by _ (exactly steps_line) c.in_ok-first.rest (Ok (c.in_ok-steps.steps, c.in_ok-steps.rest)) (λ text says p. search rules) c.in_ok-steps.ensures)

@@ -4,7 +4,7 @@ use Rattle.trlab_code.specs.declared.program.Kind.TheVariants.{Motion}
 use Rattle.trlab_verify.specs.CheckedProgram.{CheckedProgram}
 use Rattle.trlab_rules.specs.Rules.{Programs}
 use Rattle.trlab_texts.specs.Programs.{part}
-use Rattle.trlab_texts.specs.Reading.{Reading, ◌>>=◌, say}
+use Rattle.trlab_texts.specs.Reading.{Reading, ◌>>=◌, give}
 use Rattle.trlab_texts.proofs.Readings.{goes_on, stops}
 use Rattle.trlab_jobs.specs.RuleParts.{change_part}
 use Rattle.trlab_jobs.proofs.HandedOn.{handed_on}
@@ -13,7 +13,7 @@ use Rattle.trlab_jobs.proofs.rule.own_rule.Goals as goal
 
 -- what is read after each part
 abbrev after_change : CheckedProgram → Option CheckedProgram → Reading Programs
-after_change motion change = say (record { motion = motion; change = change })
+after_change motion change = give (record { motion = motion; change = change })
 
 abbrev after_motion : ℕ → CheckedProgram → Reading Programs
 after_motion lanes motion = change_part lanes >>= after_change motion

@@ -12,11 +12,11 @@ returns-in_err-limit c =
       few = rw fault tt;
     }
 
-pub returns-in_err-cells : goal.returns-in_err-cells
-returns-in_err-cells c =
-    let fault = handed_on c.from_residual-in_err-cells.result c.in_err-cells.field-0.0 c.from_residual-in_err-cells.ensures.0 c.from_residual-in_err-cells.ensures.1 in
+pub returns-in_err-length : goal.returns-in_err-length
+returns-in_err-length c =
+    let fault = handed_on c.from_residual-in_err-length.result c.in_err-length.field-0.0 c.from_residual-in_err-length.ensures.0 c.from_residual-in_err-length.ensures.1 in
     record {
-      told = rw fault (cells_fail c.in_ok-limit.limit c.args.rest c.in_ok-limit.rest c.in_err-cells.field-0.0 c.in_ok-limit.ensures.told c.in_err-cells.ensures.told);
+      told = rw fault (cells_fail c.in_ok-limit.limit c.args.rest c.in_ok-limit.rest c.in_err-length.field-0.0 c.in_ok-limit.ensures.told c.in_err-length.ensures.told);
       cells = rw fault tt;
       some = rw fault tt;
       few = rw fault tt;
@@ -26,8 +26,8 @@ pub returns-in_err-lanes : goal.returns-in_err-lanes
 returns-in_err-lanes c =
     let fault = handed_on c.from_residual-in_err-lanes.result c.in_err-lanes.field-0.0 c.from_residual-in_err-lanes.ensures.0 c.from_residual-in_err-lanes.ensures.1 in
     record {
-      told = rw fault (lanes_fail c.in_ok-limit.limit c.in_ok-cells.cells c.args.rest c.in_ok-limit.rest c.in_ok-cells.rest c.in_err-lanes.field-0.0
-          c.in_ok-limit.ensures.told c.in_ok-cells.ensures.told c.in_err-lanes.ensures.told);
+      told = rw fault (lanes_fail c.in_ok-limit.limit c.in_ok-length.length c.args.rest c.in_ok-limit.rest c.in_ok-length.rest c.in_err-lanes.field-0.0
+          c.in_ok-limit.ensures.told c.in_ok-length.ensures.told c.in_err-lanes.ensures.told);
       cells = rw fault tt;
       some = rw fault tt;
       few = rw fault tt;
@@ -35,5 +35,5 @@ returns-in_err-lanes c =
 
 pub returns-clause-told : goal.returns-clause-told
 returns-clause-told c =
-    shape_said c.in_ok-limit.limit c.in_ok-cells.cells c.in_ok-lanes.lanes c.args.rest c.in_ok-limit.rest c.in_ok-cells.rest c.in_ok-lanes.rest
-    c.in_ok-limit.ensures.told c.in_ok-cells.ensures.told c.in_ok-lanes.ensures.told
+    shape_said c.in_ok-limit.limit c.in_ok-length.length c.in_ok-lanes.lanes c.args.rest c.in_ok-limit.rest c.in_ok-length.rest c.in_ok-lanes.rest
+    c.in_ok-limit.ensures.told c.in_ok-length.ensures.told c.in_ok-lanes.ensures.told

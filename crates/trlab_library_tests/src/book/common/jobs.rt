@@ -5,26 +5,30 @@ use trlab_road::Road;
 use trlab_sequential_book::Seed;
 use trlab_words::{CERTAIN, Key};
 
+/// The maximum speed of the cars, in cells per step.
+const LIMIT: u32 = 5;
+
 /// No car brakes at random.
 pub const NEVER: u32 = 0;
 
-/// A car brakes with probability 1/2.
+/// Each car brakes with probability 1/2.
 pub const BY_HALF: u32 = CERTAIN / 2;
 
 /// Each car brakes in each step.
 pub const ALWAYS: u32 = CERTAIN;
 
-/// A job whose cars are those of a one-lane picture and brake with the probability `chance` / 2^31. Its key is zero.
+/// A job on a road of one lane with this picture, in the Nagel-Schreckenberg model. Its key is zero.
 #[derive(Clone, Copy)]
 pub struct TestJob {
     pub picture: &'static [u8],
-    /// The number of its road.
+    /// The number of its road, on which its random numbers depend.
     pub number: u32,
+    /// The braking probability times 2^31.
     pub chance: u32,
     pub steps: u32,
 }
 
-/// A job of two cars that never brake at random.
+/// A job of two stopped cars that never brake at random.
 pub fn two_cars(number: u32, steps: u32) -> TestJob {
     TestJob {
         picture: b"0.0.......",
@@ -34,14 +38,12 @@ pub fn two_cars(number: u32, steps: u32) -> TestJob {
     }
 }
 
-pub fn seed_of(alloc: Global, job: &TestJob) -> Option<Seed> {
-    match Road::parse(alloc, 5, &[job.picture]) {
-        Ok(road) => Some(Seed {
-            road,
-            key: Key([0; 32]),
-            number: job.number,
-            warm: 0,
-        }),
-        Err(_) => None,
-    }
+/// The seed of a job, without warm-up, on a road of maximum speed `LIMIT`. `None` if the road cannot be made.
+pub fn new_seed(alloc: Global, job: &TestJob) -> Option<Seed> {
+    Some(Seed {
+        road: Road::parse(alloc, LIMIT, &[job.picture]).ok()?,
+        key: Key([0; 32]),
+        number: job.number,
+        warm: 0,
+    })
 }

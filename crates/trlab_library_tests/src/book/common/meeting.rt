@@ -1,4 +1,4 @@
-//! Gates that hold a thread until another has come.
+//! A gate that holds a thread until another has come.
 
 use std::hint;
 use std::sync::atomic::{AtomicBool, Ordering};
@@ -18,7 +18,7 @@ pub fn waits_for(came: &AtomicBool) -> bool {
     false
 }
 
-/// Holds the segments of road 0 until one of road 1 has come, and the other way round.
+/// A gate that holds the segments of road 0 until one of road 1 has come, and the other way round.
 #[derive(Drop)]
 pub struct Meeting {
     first: AtomicBool,
@@ -27,7 +27,8 @@ pub struct Meeting {
 }
 
 impl Meeting {
-    pub fn new() -> Self {
+    /// A gate to which no segment has come.
+    pub fn new() -> Meeting {
         Meeting {
             first: AtomicBool::new(false),
             second: AtomicBool::new(false),

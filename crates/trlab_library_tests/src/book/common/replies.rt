@@ -2,9 +2,9 @@
 
 use trlab_sequential_book::{BookFault, Lease, Order, Reply, Snapshot};
 
-/// The reply that a lease of job 0, which has four steps, went out.
-macro_rules! went_out {
-    ($number:expr, $step:expr) => {
+/// The reply to `lease` that job 0, which has four steps, is leased.
+macro_rules! leased {
+    (number: $number:expr, step: $step:expr) => {
         Reply::Leased {
             job: 0,
             number: $number,
@@ -14,11 +14,11 @@ macro_rules! went_out {
     };
 }
 
-pub(crate) use went_out;
+pub(crate) use leased;
 
-/// The reply that a step of job 0 was ordered.
+/// The reply to `order` that the lease of job 0 with this number may run a step. `from` is the first step of its rule.
 macro_rules! ordered {
-    ($number:expr, $step:expr, $from:expr) => {
+    (number: $number:expr, step: $step:expr, from: $from:expr) => {
         Reply::Ordered {
             job: 0,
             number: $number,
@@ -30,9 +30,9 @@ macro_rules! ordered {
 
 pub(crate) use ordered;
 
-/// The reply to a read, with the steps done and the number of rules.
+/// The reply to `read`, with the number of steps done and the number of rules in the sheet.
 macro_rules! seen {
-    ($step:expr, $entries:expr) => {
+    (step: $step:expr, entries: $entries:expr) => {
         Reply::Seen {
             step: $step,
             entries: $entries,

@@ -21,9 +21,10 @@ use trlab_strands::{Blank, Ledger};
 
 /// A call at the table.
 #[derive(Clone, Copy)]
-pub enum Made {
+pub enum TestCall {
     /// Submits a job of this many steps.
     Submit(u32),
+    /// Replaces the rule of this job.
     Replace(u32),
     Lease,
     /// Orders the next step of the last lease, and runs it.
@@ -32,7 +33,7 @@ pub enum Made {
     GiveBack,
     Revoke(u32),
     Cancel(u32),
-    /// Reads a job; its cars must be those of this picture.
+    /// Reads this job; its road must have this picture.
     Read(u32, &'static [u8]),
 }
 
@@ -57,7 +58,7 @@ fn run_ordered(alloc: Global, lease: &mut Lease, order: &Order) -> Option<Reply>
     }
 }
 
-/// The reply to a read, if its cars are those of a picture. They are compared twice if an allocation fails.
+/// The reply to `read`, if the road has this picture. The comparison is repeated if an allocation fails.
 fn reply_if_shown(alloc: Global, seen: &Snapshot, picture: &[u8]) -> Option<Reply> {
     let shown = has_picture(alloc, seen.road(), picture)
         || has_picture(alloc, seen.road(), picture);
@@ -94,13 +95,14 @@ impl<L: Ledger> Table<L> {
         number_reply(replace(rt, alloc, &self.book, &mut self.desk, job, ALWAYS))
     }
 
+    /// Leases the next free job. The lease becomes the last lease of the table.
     fn lease<R: Wait>(&mut self, rt: &R, alloc: Global) -> Option<Reply> {
         self.leases.reserve(1).ok()?;
         match self.book.lease(rt, alloc, &mut self.desk) {
             Ok(Some(lease)) => {
-                let told = leased_reply(&lease);
+                let reply = leased_reply(&lease);
                 self.leases.push_reserved(lease);
-                Some(told)
+                Some(reply)
             }
             Ok(None) => Some(Reply::NoLease),
             Err(fault) => Some(Reply::Refused(fault)),
@@ -127,7 +129,7 @@ impl<L: Ledger> Table<L> {
         }
     }
 
-    /// Reads a job. Returns the reply if its cars are those of a picture.
+    /// Reads a job. Returns the reply if it is refused or the road has this picture.
     fn read<R: Wait>(&mut self, rt: &R, alloc: Global, job: u32, picture: &[u8]) -> Option<Reply> {
         match self.book.read(rt, alloc, &mut self.desk, job) {
             Ok(seen) => reply_if_shown(alloc, &seen, picture),
@@ -135,32 +137,43 @@ impl<L: Ledger> Table<L> {
         }
     }
 
-    /// Makes a call, and returns its reply, or `None` if an allocation failed or a read shows other cars.
-    fn make<R: Wait>(&mut self, rt: &R, alloc: Global, call: Made) -> Option<Reply> {
+    /// Makes a call, and returns its reply, or `None` if an allocation failed or a read shows another picture.
+    fn make<R: Wait>(&mut self, rt: &R, alloc: Global, call: TestCall) -> Option<Reply> {
         match call {
-            Made::Submit(steps) => Some(self.submit(rt, alloc, steps)),
-            Made::Replace(job) => Some(self.replace(rt, alloc, job)),
-            Made::Lease => self.lease(rt, alloc),
-            Made::Order => self.order(rt, alloc),
-            Made::GiveBack => self.give_back(rt),
-            Made::Revoke(job) => Some(done_reply(self.book.revoke(rt, &mut self.desk, job))),
-            Made::Cancel(job) => Some(done_reply(self.book.cancel(rt, &mut self.desk, job))),
-            Made::Read(job, picture) => self.read(rt, alloc, job, picture),
+            TestCall::Submit(steps) => Some(self.submit(rt, alloc, steps)),
+            TestCall::Replace(job) => Some(self.replace(rt, alloc, job)),
+            TestCall::Lease => self.lease(rt, alloc),
+            TestCall::Order => self.order(rt, alloc),
+            TestCall::GiveBack => self.give_back(rt),
+            TestCall::Revoke(job) => Some(done_reply(self.book.revoke(rt, &mut self.desk, job))),
+            TestCall::Cancel(job) => Some(done_reply(self.book.cancel(rt, &mut self.desk, job))),
+            TestCall::Read(job, picture) => self.read(rt, alloc, job, picture),
         }
     }
 
-    /// Whether a call has this reply. If an allocation fails, the call is made again.
-    pub fn answers<R: Wait>(&mut self, rt: &R, alloc: Global, call: Made, wanted: Reply) -> bool {
+    /// Makes a call, and makes it again if an allocation failed. Returns whether its reply is `wanted`.
+    pub fn answers<R: Wait>(
+        &mut self,
+        rt: &R,
+        alloc: Global,
+        call: TestCall,
+        wanted: Reply,
+    ) -> bool {
         match self.make(rt, alloc, call) {
             None | Some(Reply::Refused(BookFault::Memory)) => {
                 self.make(rt, alloc, call) == Some(wanted)
             }
-            Some(told) => told == wanted,
+            Some(reply) => reply == wanted,
         }
     }
 
-    /// Makes calls in order, as long as each has the expected reply. Returns whether all have it.
-    pub fn answers_all<R: Wait>(&mut self, rt: &R, alloc: Global, calls: &[(Made, Reply)]) -> bool {
+    /// Makes calls in order until a reply is not as expected. Returns whether all replies are as expected.
+    pub fn answers_all<R: Wait>(
+        &mut self,
+        rt: &R,
+        alloc: Global,
+        calls: &[(TestCall, Reply)],
+    ) -> bool {
         for (call, wanted) in calls {
             if !self.answers(rt, alloc, *call, *wanted) {
                 return false;

@@ -9,5 +9,5 @@ abbrev pub invariant-loop-x : goal.invariant-loop-x
 invariant-loop-x l = record {
   all : length l.rows ≡ VARIABLES;
   so_far : (k : ℕ) → k < l.x → (y : ℕ) → y < VARIABLES → level_of l.rows k y ≡
-      level_between (get_or l.said k Nothing) (get_or l.said y Nothing) (nat_eq k y) (get_or (get_or l.levels k []) y 0);
+      level_between (get_or l.values k Nothing) (get_or l.values y Nothing) (nat_eq k y) (get_or (get_or l.levels k []) y 0);
 }

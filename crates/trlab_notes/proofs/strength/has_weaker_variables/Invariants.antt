@@ -5,4 +5,4 @@ use Rattle.trlab_notes.specs.Order.{IsNoMorePrecise}
 use Rattle.trlab_notes.proofs.strength.has_weaker_variables.Given as goal
 
 abbrev pub invariant-loop-x : goal.invariant-loop-x
-invariant-loop-x l = (k : ℕ) → k < l.x → IsNoMorePrecise (with_side l.m.side (get_or l.m.said k Nothing)) (with_side l.n.side (get_or l.n.said k Nothing))
+invariant-loop-x l = (k : ℕ) → k < l.x → IsNoMorePrecise (with_side l.m.side (get_or l.m.values k Nothing)) (with_side l.n.side (get_or l.n.values k Nothing))

@@ -6,4 +6,4 @@ use Rattle.trlab_notes.specs.Order.{join_values}
 use Rattle.trlab_notes.proofs.strength.join_variables.Given as goal
 
 abbrev pub invariant-loop-x : goal.invariant-loop-x
-invariant-loop-x l = (length l.said ≡ VARIABLES) × ((k : ℕ) → k < l.x → get_or l.said k Nothing ≡ join_values (with_side l.a.side (get_or l.a.said k Nothing)) (with_side l.b.side (get_or l.b.said k Nothing)))
+invariant-loop-x l = (length l.values ≡ VARIABLES) × ((k : ℕ) → k < l.x → get_or l.values k Nothing ≡ join_values (with_side l.a.side (get_or l.a.values k Nothing)) (with_side l.b.side (get_or l.b.values k Nothing)))

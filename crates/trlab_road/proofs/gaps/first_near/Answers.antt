@@ -4,8 +4,8 @@ use Rattle.trlab_road.proofs.Lists.{rises_weakly}
 use Rattle.trlab_road.proofs.gaps.first_near.Goals as goal
 
 -- the cars before the index stand before the place
-pub past_four-near-requires-clause-before : goal.past_four-near-requires-clause-before
-past_four-near-requires-clause-before c = λ k low on.
+pub pass_four-near-requires-clause-before : goal.pass_four-near-requires-clause-before
+pass_four-near-requires-clause-before c = λ k low on.
     let near : 0 < c.args.near = omega (arith, c.if-near-eq0.false) in
     let inside : c.args.near - 1 < length c.args.cars.now = omega (arith, c.if-near-cars.false, near) in
     let last : place_of c.args.cars.now (c.args.near - 1) < c.args.place = omega (arith, c.if-place_at-place.false, c.place_at.ensures) in

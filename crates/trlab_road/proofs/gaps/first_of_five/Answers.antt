@@ -5,8 +5,8 @@ use Rattle.trlab_road.proofs.Lists.{rises_weakly}
 use Rattle.trlab_road.proofs.gaps.first_of_five.Goals as goal
 
 -- the cars before the index stand before the place
-pub past_four-next-requires-clause-before : goal.past_four-next-requires-clause-before
-past_four-next-requires-clause-before c = λ k low on.
+pub pass_four-next-requires-clause-before : goal.pass_four-next-requires-clause-before
+pass_four-next-requires-clause-before c = λ k low on.
     let near : 0 < c.args.near = omega (arith, c.if-near-eq0.false) in
     let inside : c.args.near - 1 < length c.args.cars.now = omega (arith, c.if-near-cars.false, near) in
     let last : place_of c.args.cars.now (c.args.near - 1) < c.args.place = omega (arith, c.if-place_at-place.false, c.place_at.ensures) in
@@ -16,9 +16,9 @@ past_four-next-requires-clause-before c = λ k low on.
 pub returns-then-place_at-place-2-clause-found : goal.returns-then-place_at-place-2-clause-found
 returns-then-place_at-place-2-clause-found c = record {
   within = omega (arith, c.if-next-cars.true);
-  before = c.past_four-next.ensures.before;
+  before = c.pass_four-next.ensures.before;
   from = λ k le on.
-      let order = rises_weakly c.requires.sorted.0 c.args.cars.now c.past_four-next.result k c.requires.sorted.1 le on in
+      let order = rises_weakly c.requires.sorted.0 c.args.cars.now c.pass_four-next.result k c.requires.sorted.1 le on in
       omega (arith, order, c.if-place_at-place-2.true, c.place_at-then-next-cars.ensures);
 }
 
@@ -26,7 +26,7 @@ returns-then-place_at-place-2-clause-found c = record {
 pub returns-then-place_at-place-2-clause-past : goal.returns-then-place_at-place-2-clause-past
 returns-then-place_at-place-2-clause-past c =
     let cars = c.args.cars.now in
-    let next = c.past_four-next.result in
+    let next = c.pass_four-next.result in
     let near : 0 < c.args.near = omega (arith, c.if-near-eq0.false) in
     let inside : c.args.near - 1 < length cars = omega (arith, c.if-near-cars.false, near) in
     let last : place_of cars (c.args.near - 1) < c.args.place = omega (arith, c.if-place_at-place.false, c.place_at.ensures) in

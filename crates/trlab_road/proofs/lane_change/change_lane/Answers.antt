@@ -15,10 +15,10 @@ loop-own_next-init c =
     let oc = lane_crosses_at (cells_of n own) c.args.crosses.now c.args.own.from in
     let none = merged_none n own c.args.coming.now oc (λ _. true) c.requires.own_sorted c.requires.coming_sorted in
     record {
-      own_due = record { here = c.next_place-own_next.ensures.here; past = c.next_place-own_next.ensures.past };
-      coming_due = record { here = c.next_place-due.ensures.here; past = c.next_place-due.ensures.past };
+      own_due = record { here = c.place_or_end-own_next.ensures.here; past = c.place_or_end-own_next.ensures.past };
+      coming_due = record { here = c.place_or_end-due.ensures.here; past = c.place_or_end-due.ensures.past };
       merged = rw (c.in_ok-reserve.ensures.items, c.clear.ensures.items) (merged_next n own c.args.coming.now oc (λ _. true) c.requires.own_sorted c.requires.coming_sorted _ 0 0 0 _ _ _ none (omega arith)
-          c.next_place-own_next.ensures.here c.next_place-own_next.ensures.past c.next_place-due.ensures.here c.next_place-due.ensures.past refl);
+          c.place_or_end-own_next.ensures.here c.place_or_end-own_next.ensures.past c.place_or_end-due.ensures.here c.place_or_end-due.ensures.past refl);
     }
 
 -- where none stays, who comes
@@ -92,7 +92,7 @@ loop-own_next-preserved-then-own_next-due c =
             ),
           )
     ] in
-    let further = c.next_place-own_next-then-own_next-due.ensures in
+    let further = c.place_or_end-own_next-then-own_next-due.ensures in
     record {
       own_due = record { here = further.here; past = further.past };
       coming_due = coming_due;
@@ -147,8 +147,8 @@ loop-own_next-preserved c =
           rw (w.car-is, w.car_at-car-else-own_here.ensures)
           (merged_push n own beside oc bc r q items i j x m _ _ (j + 1) s t inside there (sym here ∙ comes (oc x) (cell_at own x) (cell_at beside x) gone))
     ] in
-    let further = c.next_place-own_next-else-own_next-due.ensures in
-    let due = c.next_place-due-else-own_next-due.ensures in
+    let further = c.place_or_end-own_next-else-own_next-due.ensures in
+    let due = c.place_or_end-due-else-own_next-due.ensures in
     record {
       own_due = record { here = further.here; past = further.past };
       coming_due = record { here = due.here; past = due.past };

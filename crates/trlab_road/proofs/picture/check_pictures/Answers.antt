@@ -35,7 +35,7 @@ pub loop-lane-preserved : goal.loop-lane-preserved
 loop-lane-preserved c =
     let read = picture_read c.args.pictures.now c.loop-lane.lane in
     one_more c.args.limit (map (λ s. s.now) c.args.pictures.now) c.loop-lane.lane c.loop-lane.invariant
-    (rw read (λ y h. c.first_bad-place.ensures.before y (let k = c.if-place-picture.false in omega arith)))
+    (rw read (λ y h. c.first_invalid-place.ensures.before y (let k = c.if-place-picture.false in omega arith)))
 
 -- pictures of this shape, of which all is well up to a character
 module _ (limit : ℕ) (held : List (Bor (List ℕ))) (some : 1 ≤ length held) (few : length held ≤ 2) (equal : HaveEqualLengths (pictures_of held)) (low : limit ≢ 0) (high : limit ≤ MAX_LIMIT) where
@@ -55,27 +55,27 @@ module _ (limit : ℕ) (held : List (Bor (List ℕ))) (some : 1 ≤ length held)
     pub any_speed : ShowsSpeed MAX_LIMIT (slice_index picture_here x) ↔ ShowsAnySpeed (pictures_of held) l x
     any_speed = let read = picture_read held l in (λ h. rw read h, λ h. rw read at h)
 
-pub returns-then-speed : goal.returns-then-speed
-returns-then-speed c =
+pub returns-then-is_speed : goal.returns-then-is_speed
+returns-then-is_speed c =
     let held = c.args.pictures.now in
     let l = c.loop-lane.lane in
-    let x = c.first_bad-place.result in
+    let x = c.first_invalid-place.result in
     let some = some_pictures (length held) c.if-is_empty.ensures in
     let equal = c.if-not-has_equal_lanes.ensures.0 refl in
     let fault = fault_at c.args.limit held some c.if-pictures.false equal c.if-limit-eq0.false c.if-limit-gt-MAX_LIMIT.false l x c.loop-lane-test.true c.loop-lane.invariant
-    c.if-place-picture.true c.first_bad-place.ensures.before (c.first_bad-place.ensures.bad c.if-place-picture.true) in
-    (fault, (any_speed c.args.limit held some c.if-pictures.false equal c.if-limit-eq0.false c.if-limit-gt-MAX_LIMIT.false l x c.loop-lane-test.true c.loop-lane.invariant).0 (c.shows_speed-speed.ensures.0 c.if-speed.true))
+    c.if-place-picture.true c.first_invalid-place.ensures.before (c.first_invalid-place.ensures.invalid c.if-place-picture.true) in
+    (fault, (any_speed c.args.limit held some c.if-pictures.false equal c.if-limit-eq0.false c.if-limit-gt-MAX_LIMIT.false l x c.loop-lane-test.true c.loop-lane.invariant).0 (c.shows_speed-is_speed.ensures.0 c.if-is_speed.true))
 
-pub returns-else-speed : goal.returns-else-speed
-returns-else-speed c =
+pub returns-else-is_speed : goal.returns-else-is_speed
+returns-else-is_speed c =
     let held = c.args.pictures.now in
     let l = c.loop-lane.lane in
-    let x = c.first_bad-place.result in
+    let x = c.first_invalid-place.result in
     let some = some_pictures (length held) c.if-is_empty.ensures in
     let equal = c.if-not-has_equal_lanes.ensures.0 refl in
     let fault = fault_at c.args.limit held some c.if-pictures.false equal c.if-limit-eq0.false c.if-limit-gt-MAX_LIMIT.false l x c.loop-lane-test.true c.loop-lane.invariant
-    c.if-place-picture.true c.first_bad-place.ensures.before (c.first_bad-place.ensures.bad c.if-place-picture.true) in
-    (fault, λ shown. both_ways c.shows_speed-speed.result c.if-speed.false (c.shows_speed-speed.ensures.1 ((any_speed c.args.limit held some c.if-pictures.false equal c.if-limit-eq0.false c.if-limit-gt-MAX_LIMIT.false l x c.loop-lane-test.true c.loop-lane.invariant).1 shown)))
+    c.if-place-picture.true c.first_invalid-place.ensures.before (c.first_invalid-place.ensures.invalid c.if-place-picture.true) in
+    (fault, λ shown. both_ways c.shows_speed-is_speed.result c.if-is_speed.false (c.shows_speed-is_speed.ensures.1 ((any_speed c.args.limit held some c.if-pictures.false equal c.if-limit-eq0.false c.if-limit-gt-MAX_LIMIT.false l x c.loop-lane-test.true c.loop-lane.invariant).1 shown)))
 
 pub returns-then-is_empty : goal.returns-then-is_empty
 returns-then-is_empty c = λ fit.
@@ -110,8 +110,8 @@ returns-then-limit-eq0 c = (
 pub loop-lane-init : goal.loop-lane-init
 loop-lane-init c = λ m y low h. absurd (omega (arith, low))
 
-pub first_bad-place-requires : goal.first_bad-place-requires
-first_bad-place-requires c = c.if-limit-gt-MAX_LIMIT.false
+pub first_invalid-place-requires : goal.first_invalid-place-requires
+first_invalid-place-requires c = c.if-limit-gt-MAX_LIMIT.false
 
 pub overflow_cast-lane : goal.overflow_cast-lane
 overflow_cast-lane c = let on = c.loop-lane-test.true in let few = c.if-pictures.false in omega (arith, on, few)

@@ -17,16 +17,16 @@ draw_lane-requires-clause-shown c =
     let size = length-map c.args.pictures.now (λ s. s.now) in
     let on : i < length ps = rw size c.loop-picture-test.true in
     let read = picture_read c.args.pictures.now i in
-    let all : (x : ℕ) → x < length (picture_at ps i) → ShowsCell MAX_LIMIT (character_at ps i x) = λ x h. c.requires.good.cells i x on h in
+    let all : (x : ℕ) → x < length (picture_at ps i) → ShowsCell MAX_LIMIT (character_at ps i x) = λ x h. c.requires.valid.cells i x on h in
     rw read at all
 
 pub draw_lane-requires-clause-small : goal.draw_lane-requires-clause-small
 draw_lane-requires-clause-small c =
     let i = c.loop-picture.picture-index in
     let size = length-map c.args.pictures.now (λ s. s.now) in
-    let same = c.requires.good.shape.lengths.equal i (rw size c.loop-picture-test.true) in
+    let same = c.requires.valid.shape.lengths.equal i (rw size c.loop-picture-test.true) in
     let read = ap length (picture_read c.args.pictures.now i) in
-    let high = c.requires.good.shape.lengths.cells.few_cells in
+    let high = c.requires.valid.shape.lengths.cells.few_cells in
     omega (arith, same, read, high)
 
 -- a lane that was drawn: its list is sorted, and it has few cars
@@ -68,9 +68,9 @@ overflow_cast-number c =
     let ps = map (λ s. s.now) c.args.pictures.now in
     let count = length-map c.args.pictures.now (λ s. s.now) in
     let on : i < length ps = rw count c.loop-picture-test.true in
-    let same = c.requires.good.shape.lengths.equal i on in
+    let same = c.requires.valid.shape.lengths.equal i on in
     let first = c.requires.first in
-    let high = c.requires.good.shape.lengths.cells.few_cells in
+    let high = c.requires.valid.shape.lengths.cells.few_cells in
     let lane = one_drawn c.args.cells c.loop-picture.number (picture_at ps i) _ c.in_ok-cars.cars.items (picture_read c.args.pictures.now i)
     (omega (arith, same, first)) (omega (arith, high, first)) c.in_ok-cars.ensures.rises c.in_ok-cars.ensures.drawn in
     let whole = c.in_ok-cars.cars.ok.0 in
@@ -84,16 +84,16 @@ overflow_add-number c =
     let ps = map (λ s. s.now) c.args.pictures.now in
     let count = length-map c.args.pictures.now (λ s. s.now) in
     let on : i < length ps = rw count c.loop-picture-test.true in
-    let same = c.requires.good.shape.lengths.equal i on in
+    let same = c.requires.valid.shape.lengths.equal i on in
     let first = c.requires.first in
-    let high = c.requires.good.shape.lengths.cells.few_cells in
+    let high = c.requires.valid.shape.lengths.cells.few_cells in
     let lane = one_drawn c.args.cells c.loop-picture.number (picture_at ps i) _ c.in_ok-cars.cars.items (picture_read c.args.pictures.now i)
     (omega (arith, same, first)) (omega (arith, high, first)) c.in_ok-cars.ensures.rises c.in_ok-cars.ensures.drawn in
     let whole = c.in_ok-cars.cars.ok.0 in
     let size = c.len.ensures in
     let few = lane.few in
     let before = c.loop-picture.invariant.few in
-    let two = c.requires.good.shape.lanes.few_lanes in
+    let two = c.requires.valid.shape.lanes.few_lanes in
     let test = c.loop-picture-test.true in
     omega (arith, few, size, whole, before, two, test, count)
 
@@ -103,9 +103,9 @@ loop-picture-preserved c =
     let ps = map (λ s. s.now) c.args.pictures.now in
     let count = length-map c.args.pictures.now (λ s. s.now) in
     let on : i < length ps = rw count c.loop-picture-test.true in
-    let same = c.requires.good.shape.lengths.equal i on in
+    let same = c.requires.valid.shape.lengths.equal i on in
     let first = c.requires.first in
-    let high = c.requires.good.shape.lengths.cells.few_cells in
+    let high = c.requires.valid.shape.lengths.cells.few_cells in
     let lane = one_drawn c.args.cells c.loop-picture.number (picture_at ps i) _ c.in_ok-cars.cars.items (picture_read c.args.pictures.now i)
     (omega (arith, same, first)) (omega (arith, high, first)) c.in_ok-cars.ensures.rises c.in_ok-cars.ensures.drawn in
     let whole = c.in_ok-cars.cars.ok.0 in
@@ -143,7 +143,7 @@ pub draw_lane-requires-clause-few : goal.draw_lane-requires-clause-few
 draw_lane-requires-clause-few c =
     let count = length-map c.args.pictures.now (λ s. s.now) in
     let few = c.loop-picture.invariant.few in
-    let two = c.requires.good.shape.lanes.few_lanes in
+    let two = c.requires.valid.shape.lanes.few_lanes in
     let on = c.loop-picture-test.true in
     omega (arith, count, few, two, on)
 

@@ -9,11 +9,11 @@ use Rattle.trlab_rules.proofs.Accepted.{nasch_accepted}
 use Rattle.trlab_rules.proofs.GivenPrograms.{motion_given, program_of}
 use Rattle.trlab_rules.proofs.standard.nasch_motion.Goals as goal
 
-pub checked-requires-clause-accepted : goal.checked-requires-clause-accepted
-checked-requires-clause-accepted c =
+pub accept-requires-clause-accepted : goal.accept-requires-clause-accepted
+accept-requires-clause-accepted c =
     subst (λ (z : List Instr). IsAccepted Motion (program_of Motion z)) (sym c.in_ok-nasch_instrs.ensures.value) (nasch_accepted c.args.p)
 
 pub returns : goal.returns
 returns c =
-    motion_given c.checked.result c.in_ok-nasch_instrs.field-0.items (nasch_program c.args.p).instrs c.in_ok-nasch_instrs.ensures.value (nasch_speed c.args.p) (nasch_moves c.args.p)
-    c.checked.ensures
+    motion_given c.accept.result c.in_ok-nasch_instrs.field-0.items (nasch_program c.args.p).instrs c.in_ok-nasch_instrs.ensures.value (nasch_speed c.args.p) (nasch_moves c.args.p)
+    c.accept.ensures

@@ -9,11 +9,11 @@ use Rattle.trlab_rules.proofs.Accepted.{rickert_accepted}
 use Rattle.trlab_rules.proofs.GivenPrograms.{change_given, program_of}
 use Rattle.trlab_rules.proofs.standard.rickert_change.Goals as goal
 
-pub checked-requires-clause-accepted : goal.checked-requires-clause-accepted
-checked-requires-clause-accepted c =
+pub accept-requires-clause-accepted : goal.accept-requires-clause-accepted
+accept-requires-clause-accepted c =
     subst (λ (z : List Instr). IsAccepted Change (program_of Change z)) (sym c.in_ok-rickert_instrs.ensures.value) (rickert_accepted c.args.c)
 
 pub returns : goal.returns
 returns c =
-    change_given c.checked.result c.in_ok-rickert_instrs.field-0.items (rickert_program c.args.c).instrs c.in_ok-rickert_instrs.ensures.value (rickert_crosses c.args.c) (rickert_changes c.args.c)
-    c.checked.ensures
+    change_given c.accept.result c.in_ok-rickert_instrs.field-0.items (rickert_program c.args.c).instrs c.in_ok-rickert_instrs.ensures.value (rickert_crosses c.args.c) (rickert_changes c.args.c)
+    c.accept.ensures

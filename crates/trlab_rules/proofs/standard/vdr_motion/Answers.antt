@@ -9,11 +9,11 @@ use Rattle.trlab_rules.proofs.Accepted.{vdr_accepted}
 use Rattle.trlab_rules.proofs.GivenPrograms.{motion_given, program_of}
 use Rattle.trlab_rules.proofs.standard.vdr_motion.Goals as goal
 
-pub checked-requires-clause-accepted : goal.checked-requires-clause-accepted
-checked-requires-clause-accepted c =
+pub accept-requires-clause-accepted : goal.accept-requires-clause-accepted
+accept-requires-clause-accepted c =
     subst (λ (z : List Instr). IsAccepted Motion (program_of Motion z)) (sym c.in_ok-vdr_instrs.ensures.value) (vdr_accepted c.args.p c.args.p0)
 
 pub returns : goal.returns
 returns c =
-    motion_given c.checked.result c.in_ok-vdr_instrs.field-0.items (vdr_program c.args.p c.args.p0).instrs c.in_ok-vdr_instrs.ensures.value (vdr_speed c.args.p c.args.p0) (vdr_moves c.args.p c.args.p0)
-    c.checked.ensures
+    motion_given c.accept.result c.in_ok-vdr_instrs.field-0.items (vdr_program c.args.p c.args.p0).instrs c.in_ok-vdr_instrs.ensures.value (vdr_speed c.args.p c.args.p0) (vdr_moves c.args.p c.args.p0)
+    c.accept.ensures

@@ -19,6 +19,6 @@ returns g t c =
     let gathered = c.gather.ensures in (
       gathered.from,
       omega (arith, gathered.passes, theirs.1, mine.1, c.split-theirs.ensures.passes),
-      told_parts _ c.args.tickets.now _ _ _ _ _ _ theirs.2 mine.2 c.joined.ensures
+      told_parts _ c.args.tickets.now _ _ _ _ _ _ theirs.2 mine.2 c.join_parts.ensures
           (record { from = gathered.from; tickets = gathered.tickets; ended = gathered.ended }),
     )

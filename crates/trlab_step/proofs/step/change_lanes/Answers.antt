@@ -10,8 +10,8 @@ pub returns-clause-phase : goal.returns-clause-phase
 returns-clause-phase g c =
     let told = c.in_ok-crossings.ensures.crossings in
     let crossed = rw (c.deref.ensures.value, c.crossings.ensures.same) at c.in_ok-middle.ensures.crosses in
-    let counted = c.count_crossing.ensures ∙ ap (count_by (λ crosses. crosses)) c.deref-2.ensures.value in
-    lane_change_is_done c.args.change.now _ c.args.road.now c.in_ok-middle.middle c.crossings.new.answers.items c.count_crossing.result c.requires.two_lanes told.0 crossed counted
+    let counted = c.count_lane_changes.ensures ∙ ap (count_by (λ crosses. crosses)) c.deref-2.ensures.value in
+    lane_change_is_done c.args.change.now _ c.args.road.now c.in_ok-middle.middle c.crossings.new.answers.items c.count_lane_changes.result c.requires.two_lanes told.0 crossed counted
 
 pub crossings-requires-clause-ready : goal.crossings-requires-clause-ready
 crossings-requires-clause-ready g c = c.requires.ready
@@ -22,8 +22,8 @@ crossings-requires-clause-two_lanes g c = c.requires.two_lanes
 pub after_lane_change-requires : goal.after_lane_change-requires
 after_lane_change-requires g c = rw (c.deref.ensures.value, c.crossings.ensures.same) (whole_free c.args.change.now _ c.args.road.now c.crossings.new.answers.items c.requires.two_lanes c.in_ok-crossings.ensures.crossings)
 
-pub count_crossing-requires : goal.count_crossing-requires
-count_crossing-requires g c =
+pub count_lane_changes-requires : goal.count_lane_changes-requires
+count_lane_changes-requires g c =
     let told = c.in_ok-crossings.ensures.crossings.0.one_each in
     let most = few_cars c.in_ok-middle.middle c.in_ok-middle.ensures.legal in
     let kept = rw c.crossings.ensures.same at c.in_ok-middle.ensures.clean.same_count in

@@ -42,8 +42,8 @@ returns-in_err-speeds-clause-moved g c = let p = err_from_is_err_and c.from_resi
 pub returns-in_err-speeds-clause-seen : goal.returns-in_err-speeds-clause-seen
 returns-in_err-speeds-clause-seen g c = c.speeds.ensures.seen
 
-pub returns-in_err-speeds-clause-same : goal.returns-in_err-speeds-clause-same
-returns-in_err-speeds-clause-same g c = let p = err_from_is_err_and c.from_residual.result c.from_residual.ensures.1 in rw p.1 c.speeds.ensures.same
+pub returns-in_err-speeds-clause-unchanged : goal.returns-in_err-speeds-clause-unchanged
+returns-in_err-speeds-clause-unchanged g c = let p = err_from_is_err_and c.from_residual.result c.from_residual.ensures.1 in rw p.1 c.speeds.ensures.same
 
 pub returns-clause-seen : goal.returns-clause-seen
 returns-clause-seen g c = c.speeds.ensures.seen

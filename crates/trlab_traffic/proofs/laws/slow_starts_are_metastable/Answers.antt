@@ -2,4 +2,4 @@ use Rattle.trlab_traffic.proofs.SlowStarts.{slow_starts_keep_free_flow, slow_sta
 use Rattle.trlab_traffic.proofs.laws.slow_starts_are_metastable.Goals as goal
 
 pub returns : goal.returns
-returns c = record { free = slow_starts_keep_free_flow; turned = slow_starts_turn_free_flow; jam = slow_starts_keep_jams }
+returns c = record { free = slow_starts_keep_free_flow; rotated = slow_starts_turn_free_flow; jam = slow_starts_keep_jams }

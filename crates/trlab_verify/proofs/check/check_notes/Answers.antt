@@ -8,7 +8,7 @@ use Rattle.trlab_code.specs.declared.instruction.Instr.{Instr}
 use Rattle.trlab_notes.specs.Notes.{entry}
 use Rattle.trlab_notes.specs.Order.{IsNoStronger}
 use Rattle.trlab_verify.specs.declared.note.Note.{Note as Form}
-use Rattle.trlab_verify.specs.TableForm.{HasValidLevels, meaning, meaning_at, table_of, empty_form}
+use Rattle.trlab_verify.specs.TableForm.{HasValidLevels, meaning, meaning_at, table_of, form_without_marks}
 use Rattle.trlab_verify.specs.Tables.{Checks, ChecksAt, empty_note, note_in}
 use Rattle.trlab_verify.proofs.Best.{accepted}
 use Rattle.trlab_verify.proofs.Checking.{as_table, at_same, by_notes}
@@ -19,7 +19,7 @@ use Rattle.trlab_verify.proofs.check.check_notes.Goals as goal
 
 -- the table is that of the notes that are handed in
 listed : (kind : Kind) (form : List Form) (pc : ℕ) → pc < length form → meaning_at kind form pc ≡ note_in (table_of kind form) pc
-listed kind form pc lt = sym (get_or-map (meaning kind) form pc empty_form empty_note lt)
+listed kind form pc lt = sym (get_or-map (meaning kind) form pc form_without_marks empty_note lt)
 
 abbrev ChecksFor : List Form → Kind → List Instr → Type 0
 ChecksFor form kind instrs = Checks kind (record { kind = kind; instrs = instrs }) (table_of kind form)

@@ -33,8 +33,8 @@ returns-then-is_some c =
     let ei = slice_get-get_or c.args.instrs.now c.args.pc (Num R0 0) c.requires.inside in
     (λ e. absurd (cc e), λ h. absurd (let s = shown c.args.kind c.args.instrs.now (length c.args.table.now) (meaning_at c.args.kind c.args.table.now) c.args.pc (note_of c.in-Some.note) (get_or c.args.instrs.now c.args.pc (Num R0 0)) c.requires.one_each c.in-Some.ensures.stored ei h.1 in some_is_not c.reason_against.result (c.reason_against.ensures ∙ s.clear) (sym c.if-is_some.true ∙ c.is_some.ensures)))
 
-pub returns-then-fall_checks : goal.returns-then-fall_checks
-returns-then-fall_checks c =
+pub returns-then-checks_next : goal.returns-then-checks_next
+returns-then-checks_next c =
     let ei = slice_get-get_or c.args.instrs.now c.args.pc (Num R0 0) c.requires.inside in
     let m = note_of c.in-Some.note in
     let i = get_or c.args.instrs.now c.args.pc (Num R0 0) in
@@ -47,18 +47,18 @@ returns-then-fall_checks c =
         checked_at c.args.kind c.args.instrs.now (length c.args.table.now) (meaning_at c.args.kind c.args.table.now) c.args.pc m i c.requires.one_each c.in-Some.ensures.stored ei (record {
           reached = reached;
           clear = sym c.reason_against.ensures ∙ none_is c.reason_against.result (sym c.if-is_some.false ∙ c.is_some.ensures);
-          falls = c.fall_checks.ensures.0 c.if-fall_checks.true;
-          jumps = c.jump_checks.ensures.0 e;
+          falls = c.checks_next.ensures.0 c.if-checks_next.true;
+          jumps = c.checks_target.ensures.0 e;
         }),
       ),
-      λ h. c.jump_checks.ensures.1 (shown c.args.kind c.args.instrs.now (length c.args.table.now) (meaning_at c.args.kind c.args.table.now) c.args.pc m i c.requires.one_each c.in-Some.ensures.stored ei h.1).jumps,
+      λ h. c.checks_target.ensures.1 (shown c.args.kind c.args.instrs.now (length c.args.table.now) (meaning_at c.args.kind c.args.table.now) c.args.pc m i c.requires.one_each c.in-Some.ensures.stored ei h.1).jumps,
     )
 
-pub returns-else-fall_checks : goal.returns-else-fall_checks
-returns-else-fall_checks c =
+pub returns-else-checks_next : goal.returns-else-checks_next
+returns-else-checks_next c =
     let ei = slice_get-get_or c.args.instrs.now c.args.pc (Num R0 0) c.requires.inside in
-    (λ e. absurd (both_false c.fall_checks.result e c.if-fall_checks.false), λ h. c.fall_checks.ensures.1 (shown c.args.kind c.args.instrs.now (length c.args.table.now) (meaning_at c.args.kind c.args.table.now) c.args.pc (note_of c.in-Some.note) (get_or c.args.instrs.now c.args.pc (Num R0 0)) c.requires.one_each c.in-Some.ensures.stored ei h.1).falls)
+    (λ e. absurd (both_false c.checks_next.result e c.if-checks_next.false), λ h. c.checks_next.ensures.1 (shown c.args.kind c.args.instrs.now (length c.args.table.now) (meaning_at c.args.kind c.args.table.now) c.args.pc (note_of c.in-Some.note) (get_or c.args.instrs.now c.args.pc (Num R0 0)) c.requires.one_each c.in-Some.ensures.stored ei h.1).falls)
 
-pub fall_checks-requires-clause-fits : goal.fall_checks-requires-clause-fits
-fall_checks-requires-clause-fits c =
+pub checks_next-requires-clause-fits : goal.checks_next-requires-clause-fits
+checks_next-requires-clause-fits c =
     (clear c.args.kind c.args.kind (length c.args.instrs.now) c.args.pc (note_of c.in-Some.note) (get_or c.args.instrs.now c.args.pc (Num R0 0)) (sym c.reason_against.ensures ∙ none_is c.reason_against.result (sym c.if-is_some.false ∙ c.is_some.ensures))).fits

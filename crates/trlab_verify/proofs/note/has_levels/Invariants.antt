@@ -5,4 +5,4 @@ use Rattle.trlab_notes.specs.Notes.{level_between}
 use Rattle.trlab_verify.proofs.note.has_levels.Given as goal
 
 abbrev pub invariant-loop-x : goal.invariant-loop-x
-invariant-loop-x l = (k : ℕ) → k < l.x → (y : ℕ) → y < VARIABLES → level_between (get_or l.said k Nothing) (get_or l.said y Nothing) (nat_eq k y) (get_or (get_or l.levels k []) y 0) ≤ 2
+invariant-loop-x l = (k : ℕ) → k < l.x → (y : ℕ) → y < VARIABLES → level_between (get_or l.values k Nothing) (get_or l.values y Nothing) (nat_eq k y) (get_or (get_or l.levels k []) y 0) ≤ 2

@@ -7,7 +7,7 @@ pub loop-x-init : goal.loop-x-init
 loop-x-init c = record {
   all = search rules;
   so_far = λ k lt. absurd (omega (arith, lt));
-  rest = λ k. c.entry_said-variables.ensures (variable.Input k);
+  rest = λ k. c.entry_values-variables.ensures (variable.Input k);
 }
 
 pub returns : goal.returns

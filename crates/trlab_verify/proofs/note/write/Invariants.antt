@@ -7,5 +7,5 @@ use Rattle.trlab_verify.proofs.note.write.Given as goal
 abbrev pub invariant-loop-x : goal.invariant-loop-x
 invariant-loop-x l = record {
   all : length l.regs ≡ 8;
-  so_far : (k : ℕ) → k < l.x → mark_value (get_or l.regs k Unset) ≡ get_or l.note.said k Nothing;
+  so_far : (k : ℕ) → k < l.x → mark_value (get_or l.regs k Unset) ≡ get_or l.note.values k Nothing;
 }

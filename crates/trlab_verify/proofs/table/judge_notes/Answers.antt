@@ -11,7 +11,7 @@ use Rattle.trlab_verify.specs.declared.note.Note.{Note as Form}
 use Rattle.trlab_verify.specs.Tables.{AreVerdictNotes, empty_note, note_in}
 use Rattle.trlab_verify.proofs.Verdicts.{incoming_settled}
 use Rattle.trlab_verify.specs.Incoming.{note_at}
-use Rattle.trlab_verify.specs.TableForm.{HasInputRanges, meaning, meaning_at, table_of, empty_form}
+use Rattle.trlab_verify.specs.TableForm.{HasInputRanges, meaning, meaning_at, table_of, form_without_marks}
 use Rattle.trlab_verify.specs.Verdict.{IsAccepted, IsRefused}
 use Rattle.trlab_verify.proofs.Inputs.{incoming_shows, closure_shows}
 use Rattle.trlab_verify.proofs.Runs.{fetch}
@@ -48,7 +48,7 @@ each_best : (kind : Kind) (code : List Instr) (stored : ℕ → Option Note) (no
 each_best kind code stored notes h len first later = record { one_each = length-map notes (meaning kind) ∙ len; each = each }
   where
     listed : (pc : ℕ) → pc < length code → meaning_at kind notes pc ≡ note_in (table_of kind notes) pc
-    listed pc lt = sym (get_or-map (meaning kind) notes pc empty_form empty_note (omega (arith, lt, len)))
+    listed pc lt = sym (get_or-map (meaning kind) notes pc form_without_marks empty_note (omega (arith, lt, len)))
 
     each : (pc : ℕ) → pc < length code → note_at kind code pc ≡ Some (note_in (table_of kind notes) pc)
     each zero lt = ap Some (sym (first lt) ∙ listed zero lt)

@@ -5,7 +5,7 @@ use Rattle.trlab_code.specs.declared.program.Kind.{Kind}
 use Rattle.trlab_notes.specs.Notes.{Note, entry}
 use Rattle.trlab_notes.specs.Stored.{stored_note_at, maybe_note}
 use Rattle.trlab_verify.specs.declared.note.Note.{Note as Form}
-use Rattle.trlab_verify.specs.TableForm.{meaning, meaning_at, empty_form}
+use Rattle.trlab_verify.specs.TableForm.{meaning, meaning_at, form_without_marks}
 use Rattle.trlab_verify.proofs.Inputs.{same_shown, never_none}
 use Rattle.trlab_verify.proofs.table.write_all.Goals as goal
 
@@ -24,7 +24,7 @@ length_pushed notes note n e = omega (arith, length-append {A = Form}, e)
 
 -- one more note is handed out
 module _ (kind : Kind) (stored : ℕ → Option Note) (old new : List Form) (note : Form) (pc : ℕ)
-    (same : (k : ℕ) → k < pc → get_or new k empty_form ≡ get_or old k empty_form) (here : get_or new pc empty_form ≡ note) where
+    (same : (k : ℕ) → k < pc → get_or new k form_without_marks ≡ get_or old k form_without_marks) (here : get_or new pc form_without_marks ≡ note) where
   first_by : (is_first : Bool) → nat_eq pc 0 ≡ is_first → (0 < pc → meaning_at kind old 0 ≡ entry kind) → (pc ≡ 0 → meaning kind note ≡ entry kind) →
       meaning_at kind new 0 ≡ entry kind
   first_by true e before now = let zero_pc : pc ≡ 0 = eqb-true pc 0 e in ap (meaning kind) (rw zero_pc at here) ∙ now zero_pc
@@ -49,9 +49,9 @@ loop-pc-preserved c =
     let new = c.push.new.self.items in
     let note = c.write_at.result in
     let stored : ℕ → _ = λ (k : ℕ). stored_note_at c.args.stored.now k in
-    let same : (k : ℕ) → k < pc → get_or new k empty_form ≡ get_or old k empty_form = λ k lt. e.by_index.0 k empty_form (omega (arith, lt)) in
+    let same : (k : ℕ) → k < pc → get_or new k form_without_marks ≡ get_or old k form_without_marks = λ k lt. e.by_index.0 k form_without_marks (omega (arith, lt)) in
     let at : length old ≡ pc = l.all in
-    let here : get_or new pc empty_form ≡ note = rw e.items (get_or_push old note empty_form pc at) in
+    let here : get_or new pc form_without_marks ≡ note = rw e.items (get_or_push old note form_without_marks pc at) in
     record {
       all = rw e.items (length_pushed old note pc at);
       first = λ _. first_by c.args.kind stored old new note pc same here (nat_eq pc 0) refl l.first c.write_at.ensures.first;

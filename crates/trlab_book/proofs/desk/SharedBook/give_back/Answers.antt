@@ -2,7 +2,7 @@ use Rattle.std.proofs.lemmas.Bool.{OnTrue_at}
 use Rattle.trlab_sequential_book.specs.Comparison.{offered}
 use Rattle.trlab_sequential_book.specs.declared.event.Call.TheVariants.{GiveBack}
 use Rattle.trlab_sequential_book.specs.Answers.{give_back_reply}
-use Rattle.trlab_book.specs.Desks.{SameIsCorrect}
+use Rattle.trlab_book.specs.Desks.{IsCorrectVerdict}
 use Rattle.trlab_book.proofs.Noting.{full_after, has_come, is_made}
 use Rattle.trlab_book.proofs.desk.SharedBook.give_back.Goals as goal
 
@@ -21,6 +21,6 @@ returns-clause-made g c =
     let call = GiveBack (offered c.args.lease same) in
     let told = give_back_reply c.give_back-answer.result in (
       same,
-      is_made (SameIsCorrect c.args.lease same) kept c.give_back-answer.new.self call told _ c.args.desk.now c.note_event.new.self c.give_back-answer.ensures.noted.2 c.deref_mut.result.now.noted (λ is. OnTrue_at is c.give_back-answer.ensures.noted.1) c.give_back-answer.ensures.full
+      is_made (IsCorrectVerdict c.args.lease same) kept c.give_back-answer.new.self call told _ c.args.desk.now c.note_event.new.self c.give_back-answer.ensures.noted.2 c.deref_mut.result.now.noted (λ is. OnTrue_at is c.give_back-answer.ensures.noted.1) c.give_back-answer.ensures.full
           (c.note_event.ensures call told (has_come kept c.give_back-answer.new.self call told _ c.give_back-answer.ensures.noted.2 c.deref_mut.result.now.noted) (full_after kept c.give_back-answer.new.self call told c.give_back-answer.ensures.noted.2 c.give_back-answer.ensures.full)).1,
     )

@@ -3,7 +3,7 @@ use Rattle.std.specs.Prelude.{Ok, Err}
 use Rattle.trlab_lines.specs.Lines.{lines_of}
 use Rattle.trlab_texts.specs.Reading.{Fault}
 use Rattle.trlab_jobs.specs.Check.{CheckLinesParseTo, ParsesAsCheck}
-use Rattle.trlab_campaign.specs.CheckOutput.{IsCheckOutput, VerdictOutput}
+use Rattle.trlab_campaign.specs.CheckOutput.{IsCheckOutput, IsOutputForCheck}
 use Rattle.trlab_campaign.proofs.Endings.{kept_at_memory, memory_ends, output_ends, read_says, refusal_ends, said_ends}
 use Rattle.trlab_campaign.proofs.WrittenBytes.{kept}
 use Rattle.trlab_campaign.proofs.check.CheckEngineEngine.write.Goals as goal
@@ -14,7 +14,7 @@ returns-in-Err-At-clause-ends g c = λ input read.
     let told = rw c.in-Err-At.field-0-is at c.in-Err-At.ensures.told in
     let says = read_says (λ (text : List ℕ). CheckLinesParseTo (lines_of text)) c.args.text.now input (Err fault) read told in
     record {
-      answer = refusal_ends ParsesAsCheck VerdictOutput c.refuse.result input fault _ _ says c.refuse.ensures.answer;
+      answer = refusal_ends ParsesAsCheck IsOutputForCheck c.refuse.result input fault _ _ says c.refuse.ensures.answer;
       handed = c.refuse.ensures.handed;
       device = c.refuse.ensures.device;
     }
@@ -26,8 +26,8 @@ returns-in-Ok-verdict_of-clause-ends g c = λ input read.
     let says = read_says (λ (text : List ℕ). CheckLinesParseTo (lines_of text)) c.args.text.now input (Ok check) read c.in-Ok.ensures.told in
     let ends = rw c.deref.ensures.value at c.write_output.ensures.answer in
     record {
-      answer = said_ends ParsesAsCheck VerdictOutput c.write_output.result input check _ _ says
-          (output_ends (VerdictOutput check) verdict.refused verdict.text.items c.write_output.result _ _ c.in-Ok-verdict_of.ensures ends);
+      answer = said_ends ParsesAsCheck IsOutputForCheck c.write_output.result input check _ _ says
+          (output_ends (IsOutputForCheck check) verdict.is_refusal verdict.text.items c.write_output.result _ _ c.in-Ok-verdict_of.ensures ends);
       handed = c.write_output.ensures.handed;
       device = c.write_output.ensures.device;
     }

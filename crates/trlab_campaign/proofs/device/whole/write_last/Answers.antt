@@ -15,18 +15,20 @@ returns-in_err-write_text g c =
       fails = rw fault.1 c.in_err-write_text.ensures.fails;
     }
 
-pub returns-in-Ok : goal.returns-in-Ok
-returns-in-Ok g c = record {
-  wrote = adds_kept _ _ _ _ c.in_ok-write_text.ensures.wrote (record { accepted = c.in-Ok.ensures.accepts; told = c.in-Ok.ensures.bytes });
-  handed = (c.in-Ok.ensures.handed, c.in-Ok.ensures.flushed ∙ ap once_more c.in_ok-write_text.ensures.flushed);
-  flushed = inr (c.in-Ok.ensures.flushed ∙ ap once_more c.in_ok-write_text.ensures.flushed);
-  fails = c.in-Ok.ensures.fails ∙ (or-false _ ∙ c.in_ok-write_text.ensures.fails);
+pub returns : goal.returns
+returns g c = record {
+  wrote = adds_kept _ _ _ _ c.in_ok-write_text.ensures.wrote (record { accepted = c.in_ok-flush.ensures.accepts; told = c.in_ok-flush.ensures.bytes });
+  handed = (c.in_ok-flush.ensures.handed, c.in_ok-flush.ensures.flushed ∙ ap once_more c.in_ok-write_text.ensures.flushed);
+  flushed = inr (c.in_ok-flush.ensures.flushed ∙ ap once_more c.in_ok-write_text.ensures.flushed);
+  fails = c.in_ok-flush.ensures.fails ∙ (or-false _ ∙ c.in_ok-write_text.ensures.fails);
 }
 
-pub returns-in-Err : goal.returns-in-Err
-returns-in-Err g c = record {
-  wrote = prefix_kept _ _ _ _ c.in_ok-write_text.ensures.wrote (record { accepted = c.in-Err.ensures.accepts; told = c.in-Err.ensures.bytes });
-  handed = tt;
-  flushed = inr (c.in-Err.ensures.flushed ∙ ap once_more c.in_ok-write_text.ensures.flushed);
-  fails = rw (c.in_ok-write_text.ensures.fails, or-false) at c.in-Err.ensures.fails;
-}
+pub returns-in_err-flush : goal.returns-in_err-flush
+returns-in_err-flush g c =
+    let fault = err_from_is_err_and c.from_residual-in_err-flush.result c.from_residual-in_err-flush.ensures.1 in
+    record {
+      wrote = rw fault.1 (prefix_kept _ _ _ _ c.in_ok-write_text.ensures.wrote (record { accepted = c.in_err-flush.ensures.accepts; told = c.in_err-flush.ensures.bytes }));
+      handed = rw fault.1 tt;
+      flushed = inr (c.in_err-flush.ensures.flushed ∙ ap once_more c.in_ok-write_text.ensures.flushed);
+      fails = rw fault.1 (rw (c.in_ok-write_text.ensures.fails, or-false) at c.in_err-flush.ensures.fails);
+    }

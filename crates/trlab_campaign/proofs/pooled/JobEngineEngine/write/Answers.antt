@@ -1,7 +1,7 @@
 use Rattle.std.specs.Prelude.{Ok, Err}
 use Rattle.trlab_texts.specs.Reading.{Fault}
 use Rattle.trlab_jobs.specs.Job.{ParsesAsJob, JobLinesParseTo}
-use Rattle.trlab_campaign.specs.Output.{IsOutputOf}
+use Rattle.trlab_campaign.specs.Output.{IsOutputForJobText}
 use Rattle.trlab_campaign.specs.Writers.{bytes_of}
 use Rattle.trlab_campaign.proofs.Endings.{memory_ends, read_says, refusal_ends, said_ends}
 use Rattle.trlab_campaign.proofs.pooled.JobEngineEngine.write.Goals as goal
@@ -21,7 +21,7 @@ returns-in-Err-At-clause-ends g c = λ input read.
 
 pub returns-in-Err-Memory-clause-ends : goal.returns-in-Err-Memory-clause-ends
 returns-in-Err-Memory-clause-ends g c = λ input read.
-    memory_ends g.K.Sink (IsOutputOf (g.C.Account.outputs c.args.self.account.now) input) c.args.writer.now c.requires.works
+    memory_ends g.K.Sink (IsOutputForJobText (g.C.Account.outputs c.args.self.account.now) input) c.args.writer.now c.requires.works
 
 pub returns-clause-ends : goal.returns-clause-ends
 returns-clause-ends g c = λ input read.

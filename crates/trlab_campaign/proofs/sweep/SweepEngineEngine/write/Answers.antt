@@ -2,7 +2,7 @@ use Rattle.std.proofs.Common.{true}
 use Rattle.std.specs.Prelude.{Ok, Err}
 use Rattle.trlab_texts.specs.Reading.{Fault}
 use Rattle.trlab_jobs.specs.Sweep.{SweepLinesParseTo, ParsesAsSweep}
-use Rattle.trlab_campaign.specs.SweepOutput.{IsSweepOutput, SweepOutput}
+use Rattle.trlab_campaign.specs.SweepOutput.{IsSweepOutput, IsOutputForSweep}
 use Rattle.trlab_campaign.proofs.Endings.{kept_at_memory, memory_ends, read_says, refusal_ends, said_ends}
 use Rattle.trlab_campaign.proofs.WrittenBytes.{kept}
 use Rattle.trlab_campaign.proofs.sweep.SweepEngineEngine.write.Goals as goal
@@ -13,7 +13,7 @@ returns-in-Err-At-clause-ends g c = λ input read.
     let told = rw c.in-Err-At.field-0-is at c.in-Err-At.ensures.told in
     let says = read_says SweepLinesParseTo c.args.text.now input (Err fault) read told in
     record {
-      answer = refusal_ends ParsesAsSweep SweepOutput c.refuse.result input fault _ _ says c.refuse.ensures.answer;
+      answer = refusal_ends ParsesAsSweep IsOutputForSweep c.refuse.result input fault _ _ says c.refuse.ensures.answer;
       handed = c.refuse.ensures.handed;
       device = c.refuse.ensures.device;
     }
@@ -23,7 +23,7 @@ returns-clause-ends g c = λ input read.
     let ends = c.write_table-end.ensures.ends in
     let says = read_says SweepLinesParseTo c.args.text.now input (Ok c.in-Ok.sweep) read c.in-Ok.ensures.told in
     record {
-      answer = said_ends ParsesAsSweep SweepOutput c.write_table-end.result input c.in-Ok.sweep _ _ says ends.answer;
+      answer = said_ends ParsesAsSweep IsOutputForSweep c.write_table-end.result input c.in-Ok.sweep _ _ says ends.answer;
       handed = ends.handed;
       device = ends.device;
     }

@@ -1,4 +1,4 @@
-use Rattle.std.proofs.Common.{rules, ◌≤◌, arith, length, append-nil}
+use Rattle.std.proofs.Common.{◌≤◌, arith, length, append-nil}
 use Rattle.std.proofs.lemmas.Bool.{le-ltb}
 use Rattle.std.proofs.lemmas.List.{take_all}
 use Rattle.trlab_lines.specs.declared.page.TheConstants.{MAX_QUOTED}

@@ -1,6 +1,6 @@
 use Rattle.std.proofs.Common.{◌≡◌, ◌<◌, ◌≤◌, ◌-◌, ◌∙◌, ℕ, false, List, [], Vec, Global, length, get_or, sum_by, sym, ap, arith}
 use Rattle.trlab_bounds.specs.declared.roads.TheConstants.{MAX_LANES}
-use Rattle.trlab_road.specs.declared.gaps.Beside.{Beside}
+use Rattle.trlab_road.specs.declared.gaps.SideGaps.{SideGaps}
 use Rattle.trlab_road.specs.LaneCars.{LaneCar}
 use Rattle.trlab_road.specs.Cells.{Cells, Lane, cars_before, lane_car_count}
 use Rattle.trlab_road.specs.Gaps.{side, sideback, sidegap}
@@ -10,7 +10,7 @@ use Rattle.trlab_road.proofs.ListRoads.{below_counted, few_cells, few_lists, fou
 use Rattle.trlab_road.proofs.road.Road.beside.Goals as goal
 
 -- what is told of the k-th car in standing order
-record IsTold (road : Cells) (k : ℕ) (beside : Beside) : Type 0 where
+record IsTold (road : Cells) (k : ℕ) (beside : SideGaps) : Type 0 where
   value : beside.is_empty ≡ get_or (sides road) k false
   empty : IsValueOnOtherLane side road k beside.is_empty
   ahead : IsGapOnOtherLane sidegap road k beside.ahead
@@ -18,7 +18,7 @@ record IsTold (road : Cells) (k : ℕ) (beside : Beside) : Type 0 where
   next : IsValueOnOtherLane cars_before road k beside.next
 
 -- what stands beside its place in the list of the other lane is told of a car that was found
-module _ (n : ℕ) (lists : List (Vec LaneCar Global)) (limit k l i x : ℕ) (own other : List LaneCar) (beside : Beside) where
+module _ (n : ℕ) (lists : List (Vec LaneCar Global)) (limit k l i x : ℕ) (own other : List LaneCar) (beside : SideGaps) where
   abbrev road : Cells
   road = record { limit = limit; lanes = lanes_from n lists }
 
@@ -80,7 +80,7 @@ look_beside-requires-clause-inside c =
     rw (c.place_at-place.ensures, first) (found_inside n lists c.self.inside.limit _ _ _ c.self.invariant.sorted f)
 
 -- what is told of a car of the first list, and of one of the second
-module _ (n : ℕ) (lists given read : List (Vec LaneCar Global)) (limit k x : ℕ) (first second : List LaneCar) (beside : Beside) where
+module _ (n : ℕ) (lists given read : List (Vec LaneCar Global)) (limit k x : ℕ) (first second : List LaneCar) (beside : SideGaps) where
   abbrev cells : Cells
   cells = record { limit = limit; lanes = lanes_from n lists }
 

@@ -16,8 +16,8 @@ returns-then-self-other-2 c =
     let lists = ap lists_of c.deref.ensures.value in
     let others = ap lists_of c.deref-then-self-other-2.ensures.value in
     rw (← c.self.view_is, ← c.other.view_is) (
-      λ h. same_road a.limit b.limit a.cells b.cells a.lanes.items b.lanes.items same.0 same.1 (sym lists ∙ c.same_lanes.ensures.0 h ∙ others),
-      λ e. c.same_lanes.ensures.1 (lists ∙ told_road a.limit b.limit a.cells b.cells a.lanes.items b.lanes.items c.self.invariant c.other.invariant e ∙ sym others),
+      λ h. same_road a.limit b.limit a.cells b.cells a.lanes.items b.lanes.items same.0 same.1 (sym lists ∙ c.are_same_lanes.ensures.0 h ∙ others),
+      λ e. c.are_same_lanes.ensures.1 (lists ∙ told_road a.limit b.limit a.cells b.cells a.lanes.items b.lanes.items c.self.invariant c.other.invariant e ∙ sym others),
     )
 
 pub returns-else-self-other-2 : goal.returns-else-self-other-2

@@ -63,7 +63,7 @@ returns-in_err-lanes-clause-back c = let p = err_from_is_err_and c.from_residual
 pub returns-in_err-lanes-clause-told : goal.returns-in_err-lanes-clause-told
 returns-in_err-lanes-clause-told c = let p = err_from_is_err_and c.from_residual-in_err-lanes.result c.from_residual-in_err-lanes.ensures.1 in λ fault f other. inr (p.1 ∙ ap Err p.2)
 
--- good pictures are good under the greatest limit too
+-- good pictures are good under the largest limit too
 shows_more : (limit character : ℕ) → limit ≤ MAX_LIMIT → ShowsCell limit character → ShowsCell MAX_LIMIT character
 shows_more limit character low (inl empty) = inl empty
 shows_more limit character low (inr shown) = inr (record { speed = shown.speed; within = (let within = shown.within in omega (arith, low, within)); shown = shown.shown })
@@ -74,8 +74,8 @@ good_more limit ps good = record {
   cells = λ l x on h. shows_more limit _ good.shape.limit_fits.low_limit (good.cells l x on h);
 }
 
-pub draw_lanes-requires-clause-good : goal.draw_lanes-requires-clause-good
-draw_lanes-requires-clause-good c = good_more c.args.limit _ c.in_ok-check_pictures.ensures
+pub draw_lanes-requires-clause-valid : goal.draw_lanes-requires-clause-valid
+draw_lanes-requires-clause-valid c = good_more c.args.limit _ c.in_ok-check_pictures.ensures
 
 pub draw_lanes-requires-clause-first : goal.draw_lanes-requires-clause-first
 draw_lanes-requires-clause-first c = sym (ap length (picture_read c.args.lanes.now 0))

@@ -7,6 +7,6 @@ pub returns : goal.returns
 returns g c =
     let phase = c.args.phase.now in
     let crew = c.args.self.now in
-    let whole = no_car_behind (cars phase.road.now) c.segment_count-count.result crew.workers crew.some (omega (arith, c.segment_count-count.ensures, c.cars.ensures.value)) in
+    let whole = no_car_behind (cars phase.road.now) c.segment_count-count.result crew.workers crew.in_range.0 (omega (arith, c.segment_count-count.ensures, c.cars.ensures.value)) in
     subst (λ last. g.P.Asked.answers phase.program.now phase.dice.now phase.road.now 0 last c.line_up.new.answers.items)
     whole c.in_ok-line_up-in-Ok.ensures

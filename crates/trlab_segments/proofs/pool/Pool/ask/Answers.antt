@@ -22,8 +22,8 @@ execute-back-requires g c = record {
   lanes = subst g.P.Asked.can_ask (sym c.in-Ok.ensures.asked.2) c.requires.lanes;
 }
 
-pub returns-clause-same : goal.returns-clause-same
-returns-clause-same g c = c.execute-back.ensures.road ∙ c.in-Ok.ensures.asked.2
+pub returns-clause-unchanged : goal.returns-clause-unchanged
+returns-clause-unchanged g c = c.execute-back.ensures.road ∙ c.in-Ok.ensures.asked.2
 
 pub returns-clause-seen : goal.returns-clause-seen
 returns-clause-seen g c =

@@ -19,7 +19,7 @@ draw_all-parts-requires g c =
 pub settle-requires : goal.settle-requires
 settle-requires g c =
     let shown = ap asked c.deref.ensures ∙ c.in-Ok.ensures.ok in
-    let left = sym (ap asked c.alone.ensures ∙ c.in-Ok.ensures.ok) in record {
+    let left = sym (ap asked c.wait_for_helpers.ensures ∙ c.in-Ok.ensures.ok) in record {
       cut = subst CoversAllCars left c.requires.cut;
       done = subst (λ b. IsRightResult g.P.Asked.answers b c.draw_all-parts.new.drawer c.draw_all-parts.result)
           (shown ∙ left) (c.draw_all-parts.ensures.from, c.draw_all-parts.ensures.parts);
@@ -27,7 +27,7 @@ settle-requires g c =
 
 pub returns-clause-road : goal.returns-clause-road
 returns-clause-road g c =
-    let left = ap asked c.alone.ensures ∙ c.in-Ok.ensures.ok in
+    let left = ap asked c.wait_for_helpers.ensures ∙ c.in-Ok.ensures.ok in
     subst (λ b. c.settle.result.0 ≡ b.road) left c.settle.ensures.road
 
 pub returns-clause-seen : goal.returns-clause-seen
@@ -36,5 +36,5 @@ returns-clause-seen g c =
 
 pub returns-clause-answers : goal.returns-clause-answers
 returns-clause-answers g c =
-    let left = ap asked c.alone.ensures ∙ c.in-Ok.ensures.ok in
+    let left = ap asked c.wait_for_helpers.ensures ∙ c.in-Ok.ensures.ok in
     subst (λ b. OnOk c.settle.result.1 (AnswersAll g.P.Asked.answers b c.settle.new.answers.items)) left c.settle.ensures.answers

@@ -5,21 +5,21 @@ use Rattle.trlab_sequential_book.specs.Machine.{BookState}
 use Rattle.trlab_sequential_book.proofs.Booking.{full_stays, full_told, leads_made, next_done, told_made}
 use Rattle.trlab_sequential_book.proofs.book.Book.cancel.Goals as goal
 
-pub returns-then-is_full-clause-reply : goal.returns-then-is_full-clause-reply
-returns-then-is_full-clause-reply c = full_told c.args.self.now (Cancel c.args.job) (sym c.is_full.ensures ∙ c.if-is_full.true)
+pub returns-then-has_full_history-clause-reply : goal.returns-then-has_full_history-clause-reply
+returns-then-has_full_history-clause-reply c = full_told c.args.self.now (Cancel c.args.job) (sym c.has_full_history.ensures ∙ c.if-has_full_history.true)
 
-pub returns-then-is_full-clause-state : goal.returns-then-is_full-clause-state
-returns-then-is_full-clause-state c = full_stays c.args.self.now (Cancel c.args.job) (sym c.is_full.ensures ∙ c.if-is_full.true)
+pub returns-then-has_full_history-clause-state : goal.returns-then-has_full_history-clause-state
+returns-then-has_full_history-clause-state c = full_stays c.args.self.now (Cancel c.args.job) (sym c.has_full_history.ensures ∙ c.if-has_full_history.true)
 
 pub returns-clause-reply : goal.returns-clause-reply
 returns-clause-reply c =
     let book = c.self.inside in
     let state : BookState = record { count = book.count; next = book.next; jobs = book.jobs.items } in
-    told_made state c.args.self.now false (Cancel c.args.job) (done_reply c.cancel_in.result) c.self.view_is (sym c.is_full.ensures ∙ c.if-is_full.false) c.cancel_in.ensures.reply
+    told_made state c.args.self.now false (Cancel c.args.job) (done_reply c.cancel_in.result) c.self.view_is (sym c.has_full_history.ensures ∙ c.if-has_full_history.false) c.cancel_in.ensures.reply
 
 pub returns-clause-state : goal.returns-clause-state
 returns-clause-state c =
     let book = c.self.inside in
     let state : BookState = record { count = book.count; next = book.next; jobs = book.jobs.items } in
     let answer = c.cancel_in.result in
-    leads_made state c.args.self.now false (Cancel c.args.job) (done_reply answer) c.cancel_in.new.jobs.items c.self.view_is (sym c.is_full.ensures ∙ c.if-is_full.false) refl (next_done book.next answer) c.cancel_in.ensures.reply c.cancel_in.ensures.jobs
+    leads_made state c.args.self.now false (Cancel c.args.job) (done_reply answer) c.cancel_in.new.jobs.items c.self.view_is (sym c.has_full_history.ensures ∙ c.if-has_full_history.false) refl (next_done book.next answer) c.cancel_in.ensures.reply c.cancel_in.ensures.jobs

@@ -18,7 +18,7 @@ returns-clause-reply c =
     let state : BookState = record { count = book.count; next = book.next; jobs = book.jobs.items } in
     let free = rw c.deref.ensures.value at c.in-Some.ensures.place in
     let within = rw c.deref.ensures.value at c.in-Some.ensures.within in
-    lease_told state c.args.self.now c.in-Some.index c.index_mut-found.result.now c.in_ok-lease.lease c.self.view_is (sym c.is_full.ensures ∙ c.if-is_full.false)
+    lease_told state c.args.self.now c.in-Some.index c.index_mut-found.result.now c.in_ok-lease.lease c.self.view_is (sym c.has_full_history.ensures ∙ c.if-has_full_history.false)
     (sym free) within c.index_mut-found.ensures.value c.in_ok-lease.ensures.lease.0 c.in_ok-lease.ensures.lease.1
 
 pub returns-clause-state : goal.returns-clause-state
@@ -27,7 +27,7 @@ returns-clause-state c =
     let state : BookState = record { count = book.count; next = book.next; jobs = book.jobs.items } in
     let free = rw c.deref.ensures.value at c.in-Some.ensures.place in
     let within = rw c.deref.ensures.value at c.in-Some.ensures.within in
-    lease_leads state c.args.self.now c.in-Some.index c.index_mut-found.result.now c.lend.new.self c.self.view_is (sym c.is_full.ensures ∙ c.if-is_full.false)
+    lease_leads state c.args.self.now c.in-Some.index c.index_mut-found.result.now c.lend.new.self c.self.view_is (sym c.has_full_history.ensures ∙ c.if-has_full_history.false)
     (sym free) within c.index_mut-found.ensures.value c.in_ok-lease.ensures.job
 
 pub returns-clause-lent : goal.returns-clause-lent
@@ -38,20 +38,20 @@ returns-clause-lent c =
     lease_lent state c.args.self.now c.in-Some.index c.index_mut-found.result.now c.in_ok-lease.lease c.self.view_is
     within c.index_mut-found.ensures.value c.in_ok-lease.ensures.lease.0 c.in_ok-lease.ensures.lease.1
 
-pub returns-then-is_full-clause-reply : goal.returns-then-is_full-clause-reply
-returns-then-is_full-clause-reply c = full_told c.args.self.now LeaseCall (sym c.is_full.ensures ∙ c.if-is_full.true)
+pub returns-then-has_full_history-clause-reply : goal.returns-then-has_full_history-clause-reply
+returns-then-has_full_history-clause-reply c = full_told c.args.self.now LeaseCall (sym c.has_full_history.ensures ∙ c.if-has_full_history.true)
 
-pub returns-then-is_full-clause-state : goal.returns-then-is_full-clause-state
-returns-then-is_full-clause-state c = full_stays c.args.self.now LeaseCall (sym c.is_full.ensures ∙ c.if-is_full.true)
+pub returns-then-has_full_history-clause-state : goal.returns-then-has_full_history-clause-state
+returns-then-has_full_history-clause-state c = full_stays c.args.self.now LeaseCall (sym c.has_full_history.ensures ∙ c.if-has_full_history.true)
 
 pub returns-in_default-clause-reply : goal.returns-in_default-clause-reply
 returns-in_default-clause-reply c =
     let book = c.self.inside in
     let state : BookState = record { count = book.count; next = book.next; jobs = book.jobs.items } in
-    none_told state c.args.self.now c.self.view_is (sym c.is_full.ensures ∙ c.if-is_full.false) (ap (position is_free) (sym c.deref.ensures.value) ∙ sym c.in_default.ensures.place)
+    none_told state c.args.self.now c.self.view_is (sym c.has_full_history.ensures ∙ c.if-has_full_history.false) (ap (position is_free) (sym c.deref.ensures.value) ∙ sym c.in_default.ensures.place)
 
 pub returns-in_default-clause-state : goal.returns-in_default-clause-state
 returns-in_default-clause-state c =
     let book = c.self.inside in
     let state : BookState = record { count = book.count; next = book.next; jobs = book.jobs.items } in
-    none_leads state c.args.self.now c.self.view_is (sym c.is_full.ensures ∙ c.if-is_full.false) (ap (position is_free) (sym c.deref.ensures.value) ∙ sym c.in_default.ensures.place)
+    none_leads state c.args.self.now c.self.view_is (sym c.has_full_history.ensures ∙ c.if-has_full_history.false) (ap (position is_free) (sym c.deref.ensures.value) ∙ sym c.in_default.ensures.place)

@@ -5,11 +5,11 @@ use Rattle.trlab_sequential_book.specs.Machine.{BookState, outcome_of_call}
 use Rattle.trlab_sequential_book.proofs.Booking.{counted, full_stays, full_told, next_seen, reading_stays, same_jobs, told_made, told_seen}
 use Rattle.trlab_sequential_book.proofs.book.Book.read.Goals as goal
 
-pub returns-then-is_full-clause-reply : goal.returns-then-is_full-clause-reply
-returns-then-is_full-clause-reply c = full_told c.args.self.now (Read c.args.job) (sym c.is_full.ensures ∙ c.if-is_full.true)
+pub returns-then-has_full_history-clause-reply : goal.returns-then-has_full_history-clause-reply
+returns-then-has_full_history-clause-reply c = full_told c.args.self.now (Read c.args.job) (sym c.has_full_history.ensures ∙ c.if-has_full_history.true)
 
-pub returns-then-is_full-clause-state : goal.returns-then-is_full-clause-state
-returns-then-is_full-clause-state c = full_stays c.args.self.now (Read c.args.job) (sym c.is_full.ensures ∙ c.if-is_full.true)
+pub returns-then-has_full_history-clause-state : goal.returns-then-has_full_history-clause-state
+returns-then-has_full_history-clause-state c = full_stays c.args.self.now (Read c.args.job) (sym c.has_full_history.ensures ∙ c.if-has_full_history.true)
 
 pub returns-clause-reply : goal.returns-clause-reply
 returns-clause-reply c =
@@ -17,7 +17,7 @@ returns-clause-reply c =
     let state : BookState = record { count = book.count; next = book.next; jobs = book.jobs.items } in
     let answer = c.read_in-answer.result in
     let told = told_seen state.jobs c.deref.result.now c.args.job (is_memory answer) (read_reply answer) c.deref.ensures.value c.read_in-answer.ensures.reply in
-    told_made state c.args.self.now (is_memory answer) (Read c.args.job) (read_reply answer) c.self.view_is (sym c.is_full.ensures ∙ c.if-is_full.false) told
+    told_made state c.args.self.now (is_memory answer) (Read c.args.job) (read_reply answer) c.self.view_is (sym c.has_full_history.ensures ∙ c.if-has_full_history.false) told
 
 pub returns-clause-state : goal.returns-clause-state
 returns-clause-state c =
@@ -26,5 +26,5 @@ returns-clause-state c =
     let answer = c.read_in-answer.result in
     let m = is_memory answer in
     let told = told_seen state.jobs c.deref.result.now c.args.job m (read_reply answer) c.deref.ensures.value c.read_in-answer.ensures.reply in
-    counted state c.args.self.now m (Read c.args.job) (read_reply answer) state.jobs c.count_after-self-inside.result c.self.view_is (sym c.is_full.ensures ∙ c.if-is_full.false) (next_seen book.next answer) c.count_after-self-inside.ensures.value told
+    counted state c.args.self.now m (Read c.args.job) (read_reply answer) state.jobs c.count_after-self-inside.result c.self.view_is (sym c.has_full_history.ensures ∙ c.if-has_full_history.false) (next_seen book.next answer) c.count_after-self-inside.ensures.value told
     (same_jobs m state.jobs (outcome_of_call state (Read c.args.job)).jobs (reading_stays state.jobs c.args.job))

@@ -1,7 +1,8 @@
 use Rattle.std.proofs.Common.{refl, subst}
 use Rattle.trlab_step.specs.Progress.{IsReachedByRun}
 use Rattle.trlab_sequential_book.specs.Jobs.{progress_of}
-use Rattle.trlab_sequential_book.specs.Machine.{JobState, job_state}
+use Rattle.trlab_sequential_book.specs.Machine.{JobState}
+use Rattle.trlab_sequential_book.proofs.Booking.{job_state}
 use Rattle.trlab_sequential_book.proofs.Booking.{lent}
 use Rattle.trlab_sequential_book.proofs.job.JobRecord.lend.Goals as goal
 

@@ -1,6 +1,7 @@
 use Rattle.std.proofs.Common.{arith, ◌≡◌, ap, sym, ◌∙◌, subst, true, Some}
 use Rattle.trlab_step.specs.Run.{in_force}
-use Rattle.trlab_sequential_book.specs.Machine.{JobState, job_state, accepts_lease}
+use Rattle.trlab_sequential_book.specs.Machine.{JobState, accepts_lease}
+use Rattle.trlab_sequential_book.proofs.Booking.{job_state}
 use Rattle.trlab_sequential_book.specs.Comparison.{offered}
 use Rattle.trlab_sequential_book.proofs.Booking.{own_parts}
 use Rattle.trlab_sequential_book.proofs.Entering.{begin_more}
@@ -11,10 +12,10 @@ invariant_of-self c =
     let j = c.self.inside in
     let i = c.self.invariant in
     let l = c.args.lease.now in
-    let own : accepts_lease (offered l c.args.same) c.args.self.now ≡ true = sym c.owns.ensures ∙ c.if-not-owns.false in
+    let own : accepts_lease (offered l c.args.runs_its_road) c.args.self.now ≡ true = sym c.accepts_lease.ensures ∙ c.if-not-accepts_lease.false in
     let state = job_state j.seed j.sheet j.steps j.high j.done j.cancelled j.out in
-    let P : JobState → Type 0 = λ s. accepts_lease (offered l c.args.same) s ≡ true in
-    let parts = own_parts (offered l c.args.same) state (subst P (sym c.self.view_is) own) in
+    let P : JobState → Type 0 = λ s. accepts_lease (offered l c.args.runs_its_road) s ≡ true in
+    let parts = own_parts (offered l c.args.runs_its_road) state (subst P (sym c.self.view_is) own) in
     let by = parts.1 in
     let high = i.ordered in
     let within = i.within in

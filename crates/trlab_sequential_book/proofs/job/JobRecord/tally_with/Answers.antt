@@ -4,7 +4,8 @@ use Rattle.std.specs.Prelude.{nat_le, if◌then◌else◌}
 use Rattle.trlab_step.specs.Run.{tally_sum}
 use Rattle.trlab_sequential_book.specs.Jobs.{run_start}
 use Rattle.trlab_sequential_book.specs.declared.seed.Seed.{Seed}
-use Rattle.trlab_sequential_book.specs.Machine.{JobState, job_state}
+use Rattle.trlab_sequential_book.specs.Machine.{JobState}
+use Rattle.trlab_sequential_book.proofs.Booking.{job_state}
 use Rattle.trlab_sequential_book.proofs.LeaseRuns.{go_on_at, way_begins}
 use Rattle.trlab_sequential_book.proofs.job.JobRecord.tally_with.Goals.{then-seed-step, else-seed-step}
 use Rattle.trlab_sequential_book.proofs.job.JobRecord.tally_with.Goals as goal

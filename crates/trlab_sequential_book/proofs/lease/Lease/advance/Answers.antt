@@ -21,8 +21,8 @@ not_wrong told fault is memory wrong = cc
 done_not_wrong : (told : Result (Unit {0}) LeaseFault) (done : Unit {0}) → told ≡ Ok done → told ≡ Err WrongOrder → ⊥
 done_not_wrong told done is wrong = cc
 
-pub returns-then-not-fits-clause-err : goal.returns-then-not-fits-clause-err
-returns-then-not-fits-clause-err g c = refl
+pub returns-then-not-fits-clause-unchanged : goal.returns-then-not-fits-clause-unchanged
+returns-then-not-fits-clause-unchanged g c = refl
 
 pub returns-then-not-fits-clause-wrong : goal.returns-then-not-fits-clause-wrong
 returns-then-not-fits-clause-wrong g c =
@@ -31,8 +31,8 @@ returns-then-not-fits-clause-wrong g c =
 pub returns-in_err-run-clause-ok : goal.returns-in_err-run-clause-ok
 returns-in_err-run-clause-ok g c = let p = err_from_is_err_and c.from_residual.result c.from_residual.ensures.1 in no_step _ _ _ p.1
 
-pub returns-in_err-run-clause-err : goal.returns-in_err-run-clause-err
-returns-in_err-run-clause-err g c = refused _ _ c.in_err-run.ensures.err
+pub returns-in_err-run-clause-unchanged : goal.returns-in_err-run-clause-unchanged
+returns-in_err-run-clause-unchanged g c = refused _ _ c.in_err-run.ensures.unchanged
 
 pub returns-in_err-run-clause-wrong : goal.returns-in_err-run-clause-wrong
 returns-in_err-run-clause-wrong g c =

@@ -32,8 +32,8 @@ invariant_of-self g c = (
 pub returns-in_err-reserve-clause-ok : goal.returns-in_err-reserve-clause-ok
 returns-in_err-reserve-clause-ok g c = no_step _ _ c.from_residual.ensures.0
 
-pub returns-in_err-reserve-clause-err : goal.returns-in_err-reserve-clause-err
-returns-in_err-reserve-clause-err g c = refused _ _ (still _ _ _ _ refl c.reserve.ensures.items c.self.view_is)
+pub returns-in_err-reserve-clause-unchanged : goal.returns-in_err-reserve-clause-unchanged
+returns-in_err-reserve-clause-unchanged g c = refused _ _ (still _ _ _ _ refl c.reserve.ensures.items c.self.view_is)
 
 pub invariant_of-self-in_err-shared : goal.invariant_of-self-in_err-shared
 invariant_of-self-in_err-shared g c = (
@@ -44,8 +44,8 @@ invariant_of-self-in_err-shared g c = (
 pub returns-in_err-shared-clause-ok : goal.returns-in_err-shared-clause-ok
 returns-in_err-shared-clause-ok g c = no_step _ _ c.from_residual-in_err-shared.ensures.0
 
-pub returns-in_err-shared-clause-err : goal.returns-in_err-shared-clause-err
-returns-in_err-shared-clause-err g c = refused _ _ (still _ _ _ _ refl c.reserve.ensures.items c.self.view_is)
+pub returns-in_err-shared-clause-unchanged : goal.returns-in_err-shared-clause-unchanged
+returns-in_err-shared-clause-unchanged g c = refused _ _ (still _ _ _ _ refl c.reserve.ensures.items c.self.view_is)
 
 pub invariant_of-self-in_err-tally : goal.invariant_of-self-in_err-tally
 invariant_of-self-in_err-tally g c = (
@@ -56,17 +56,17 @@ invariant_of-self-in_err-tally g c = (
 pub returns-in_err-tally-clause-ok : goal.returns-in_err-tally-clause-ok
 returns-in_err-tally-clause-ok g c = no_step _ _ c.from_residual-in_err-tally.ensures.0
 
-pub returns-in_err-tally-clause-err : goal.returns-in_err-tally-clause-err
-returns-in_err-tally-clause-err g c = refused _ _ (still _ _ _ _ c.in_err-tally.ensures.unchanged c.reserve.ensures.items c.self.view_is)
+pub returns-in_err-tally-clause-unchanged : goal.returns-in_err-tally-clause-unchanged
+returns-in_err-tally-clause-unchanged g c = refused _ _ (still _ _ _ _ c.in_err-tally.ensures.unchanged c.reserve.ensures.items c.self.view_is)
 
 pub invariant_of-self-2 : goal.invariant_of-self-2
 invariant_of-self-2 g c = (
-  lease_grows _ c.in_ok-shared.shared c.in_ok-tally.tally (arc_value c.step_alone.new.road) _ _ c.new-dice.ensures.key c.new-dice.ensures.road c.new-dice.ensures.step (rw (c.in_ok-shared.ensures, ← c.get-rule.ensures) c.in_ok-tally.ensures.next)
+  lease_grows _ c.in_ok-shared.shared c.in_ok-tally.tally (arc_value c.step_unshared.new.road) _ _ c.new-dice.ensures.key c.new-dice.ensures.road c.new-dice.ensures.step (rw (c.in_ok-shared.ensures, ← c.get-rule.ensures) c.in_ok-tally.ensures.next)
       (grown _ _ _ _ c.push_reserved.ensures.items c.reserve.ensures.items) c.self.invariant.0,
   λ is. rw (c.push_reserved.ensures.items, c.in_ok-shared.ensures, ← c.deref.ensures.value) (c.stays_steady-is_steady.ensures is c.in_ok-tally.tally),
 )
 
 pub returns-clause-ok : goal.returns-clause-ok
 returns-clause-ok g c =
-    has_stepped _ _ c.args.rule.now c.in_ok-shared.shared c.in_ok-tally.tally (arc_value c.step_alone.new.road) _ _ c.self.view_is c.in_ok-shared.ensures c.new-dice.ensures.key c.new-dice.ensures.road c.new-dice.ensures.step (rw (c.in_ok-shared.ensures, ← c.get-rule.ensures) c.in_ok-tally.ensures.next)
+    has_stepped _ _ c.args.rule.now c.in_ok-shared.shared c.in_ok-tally.tally (arc_value c.step_unshared.new.road) _ _ c.self.view_is c.in_ok-shared.ensures c.new-dice.ensures.key c.new-dice.ensures.road c.new-dice.ensures.step (rw (c.in_ok-shared.ensures, ← c.get-rule.ensures) c.in_ok-tally.ensures.next)
     (grown _ _ _ _ c.push_reserved.ensures.items c.reserve.ensures.items)

@@ -6,4 +6,4 @@ use Rattle.trlab_sequential_book.proofs.sheet.Sheet.entry.Goals as goal
 pub returns : goal.returns
 returns c =
     let kept : ℕ → Programs → Option (ℕ × Programs) = λ from rule. Some (from, rule) in
-    c.kept_entry-from.ensures ∙ ap (kept c.kept_entry-from.result.0) (sym c.get.ensures)
+    c.boxed_entry-from.ensures ∙ ap (kept c.boxed_entry-from.result.0) (sym c.get.ensures)

@@ -69,7 +69,7 @@ pub returns-in_err-tally-clause-run : goal.returns-in_err-tally-clause-run
 returns-in_err-tally-clause-run g c = rw (← c.self.view_is) (c.self.inside.sum, c.self.invariant.comes)
 
 pub invariant_of-self : goal.invariant_of-self
-invariant_of-self g c = rw c.in_err-tally.ensures.same c.self.invariant
+invariant_of-self g c = rw c.in_err-tally.ensures.unchanged c.self.invariant
 
 pub returns-in_err-tally-clause-on : goal.returns-in_err-tally-clause-on
 returns-in_err-tally-clause-on g c = let p = err_from_is_err_and c.from_residual.result c.from_residual.ensures.1 in rw p.1 tt
@@ -77,8 +77,8 @@ returns-in_err-tally-clause-on g c = let p = err_from_is_err_and c.from_residual
 pub returns-in_err-tally-clause-seen : goal.returns-in_err-tally-clause-seen
 returns-in_err-tally-clause-seen g c = rw (← c.self.view_is) c.take_step.ensures.seen
 
-pub returns-in_err-tally-clause-same : goal.returns-in_err-tally-clause-same
-returns-in_err-tally-clause-same g c = let p = err_from_is_err_and c.from_residual.result c.from_residual.ensures.1 in rw (p.1, c.in_err-tally.ensures.same) c.self.view_is
+pub returns-in_err-tally-clause-unchanged : goal.returns-in_err-tally-clause-unchanged
+returns-in_err-tally-clause-unchanged g c = let p = err_from_is_err_and c.from_residual.result c.from_residual.ensures.1 in rw (p.1, c.in_err-tally.ensures.unchanged) c.self.view_is
 
 pub overflow_add-self : goal.overflow_add-self
 overflow_add-self g c =

@@ -4,7 +4,7 @@ use Rattle.std.specs.Prelude.{MatchOption, nat_eq, option_copied, slice_get}
 use Rattle.trlab_rules.specs.Rules.{Programs}
 use Rattle.trlab_step.specs.Run.{StepsIncreaseFrom, Sheet, sheet_with}
 use Rattle.trlab_step.proofs.schedule.Schedule.new.Goals as goal
-use Rattle.trlab_step.proofs.schedule.Schedule.new.Goals.{then-begins, else-begins}
+use Rattle.trlab_step.proofs.schedule.Schedule.new.Goals.{then-is_replaced, else-is_replaced}
 
 -- does the first of the later rules begin at step 0
 abbrev begins : Sheet → Bool
@@ -49,21 +49,21 @@ rises_late (one ∷ later) rises h = let other = eqb-false one.0 0 h in (omega (
 
 pub remove-requires : goal.remove-requires
 remove-requires c =
-    let told = begins_told c.first.result c.args.later.items c.is_some_and-begins.result _ (c.first.ensures.value ∙ ap (λ xs. slice_get xs 0) c.deref.ensures.value) c.is_some_and-begins.ensures (λ entry told. search rules) in
-    some_begun c.args.later (sym told ∙ c.if-begins.true)
+    let told = begins_told c.first.result c.args.later.items c.is_some_and-is_replaced.result _ (c.first.ensures.value ∙ ap (λ xs. slice_get xs 0) c.deref.ensures.value) c.is_some_and-is_replaced.ensures (λ entry told. search rules) in
+    some_begun c.args.later (sym told ∙ c.if-is_replaced.true)
 
 pub invariant_of-result : goal.invariant_of-result
 invariant_of-result c =
-    let told = begins_told c.first.result c.args.later.items c.is_some_and-begins.result _ (c.first.ensures.value ∙ ap (λ xs. slice_get xs 0) c.deref.ensures.value) c.is_some_and-begins.ensures (λ entry told. search rules) in
-    elim c.if-begins.branch [
-      | then-begins w ↦ rises_begun c.args.later.items _ c.requires (sym told ∙ w.if-begins.true) (ap (λ (v : Vec (ℕ × Programs) Global). v.items) w.later-is ∙ w.remove.ensures.items)
-      | else-begins w ↦ rw w.later-is (rises_late c.args.later.items c.requires (sym told ∙ w.if-begins.false))
+    let told = begins_told c.first.result c.args.later.items c.is_some_and-is_replaced.result _ (c.first.ensures.value ∙ ap (λ xs. slice_get xs 0) c.deref.ensures.value) c.is_some_and-is_replaced.ensures (λ entry told. search rules) in
+    elim c.if-is_replaced.branch [
+      | then-is_replaced w ↦ rises_begun c.args.later.items _ c.requires (sym told ∙ w.if-is_replaced.true) (ap (λ (v : Vec (ℕ × Programs) Global). v.items) w.later-is ∙ w.remove.ensures.items)
+      | else-is_replaced w ↦ rw w.later-is (rises_late c.args.later.items c.requires (sym told ∙ w.if-is_replaced.false))
     ]
 
 pub returns : goal.returns
 returns c =
-    let told = begins_told c.first.result c.args.later.items c.is_some_and-begins.result _ (c.first.ensures.value ∙ ap (λ xs. slice_get xs 0) c.deref.ensures.value) c.is_some_and-begins.ensures (λ entry told. search rules) in
-    elim c.if-begins.branch [
-      | then-begins w ↦ sheet_begun c.args.first _ c.args.later.items _ w.remove.result (sym told ∙ w.if-begins.true) w.remove.ensures.value w.first2-is (ap (λ (v : Vec (ℕ × Programs) Global). v.items) w.later-is ∙ w.remove.ensures.items)
-      | else-begins w ↦ rw (w.first2-is, w.later-is) (sheet_late c.args.first c.args.later.items (sym told ∙ w.if-begins.false))
+    let told = begins_told c.first.result c.args.later.items c.is_some_and-is_replaced.result _ (c.first.ensures.value ∙ ap (λ xs. slice_get xs 0) c.deref.ensures.value) c.is_some_and-is_replaced.ensures (λ entry told. search rules) in
+    elim c.if-is_replaced.branch [
+      | then-is_replaced w ↦ sheet_begun c.args.first _ c.args.later.items _ w.remove.result (sym told ∙ w.if-is_replaced.true) w.remove.ensures.value w.first2-is (ap (λ (v : Vec (ℕ × Programs) Global). v.items) w.later-is ∙ w.remove.ensures.items)
+      | else-is_replaced w ↦ rw (w.first2-is, w.later-is) (sheet_late c.args.first c.args.later.items (sym told ∙ w.if-is_replaced.false))
     ]

@@ -22,19 +22,19 @@ pub returns-clause-in_list : goal.returns-clause-in_list
 returns-clause-in_list g c =
     let s = c.args.strand.now in
     let k = c.args.self.now in
-    let learnt = learns_met s.seat.me.0 k.seat.me.0 s.seat.me.1 c.split_seat-list.result.me c.join_seat.new.seat.me k.keeps c.split_seat-list.ensures.4 c.join_seat.ensures.2 c.load.ensures.2.1 in
+    let learnt = learns_met s.seat.me.0 k.seat.me.0 s.seat.me.1 c.split_seat-list.result.me c.join_seat.new.seat.me k.has_list c.split_seat-list.ensures.4 c.join_seat.ensures.2 c.load.ensures.2.1 in
     learnt.in_list refl
 
 pub returns-clause-most : goal.returns-clause-most
 returns-clause-most g c =
     let s = c.args.strand.now in
     let k = c.args.self.now in
-    let learnt = learns_met s.seat.me.0 k.seat.me.0 s.seat.me.1 c.split_seat-list.result.me c.join_seat.new.seat.me k.keeps c.split_seat-list.ensures.4 c.join_seat.ensures.2 c.load.ensures.2.1 in
+    let learnt = learns_met s.seat.me.0 k.seat.me.0 s.seat.me.1 c.split_seat-list.result.me c.join_seat.new.seat.me k.has_list c.split_seat-list.ensures.4 c.join_seat.ensures.2 c.load.ensures.2.1 in
     learnt.most refl
 
 pub returns-clause-all : goal.returns-clause-all
 returns-clause-all g c =
     let s = c.args.strand.now in
     let k = c.args.self.now in
-    let learnt = learns_met s.seat.me.0 k.seat.me.0 s.seat.me.1 c.split_seat-list.result.me c.join_seat.new.seat.me k.keeps c.split_seat-list.ensures.4 c.join_seat.ensures.2 c.load.ensures.2.1 in
+    let learnt = learns_met s.seat.me.0 k.seat.me.0 s.seat.me.1 c.split_seat-list.result.me c.join_seat.new.seat.me k.has_list c.split_seat-list.ensures.4 c.join_seat.ensures.2 c.load.ensures.2.1 in
     λ long. record { count = long; in_list = learnt.in_list refl; once = learnt.once refl long }

@@ -15,7 +15,7 @@ load-requires g c =
     let s = c.args.strand.now in
     let k = c.args.self.now in
     let t = c.args.strands.now in
-    let met = met_list s.seat.me.0 k.seat.me.0 s.seat.me.1 c.split_seat-list.result.me c.join_seat.new.seat.me k.keeps s.some c.split_seat-list.ensures.4 c.join_seat.ensures.2 in
+    let met = met_list s.seat.me.0 k.seat.me.0 s.seat.me.1 c.split_seat-list.result.me c.join_seat.new.seat.me k.has_list s.some c.split_seat-list.ensures.4 c.join_seat.ensures.2 in
     (c.join_seat.ensures.0 ∙ (s.at ∙ sym t.at), omega (arith, t.one_word), sees _ _ c.join_seat.new.seat.me met.0)
 
 pub split_seat-requires : goal.split_seat-requires
@@ -26,7 +26,7 @@ pub invariant_of-strand : goal.invariant_of-strand
 invariant_of-strand g c =
     let s = c.args.strand.now in
     let k = c.args.self.now in
-    let n = looking s.seat.me.0 k.seat.me.0 s.seat.me.1 c.split_seat-list.result.me c.join_seat.new.seat.me c.load.new.seat.me c.split_seat.new.seat.me c.split_seat.result.me k.keeps s.no_slot s.some
+    let n = looking s.seat.me.0 k.seat.me.0 s.seat.me.1 c.split_seat-list.result.me c.join_seat.new.seat.me c.load.new.seat.me c.split_seat.new.seat.me c.split_seat.result.me k.has_list s.no_slot s.some
     c.split_seat-list.ensures.4 c.join_seat.ensures.2 c.load.ensures.2 c.split_seat.ensures.2 c.split_seat.ensures.4 in
     record {
       at = c.split_seat.ensures.0 ∙ (c.load.ensures.0 ∙ (c.join_seat.ensures.0 ∙ s.at));
@@ -39,26 +39,26 @@ pub invariant_of-self : goal.invariant_of-self
 invariant_of-self g c =
     let s = c.args.strand.now in
     let k = c.args.self.now in
-    let n = looking s.seat.me.0 k.seat.me.0 s.seat.me.1 c.split_seat-list.result.me c.join_seat.new.seat.me c.load.new.seat.me c.split_seat.new.seat.me c.split_seat.result.me k.keeps s.no_slot s.some
+    let n = looking s.seat.me.0 k.seat.me.0 s.seat.me.1 c.split_seat-list.result.me c.join_seat.new.seat.me c.load.new.seat.me c.split_seat.new.seat.me c.split_seat.result.me k.has_list s.no_slot s.some
     c.split_seat-list.ensures.4 c.join_seat.ensures.2 c.load.ensures.2 c.split_seat.ensures.2 c.split_seat.ensures.4 in
     record {
       at = c.split_seat.ensures.3 ∙ (c.load.ensures.0 ∙ (c.join_seat.ensures.0 ∙ s.at));
       no_slot = n.right_slot;
-      keeps = n.right_list;
+      has_list = n.right_list;
     }
 
 pub returns-clause-list : goal.returns-clause-list
 returns-clause-list g c =
     let s = c.args.strand.now in
     let k = c.args.self.now in
-    let n = looking s.seat.me.0 k.seat.me.0 s.seat.me.1 c.split_seat-list.result.me c.join_seat.new.seat.me c.load.new.seat.me c.split_seat.new.seat.me c.split_seat.result.me k.keeps s.no_slot s.some
+    let n = looking s.seat.me.0 k.seat.me.0 s.seat.me.1 c.split_seat-list.result.me c.join_seat.new.seat.me c.load.new.seat.me c.split_seat.new.seat.me c.split_seat.result.me k.has_list s.no_slot s.some
     c.split_seat-list.ensures.4 c.join_seat.ensures.2 c.load.ensures.2 c.split_seat.ensures.2 c.split_seat.ensures.4 in
-    n.all
+    n.list
 
 pub returns-clause-strand : goal.returns-clause-strand
 returns-clause-strand g c =
     let s = c.args.strand.now in
     let k = c.args.self.now in
-    let n = looking s.seat.me.0 k.seat.me.0 s.seat.me.1 c.split_seat-list.result.me c.join_seat.new.seat.me c.load.new.seat.me c.split_seat.new.seat.me c.split_seat.result.me k.keeps s.no_slot s.some
+    let n = looking s.seat.me.0 k.seat.me.0 s.seat.me.1 c.split_seat-list.result.me c.join_seat.new.seat.me c.load.new.seat.me c.split_seat.new.seat.me c.split_seat.result.me k.has_list s.no_slot s.some
     c.split_seat-list.ensures.4 c.join_seat.ensures.2 c.load.ensures.2 c.split_seat.ensures.2 c.split_seat.ensures.4 in
-    (n.parts, n.own, n.least, n.next)
+    (n.parts, n.events, n.clock, n.next)

@@ -7,6 +7,6 @@ decreases-loop-line l = length l.left
 
 abbrev pub invariant-loop-line : goal.invariant-loop-line
 invariant-loop-line l = record {
-  searched : Searched l.text l.left l.lines;
-  room : l.lines + length l.left ≤ length l.text;
+  searched : Searched l.unread l.left l.lines;
+  room : l.lines + length l.left ≤ length l.unread;
 }

@@ -1,4 +1,0 @@
-use Rattle.trlab_asm.proofs.parts.Parts.reads.Goals as goal
-
-pub returns : goal.returns
-returns c = record { value = c.deref.ensures.value; few = rw c.deref.ensures.value c.args.self.now.few }

@@ -1,0 +1,6 @@
+use Rattle.std.proofs.Common.{arith}
+use Rattle.std.proofs.lemmas.Grind.{common_steps}
+use Rattle.trlab_code.proofs.row.is_row_of.Goals as goal
+
+pub returns : goal.returns
+returns c = grind (arith, common_steps)

@@ -1,5 +1,0 @@
-use Rattle.std.proofs.Common.{rules}
-use Rattle.trlab_explain.proofs.explain.bytes_in_form.Goals as goal
-
-pub returns-clause-head : goal.returns-clause-head
-returns-clause-head c = search rules

@@ -1,5 +1,0 @@
-use Rattle.std.proofs.Common.{rules}
-use Rattle.trlab_jobs.proofs.lane.wanted_by.Goals as goal
-
-pub returns-in-SpeedAboveLimit : goal.returns-in-SpeedAboveLimit
-returns-in-SpeedAboveLimit c = search rules

@@ -1,0 +1,98 @@
+//! The problem with an unexpected line.
+
+use crate::fault::Fault;
+use crate::names::{after_rule, belongs_in, count_probabilities, line_named};
+use crate::sentence::{Draft, Quoted};
+use trlab_jobs::Subject;
+use trlab_lines::{Oddity, oddity_of};
+use trlab_texts::word::head_word;
+use trlab_texts::{LineName, LineNames};
+
+/// Adds the problem with the words after `rule`: an unknown name, or too many or too few values.
+fn push_rule_problem(problem: &mut Draft, words: &[u8]) {
+    let rule = head_word(words);
+    let count = words.iter().filter(|byte| **byte == b' ').count();
+    let name = Quoted(rule);
+    let takes = match count_probabilities(rule) {
+        None => {
+            return write!(
+                problem,
+                "unknown rule `{name}`. The rules are nasch, vdr, rickert and own."
+            );
+        }
+        Some(takes) if takes == count => return,
+        Some(0) => "no values",
+        Some(1) => "one value",
+        Some(_) => "two values",
+    };
+    write!(problem, "`rule {name}` takes {takes}, found {count}.");
+}
+
+/// Adds the problem with a line whose first word is not valid there.
+fn push_name_problem(problem: &mut Draft, subject: Subject, word: &[u8]) {
+    match line_named(word) {
+        Some(name) if !belongs_in(name, subject) => {
+            let belongs = match subject {
+                Subject::Job => "belongs in a sweep, not in a job",
+                Subject::Sweep => "belongs in a job, not in a sweep",
+                Subject::Check => "does not belong in a program",
+            };
+            let word = Quoted(word);
+            write!(problem, "a `{word}` line {belongs}.");
+        }
+        None if word != b"code".as_slice() && word != b"end".as_slice() => {}
+        _ if subject == Subject::Check => {}
+        _ => problem.push_str(
+            "this line does not belong here: a line above it is missing, or it is a duplicate.",
+        ),
+    }
+}
+
+/// Adds the problem with a line by its first word.
+fn push_word_problem(problem: &mut Draft, subject: Subject, word: &[u8], names: LineNames) {
+    let is_program = names.has(LineName::Motion) || names.has(LineName::Change);
+    match line_named(word) {
+        Some(name) if names.has(name) => {
+            if matches!(name, LineName::Road | LineName::Sweep) {
+                problem.push_str("the format version must be 1.");
+            }
+        }
+        None if is_program && word == b"code".as_slice() => {}
+        _ if names.is_empty() => {}
+        _ => push_name_problem(problem, subject, word),
+    }
+}
+
+/// An oddity in words.
+fn odd_words(oddity: Oddity) -> &'static str {
+    match oddity {
+        Oddity::ByteOrderMark => "the file begins with a byte order mark: save it as plain ASCII.",
+        Oddity::CarriageReturn =>
+            "the line ends with a carriage return (Windows line ending): use LF only.",
+        Oddity::Empty => "the line is empty: empty lines are allowed only inside programs.",
+        Oddity::Tab => "the line contains a tab: separate words with one space.",
+        Oddity::FirstSpace => "the line begins with a space.",
+        Oddity::FinalSpace => "the line ends with a space.",
+        Oddity::Comment => "the line has a comment: comments are allowed only inside programs.",
+    }
+}
+
+/// Adds the problem with an unexpected line.
+pub fn push_line_problem(problem: &mut Draft, fault: &Fault<'_>, names: LineNames) {
+    let Some(line) = fault.place.line else {
+        return problem.push_str(if names.has(LineName::End) {
+            "the end of the file: a program has no line `end`."
+        } else {
+            "the end of the file: a line is missing."
+        });
+    };
+    if let Some(oddity) = oddity_of(line) {
+        return problem.push_str(odd_words(oddity));
+    }
+    if let Some(words) = after_rule(line) {
+        push_rule_problem(problem, words);
+    }
+    if problem.is_empty() {
+        push_word_problem(problem, fault.subject, head_word(line), names);
+    }
+}

@@ -1,5 +1,0 @@
-use Rattle.trlab_notes.proofs.Bits.{either_is}
-use Rattle.trlab_notes.proofs.rows.LevelRow.either.Goals as goal
-
-pub returns : goal.returns
-returns c = either_is c.args.self c.args.other

@@ -1,9 +1,0 @@
-use Rattle.std.proofs.Common.{◌∙◌}
-use Rattle.trlab_notes.proofs.Tables.{entry_is, entry_fits}
-use Rattle.trlab_notes.proofs.rows.Stored.entry.Goals as goal
-
-pub returns : goal.returns
-returns c = c.new.ensures ∙ entry_is c.args.kind c.entry_said.result c.entry_levels.result c.entry_said.ensures c.entry_levels.ensures
-
-pub new-requires : goal.new-requires
-new-requires c = entry_fits c.entry_said.result c.entry_levels.result c.entry_levels.ensures

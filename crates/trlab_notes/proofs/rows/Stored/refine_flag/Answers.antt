@@ -1,9 +1,0 @@
-use Rattle.trlab_notes.proofs.Tables.{trust_is}
-use Rattle.trlab_notes.proofs.rows.Stored.refine_flag.Goals as goal
-use Rattle.trlab_notes.proofs.rows.Stored.refine_flag.Goals.{then-self, else-self}
-
-pub returns : goal.returns
-returns c = trust_is c.args.self.now c.args.register c.if-self.result (elim c.if-self.branch [
-  | then-self w ↦ cc (w.result-is, w.if-self.true)
-  | else-self w ↦ cc (w.result-is, w.if-self.false, w.implies.ensures, c.number.ensures.value)
-])

@@ -1,6 +1,0 @@
-use Rattle.trlab_road.proofs.PictureLaws.{pictures_good}
-use Rattle.trlab_road.proofs.PictureFaults.{same_again}
-use Rattle.trlab_road.proofs.laws.pictures_say_the_road.Goals as goal
-
-pub returns : goal.returns
-returns c = record { good = pictures_good; same = same_again }

@@ -1,4 +1,0 @@
-use Rattle.trlab_segments.proofs.parts.joined.Goals as goal
-
-pub returns : goal.returns
-returns g c = rw (c.in_ok-all.was, c.in_ok-more.was) c.in_ok-append.ensures.items

@@ -1,9 +1,0 @@
-use Rattle.std.proofs.Common.{◌≡◌, ◌≤◌, take}
-use Rattle.std.specs.Prelude.{count_by}
-use Rattle.trlab_step.proofs.tally.count_crossing.Given as goal
-
-abbrev pub invariant-loop-is_crossing : goal.invariant-loop-is_crossing
-invariant-loop-is_crossing l = record {
-  counted : l.count ≡ count_by (λ crosses. crosses) (take l.is_crossing-index l.crosses);
-  few : l.count ≤ l.is_crossing-index;
-}

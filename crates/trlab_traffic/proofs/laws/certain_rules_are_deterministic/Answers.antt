@@ -1,5 +1,0 @@
-use Rattle.trlab_traffic.proofs.Certainties.{nasch_without_randomization, run_is_deterministic, step_is_deterministic}
-use Rattle.trlab_traffic.proofs.laws.certain_rules_are_deterministic.Goals as goal
-
-pub returns : goal.returns
-returns c = record { nasch = nasch_without_randomization; step = step_is_deterministic; run = run_is_deterministic }

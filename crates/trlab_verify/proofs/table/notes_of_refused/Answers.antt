@@ -1,4 +1,0 @@
-use Rattle.trlab_verify.proofs.table.notes_of_refused.Goals as goal
-
-pub returns : goal.returns
-returns c = rw (c.kind-kind.ensures, c.instrs-instrs.ensures.value) at c.judge_refused.ensures

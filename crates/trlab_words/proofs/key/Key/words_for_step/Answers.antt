@@ -1,4 +1,0 @@
-use Rattle.trlab_words.proofs.key.Key.words_for_step.Goals as goal
-
-pub invariant_of-result : goal.invariant_of-result
-invariant_of-result c = (c.read_words-words.ensures.small, rw (c.new.ensures.road, c.new.ensures.step) c.new.ensures.starts)

@@ -1,5 +1,0 @@
-use Rattle.std.proofs.Common.{rules}
-use Rattle.trlab_words.proofs.key.KeyWords.copy.Goals as goal
-
-pub returns : goal.returns
-returns c = search rules
