@@ -1,10 +1,10 @@
 """Wrong bodies, and how the prover is asked to refuse them.
 
-A crate's wrong bodies are in its files together.edit and apart.edit. Each has a line `# its_name`, and then
+A crate's wrong bodies are in its files must-fail/_together.edit and apart.edit. Each has a line `# its_name`, and then
 lines `file: src/NAME.rt`, `old: TEXT` and `new: TEXT`: the text, which is in the file once, is replaced. One that
 changes a constant may name the function that has to be refused, by a line `in: module::function`.
 
-They are tried on a copy of the crate, over the libraries that `rt ci` has proved here. Only the functions that they change
+They are tried on a copy of the crate, over the libraries that ./test has proved here. Only the functions that they change
 are proved there; the theorem of every other function is taken as proved, by a hole in place of its proof. So a trial
 costs seconds where the whole crate costs minutes, and shows no less: what is refused although everything else is taken as
 proved is refused in any case."""
@@ -141,12 +141,12 @@ def at_once():
 
 
 class Crate:
-    """A crate that `rt ci` has proved here, and its wrong bodies."""
+    """A crate that ./test has proved here, and its wrong bodies."""
 
     def __init__(self, name, libraries):
         self.name, self.libraries = name, libraries
         self.folder = os.path.join(tools.TOP, "crates", name)
-        self.together = bodies_in(os.path.join(self.folder, "together.edit"))
+        self.together = bodies_in(os.path.join(self.folder, "must-fail", "_together.edit"))
         self.apart = bodies_in(os.path.join(self.folder, "apart.edit"))
         names = [body.name for body in self.together + self.apart]
         if len(set(names)) < len(names):
@@ -156,7 +156,7 @@ class Crate:
         """A file of the library that was proved here."""
         path = os.path.join(self.folder, "out", "rlib", f"{self.name}.rlib", "toolchain", name)
         if not os.path.exists(path):
-            raise SystemExit(f"{self.name} is not proved here: run `rt ci` first")
+            raise SystemExit(f"{self.name} is not proved here: run ./test first")
         with open(path, encoding="utf-8", errors="replace") as file:
             return file.read()
 
