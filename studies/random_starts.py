@@ -8,32 +8,32 @@ from typing import Callable, Dict, List, Mapping
 
 from study import Mean
 from trlab import Job, Point, Sweep
-from trlab.starts import random
+from trlab._inputs.states import random_cells
 
 
-def jobs_of(sweeps: Mapping[str, Sweep]) -> Dict[str, Job]:
+def jobs_of(sweeps: Mapping[str, Sweep]) -> dict[str, Job]:
     """A job for each point of each sweep, named after the sweep and the number of the point, from 0 on."""
     return {f"{name}_{number}": job for name, sweep in sweeps.items() for number, job in enumerate(sweep.jobs())}
 
 
-def from_random(sweeps: Mapping[str, Sweep]) -> Dict[str, Job]:
+def from_random(sweeps: Mapping[str, Sweep]) -> dict[str, Job]:
     """The jobs of the same sweeps from random initial states; the seed of the cells is the key of the sweep."""
-    return jobs_of({name: replace(sweep, start=random(int(sweep.key))) for name, sweep in sweeps.items()})
+    return jobs_of({name: replace(sweep, start=random_cells(int(sweep.key))) for name, sweep in sweeps.items()})
 
 
-def last_steps(measure: int) -> Callable[[Job], List[Point]]:
+def last_steps(measure: int) -> Callable[[Job], list[Point]]:
     """The call that counts the last `measure` steps of a job, as a sweep does."""
 
-    def counted(job: Job) -> List[Point]:
+    def counted(job: Job) -> list[Point]:
         windows = job.series(every=measure, first=job.steps - measure)
         return [Point(*window[1 : 1 + len(Point._fields)]) for window in windows]
 
     return counted
 
 
-def by_sweep(points: Mapping[str, List[Point]]) -> Dict[str, List[Point]]:
+def by_sweep(points: Mapping[str, list[Point]]) -> dict[str, list[Point]]:
     """The points of such jobs together, by the name of their sweep."""
-    found: Dict[str, List[Point]] = {}
+    found: dict[str, list[Point]] = {}
     for name, rows in points.items():
         found.setdefault(name.rpartition("_")[0], []).extend(rows)
     return found

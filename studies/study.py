@@ -49,22 +49,22 @@ class Study(NamedTuple):
         return cls(here / "full" if asked.full else here, asked.full, asked.draw)
 
     def table(
-        self, file: str, kind: Type[Row], texts: Mapping[str, Text], call: Callable[[Text], Iterable[Row]]
-    ) -> Dict[str, List[Row]]:
+        self, file: str, kind: type[Row], texts: Mapping[str, Text], call: Callable[[Text], Iterable[Row]]
+    ) -> dict[str, list[Row]]:
         """The rows of a table by the names of their texts: as a file has them, or after all texts were run.
 
         A run that was stopped or killed continues where it stopped when it is started again."""
         if not self.is_drawn_only:
-            self.write_texts(texts)
+            self.write_inputs(texts)
             tables = self.results(texts, call)
             rows = [[name, *row] for name in texts for row in tables[name]]
             write_rows(self.folder / file, ["text", *kind._fields], rows)
-        found: Dict[str, List[Row]] = {}
+        found: dict[str, list[Row]] = {}
         for name, *numbers in read_rows(self.folder / file):
             found.setdefault(name, []).append(kind(*(int(number) for number in numbers)))
         return found
 
-    def results(self, texts: Mapping[str, Text], call: Callable[[Text], Result]) -> Dict[str, Result]:
+    def results(self, texts: Mapping[str, Text], call: Callable[[Text], Result]) -> dict[str, Result]:
         """The results of a call by the names of the texts.
 
         What the program writes is kept in `outputs.parts` until the study is complete (`draw`). The name of each part is
@@ -75,7 +75,7 @@ class Study(NamedTuple):
     def parts(self) -> Path:
         return self.folder / "outputs.parts"
 
-    def write_texts(self, texts: Mapping[str, Union[Job, Sweep]]) -> None:
+    def write_inputs(self, texts: Mapping[str, Union[Job, Sweep]]) -> None:
         """Writes texts beside the tables, a sweep of several inputs as NAME.sweep, NAME_1.sweep and so on; of jobs that
         differ in their key alone those of key 1."""
         place = self.folder / "texts"
@@ -104,7 +104,7 @@ def write_rows(file: Path, heading: Sequence[str], rows: Iterable[Sequence[objec
     new.replace(file)
 
 
-def read_rows(file: Path) -> List[List[str]]:
+def read_rows(file: Path) -> list[list[str]]:
     """The lines of a table, without its heading."""
     with open(file, newline="") as lines:
         return list(csv.reader(lines))[1:]

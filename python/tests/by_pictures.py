@@ -1,15 +1,15 @@
-"""A second program for series: the table of a job as sums over the pictures that `trlab run` writes.
+"""A second program for series: the table of a job as sums over the snapshots that `trlab run` writes.
 
-It knows nothing of rules. Cars that changed lanes are found in two consecutive pictures: a car at
+It knows nothing of rules. Cars that changed lanes are found in two consecutive snapshots: a car at
 speed v has come from v cells behind, on the lane where it is now."""
 from typing import Iterable, Iterator, List, NamedTuple, Sequence, Set
 
-from trlab import Picture, Window
-from trlab.starts import SPEEDS
+from trlab import Snapshot, Window
+from trlab._inputs.states import SPEEDS
 
 
 class OnLane(NamedTuple):
-    """What is on a lane of one picture."""
+    """What is on a lane of one snapshot."""
 
     cars: int
     distance: int
@@ -21,12 +21,12 @@ def on_lane(lane: str) -> OnLane:
     return OnLane(sum(counts), sum(speed * count for speed, count in enumerate(counts)), counts[0])
 
 
-def cells_before_motion(lane: str) -> Set[int]:
+def cells_before_motion(lane: str) -> set[int]:
     """The cells of a lane from which its cars came in the motion."""
     return {(cell - SPEEDS.index(sign)) % len(lane) for cell, sign in enumerate(lane) if sign != "."}
 
 
-def changes(before: Picture, after: Picture) -> int:
+def changes(before: Snapshot, after: Snapshot) -> int:
     """How many cars crossed: cells that were taken before, and were empty when the motion began."""
     if len(before.lanes) == 1:
         return 0
@@ -34,9 +34,9 @@ def changes(before: Picture, after: Picture) -> int:
     return sum(len(cells - cells_before_motion(lane)) for cells, lane in zip(taken, after.lanes))
 
 
-def window(pictures: Sequence[Picture]) -> Window:
-    """The line of a window, by the picture before it and those of its steps."""
-    behind = pictures[1:]
+def window(snapshots: Sequence[Snapshot]) -> Window:
+    """The line of a window, by the snapshot before it and those of its steps."""
+    behind = snapshots[1:]
     lanes = len(behind[0].lanes)
     cells, steps = lanes * len(behind[0].lanes[0]), len(behind)
     sums = [[sum(column) for column in zip(*(on_lane(it.lanes[lane]) for it in behind))] for lane in range(lanes)]
@@ -49,7 +49,7 @@ def window(pictures: Sequence[Picture]) -> Window:
         steps=steps,
         distance=distance,
         stopped=stopped0 + stopped1,
-        changes=sum(changes(*pair) for pair in zip(pictures, behind)),
+        changes=sum(changes(*pair) for pair in zip(snapshots, behind)),
         flow=distance * 1000000 // (cells * steps),
         cars0=cars0,
         distance0=distance0,
@@ -60,12 +60,12 @@ def window(pictures: Sequence[Picture]) -> Window:
     )
 
 
-def windows(pictures: Iterable[Picture], every: int = 1, first: int = 0) -> Iterator[Window]:
+def windows(snapshots: Iterable[Snapshot], every: int = 1, first: int = 0) -> Iterator[Window]:
     """The whole windows of a run, from a step on."""
-    kept: List[Picture] = []
-    for picture in pictures:
-        if picture.step >= first:
-            kept.append(picture)
+    kept: list[Snapshot] = []
+    for snapshot in snapshots:
+        if snapshot.step >= first:
+            kept.append(snapshot)
         if len(kept) == every + 1:
             yield window(kept)
-            kept = [picture]
+            kept = [snapshot]

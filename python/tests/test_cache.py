@@ -11,9 +11,9 @@ from unittest import mock
 
 import trlab
 from tests.processes import calls, child, end, logging_program, marked, until
-from trlab import Failed, Job, Nasch, Refused, Rickert, Sweep
-from trlab.cache import Cache, key_of
-from trlab.owners import new_path
+from trlab import ProgramError, Job, Nasch, RejectedInputError, Rickert, Sweep
+from trlab._runs.cache import Cache, key_of
+from trlab._runs.ownership import new_path
 
 SHAPE = Sweep(limit=5, length=100, rule=Nasch(0.25), warm=10, measure=20, cars=[10, 20])
 SWEEPS = {f"key_{key}": replace(SHAPE, key=key) for key in range(5)}
@@ -148,14 +148,14 @@ class Kept(unittest.TestCase):
 
     def test_a_rejected_input_and_a_failed_run_are_not_kept(self):
         for _ in range(2):
-            self.assertRaises(Refused, list, trlab.results([replace(JOB, rule=Rickert(0, 0))], cache=self.cache))
-            with self.assertRaises(Failed):
+            self.assertRaises(RejectedInputError, list, trlab.results([replace(JOB, rule=Rickert(0, 0))], cache=self.cache))
+            with self.assertRaises(ProgramError):
                 list(trlab.results([JOB], call=lambda job: job.run(workers=17), cache=self.cache))
         self.assertEqual((calls(self.folder, "run"), list(self.cache.iterdir())), (4, []))
 
     def test_pictures_one_by_one(self):
         for _ in range(2):
-            found = dict(trlab.results([JOB], call=lambda job: next(job.pictures()), cache=self.cache))
+            found = dict(trlab.results([JOB], call=lambda job: next(job.snapshots()), cache=self.cache))
             self.assertEqual(found, {0: JOB.run()[0]})
         self.assertEqual(len(list(self.cache.iterdir())), 1)
 

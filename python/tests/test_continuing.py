@@ -1,4 +1,4 @@
-"""Jobs that continue: from a picture, and beyond the steps of one input."""
+"""Jobs that continue: from a snapshot, and beyond the steps of one input."""
 import hashlib
 import unittest
 from contextlib import contextmanager
@@ -6,12 +6,12 @@ from dataclasses import replace
 from unittest import mock
 
 from tests.by_pictures import windows
-from trlab import Job, Nasch, Own, Picture, Rickert, SlowToStart, Sweep, Table, Window, continuing, jam, random
-from trlab.program import ask_by_line
+from trlab import Job, Nasch, Own, Snapshot, Rickert, SlowToStart, Sweep, Table, Window, continuing, jammed, random_cells
+from trlab._runs.calls import ask_by_line
 
 HALF = Own("motion\nget r0, gap\ndiv r0, r0, 2\nget r1, limit\nmin r0, r0, r1\ngo r0\n")
-ONE = Job(limit=5, length=60, density=0.3, start=random(1), rule=Nasch(0.25), steps=50, key=7, at={10: Nasch(0.5), 30: HALF})
-TWO = Job(limit=3, length=40, lanes=2, cars=20, start=random(2), rule=Rickert(0.25, 1), steps=50, at={35: HALF})
+ONE = Job(limit=5, length=60, density=0.3, start=random_cells(1), rule=Nasch(0.25), steps=50, key=7, at={10: Nasch(0.5), 30: HALF})
+TWO = Job(limit=3, length=40, lanes=2, cars=20, start=random_cells(2), rule=Rickert(0.25, 1), steps=50, at={35: HALF})
 
 
 def digest(key, step):
@@ -21,75 +21,75 @@ def digest(key, step):
 @contextmanager
 def short_inputs(steps):
     """Inputs of at most so many steps."""
-    with mock.patch("trlab.texts.MAX_STEPS", steps), mock.patch("trlab.continuing.MAX_STEPS", steps):
+    with mock.patch("trlab._inputs.jobs.MAX_STEPS", steps), mock.patch("trlab._inputs.long_jobs.MAX_STEPS", steps):
         yield
 
 
 class Continued(unittest.TestCase):
     def test_it_begins_with_the_picture(self):
         for job in ONE, TWO:
-            pictures = job.run()
-            for picture in pictures[0], pictures[29], pictures[-1]:
-                first, *later = job.continued(picture).run()
-                self.assertEqual((first.step, first.lanes), (0, picture.lanes))
+            snapshots = job.run()
+            for snapshot in snapshots[0], snapshots[29], snapshots[-1]:
+                first, *later = job.continued(snapshot).run()
+                self.assertEqual((first.step, first.lanes), (0, snapshot.lanes))
                 self.assertEqual(len(later), job.steps)
 
     def test_cars_keep_their_order_and_number(self):
-        pictures = ONE.run()
-        both = pictures + [it._replace(step=50 + it.step) for it in ONE.continued(pictures[-1]).run()[1:]]
+        snapshots = ONE.run()
+        both = snapshots + [it._replace(step=50 + it.step) for it in ONE.continued(snapshots[-1]).run()[1:]]
         self.assertEqual({len(it.lanes[0].replace(".", "")) for it in both}, {18})
-        # Every car of every picture came from the cell of a car before it, as many cells behind as its speed says.
+        # Every car of every snapshot came from the cell of a car before it, as many cells behind as its speed says.
         both.trajectories()
         self.assertRaises(ValueError, (both[:51] + [it._replace(step=51 + it.step) for it in both[:1]]).trajectories)
 
     def test_its_rules_are_those_of_the_rest(self):
-        pictures, last = ONE.run(), Nasch(0.5)
+        snapshots, last = ONE.run(), Nasch(0.5)
         for step, rule, at in (0, Nasch(0.25), {10: last, 30: HALF}), (9, Nasch(0.25), {1: last, 21: HALF}), (10, last, {20: HALF}):
-            job = ONE.continued(pictures[step])
+            job = ONE.continued(snapshots[step])
             self.assertEqual((job.rule, dict(job.at)), (rule, at))
-        self.assertEqual((ONE.continued(pictures[30]).rule, len(ONE.continued(pictures[30]).at)), (HALF, 0))
-        self.assertEqual(dict(ONE.continued(pictures[5], steps=5).at), {})
-        self.assertEqual(dict(ONE.continued(pictures[5], steps=6).at), {5: last})
+        self.assertEqual((ONE.continued(snapshots[30]).rule, len(ONE.continued(snapshots[30]).at)), (HALF, 0))
+        self.assertEqual(dict(ONE.continued(snapshots[5], steps=5).at), {})
+        self.assertEqual(dict(ONE.continued(snapshots[5], steps=6).at), {5: last})
         at_once = replace(ONE, at={0: last})
-        self.assertEqual((at_once.continued(pictures[0]).rule, dict(at_once.continued(pictures[0]).at)), (last, {}))
+        self.assertEqual((at_once.continued(snapshots[0]).rule, dict(at_once.continued(snapshots[0]).at)), (last, {}))
 
     def test_its_key(self):
-        picture = ONE.run()[20]
-        self.assertEqual(ONE.continued(picture).key, digest(7, 20))
-        self.assertEqual(ONE.continued(picture, key=8).key, 8)
-        self.assertEqual((ONE.continued(picture).steps, ONE.continued(picture, steps=3).steps), (50, 3))
+        snapshot = ONE.run()[20]
+        self.assertEqual(ONE.continued(snapshot).key, digest(7, 20))
+        self.assertEqual(ONE.continued(snapshot, key=8).key, 8)
+        self.assertEqual((ONE.continued(snapshot).steps, ONE.continued(snapshot, steps=3).steps), (50, 3))
         # The same key draws the words of the steps 0, 1, and so on again, another one does not.
         again = ONE.continued(ONE.run()[0], key=ONE.key).run()
         self.assertEqual([it.lanes for it in again], [it.lanes for it in ONE.run()])
         self.assertNotEqual([it.lanes for it in ONE.continued(ONE.run()[0]).run()], [it.lanes for it in ONE.run()])
 
     def test_a_picture_beyond_the_run_is_rejected(self):
-        self.assertRaisesRegex(ValueError, "picture must be between 0 and 50, not 51", ONE.continued, Picture(51, ("0",)))
+        self.assertRaisesRegex(ValueError, "snapshot must be between 0 and 50, not 51", ONE.continued, Snapshot(51, ("0",)))
 
 
 class LongRuns(unittest.TestCase):
     def test_pictures_are_those_of_the_inputs(self):
         with short_inputs(20):
-            pictures = TWO.run()
+            snapshots = TWO.run()
             first = replace(TWO, steps=20, at={}).run()
             second = TWO.continued(first[-1], steps=20).run()
             third = replace(TWO, steps=20, at={}).continued(first[-1], steps=30).continued(second[-1], steps=10).run()
-        self.assertEqual([it.step for it in pictures], list(range(51)))
-        self.assertEqual(pictures[:21], first)
-        self.assertEqual([it.lanes for it in pictures[20:41]], [it.lanes for it in second])
+        self.assertEqual([it.step for it in snapshots], list(range(51)))
+        self.assertEqual(snapshots[:21], first)
+        self.assertEqual([it.lanes for it in snapshots[20:41]], [it.lanes for it in second])
         self.assertEqual(third[0].lanes, second[-1].lanes)
 
     def test_every_nth_picture(self):
         with short_inputs(20):
-            pictures = TWO.run()
+            snapshots = TWO.run()
             for every, first in (1, 0), (1, 20), (7, 0), (7, 3), (20, 20), (3, 41), (60, 50), (1, 51):
-                self.assertEqual(list(continuing.pictures(TWO, every, first, [])), pictures[first::every])
-                self.assertEqual(TWO.run(every=every, first=first), pictures[first::every])
+                self.assertEqual(list(continuing.snapshots(TWO, every, first, [])), snapshots[first::every])
+                self.assertEqual(TWO.run(every=every, first=first), snapshots[first::every])
 
     def test_other_pictures_are_not_asked_for(self):
         asked = []
         with short_inputs(20), mock.patch.object(continuing, "ask_by_line", lambda words, text: asked.append(words) or ask_by_line(words, text)):
-            self.assertEqual([it.step for it in TWO.pictures(every=25, first=10)], [10, 35])
+            self.assertEqual([it.step for it in TWO.snapshots(every=25, first=10)], [10, 35])
             TWO.series(every=40)
         self.assertEqual({(*words,) for words in asked if words[0] == "run"}, {("run", "--every", "5"), ("run", "--from", "20")})
 
@@ -98,24 +98,24 @@ class LongRuns(unittest.TestCase):
         for change in 19, 20, 21, 40, 45:
             job = Job(limit=1, length=60, cars=1, rule=go, steps=50, at={change: stop})
             with short_inputs(20):
-                stopped = [it.step for it in job.pictures() if it.speeds()[0].count(0)]
+                stopped = [it.step for it in job.snapshots() if it.speeds()[0].count(0)]
             self.assertEqual(stopped, [0, *range(change + 1, 51)])
 
     def test_windows_are_those_of_the_pictures(self):
         for job in ONE, TWO:
             with short_inputs(20):
-                pictures = job.run()
+                snapshots = job.run()
                 for every, first in (1, 0), (5, 0), (7, 3), (10, 20), (25, 0), (6, 25), (40, 10), (3, 41), (51, 0), (5, 60):
                     told = job.series(every=every, first=first, workers=2)
                     with self.subTest(every=every, first=first):
-                        self.assertEqual(told, list(windows(pictures, every, first)))
+                        self.assertEqual(told, list(windows(snapshots, every, first)))
                         self.assertEqual((type(told), told.kind), (Table, Window))
 
     def test_a_run_can_be_left(self):
         with short_inputs(20):
-            pictures = ONE.pictures()
-            self.assertEqual([next(pictures).step for _ in range(25)], list(range(25)))
-            pictures.close()
+            snapshots = ONE.snapshots()
+            self.assertEqual([next(snapshots).step for _ in range(25)], list(range(25)))
+            snapshots.close()
 
     def test_it_has_no_job_text(self):
         job = replace(ONE, steps=500001)
@@ -139,7 +139,7 @@ class LongRuns(unittest.TestCase):
 
 class LongSweeps(unittest.TestCase):
     def test_points_are_counted_beyond_an_input(self):
-        sweep = Sweep(limit=3, length=40, rule=SlowToStart(0.25, 0.5), warm=13, measure=30, cars=[9], start=jam)
+        sweep = Sweep(limit=3, length=40, rule=SlowToStart(0.25, 0.5), warm=13, measure=30, cars=[9], start=jammed)
         with short_inputs(20):
             (point,) = sweep.sweep()
             (window,) = windows(sweep.jobs()[0].run(), every=30, first=13)

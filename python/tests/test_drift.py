@@ -3,8 +3,8 @@ import random
 import unittest
 from statistics import fmean
 
-from trlab import Drift, Job, Nasch, Point, Sweep, Table, Window, jam
-from trlab.drift import drift_of, tails_of_t
+from trlab import Drift, Job, Nasch, Point, Sweep, Table, Window, jammed
+from trlab._results.drift import drift_of, tails_of_t
 
 
 def noise(seed, length, memory=0.0):
@@ -71,7 +71,7 @@ class Found(unittest.TestCase):
         self.assertEqual(drift_of(20 * [4.0] + 60 * [3.0]), Drift(float("-inf"), 0))
 
     def test_a_road_that_leaves_a_jam(self):
-        job = Job(limit=5, length=1000, density=0.08, start=jam, rule=Nasch(0.25), steps=6000, key=1)
+        job = Job(limit=5, length=1000, density=0.08, start=jammed, rule=Nasch(0.25), steps=6000, key=1)
         early, late = job.series(every=10)[:100], job.series(every=100, first=2000)
         self.assertTrue(early.drift().is_drifting and early.drift().z > 0)
         self.assertTrue(early.drift("stopped_share").is_drifting and early.drift("stopped_share").z < 0)

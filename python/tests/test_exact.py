@@ -98,7 +98,7 @@ class Runs(unittest.TestCase):
     def test_transitions(self):
         for name in "nasch_1_4_v2_4_on_10", "vdr_1_64_v3_3_on_8", "careful_v3_4_on_9", "rickert_1_4_v2_3_on_2x7":
             ring = NAMED[name]
-            verdict = judged(counted(it.lanes for it in ring.job(1, 10000).pictures()), ring.model)
+            verdict = judged(counted(it.lanes for it in ring.job(1, 10000).snapshots()), ring.model)
             with self.subTest(ring=name):
                 self.assertEqual(verdict.impossible, 0)
                 self.assertGreater(verdict.freedom, 50)
@@ -106,7 +106,7 @@ class Runs(unittest.TestCase):
 
     def test_a_wrong_model_is_found_out(self):
         ring = NAMED["nasch_1_4_v1_4_on_8"]
-        counts = counted(it.lanes for it in ring.job(1, 20000).pictures())
+        counts = counted(it.lanes for it in ring.job(1, 20000).snapshots())
         self.assertGreater(abs(self.z(ring, NagelSchreckenberg(Fraction(17, 64), 1), 1)[0]), 4)
         self.assertGreater(judged(counts, NagelSchreckenberg(Fraction(5, 16), 1)).share_below(), 0.9999)
         self.assertGreater(judged(counts, NagelSchreckenberg(Fraction(0), 1)).impossible, 1000)

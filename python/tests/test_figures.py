@@ -1,4 +1,4 @@
-"""Figures: space-time diagrams beside the awk script and the pictures, and plots of tables beside their numbers."""
+"""Figures: space-time diagrams beside the awk script and the snapshots, and plots of tables beside their numbers."""
 import io
 import re
 import shutil
@@ -10,25 +10,25 @@ from pathlib import Path
 from xml.etree import ElementTree
 
 from tests.test_arrays import needs
-from trlab import Job, Nasch, Picture, Pictures, Point, Rickert, Sweep, Table, Window, random
+from trlab import Job, Nasch, Snapshot, Snapshots, Point, Rickert, Sweep, Table, Window, random_cells
 from trlab.figure import Curve, Spot, diagram
-from trlab.results import pictures_in
+from trlab._results.tables import snapshots_in
 from trlab.space_time import colours
-from trlab.starts import SPEEDS
+from trlab._inputs.states import SPEEDS
 
 TOP = Path(__file__).resolve().parents[2]
 SPACE_TIME = TOP / "docs" / "spacetime.awk"
 SVG = "{http://www.w3.org/2000/svg}"
-ONE = Job(limit=12, length=50, cars=9, start=random(3, None), rule=Nasch("1/4"), steps=40).run()
-TWO = Job(limit=5, length=30, lanes=2, cars=25, start=random(4), rule=Rickert("1/4", 1), steps=60).run()
+ONE = Job(limit=12, length=50, cars=9, start=random_cells(3, None), rule=Nasch("1/4"), steps=40).run()
+TWO = Job(limit=5, length=30, lanes=2, cars=25, start=random_cells(4), rule=Rickert("1/4", 1), steps=60).run()
 POINTS = Table(Point, [
     Point(10, 100, 10, 400, 0, 0, 400000), Point(20, 100, 10, 500, 0, 0, 500000), Point(20, 100, 10, 700, 0, 0, 700000)
 ])
 
 
-def written(pictures):
-    """Pictures as `trlab run` writes them."""
-    return "".join(f"step {it.step}\n" + "".join(lane + "\n" for lane in it.lanes) for it in pictures)
+def written(snapshots):
+    """Snapshots as `trlab run` writes them."""
+    return "".join(f"step {it.step}\n" + "".join(lane + "\n" for lane in it.lanes) for it in snapshots)
 
 
 def by_awk(text):
@@ -36,7 +36,7 @@ def by_awk(text):
 
 
 def example(name):
-    return Pictures(pictures_in((TOP / "examples" / name).read_text().splitlines(True)))
+    return Snapshots(snapshots_in((TOP / "examples" / name).read_text().splitlines(True)))
 
 
 def drawn_cars(group, speeds):
@@ -77,13 +77,13 @@ def pixels(image):
 class ByAwk(unittest.TestCase):
     def test_the_same_bytes(self):
         examples = [example(file.name) for file in sorted((TOP / "examples").glob("*.job.out"))]
-        stopped, empty = Pictures([Picture(0, ("00",))]), Pictures([Picture(0, ("...", "..."))])
+        stopped, empty = Snapshots([Snapshot(0, ("00",))]), Snapshots([Snapshot(0, ("...", "..."))])
         fast = Job(limit=35, start=[35] + 99 * [None], rule=Nasch(0), steps=3).run()
-        wide = Job(limit=5, length=1500, density=0.2, start=random(1), rule=Nasch("1/4"), steps=30).run()
-        long = Job(limit=5, length=20, density=0.2, start=random(1), rule=Nasch("1/4"), steps=900).run()
+        wide = Job(limit=5, length=1500, density=0.2, start=random_cells(1), rule=Nasch("1/4"), steps=30).run()
+        long = Job(limit=5, length=20, density=0.2, start=random_cells(1), rule=Nasch("1/4"), steps=900).run()
         parts = [ONE[33:], ONE[::5], TWO[3::7], long[100::10]]
-        for pictures in [*examples, ONE, TWO, *parts, stopped, empty, fast, wide, long]:
-            self.assertEqual(by_awk(written(pictures)).stdout, pictures.space_time().svg())
+        for snapshots in [*examples, ONE, TWO, *parts, stopped, empty, fast, wide, long]:
+            self.assertEqual(by_awk(written(snapshots)).stdout, snapshots.space_time().svg())
 
     def test_the_figure_of_phantom_jams(self):
         figure = (TOP / "docs" / "phantom_jams.svg").read_text()
@@ -99,18 +99,18 @@ class ByAwk(unittest.TestCase):
 
 class SpaceTimes(unittest.TestCase):
     def test_every_car_is_drawn(self):
-        for pictures in ONE, TWO, TWO[21:]:
-            image = ElementTree.fromstring(pictures.space_time().svg())
+        for snapshots in ONE, TWO, TWO[21:]:
+            image = ElementTree.fromstring(snapshots.space_time().svg())
             groups = image.findall(f"{SVG}g")
-            self.assertEqual(len(groups), len(pictures[0].lanes))
+            self.assertEqual(len(groups), len(snapshots[0].lanes))
             for lane, group in enumerate(groups):
                 there = {
                     (row, cell): SPEEDS.index(sign)
-                    for row, picture in enumerate(pictures)
-                    for cell, sign in enumerate(picture.lanes[lane])
+                    for row, snapshot in enumerate(snapshots)
+                    for cell, sign in enumerate(snapshot.lanes[lane])
                     if sign != "."
                 }
-                self.assertEqual(drawn_cars(group, colours(pictures.space_time().fastest)), there)
+                self.assertEqual(drawn_cars(group, colours(snapshots.space_time().fastest)), there)
 
     def test_labels(self):
         labels = [it.text for it in ElementTree.fromstring(TWO[21:].space_time().svg()).iter(f"{SVG}text")]
@@ -120,7 +120,7 @@ class SpaceTimes(unittest.TestCase):
         self.assertNotIn("20", labels[labels.index("lane 1") + 1:])
 
     def test_times_of_every_nth_picture(self):
-        # The marks are where the pictures of their steps are: the first at half a row, the last half a row above the end.
+        # The marks are where the snapshots of their steps are: the first at half a row, the last half a row above the end.
         image = ElementTree.fromstring(TWO[10::10].space_time().svg())
         panel = image.find(f"{SVG}rect[@stroke]")
         top, high = float(panel.get("y")), float(panel.get("height"))
@@ -130,11 +130,11 @@ class SpaceTimes(unittest.TestCase):
             self.assertAlmostEqual(y, top + high * (int(mark) / 10 - 0.5) / 6, delta=0.06)
 
     def test_png(self):
-        for pictures in ONE, TWO:
-            found, names = pixels(pictures.space_time().png(scale=3)), ["#ffffff", *colours(pictures.space_time().fastest)]
-            self.assertEqual(len(found), 3 * len(pictures))
+        for snapshots in ONE, TWO:
+            found, names = pixels(snapshots.space_time().png(scale=3)), ["#ffffff", *colours(snapshots.space_time().fastest)]
+            self.assertEqual(len(found), 3 * len(snapshots))
             for row, line in enumerate(found):
-                lanes = [[names[SPEEDS.find(sign) + 1] for sign in lane for _ in range(3)] for lane in pictures[row // 3].lanes]
+                lanes = [[names[SPEEDS.find(sign) + 1] for sign in lane for _ in range(3)] for lane in snapshots[row // 3].lanes]
                 self.assertEqual(line, lanes[0] if len(lanes) == 1 else [*lanes[0], *6 * ["#b0b0b0"], *lanes[1]])
         self.assertRaises(ValueError, ONE.space_time().png, 0)
 
@@ -150,10 +150,10 @@ class SpaceTimes(unittest.TestCase):
         self.assertEqual(TWO._repr_svg_(), TWO.space_time().svg())
         self.assertEqual(TWO.space_time()._repr_svg_(), TWO.space_time().svg())
         long = Job(limit=5, length=500, cars=50, rule=Nasch(0), steps=400).run()
-        kept = Pictures([Picture(it.step, (it.lanes[0][:400],)) for it in long if it.step > 100])
+        kept = Snapshots([Snapshot(it.step, (it.lanes[0][:400],)) for it in long if it.step > 100])
         self.assertEqual(long._repr_svg_(), kept.space_time().svg())
-        self.assertIsNone(Pictures()._repr_svg_())
-        self.assertRaises(ValueError, Pictures().space_time)
+        self.assertIsNone(Snapshots()._repr_svg_())
+        self.assertRaises(ValueError, Snapshots().space_time)
 
 
 class Plots(unittest.TestCase):

@@ -9,7 +9,7 @@ from dataclasses import replace
 from pathlib import Path
 
 from tests.processes import calls, child, end, logging_program, marked, until
-from trlab import Job, Nasch, Point, Rickert, Sweep, Window, find_program, read_tables, write_texts
+from trlab import Job, Nasch, Point, Rickert, Sweep, Window, find_program, read_tables, write_inputs
 
 SHAPE = Sweep(limit=5, length=100, rule=Nasch(0.25), warm=10, measure=20, cars=[10, 20])
 SWEEPS = {f"key {key}": replace(SHAPE, key=key) for key in range(5)}
@@ -40,7 +40,7 @@ class Folder(unittest.TestCase):
 
 class Arrays(Folder):
     def test_a_task_runs_one_input(self):
-        script = write_texts(self.folder, SWEEPS)
+        script = write_inputs(self.folder, SWEEPS)
         self.assertEqual((self.task(script, 2), self.results()), ((0, ""), ["key 1.csv"]))
         self.assertEqual((self.task(script, 6), self.results()), ((0, ""), ["key 1.csv"]))
         self.assertEqual(self.task(script), (0, ""))
@@ -48,13 +48,13 @@ class Arrays(Folder):
         self.assertEqual([file.name for file in self.folder.iterdir() if file.name.startswith(".")], [])
 
     def test_a_task_runs_several_inputs(self):
-        script = write_texts(self.folder, SWEEPS, per_task=2)
+        script = write_inputs(self.folder, SWEEPS, per_task=2)
         self.assertIn("#SBATCH --array=1-3 ", script.read_text())
         self.assertEqual((self.task(script, 3), self.results()), ((0, ""), ["key 4.csv"]))
         self.assertEqual((self.task(script, 1), self.results()), ((0, ""), ["key 0.csv", "key 1.csv", "key 4.csv"]))
 
     def test_whole_results_are_skipped(self):
-        script = write_texts(self.folder, SWEEPS, program=str(logging_program(self.place)))
+        script = write_inputs(self.folder, SWEEPS, program=str(logging_program(self.place)))
         self.task(script, 1)
         before = (self.folder / "key 0.csv").stat().st_ino
         for _ in range(2):
@@ -63,7 +63,7 @@ class Arrays(Folder):
 
     def test_a_rejected_input_has_no_result(self):
         jobs = {"wrong": replace(JOB, rule=Rickert(0, 0)), "good": JOB}
-        script = write_texts(self.folder, jobs, ["series"], per_task=2)
+        script = write_inputs(self.folder, jobs, ["series"], per_task=2)
         wanted = "wrong.job has no result, trlab ended with status 1: fault line 5 cause 4\n"
         self.assertEqual((self.task(script, 1), self.results()), ((1, wanted), ["good.csv"]))
 
@@ -71,13 +71,13 @@ class Arrays(Folder):
         cuts = Path(self.place) / "cuts"
         cuts.write_text(f'#!/bin/sh\n"{find_program()}" "$@" | head -c 100\nexit 3\n')
         cuts.chmod(0o755)
-        script = write_texts(self.folder, SWEEPS, program=str(cuts))
+        script = write_inputs(self.folder, SWEEPS, program=str(cuts))
         status, said = self.task(script, 1)
         self.assertEqual((status, self.results()), (3, []))
         self.assertTrue(said.startswith("key 0.sweep has no result, trlab ended with status 3: cars,cells"), said)
 
     def test_a_killed_task_leaves_no_result(self):
-        script = write_texts(self.folder, {"long": LONG, "short": JOB}, ["series"], per_task=2)
+        script = write_inputs(self.folder, {"long": LONG, "short": JOB}, ["series"], per_task=2)
         for sent in signal.SIGTERM, signal.SIGKILL:
             with self.subTest(signal=sent):
                 shell = child(SHELL, str(script), SLURM_ARRAY_TASK_ID="1")
@@ -90,41 +90,41 @@ class Arrays(Folder):
                     self.assertEqual(list(self.folder.glob(".*")), [])
                 end(shell)
                 self.assertEqual(self.results(), [])
-        write_texts(self.folder, {"long": replace(LONG, steps=10), "short": JOB}, ["series"])
+        write_inputs(self.folder, {"long": replace(LONG, steps=10), "short": JOB}, ["series"])
         self.assertEqual((self.task(script), self.results()), ((0, ""), ["long.csv", "short.csv"]))
         self.assertEqual(list(self.folder.glob(".*")), [])
 
     def test_gnu_parallel(self):
         if not shutil.which("parallel"):
             self.skipTest("GNU parallel is not installed")
-        script = write_texts(self.folder, SWEEPS, per_task=2)
+        script = write_inputs(self.folder, SWEEPS, per_task=2)
         line = f"seq 3 | parallel SLURM_ARRAY_TASK_ID={{}} sh \"'{script}'\""
         self.assertEqual(os.system(line), 0)
         self.assertEqual(read_tables(self.folder, Point, SWEEPS), {name: it.sweep() for name, it in SWEEPS.items()})
 
     def test_pictures_have_another_ending(self):
-        script = write_texts(self.folder, {"a": JOB}, ["run"])
+        script = write_inputs(self.folder, {"a": JOB}, ["run"])
         self.assertEqual(self.task(script), (0, ""))
         self.assertTrue((self.folder / "a.out").read_text().startswith("step 0\n"))
 
     def test_names_that_no_file_can_have(self):
         for name in "", "a/b", ".a", "a\nb":
-            self.assertRaises(ValueError, write_texts, self.folder, {name: SHAPE})
-        self.assertRaises(ValueError, write_texts, self.folder, SWEEPS, per_task=0)
+            self.assertRaises(ValueError, write_inputs, self.folder, {name: SHAPE})
+        self.assertRaises(ValueError, write_inputs, self.folder, SWEEPS, per_task=0)
 
     def test_a_result_of_another_input_is_not_kept(self):
-        self.task(write_texts(self.folder, SWEEPS), 1)
-        write_texts(self.folder, SWEEPS)
+        self.task(write_inputs(self.folder, SWEEPS), 1)
+        write_inputs(self.folder, SWEEPS)
         changed = {**SWEEPS, "key 0": replace(SHAPE, measure=21)}
-        self.assertRaisesRegex(FileExistsError, "key 0.csv", write_texts, self.folder, changed)
-        self.assertRaisesRegex(FileExistsError, "key 0.csv", write_texts, self.folder, SWEEPS, ["sweep", "--runners", "2"])
-        write_texts(self.folder, {**SWEEPS, "key 1": replace(SHAPE, measure=21)})
+        self.assertRaisesRegex(FileExistsError, "key 0.csv", write_inputs, self.folder, changed)
+        self.assertRaisesRegex(FileExistsError, "key 0.csv", write_inputs, self.folder, SWEEPS, ["sweep", "--runners", "2"])
+        write_inputs(self.folder, {**SWEEPS, "key 1": replace(SHAPE, measure=21)})
 
 
 class Tables(Folder):
     def setUp(self):
         super().setUp()
-        self.task(write_texts(self.folder, SWEEPS))
+        self.task(write_inputs(self.folder, SWEEPS))
         self.wanted = {name: it.sweep() for name, it in SWEEPS.items()}
 
     def fault(self, texts=SWEEPS, kind=Point):
@@ -182,7 +182,7 @@ class Tables(Folder):
         for every, first in (1, 0), (3, 0), (3, 1), (4, 1), (10, 0):
             words = ["series", "--every", str(every), "--from", str(first)]
             folder = self.folder / f"{every} {first}"
-            self.task(write_texts(folder, {"a": JOB}, words))
+            self.task(write_inputs(folder, {"a": JOB}, words))
             whole = (folder / "a.csv").read_text()
             self.assertEqual(read_tables(folder, Window, {"a": JOB})["a"].csv(), whole)
             for length in range(len(whole)):
@@ -192,7 +192,7 @@ class Tables(Folder):
 
     def test_a_short_series(self):
         self.folder /= "series"
-        self.task(write_texts(self.folder, {"a": JOB}, ["series"]))
+        self.task(write_inputs(self.folder, {"a": JOB}, ["series"]))
         lines = (self.folder / "a.csv").read_text().splitlines(keepends=True)
         (self.folder / "a.csv").write_text("".join(lines[:5]))
         self.assertEqual(self.fault({"a": JOB}, Window), ["a.csv is short: its last window ends after 4 of 10 steps"])

@@ -11,13 +11,13 @@ from pathlib import Path
 
 import trlab
 from tests.test_arrays import needs
-from trlab import Frame, Grid, Job, Nasch, Point, Refused, Rickert, SlowToStart, Sweep, Window
-from trlab import key_for, random, read_tables, write_texts
+from trlab import Frame, Grid, Job, Nasch, Point, RejectedInputError, Rickert, SlowToStart, Sweep, Window
+from trlab import key_for, random_cells, read_tables, write_inputs
 from trlab.frame import mean_and_error
 
 
 def job(chance, density, seed, key):
-    return Job(limit=5, length=50, density=density, rule=Nasch(chance), start=random(key), steps=30, key=key)
+    return Job(limit=5, length=50, density=density, rule=Nasch(chance), start=random_cells(key), steps=30, key=key)
 
 
 def sweep(chance, seed, key):
@@ -131,7 +131,7 @@ class Frames(unittest.TestCase):
         grid = Grid(lambda chance, key: Job(limit=5, length=9, cars=1, rule=Rickert(chance, 0), steps=2, key=key), chance=[0, 1])
         frame = grid.run(call=last, errors="keep")
         self.assertEqual((len(frame), list(frame.errors)), (0, [(0,), (1,)]))
-        self.assertIsInstance(frame.errors[0,], Refused)
+        self.assertIsInstance(frame.errors[0,], RejectedInputError)
         self.assertEqual(repr(frame), "<frame of 0 rows by chance, 2 without a result>")
 
     def test_means(self):
@@ -190,7 +190,7 @@ class Clusters(unittest.TestCase):
         grid = Grid(sweep, **SWEEPS)
         self.assertEqual(list(grid.texts())[5], "chance_0.5_seed_1")
         with tempfile.TemporaryDirectory() as folder:
-            script = write_texts(folder, grid.texts(), per_task=3)
+            script = write_inputs(folder, grid.texts(), per_task=3)
             self.assertEqual(os.system(f"sh {script}"), 0)
             frame = grid.frame(read_tables(folder, Point, grid.texts()))
         self.assertEqual(frame.csv(), grid.run().csv())

@@ -19,10 +19,10 @@ import zlib
 from pathlib import Path
 from unittest import mock
 
-from trlab import Job, Nasch, Picture, Pictures, Refused, Rickert, random
+from trlab import Job, Nasch, Snapshot, Snapshots, RejectedInputError, Rickert, random_cells
 from trlab.lab import Lab, page_of, server
 from trlab.lab.__main__ import fragment, main
-from trlab.program import ask
+from trlab._runs.calls import ask
 
 TOP = Path(__file__).resolve().parents[2]
 EXAMPLES = TOP / "examples"
@@ -152,7 +152,7 @@ class Files(Serving):
         self.assertEqual([rule["at"] for rule in found["rules"]], [0, *(rule["at"] for rule in found["rules"][1:])])
         rule = {"at": 0, "model": "rickert", "p": 0.25, "q": "1/3", "motion": "", "change": ""}
         road = {"key": "7", "limit": 5, "lanes": 2, "length": 50, "cars": 20, "start": "random", "steps": 9, "rules": [rule]}
-        job = Job(limit=5, lanes=2, length=50, cars=20, start=random(7), rule=Rickert(0.25, "1/3"), steps=9, key=7)
+        job = Job(limit=5, lanes=2, length=50, cars=20, start=random_cells(7), rule=Rickert(0.25, "1/3"), steps=9, key=7)
         self.assertEqual(self.file("job", road).read().decode(), job.text())
         sweep = self.file("sweep", {**road, "rule": rule, "warm": 3, "measure": 4}).read().decode()
         self.assertIn("\nlength 50\nlanes 2\nrule rickert 536870912 715827883\nwarm 3\nmeasure 4\ncars 2\ncars 4\n", sweep)
@@ -195,7 +195,7 @@ class Refusals(Serving):
             self.assertIsNone(got.headers["Access-Control-Allow-Origin"])
 
     def test_long_inputs(self):
-        self.assertEqual(json.loads(self.text("explain/check", b"a" * server.MOST_BYTES))["answer"], "fault line 1 cause 1")
+        self.assertEqual(json.loads(self.text("explain/check", b"a" * server.MAX_BYTES))["answer"], "fault line 1 cause 1")
         for length, status in ("4194305", 413), ("9" * 18, 413), ("9" * 30, 411), ("-1", 411), ("x", 411), (None, 411):
             talk = http.client.HTTPConnection("127.0.0.1", self.lab.server_port, timeout=60)
             talk.putrequest("POST", f"/{self.lab.token}/explain")  # the input itself is never sent
@@ -340,14 +340,14 @@ class Exports(unittest.TestCase):
 
     def test_errors(self):
         job = Job(limit=5, length=50, density=0.2, rule=Nasch(0.25), steps=20)
-        self.assertRaises(ValueError, Pictures().html)
+        self.assertRaises(ValueError, Snapshots().html)
         self.assertRaises(ValueError, job.run()[5:].html)
-        with mock.patch("trlab.lab.export.MOST_BYTES", 500):
+        with mock.patch("trlab.lab.export.MAX_BYTES", 500):
             self.assertRaises(ValueError, job.run().html)
         from trlab.lab.export import exported
 
-        self.assertRaises(Refused, exported, "road 2\n")
-        self.assertIn("0 cars on two rings of 2 cells", page_of(Pictures([Picture(0, ("..", ".."))])))
+        self.assertRaises(RejectedInputError, exported, "road 2\n")
+        self.assertIn("0 cars on two rings of 2 cells", page_of(Snapshots([Snapshot(0, ("..", ".."))])))
 
 
 if __name__ == "__main__":

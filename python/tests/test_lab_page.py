@@ -1,4 +1,4 @@
-"""The page of trlab-lab in real browsers: each picture is that of `trlab run`, each control works, and nothing fails."""
+"""The page of trlab-lab in real browsers: each snapshot is that of `trlab run`, each control works, and nothing fails."""
 import http.server
 import math
 import os
@@ -16,8 +16,8 @@ from tests.browsers import Keys, Window, missing
 from trlab import Job, Nasch, Rickert, SlowToStart
 from trlab.lab import Lab, server
 from trlab.lab.__main__ import fragment
-from trlab.program import ask
-from trlab.results import Pictures, Window as Row, Table, pictures_in
+from trlab._runs.calls import ask
+from trlab._results.tables import Snapshots, Window as Row, Table, snapshots_in
 
 SPEEDS = "0123456789abcdefghijklmnopqrstuvwxyz"
 KEY = "key " + "0" * 64
@@ -43,8 +43,8 @@ def lightness_and_hue(colour, sight):
     return 116 * y - 16, 500 * (x - y), 200 * (y - z)
 
 
-def pictures(text):
-    return Pictures(pictures_in(ask(["run"], text).splitlines(True)))
+def snapshots(text):
+    return Snapshots(snapshots_in(ask(["run"], text).splitlines(True)))
 
 
 class Pages:
@@ -105,14 +105,14 @@ class Pages:
     def open(self, text, name="a.job"):
         self.page.js("lab.open(arguments[0], arguments[1])", name, text)
 
-    # The picture
+    # The snapshot
 
     def test_every_snapshot_is_that_of_the_run(self):
         self.run_to(300)
         shots = self.page.js(SHOTS)
         self.assertEqual(shots[0][0], 0)
-        for (step, cells, *_), picture in zip(shots, pictures(self.page.job())):
-            self.assertEqual((step, cells), (picture.step, "".join(picture.lanes)))
+        for (step, cells, *_), snapshot in zip(shots, snapshots(self.page.job())):
+            self.assertEqual((step, cells), (snapshot.step, "".join(snapshot.lanes)))
         rows = Table.read(Row, ask(["series"], self.page.job()))
         for (step, _, flow, speed, stopped), row in zip(shots[1:], rows):
             self.assertEqual((step, flow, speed, stopped), (row.step, row.passing, row.speed, row.stopped_share))
@@ -120,10 +120,10 @@ class Pages:
     def test_every_dot_is_that_of_the_run(self):
         for lanes, length in (1, 100), (2, 80):
             rule = Rickert(0.25, 0.5) if lanes == 2 else Nasch(0.25)
-            self.open(Job(limit=5, length=length, lanes=lanes, density=0.3, start=trlab.random(3), rule=rule, steps=400, key=5).text())
+            self.open(Job(limit=5, length=length, lanes=lanes, density=0.3, start=trlab.random_cells(3), rule=rule, steps=400, key=5).text())
             self.hold(lambda: self.page.js("return lab.job.length") == length)
             self.run_to(60)
-            step, found = self.page.step(), pictures(self.page.job())
+            step, found = self.page.step(), snapshots(self.page.job())
             drawn, [top, high] = self.page.js("""const {film, step} = lab.player, canvas = document.getElementById('spacetime');
                 const {top, high} = lab.rows(), pen = canvas.getContext('2d'), lines = [];
                 for (let now = top; now <= step; now++) for (let lane = 0; lane < film.lanes; lane++) {
@@ -133,7 +133,7 @@ class Pages:
                 }
                 return [lines, [top, high]]""")
             colours = self.page.js("return Object.fromEntries([0, 1, 2, 3, 4, 5].map(v => [lab.colour(v / 5).join() + ',255', String(v)]))")
-            wanted = [lane for picture in found[top:step + 1] for lane in picture.lanes]
+            wanted = [lane for snapshot in found[top:step + 1] for lane in snapshot.lanes]
             self.assertEqual(["".join(colours.get(it, ".") for it in row) for row in drawn], wanted)
             road = self.page.js("""const {film} = lab.player, canvas = document.getElementById('band'), pen = canvas.getContext('2d');
                 const tall = film.lanes === 2 ? 24 : 30, first = (canvas.height - tall * film.lanes) / 2;
@@ -164,7 +164,7 @@ class Pages:
         self.page.set("model", "rickert")
         self.run_to(150)
         self.page.click("follow")
-        trips = pictures(self.page.job()).trajectories()
+        trips = snapshots(self.page.job()).trajectories()
         seen = self.page.js("""const {film, step, car} = lab.player, cars = [];
             for (let now = film.first; now <= step; now++) cars.push(film.follow(car, now));
             return cars.map(it => [it.step, it.lane, it.cell])""")
@@ -179,7 +179,7 @@ class Pages:
 
     def test_a_click_follows_a_car(self):
         self.run_to(50)
-        lane = pictures(self.page.job())[self.page.step()].lanes[0]
+        lane = snapshots(self.page.job())[self.page.step()].lanes[0]
         cell = next(k for k, sign in enumerate(lane) if sign != "." and k > 80)
         angle = 2 * math.pi * (cell + 0.5) / 1000
         self.page.click_at("ring", 150 + 135 * math.sin(angle), 150 - 135 * math.cos(angle))
@@ -239,7 +239,7 @@ class Pages:
         self.assertIn(f"The page keeps the last 4,000 snapshots: back to step {first}", self.page.text("kept"))
         shots = dict((step, cells) for step, cells, *_ in self.page.js(SHOTS))
         head = self.page.job().replace("steps 500000", f"steps {last}")
-        self.assertEqual([shots[it.step] for it in pictures(head)[first:]], list(shots.values()))
+        self.assertEqual([shots[it.step] for it in snapshots(head)[first:]], list(shots.values()))
         self.page.click("again")
         self.hold(lambda: self.page.step() >= 0 and self.page.js("return lab.player.film.first") == 0)
 
@@ -252,7 +252,7 @@ class Pages:
     # Controls
 
     def job_of(self, **changes):
-        what = {"limit": 5, "length": 1000, "cars": 150, "start": trlab.random(1), "rule": Nasch(0.25), "steps": 5000, "key": 1}
+        what = {"limit": 5, "length": 1000, "cars": 150, "start": trlab.random_cells(1), "rule": Nasch(0.25), "steps": 5000, "key": 1}
         return Job(**{**what, **changes}).text()
 
     def test_every_control(self):
@@ -262,9 +262,9 @@ class Pages:
         tries = [
             ("density", "0.3", {"cars": 300}), ("cars", "151", {"cars": 151}), ("limit", "7", {"cars": 151, "limit": 7}),
             ("limit", "99", {"cars": 151, "limit": 35}), ("limit", "5", {"cars": 151}), ("cars", "", {"cars": 151}),
-            ("start", "even", {"cars": 151, "start": trlab.even}), ("start", "jam", {"cars": 151, "start": trlab.jam}),
-            ("start", "random", {"cars": 151}), ("key", "77", {"cars": 151, "key": 77, "start": trlab.random(77)}),
-            ("key", "x", {"cars": 151, "key": 77, "start": trlab.random(77)}), ("key", "1", {"cars": 151}),
+            ("start", "even", {"cars": 151, "start": trlab.even}), ("start", "jammed", {"cars": 151, "start": trlab.jammed}),
+            ("start", "random", {"cars": 151}), ("key", "77", {"cars": 151, "key": 77, "start": trlab.random_cells(77)}),
+            ("key", "x", {"cars": 151, "key": 77, "start": trlab.random_cells(77)}), ("key", "1", {"cars": 151}),
             ("p", "0.5", {"cars": 151, "rule": Nasch(0.5)}), ("p", "0.123456789", {"cars": 151, "rule": Nasch(0.123456789)}),
             ("p", "0.25", {"cars": 151}), ("stepcount", "60", {"cars": 151, "steps": 60}), ("stepcount", "5000", {"cars": 151}),
             ("model", "vdr", {"cars": 151, "rule": SlowToStart(0.25, 0.5)}), ("q", "0.75", {"cars": 151, "rule": SlowToStart(0.25, 0.75)}),
@@ -280,7 +280,7 @@ class Pages:
         page.set("model", "own")
         self.has_line("rule own\nmotion\n")
         self.has_line("\nchange\n")
-        self.hold(lambda: "Accepted" in page.text("motionverdict") and "Accepted" in page.text("changeverdict"))
+        self.hold(lambda: "AcceptedProgram" in page.text("motionverdict") and "AcceptedProgram" in page.text("changeverdict"))
         page.set("lanes", "1")
         self.hold(lambda: "\nchange\n" not in page.job())
         page.click("newkey")
@@ -328,7 +328,7 @@ class Pages:
         self.page.set("density", "0.01")
         self.pause()
         width = self.page.js("return document.getElementById('band').clientWidth")
-        empty = pictures(self.page.job())[self.page.step()].lanes[0].index("." * 60) + 30
+        empty = snapshots(self.page.job())[self.page.step()].lanes[0].index("." * 60) + 30
         self.page.drag("band", empty / 1000 * width, 0.8 * width, 8)
         self.hold(lambda: abs(self.page.js("return lab.player.lens") - 800) < 5)
 
@@ -343,8 +343,8 @@ class Pages:
         self.page.set("model", "vdr")
         self.has_line(f"at {later} rule vdr 1073741824 1073741824\n")
         self.run_to(later + 100)
-        for (now, cells, *_), picture in zip(self.page.js(SHOTS), pictures(self.page.job())):
-            self.assertEqual((now, cells), (picture.step, "".join(picture.lanes)))
+        for (now, cells, *_), snapshot in zip(self.page.js(SHOTS), snapshots(self.page.job())):
+            self.assertEqual((now, cells), (snapshot.step, "".join(snapshot.lanes)))
         self.page.click("again")
         self.hold(lambda: self.page.value("p") == "0.25" and self.page.value("model") == "nasch")
         self.page.set("density", "0.2")
@@ -362,8 +362,8 @@ class Pages:
         self.has_line(" rule nasch 2147483648\n")
         self.run_to(self.page.step() + 50)
         self.assertGreater(self.page.job().count("\nat "), 1)
-        for (now, cells, *_), picture in zip(self.page.js(SHOTS), pictures(self.page.job())):
-            self.assertEqual((now, cells), (picture.step, "".join(picture.lanes)))
+        for (now, cells, *_), snapshot in zip(self.page.js(SHOTS), snapshots(self.page.job())):
+            self.assertEqual((now, cells), (snapshot.step, "".join(snapshot.lanes)))
 
     # Inputs
 
@@ -381,7 +381,7 @@ class Pages:
                     self.assertEqual(self.page.js("return lab.marks.at(-1).points.length"), text.count("\ncars "))
                 else:
                     self.hold(lambda: text in self.page.job())
-                self.hold(lambda: self.page.text("textverdict") == "Accepted." and self.page.step() >= 0)
+                self.hold(lambda: self.page.text("textverdict") == "AcceptedProgram." and self.page.step() >= 0)
                 self.assertEqual(self.page.text("fault"), "")
 
     def write(self, selector, text):
@@ -413,7 +413,7 @@ class Pages:
             return [box('#motion .code').top, box('#motion .words').top]""")
         self.assertAlmostEqual(high - low, 9 * 20 + 4, delta=3)  # the words are below line 9
         self.write("#motion .code", program)
-        self.hold(lambda: "Accepted" in self.page.text("motionverdict"))
+        self.hold(lambda: "AcceptedProgram" in self.page.text("motionverdict"))
         self.page.type("#motion .code", Keys.CONTROL, Keys.HOME)
         self.page.press(*[Keys.DOWN] * 4)
         self.hold(lambda: "Known before line 5: r0:" in self.page.text("motionfacts"))
@@ -422,7 +422,7 @@ class Pages:
         """Click on the change that the message in an editor proposes."""
         self.hold(lambda: self.page.js("return document.querySelector(`#${arguments[0]} .words button`) !== null", name))
         self.page.js("document.querySelector(`#${arguments[0]} .words button`).click()", name)
-        self.hold(lambda: "Accepted" in self.page.text(f"{name}verdict"))
+        self.hold(lambda: "AcceptedProgram" in self.page.text(f"{name}verdict"))
 
     def test_a_change_that_you_click(self):
         job = f"road 1\n{KEY}\nlimit 5\nlane 0.0.......\nrule nasch 0\nsteps 100\n"
@@ -439,7 +439,7 @@ class Pages:
     def test_a_change_of_a_program_that_you_click(self):
         self.page.set("model", "own")
         for wrong, fixed in ("gte r0, gap\ngo r0", "get r0, gap\ngo r0"), ("get r0, gap\njump 3\ngo r0", "get r0, gap\njump @3\ngo r0"):
-            self.hold(lambda: "Accepted" in self.page.text("motionverdict"))
+            self.hold(lambda: "AcceptedProgram" in self.page.text("motionverdict"))
             self.write("#motion .code", f"motion\nget r1, limit\n{wrong}".replace("go r0", "min r0, r0, r1\ngo r0"))
             self.hold(lambda: "Rejected" in self.page.text("motionverdict"))
             self.fix("motion")
@@ -525,7 +525,7 @@ class Pages:
         self.hold(lambda: "The link is damaged" in self.page.text("fault"))
 
     def test_an_exported_file_plays(self):
-        job = Job(limit=5, length=200, lanes=2, density=0.2, start=trlab.random(2), rule=Rickert(0.25, 0.5), steps=120)
+        job = Job(limit=5, length=200, lanes=2, density=0.2, start=trlab.random_cells(2), rule=Rickert(0.25, 0.5), steps=120)
         found = job.run()
         with tempfile.TemporaryDirectory() as folder:
             path = Path(folder) / "run.html"

@@ -19,7 +19,7 @@ from unittest import mock
 import trlab
 from tests.processes import PYTHON, calls, logging_program
 from tests.test_arrays import needs
-from trlab import Failed, Job, Nasch, Refused, Rickert, Sweep
+from trlab import ProgramError, Job, Nasch, RejectedInputError, Rickert, Sweep
 
 SHAPE = Sweep(limit=5, length=100, rule=Nasch(0.25), warm=10, measure=20, cars=[10, 20])
 SWEEPS = {f"key_{key}": replace(SHAPE, key=key) for key in range(5)}
@@ -82,15 +82,15 @@ class Results(unittest.TestCase):
 
 class Exceptions(unittest.TestCase):
     def test_a_rejected_input_is_raised(self):
-        with self.assertRaises(Refused):
+        with self.assertRaises(RejectedInputError):
             list(trlab.results({"good": JOB, "wrong": WRONG}))
-        with self.assertRaises(Refused):
-            trlab.map(Job.run, [JOB, WRONG])
+        with self.assertRaises(RejectedInputError):
+            trlab.run_all(Job.run, [JOB, WRONG])
 
     def test_a_rejected_input_is_kept(self):
         found = dict(trlab.results({"good": JOB, "wrong": WRONG, "also_good": replace(JOB, key=1)}, errors="keep"))
         self.assertEqual((found["good"], found["also_good"]), (JOB.run(), replace(JOB, key=1).run()))
-        self.assertEqual((type(found["wrong"]), found["wrong"].cause), (Refused, 4))
+        self.assertEqual((type(found["wrong"]), found["wrong"].cause), (RejectedInputError, 4))
 
     def test_an_error_of_the_call_is_kept(self):
         found = dict(trlab.results([1, 0], call=lambda number: 1 / number, errors="keep"))
@@ -138,7 +138,7 @@ class Executors(unittest.TestCase):
                 kept.append({file.name: file.stat().st_ino for file in Path(folder).iterdir()})
         self.assertEqual((len(kept[0]), kept[1]), (len(self.JOBS), kept[0]))
         found = dict(trlab.results({**self.JOBS, -1: WRONG}, call=windows, executor=pool, errors="keep"))
-        self.assertEqual((type(found.pop(-1)), found), (Refused, wanted))
+        self.assertEqual((type(found.pop(-1)), found), (RejectedInputError, wanted))
 
     def test_threads(self):
         with ThreadPoolExecutor(3) as pool:
@@ -182,7 +182,7 @@ class Executors(unittest.TestCase):
 class Nested(unittest.TestCase):
     def test_a_run_inside_a_call_uses_its_cache(self):
         def both(key):
-            return trlab.map(Sweep.sweep, [replace(SHAPE, key=key), replace(SHAPE, key=key + 1)])
+            return trlab.run_all(Sweep.sweep, [replace(SHAPE, key=key), replace(SHAPE, key=key + 1)])
 
         with tempfile.TemporaryDirectory() as folder:
             program = logging_program(folder)

@@ -5,11 +5,11 @@ import unittest
 
 from tests.test_arrays import needs
 from tests.test_runs import stand_in
-from trlab import Job, Nasch, Picture, Pictures, Point, Rickert, Sweep, Table, Window, random
-from trlab.written import pictures_in
+from trlab import Job, Nasch, Snapshot, Snapshots, Point, Rickert, Sweep, Table, Window, random_cells
+from trlab._results.written import snapshots_in
 
-ONE = Job(limit=12, length=30, cars=9, start=random(3, None), rule=Nasch("1/4"), steps=120)
-TWO = Job(limit=5, length=20, lanes=2, cars=15, start=random(4), rule=Rickert("1/4", 1), steps=12)
+ONE = Job(limit=12, length=30, cars=9, start=random_cells(3, None), rule=Nasch("1/4"), steps=120)
+TWO = Job(limit=5, length=20, lanes=2, cars=15, start=random_cells(4), rule=Rickert("1/4", 1), steps=12)
 POINTS = ",".join(Point._fields) + "\n1,10,1,5,0,0,500000\n2,10,1,3,1,0,300000\n"
 RUN = "step 9\n0.1\nstep 10\n0.0\n"
 
@@ -98,52 +98,52 @@ class Tables(unittest.TestCase):
 class Runs(unittest.TestCase):
     def test_the_pictures_are_those_of_the_text(self):
         for job in ONE, TWO:
-            pictures, streamed = job.run(), list(job.pictures())
-            self.assertEqual((pictures, [pictures[place] for place in range(len(pictures))]), (streamed, streamed))
-            self.assertEqual((Pictures.read(pictures.text()), Pictures.read(pictures.text().encode())), (streamed, streamed))
+            snapshots, streamed = job.run(), list(job.snapshots())
+            self.assertEqual((snapshots, [snapshots[place] for place in range(len(snapshots))]), (streamed, streamed))
+            self.assertEqual((Snapshots.read(snapshots.text()), Snapshots.read(snapshots.text().encode())), (streamed, streamed))
             for part in slice(5, None), slice(None, -3), slice(1, 12, 4), slice(None, None, -1), slice(3, 3):
-                self.assertEqual((pictures[part], type(pictures[part])), (streamed[part], Pictures))
-                self.assertEqual(pickle.loads(pickle.dumps(pictures[part])), streamed[part])
-                self.assertEqual(Pictures.read(pictures[part].text()), streamed[part])
-            self.assertEqual((pictures[-1], pictures[9:12][1]), (streamed[-1], streamed[10]))
-            for place in len(pictures), -len(pictures) - 1:
-                self.assertRaises(IndexError, pictures.__getitem__, place)
+                self.assertEqual((snapshots[part], type(snapshots[part])), (streamed[part], Snapshots))
+                self.assertEqual(pickle.loads(pickle.dumps(snapshots[part])), streamed[part])
+                self.assertEqual(Snapshots.read(snapshots[part].text()), streamed[part])
+            self.assertEqual((snapshots[-1], snapshots[9:12][1]), (streamed[-1], streamed[10]))
+            for place in len(snapshots), -len(snapshots) - 1:
+                self.assertRaises(IndexError, snapshots.__getitem__, place)
 
     def test_pictures_can_be_changed(self):
-        pictures, kept = Pictures.read(RUN), Pictures()
-        kept.append(pictures[1])
-        kept.extend(pictures)
-        pictures.reverse()
-        self.assertEqual((kept, pictures), ([pictures[0], *pictures[::-1]], [Picture(10, ("0.0",)), Picture(9, ("0.1",))]))
-        self.assertEqual(Pictures.read(RUN), pictures[::-1])
+        snapshots, kept = Snapshots.read(RUN), Snapshots()
+        kept.append(snapshots[1])
+        kept.extend(snapshots)
+        snapshots.reverse()
+        self.assertEqual((kept, snapshots), ([snapshots[0], *snapshots[::-1]], [Snapshot(10, ("0.0",)), Snapshot(9, ("0.1",))]))
+        self.assertEqual(Snapshots.read(RUN), snapshots[::-1])
 
     def test_steps_at_any_distance(self):
         for steps in [0], [7, 8, 9, 10, 11], [5, 55, 105], [1, 2, 5], [3, 2], [99, 1099, 2099]:
-            made = Pictures([Picture(step, ("0..", ".1.")) for step in steps])
-            self.assertEqual(Pictures.read(made.text()), made)
-        self.assertEqual(Pictures.read(""), [])
+            made = Snapshots([Snapshot(step, ("0..", ".1.")) for step in steps])
+            self.assertEqual(Snapshots.read(made.text()), made)
+        self.assertEqual(Snapshots.read(""), [])
 
     def test_what_is_not_a_run(self):
         for text, wrong in {
-            "fault line 1 cause 1\n": "not the heading of a picture of a run: 'fault",
-            "step x\n0.1\n": "not the heading of a picture of a run: 'step x'",
+            "fault line 1 cause 1\n": "not the heading of a snapshot of a run: 'fault",
+            "step x\n0.1\n": "not the heading of a snapshot of a run: 'step x'",
             "step 1\n0.1\nstep 2\n0.1.\n": "a lane of step 2 is not as long as the first lane of the run: '0.1.'",
-            "step 1\n0.1\nstep 2\n0.1\n0.1\n": "not the heading of a picture of a run: '0.1'",
+            "step 1\n0.1\nstep 2\n0.1\n0.1\n": "not the heading of a snapshot of a run: '0.1'",
             "step 1\n0.1\nstep 2\nstep 3\n0.1\n": "a lane of step 2 is not .*: 'step 3'",
             "step 1\n0.1\n\nstep 2\n0.1\n": "a lane of step 1 is not .*: ''",
         }.items():
-            self.assertRaisesRegex(ValueError, wrong, Pictures.read, text)
-            self.assertRaisesRegex(ValueError, wrong, list, pictures_in(text.splitlines(True)))
+            self.assertRaisesRegex(ValueError, wrong, Snapshots.read, text)
+            self.assertRaisesRegex(ValueError, wrong, list, snapshots_in(text.splitlines(True)))
 
     def test_a_run_that_is_cut_off(self):
         whole = TWO.run().text()
         begins = [place for place in range(len(whole) + 1) if whole.startswith("step ", place)]
         for end in range(begins[1], len(whole)):
             if end in begins:
-                # Only the number of pictures tells that a run lacks whole ones.
-                self.assertEqual(len(Pictures.read(whole[:end])), begins.index(end))
+                # Only the number of snapshots tells that a run lacks whole ones.
+                self.assertEqual(len(Snapshots.read(whole[:end])), begins.index(end))
             else:
-                self.assertRaisesRegex(ValueError, "cut off in the picture of 's", Pictures.read, whole[:end])
+                self.assertRaisesRegex(ValueError, "cut off in the snapshot of 's", Snapshots.read, whole[:end])
 
     def test_a_program_that_cuts_its_output_off(self):
         job = Job(limit=5, length=3, cars=0, rule=Nasch(0), steps=1)
@@ -151,31 +151,31 @@ class Runs(unittest.TestCase):
             with tempfile.TemporaryDirectory() as folder:
                 with stand_in(folder, f"printf 'step 0\\n...\\nstep 1\\n..'; exit {status}\n"):
                     self.assertRaises(error, job.run)
-                    self.assertRaises(error, list, job.pictures())
+                    self.assertRaises(error, list, job.snapshots())
 
     @needs("numpy")
     def test_arrays(self):
         for job in ONE, TWO:
-            pictures = job.run()
-            made = Pictures([*pictures])
-            wanted = [[[-1 if v is None else v for v in lane] for lane in it.speeds()] for it in pictures]
-            for array in pictures.to_numpy(), made.to_numpy():
+            snapshots = job.run()
+            made = Snapshots([*snapshots])
+            wanted = [[[-1 if v is None else v for v in lane] for lane in it.speeds()] for it in snapshots]
+            for array in snapshots.to_numpy(), made.to_numpy():
                 self.assertEqual((array.tolist(), array.dtype, array.flags.writeable), (wanted, "int8", True))
-            self.assertEqual(pictures[2:99:3].to_numpy().tolist(), wanted[2:99:3])
-        self.assertEqual(Pictures().to_numpy().shape, (0, 0, 0))
+            self.assertEqual(snapshots[2:99:3].to_numpy().tolist(), wanted[2:99:3])
+        self.assertEqual(Snapshots().to_numpy().shape, (0, 0, 0))
         long = Job(limit=5, length=1000, cars=100, rule=Nasch("1/4"), steps=700).run()
-        self.assertEqual(long.to_numpy().tolist(), Pictures([*long]).to_numpy().tolist())
+        self.assertEqual(long.to_numpy().tolist(), Snapshots([*long]).to_numpy().tolist())
         for wrong in "?", "A", "\xe9", "\n":
-            for pictures in Pictures.read(RUN[:-3] + wrong + "0\n"), Pictures([Picture(0, (wrong,))]):
-                self.assertRaisesRegex(ValueError, "neither a speed nor a dot", pictures.to_numpy)
+            for snapshots in Snapshots.read(RUN[:-3] + wrong + "0\n"), Snapshots([Snapshot(0, (wrong,))]):
+                self.assertRaisesRegex(ValueError, "neither a speed nor a dot", snapshots.to_numpy)
 
     @needs("pandas")
     def test_frames(self):
-        for pictures in ONE.run(), TWO.run(), TWO.run()[::-2], TWO.run() + ONE.run(), Pictures():
+        for snapshots in ONE.run(), TWO.run(), TWO.run()[::-2], TWO.run() + ONE.run(), Snapshots():
             wanted = [
                 [it.step, lane, cell, speed]
-                for it in pictures for lane, cells in enumerate(it.speeds()) for cell, speed in enumerate(cells) if speed is not None
+                for it in snapshots for lane, cells in enumerate(it.speeds()) for cell, speed in enumerate(cells) if speed is not None
             ]
-            for frame in pictures.to_pandas(), Pictures([*pictures]).to_pandas():
+            for frame in snapshots.to_pandas(), Snapshots([*snapshots]).to_pandas():
                 self.assertEqual((frame.values.tolist(), [*frame.columns]), (wanted, ["step", "lane", "cell", "speed"]))
                 self.assertEqual({str(kind) for kind in frame.dtypes}, {"int64"})

@@ -11,9 +11,9 @@ from pathlib import Path
 from unittest import mock
 
 from tests.by_pictures import windows
-from trlab import Failed, Job, Nasch, Own, Picture, Pictures, Point, Refused, Rickert, SlowToStart, Sweep, Table, Window
-from trlab import check, even, find_program, jam, map, moving, random, read_tables, write_texts
-from trlab.program import ask
+from trlab import ProgramError, Job, Nasch, Own, Snapshot, Snapshots, Point, RejectedInputError, Rickert, SlowToStart, Sweep, Table, Window
+from trlab import check, even, find_program, jammed, map, moving, random_cells, read_tables, write_inputs
+from trlab._runs.calls import ask
 
 EXAMPLES = Path(__file__).resolve().parents[2] / "examples"
 HALF = "motion\nget r0, gap\ndiv r0, r0, 2\nget r1, limit\nmin r0, r0, r1\ngo r0\n"
@@ -53,43 +53,43 @@ class Runs(unittest.TestCase):
     def test_the_example(self):
         job = Job(limit=5, start=[0, None, 0] + 7 * [None], rule=Nasch(0), steps=4)
         self.assertEqual(job.text(), example("two_cars.job"))
-        pictures = job.run(workers=3)
-        told = "".join(f"step {it.step}\n" + "".join(lane + "\n" for lane in it.lanes) for it in pictures)
+        snapshots = job.run(workers=3)
+        told = "".join(f"step {it.step}\n" + "".join(lane + "\n" for lane in it.lanes) for it in snapshots)
         self.assertEqual(told, example("two_cars.job.out"))
-        self.assertEqual(pictures[4].speeds(), [[None, None, 4, None, None, None, None, 3, None, None]])
-        self.assertEqual(list(job.pictures()), pictures)
+        self.assertEqual(snapshots[4].speeds(), [[None, None, 4, None, None, None, None, 3, None, None]])
+        self.assertEqual(list(job.snapshots()), snapshots)
 
     def test_a_run_can_be_left(self):
-        pictures = Job(limit=5, length=1000, cars=100, rule=Nasch(0), steps=500000).pictures()
-        self.assertEqual(next(pictures).step, 0)
-        pictures.close()
+        snapshots = Job(limit=5, length=1000, cars=100, rule=Nasch(0), steps=500000).snapshots()
+        self.assertEqual(next(snapshots).step, 0)
+        snapshots.close()
 
     def test_every_nth_picture(self):
-        one = Job(limit=5, length=60, density=0.3, start=random(1), rule=Nasch(0.25), steps=50, key=7)
-        two = Job(limit=3, length=40, lanes=2, cars=20, start=random(2), rule=Rickert(0.25, 1), steps=50, at={35: Nasch(0.5)})
+        one = Job(limit=5, length=60, density=0.3, start=random_cells(1), rule=Nasch(0.25), steps=50, key=7)
+        two = Job(limit=3, length=40, lanes=2, cars=20, start=random_cells(2), rule=Rickert(0.25, 1), steps=50, at={35: Nasch(0.5)})
         for job in one, two:
             each = job.run()
             for every, first in (1, 0), (1, 20), (7, 0), (7, 3), (50, 0), (20, 10), (3, 50), (60, 50), (1, 51), (500000, 500000):
                 with self.subTest(every=every, first=first):
                     shown = job.run(every=every, first=first, workers=2)
                     self.assertEqual(shown, each[first::every])
-                    self.assertEqual(list(job.pictures(every=every, first=first)), shown)
-                    self.assertEqual(shown.text(), Pictures.read(shown.text()).text())
+                    self.assertEqual(list(job.snapshots(every=every, first=first)), shown)
+                    self.assertEqual(shown.text(), Snapshots.read(shown.text()).text())
 
     def test_what_is_asked_of_a_run(self):
         with tempfile.TemporaryDirectory() as folder:
             with stand_in(folder, f"echo $@ >>{folder}/words\ncat >/dev/null\necho step 5\necho 0.\n"):
                 job = Job(limit=5, start=[0, None], rule=Nasch(0), steps=5)
-                told = [job.run(), job.run(3), job.run(every=10, first=5, workers=3), list(job.pictures(2, 4, 1))]
-            self.assertEqual(told, 4 * [[Picture(5, ("0.",))]])
+                told = [job.run(), job.run(3), job.run(every=10, first=5, workers=3), list(job.snapshots(2, 4, 1))]
+            self.assertEqual(told, 4 * [[Snapshot(5, ("0.",))]])
             words = (Path(folder) / "words").read_text().splitlines()
         self.assertEqual(words, ["run", "run --workers 3", "run --every 10 --from 5 --workers 3", "run --every 4 --from 1 --workers 2"])
 
     def test_numbers_of_steps_are_judged_by_the_program(self):
         job = Job(limit=5, start=[0, None], rule=Nasch(0), steps=5)
         for options in {"every": 0}, {"every": 500001}, {"first": -1}, {"first": 500001}:
-            for call in job.run, job.series, lambda **options: list(job.pictures(**options)):
-                self.assertRaises(Failed, call, **options)
+            for call in job.run, job.series, lambda **options: list(job.snapshots(**options)):
+                self.assertRaises(ProgramError, call, **options)
 
     def test_more_than_a_pipe_holds(self):
         job = Job(limit=5, length=100000, density=1, lanes=2, rule=Rickert(0, 1), steps=1)
@@ -98,9 +98,9 @@ class Runs(unittest.TestCase):
 
 class Series(unittest.TestCase):
     JOBS = [
-        Job(limit=5, length=60, density=0.3, start=random(1), rule=Nasch(0.25), steps=50, key=7),
-        Job(limit=3, length=40, lanes=2, cars=20, start=random(2, None), rule=Rickert(0.25, 1), steps=33),
-        Job(limit=12, length=50, lanes=2, cars=20, start=jam, rule=Own(HALF), steps=40, at={9: Rickert("1/3", 0.5)}),
+        Job(limit=5, length=60, density=0.3, start=random_cells(1), rule=Nasch(0.25), steps=50, key=7),
+        Job(limit=3, length=40, lanes=2, cars=20, start=random_cells(2, None), rule=Rickert(0.25, 1), steps=33),
+        Job(limit=12, length=50, lanes=2, cars=20, start=jammed, rule=Own(HALF), steps=40, at={9: Rickert("1/3", 0.5)}),
         Job(limit=5, length=30, cars=10, start=moving, rule=SlowToStart("1/64", 0.75), steps=17, at={3: Own(HALF)}),
         Job(limit=1, length=1, cars=1, rule=Nasch(0), steps=3),
         Job(limit=1, length=1, lanes=2, cars=0, rule=Nasch(0), steps=3),
@@ -114,7 +114,7 @@ class Series(unittest.TestCase):
             with warnings.catch_warnings():
                 warnings.simplefilter("ignore")
                 (point,) = sweep.sweep()
-                (told,) = windows(job.pictures(), every=100, first=20)
+                (told,) = windows(job.snapshots(), every=100, first=20)
             self.assertEqual(told[1:8], point)
             self.assertEqual(told.changes > 0, lanes == 2)
 
@@ -122,7 +122,7 @@ class Series(unittest.TestCase):
         for job in self.JOBS:
             for every, first in (1, 0), (7, 0), (4, 5), (100, 0):
                 told = job.series(every=every, first=first, workers=2)
-                self.assertEqual(told, list(windows(job.pictures(), every, first)))
+                self.assertEqual(told, list(windows(job.snapshots(), every, first)))
 
     def test_what_is_asked_for(self):
         table = ",".join(Window._fields) + "\n0,1,2,3,4,5,6,7,8,9,10,11,12,13\n"
@@ -138,7 +138,7 @@ class Series(unittest.TestCase):
 
 class Refusals(unittest.TestCase):
     def test_a_text_with_a_fault(self):
-        with self.assertRaises(Refused) as caught:
+        with self.assertRaises(RejectedInputError) as caught:
             Job(limit=5, length=10, cars=2, rule=Rickert(0, 1), steps=1).run()
         refused = caught.exception
         self.assertEqual((refused.line, refused.cause, refused.reason, refused.pc), (5, 4, None, None))
@@ -148,13 +148,13 @@ class Refusals(unittest.TestCase):
         self.assertEqual(str(refused), refused.explanation)
 
     def test_a_sweep_with_a_fault(self):
-        with self.assertRaises(Refused) as caught:
+        with self.assertRaises(RejectedInputError) as caught:
             Sweep(limit=5, length=10, rule=Rickert(0, 1), warm=1, measure=1, cars=[1]).sweep()
         self.assertEqual((caught.exception.line, caught.exception.cause), (6, 4))
 
     def test_a_program(self):
         self.assertEqual(check(HALF), (5, HALF.partition("\n")[2]))
-        with self.assertRaises(Refused) as caught:
+        with self.assertRaises(RejectedInputError) as caught:
             check("motion\nget r0, speed\ngo r0\n")
         refused = caught.exception
         self.assertEqual((refused.pc, refused.reason, refused.cause, refused.line), (1, 10, None, 3))
@@ -165,7 +165,7 @@ class Refusals(unittest.TestCase):
     def test_a_repair(self):
         text = Job(limit=5, length=10, cars=2, rule=Nasch(0), steps=1).text()
         wrong = text.replace("nasch 0", "nasch 0.25")
-        with self.assertRaises(Refused) as caught:
+        with self.assertRaises(RejectedInputError) as caught:
             ask(["run"], wrong)
         refused = caught.exception
         self.assertEqual((refused.line, refused.first, refused.last), (5, 12, 15))
@@ -174,13 +174,13 @@ class Refusals(unittest.TestCase):
         self.assertEqual(repair["edits"], [{"line": 5, "first": 12, "last": 15, "replacement": "536870912"}])
 
     def test_words_that_are_refused(self):
-        with self.assertRaises(Failed) as caught:
+        with self.assertRaises(ProgramError) as caught:
             Job(limit=5, length=10, cars=2, rule=Nasch(0), steps=1).run(workers=17)
         self.assertEqual(caught.exception.status, 2)
 
     def test_a_run_that_ends_early_is_no_result(self):
         with tempfile.TemporaryDirectory() as folder, stand_in(folder, "echo step 0; echo .; echo full >&2; exit 4\n"):
-            with self.assertRaises(Failed) as caught:
+            with self.assertRaises(ProgramError) as caught:
                 Job(limit=5, length=1, cars=0, rule=Nasch(0), steps=1).run()
         self.assertEqual((caught.exception.status, str(caught.exception)), (4, "trlab ended with status 4: full"))
 
@@ -190,12 +190,12 @@ class Refusals(unittest.TestCase):
             mark = Path(folder) / "mark"
             lines = f'trap "" PIPE; echo step 0; echo .; while sleep 0.1; do date > {mark}; done\n'
             with stand_in(folder, lines):
-                self._stop_after_a_while(Job(limit=5, length=1, cars=0, rule=Nasch(0), steps=1).pictures())
+                self._stop_after_a_while(Job(limit=5, length=1, cars=0, rule=Nasch(0), steps=1).snapshots())
             mark.unlink(missing_ok=True)
             time.sleep(0.5)
             self.assertFalse(mark.exists())
 
-    def _stop_after_a_while(self, pictures):
+    def _stop_after_a_while(self, snapshots):
         """Reads with an alarm that interrupts, as Ctrl-C does."""
         def interrupt(*_):
             raise KeyboardInterrupt
@@ -203,7 +203,7 @@ class Refusals(unittest.TestCase):
         before = signal.signal(signal.SIGALRM, interrupt)
         signal.setitimer(signal.ITIMER_REAL, 0.5)
         try:
-            self.assertRaises(KeyboardInterrupt, list, pictures)
+            self.assertRaises(KeyboardInterrupt, list, snapshots)
         finally:
             signal.setitimer(signal.ITIMER_REAL, 0)
             signal.signal(signal.SIGALRM, before)
@@ -218,12 +218,12 @@ class Many(unittest.TestCase):
         self.assertEqual(map(Sweep.sweep, self.sweeps, at_once=3), [it.sweep() for it in self.sweeps])
 
     def test_the_first_that_fails(self):
-        with self.assertRaises(Refused):
+        with self.assertRaises(RejectedInputError):
             map(Job.run, [Job(limit=5, length=5, cars=1, rule=rule, steps=1) for rule in (Nasch(0), Rickert(0, 0))])
 
     def test_by_files(self):
         with tempfile.TemporaryDirectory(prefix="a blank ") as folder:
-            script = write_texts(folder, {f"key_{it.key}": it for it in self.sweeps}, program=find_program())
+            script = write_inputs(folder, {f"key_{it.key}": it for it in self.sweeps}, program=find_program())
             self.assertEqual((Path(folder) / "key_3.sweep").read_text(), self.sweeps[3].text())
             for task in 1, 4:
                 self.assertEqual(os.system(f"SLURM_ARRAY_TASK_ID={task} sh '{script}'"), 0)

@@ -15,7 +15,7 @@ from typing import Dict, List, NamedTuple, Set
 from unittest import mock
 
 from tests.processes import calls, logging_program
-from trlab import Nasch, Point, Sweep, random
+from trlab import Nasch, Point, Sweep, random_cells
 from trlab.figure import Axis, Figure
 
 STUDIES = Path(__file__).resolve().parents[2] / "studies"
@@ -46,9 +46,9 @@ class Drawn(NamedTuple):
     """Of a study that is drawn again from its tables: the names of the figures in its folder, the new figures by their
     names, and the printed lines."""
 
-    names: Set[str]
-    figures: Dict[str, str]
-    printed: List[str]
+    names: set[str]
+    figures: dict[str, str]
+    printed: list[str]
 
 
 @lru_cache(maxsize=None)
@@ -132,7 +132,7 @@ class Studies(unittest.TestCase):
 
         sweep = Sweep(limit=5, length=30, rule=Nasch("1/4"), warm=10, measure=20, cars=[4, 4, 7], key=5)
         points = {name: last_steps(20)(job) for name, job in from_random({"a_key5": sweep}).items()}
-        self.assertEqual(by_sweep(points), {"a_key5": replace(sweep, start=random(5)).sweep()})
+        self.assertEqual(by_sweep(points), {"a_key5": replace(sweep, start=random_cells(5)).sweep()})
 
     def test_what_was_cut_off_goes_on_where_it_stopped(self):
         script("1992")

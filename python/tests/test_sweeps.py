@@ -5,7 +5,7 @@ from dataclasses import replace
 from statistics import fmean, stdev
 
 from tests.test_arrays import needs
-from trlab import Job, Nasch, Point, Refused, Rickert, Sweep, Table, even, jam, moving, random
+from trlab import Job, Nasch, Point, RejectedInputError, Rickert, Sweep, Table, even, jammed, moving, random_cells
 
 SWEEP = Sweep(limit=5, length=60, rule=Nasch(0.25), warm=20, measure=100, cars=[10, 20, 20], key=7)
 ROAD = [0, None, 3, None, None]
@@ -23,37 +23,37 @@ def lanes_of_points(sweep):
 
 class InitialStates(unittest.TestCase):
     def test_keys_and_seeds_are_those_of_the_formula(self):
-        sweep = replace(SWEEP, start=random(3, speed=1))
+        sweep = replace(SWEEP, start=random_cells(3, speed=1))
         for number, job in enumerate(sweep.jobs()):
             self.assertEqual(job.key, digest("point", f"{7:064x}", number))
-            self.assertEqual(job.start, random(int(digest("seed", f"{3:064x}", number), 16), speed=1))
+            self.assertEqual(job.start, random_cells(int(digest("seed", f"{3:064x}", number), 16), speed=1))
             self.assertEqual((job.steps, job.cars, job.rule), (120, sweep.cars[number], sweep.rule))
         upper = replace(sweep, key=64 * "A").jobs()
         self.assertEqual(upper, replace(sweep, key=64 * "a").jobs())
         self.assertEqual(upper[1].key, digest("point", 64 * "a", 1))
 
     def test_the_table_is_that_of_the_jobs(self):
-        for sweep in replace(SWEEP, start=random(3)), replace(SWEEP, start=jam), replace(SWEEP, start=moving), ROADS, PAIRS:
+        for sweep in replace(SWEEP, start=random_cells(3)), replace(SWEEP, start=jammed), replace(SWEEP, start=moving), ROADS, PAIRS:
             table = sweep.sweep()
             self.assertEqual((type(table), table.kind, len(table)), (Table, Point, len(sweep.counts())))
             self.assertEqual([type(point) for point in table], len(table) * [Point])
             for point, job in zip(table, sweep.jobs()):
-                pictures = job.run()[sweep.warm + 1 :]
-                speeds = [speed for it in pictures for lane in it.speeds() for speed in lane if speed is not None]
+                snapshots = job.run()[sweep.warm + 1 :]
+                speeds = [speed for it in snapshots for lane in it.speeds() for speed in lane if speed is not None]
                 self.assertEqual((point.steps, point.cells), (sweep.measure, sweep.length * sweep.lanes))
                 self.assertEqual((point.distance, point.stopped), (sum(speeds), speeds.count(0)))
                 self.assertEqual(point.cars * point.steps, len(speeds))
             self.assertEqual(sweep.sweep(runners=3, workers=2), table)
 
     def test_equal_counts_are_repetitions(self):
-        sweep = replace(SWEEP, cars=4 * [20], start=random(3))
+        sweep = replace(SWEEP, cars=4 * [20], start=random_cells(3))
         self.assertEqual(len({job.key for job in sweep.jobs()}), 4)
         self.assertEqual(len(set(lanes_of_points(sweep))), 4)
         self.assertEqual(len({point[3:5] for point in sweep.sweep()}), 4)
 
     def test_where_the_cars_are(self):
         small = replace(SWEEP, length=6, cars=[2, 3])
-        self.assertEqual(lanes_of_points(replace(small, start=jam)), ["00....", "000..."])
+        self.assertEqual(lanes_of_points(replace(small, start=jammed)), ["00....", "000..."])
         self.assertEqual(lanes_of_points(replace(small, start=moving)), ["5..5..", "5.5.5."])
         self.assertEqual(lanes_of_points(small), ["0..0..", "0.0.0."])
         self.assertEqual(lanes_of_points(ROADS), ["0.3..", ".2.10"])
@@ -61,25 +61,25 @@ class InitialStates(unittest.TestCase):
 
     def test_an_even_sweep_is_that_of_the_program(self):
         self.assertEqual(replace(SWEEP, start=even), SWEEP)
-        self.assertNotEqual(replace(SWEEP, start=jam), SWEEP)
+        self.assertNotEqual(replace(SWEEP, start=jammed), SWEEP)
         self.assertEqual([part.text() for part in SWEEP.parts()], [SWEEP.text()])
 
     def test_it_has_no_sweep_text(self):
-        for sweep in replace(SWEEP, start=random(1)), replace(SWEEP, start=moving), ROADS:
+        for sweep in replace(SWEEP, start=random_cells(1)), replace(SWEEP, start=moving), ROADS:
             self.assertRaisesRegex(ValueError, r"another start: use `jobs\(\)`", sweep.text)
             self.assertRaisesRegex(ValueError, r"use `jobs\(\)`", sweep.parts)
 
     def test_sweeps_compare_and_hash_by_value(self):
-        for one, other in (replace(SWEEP, start=random(1)), replace(SWEEP, start=random(1))), (ROADS, replace(ROADS)):
+        for one, other in (replace(SWEEP, start=random_cells(1)), replace(SWEEP, start=random_cells(1))), (ROADS, replace(ROADS)):
             self.assertEqual((one, hash(one)), (other, hash(other)))
-        self.assertNotEqual(replace(SWEEP, start=random(1)), replace(SWEEP, start=random(2)))
+        self.assertNotEqual(replace(SWEEP, start=random_cells(1)), replace(SWEEP, start=random_cells(2)))
 
     def test_runners_are_one_or_more(self):
-        self.assertRaisesRegex(ValueError, "runners must be at least 1, not 0", replace(SWEEP, start=jam).sweep, runners=0)
+        self.assertRaisesRegex(ValueError, "runners must be at least 1, not 0", replace(SWEEP, start=jammed).sweep, runners=0)
 
     def test_the_first_job_that_is_rejected(self):
-        with self.assertRaises(Refused) as caught:
-            replace(SWEEP, rule=Rickert(0, 0), start=jam).sweep(runners=2)
+        with self.assertRaises(RejectedInputError) as caught:
+            replace(SWEEP, rule=Rickert(0, 0), start=jammed).sweep(runners=2)
         self.assertEqual(caught.exception.cause, 4)
 
 
@@ -146,7 +146,7 @@ class Means(unittest.TestCase):
     def test_points_are_independent_and_have_the_exact_mean(self):
         # The stationary flow of three cars on eight cells, from all transition probabilities of this ring.
         exact, shape = 387 / 1568, {"limit": 1, "length": 8, "rule": Nasch(0.25), "warm": 50, "measure": 200}
-        for start in random(1), jam, moving:
+        for start in random_cells(1), jam, moving:
             flows = [point.passing for point in Sweep(**shape, cars=200 * [3], start=start).sweep(runners=2)]
             self.assertLess(abs(fmean(flows) - exact), 3 * stdev(flows) / 200**0.5)
             # Neighbours in the table have nothing to do with each other: their correlation is within 3 / sqrt(200).

@@ -3,8 +3,8 @@ import unittest
 import warnings
 from fractions import Fraction
 
-from trlab import Job, Nasch, Own, Rickert, SlowToStart, Sweep, even, jam, moving, random
-from trlab.units import cars_at, key_digits, parts
+from trlab import Job, Nasch, Own, Rickert, SlowToStart, Sweep, even, jammed, moving, random_cells
+from trlab._inputs.numbers import cars_at, key_digits, parts
 
 NO_KEY = "key " + 64 * "0"
 
@@ -55,10 +55,10 @@ class Starts(unittest.TestCase):
         self.assertEqual(self.road(jam, cars=5, length=4, lanes=2), ["000.", "00.."])
 
     def test_random_places_go_by_their_seed(self):
-        self.assertEqual(self.road(random(1)), self.road(random(1)))
-        self.assertNotEqual(self.road(random(1)), self.road(random(2)))
-        self.assertEqual(self.road(random(1)), ["0..0....00.."])
-        self.assertEqual(self.road(random(1, speed=3))[0].count("3"), 4)
+        self.assertEqual(self.road(random_cells(1)), self.road(random_cells(1)))
+        self.assertNotEqual(self.road(random_cells(1)), self.road(random_cells(2)))
+        self.assertEqual(self.road(random_cells(1)), ["0..0....00.."])
+        self.assertEqual(self.road(random_cells(1, speed=3))[0].count("3"), 4)
 
     def test_speeds_are_a_road(self):
         job = Job(limit=35, start=[0, None, 35, None, 10], rule=Nasch(0), steps=0)

@@ -1,4 +1,4 @@
-"""Trajectories: beside laws of the model, tables of `trlab series`, and slower counts from the characters of pictures."""
+"""Trajectories: beside laws of the model, tables of `trlab series`, and slower counts from the characters of snapshots."""
 import math
 import sys
 import unittest
@@ -8,67 +8,67 @@ from unittest import mock
 from tests.by_pictures import windows
 from tests.test_arrays import needs
 from tests.test_runs import HALF
-from trlab import Job, Nasch, Own, Picture, Pictures, Rickert, SlowToStart, jam, random
-from trlab.starts import SPEEDS
+from trlab import Job, Nasch, Own, Snapshot, Snapshots, Rickert, SlowToStart, jammed, random_cells
+from trlab._inputs.states import SPEEDS
 
 ONE_LANE = [
-    Job(limit=5, length=40, cars=15, start=random(1), rule=Nasch(0.25), steps=60, key=7),
-    Job(limit=3, length=25, cars=20, start=random(2), rule=SlowToStart("1/64", 0.75), steps=50, key=1),
-    Job(limit=12, length=50, cars=4, start=jam, rule=Own(HALF), steps=60, at={30: Nasch(0.5)}),
-    Job(limit=5, length=8, cars=1, start=random(3), rule=Nasch(0.5), steps=40),
+    Job(limit=5, length=40, cars=15, start=random_cells(1), rule=Nasch(0.25), steps=60, key=7),
+    Job(limit=3, length=25, cars=20, start=random_cells(2), rule=SlowToStart("1/64", 0.75), steps=50, key=1),
+    Job(limit=12, length=50, cars=4, start=jammed, rule=Own(HALF), steps=60, at={30: Nasch(0.5)}),
+    Job(limit=5, length=8, cars=1, start=random_cells(3), rule=Nasch(0.5), steps=40),
     Job(limit=5, length=9, cars=9, rule=Nasch(0), steps=3),
     Job(limit=1, length=1, cars=1, rule=Nasch(0), steps=3),
     Job(limit=1, length=1, cars=0, rule=Nasch(0), steps=3),
 ]
 TWO_LANES = [
-    Job(limit=5, length=30, lanes=2, cars=20, start=random(4), rule=Rickert(0.25, 1), steps=60, key=2),
-    Job(limit=2, length=12, lanes=2, cars=17, start=random(5, None), rule=Rickert("1/3", 0.5), steps=60, key=3),
-    Job(limit=5, length=40, lanes=2, cars=9, start=random(6), rule=Rickert(0.5, 1), steps=60, key=4),
-    Job(limit=5, length=20, lanes=2, cars=11, start=random(7), rule=Nasch(0.25), steps=30, key=5),
+    Job(limit=5, length=30, lanes=2, cars=20, start=random_cells(4), rule=Rickert(0.25, 1), steps=60, key=2),
+    Job(limit=2, length=12, lanes=2, cars=17, start=random_cells(5, None), rule=Rickert("1/3", 0.5), steps=60, key=3),
+    Job(limit=5, length=40, lanes=2, cars=9, start=random_cells(6), rule=Rickert(0.5, 1), steps=60, key=4),
+    Job(limit=5, length=20, lanes=2, cars=11, start=random_cells(7), rule=Nasch(0.25), steps=30, key=5),
 ]
 
 
-def speeds_at(picture, lane):
+def speeds_at(snapshot, lane):
     """The speed of the car in each taken cell."""
-    return {cell: SPEEDS.index(sign) for cell, sign in enumerate(picture.lanes[lane]) if sign != "."}
+    return {cell: SPEEDS.index(sign) for cell, sign in enumerate(snapshot.lanes[lane]) if sign != "."}
 
 
-def turned_cells(pictures):
+def turned_cells(snapshots):
     """The cells of the cars of one lane by step, from their order alone: sorted, and turned by the laps begun since."""
     laps, rows = 0, []
-    for picture in pictures:
-        on = speeds_at(picture, 0)
+    for snapshot in snapshots:
+        on = speeds_at(snapshot, 0)
         laps += sum(cell < speed for cell, speed in on.items()) if rows else 0
         cells = sorted(on)
         rows.append([cells[(car + laps) % len(cells)] for car in range(len(cells))])
     return rows
 
 
-def stopped_neighbours(pictures, step, lane, cell):
+def stopped_neighbours(snapshots, step, lane, cell):
     """The stopped cars beside a stopped one, ahead and behind, and the same car one step later if it is stopped."""
-    length, lanes = len(pictures[0].lanes[0]), len(pictures[0].lanes)
+    length, lanes = len(snapshots[0].lanes[0]), len(snapshots[0].lanes)
     yield step, lane, (cell + 1) % length
     yield step, lane, (cell - 1) % length
-    if step + 1 < len(pictures):
+    if step + 1 < len(snapshots):
         yield step + 1, lane, cell
         side = lanes - 1 - lane
         # The car changed lanes if a car is beside its cell now, and was not before.
-        if pictures[step].lanes[side][cell] == "." and pictures[step + 1].lanes[side][cell] == "0":
+        if snapshots[step].lanes[side][cell] == "." and snapshots[step + 1].lanes[side][cell] == "0":
             yield step + 1, side, cell
 
 
-def components(pictures):
+def components(snapshots):
     """The sets of stopped cars, as (row, lane, cell), that are connected: by painting one after the other."""
     stopped = {
         (row, lane, cell)
-        for row, picture in enumerate(pictures)
-        for lane, cells in enumerate(picture.lanes)
+        for row, snapshot in enumerate(snapshots)
+        for lane, cells in enumerate(snapshot.lanes)
         for cell, sign in enumerate(cells)
         if sign == "0"
     }
     links = {it: set() for it in stopped}
     for it in stopped:
-        for other in set(stopped_neighbours(pictures, *it)) & stopped:
+        for other in set(stopped_neighbours(snapshots, *it)) & stopped:
             links[it].add(other)
             links[other].add(it)
     while stopped:
@@ -80,13 +80,13 @@ def components(pictures):
         yield found
 
 
-def trips(pictures, start, end):
+def trips(snapshots, start, end):
     """The trips on one lane, from every cell whose end a car passed, one after the other."""
     passed = {}
-    cells = turned_cells(pictures)
-    length = len(pictures[0].lanes[0])
-    for row in range(1, len(pictures)):
-        on = speeds_at(pictures[row], 0)
+    cells = turned_cells(snapshots)
+    length = len(snapshots[0].lanes[0])
+    for row in range(1, len(snapshots)):
+        on = speeds_at(snapshots[row], 0)
         for car, cell in enumerate(cells[row]):
             for back in range(on[cell], 0, -1):
                 passed.setdefault(car, []).append((row, (cell - back) % length))
@@ -94,7 +94,7 @@ def trips(pictures, start, end):
         for place, (row, cell) in enumerate(marks):
             later = [then for then, there in marks[place + 1:] if there == end]
             if cell == start and later:
-                yield car, pictures[0].step + row, later[0] - row
+                yield car, snapshots[0].step + row, later[0] - row
 
 
 class Base:
@@ -120,11 +120,11 @@ class Base:
 
     def test_paths_are_those_of_the_pictures(self):
         for job in ONE_LANE + TWO_LANES:
-            pictures = job.run()
-            paths = pictures.trajectories()
-            for row, picture in enumerate(pictures):
+            snapshots = job.run()
+            paths = snapshots.trajectories()
+            for row, snapshot in enumerate(snapshots):
                 found = sorted(zip(paths.lane[row], paths.cell[row], paths.speed[row]))
-                there = [(lane, *it) for lane in range(len(picture.lanes)) for it in sorted(speeds_at(picture, lane).items())]
+                there = [(lane, *it) for lane in range(len(snapshot.lanes)) for it in sorted(speeds_at(snapshot, lane).items())]
                 self.assertEqual(found, there)
                 self.assertEqual([way % paths.length for way in paths.distance[row]], list(paths.cell[row]))
                 if row:
@@ -133,9 +133,9 @@ class Base:
 
     def test_nobody_overtakes_on_one_lane(self):
         for job in ONE_LANE[:3]:
-            pictures = job.run()
-            paths = pictures.trajectories()
-            self.assertEqual([list(row) for row in paths.cell], turned_cells(pictures))
+            snapshots = job.run()
+            paths = snapshots.trajectories()
+            self.assertEqual([list(row) for row in paths.cell], turned_cells(snapshots))
             for places in 0, 1, 3, paths.cars + 1:
                 ahead = [(car + places) % paths.cars for car in range(paths.cars)]
                 self.assertTrue(all(list(row) == ahead for row in paths.ahead(places)))
@@ -151,11 +151,11 @@ class Base:
 
     def test_gaps_of_two_lanes_are_empty_cells(self):
         for job in TWO_LANES:
-            pictures = job.run()
-            paths = pictures.trajectories()
+            snapshots = job.run()
+            paths = snapshots.trajectories()
             for row, gaps in enumerate(paths.headways()):
                 for lane, cell, gap in zip(paths.lane[row], paths.cell[row], gaps):
-                    road = pictures[row].lanes[lane]
+                    road = snapshots[row].lanes[lane]
                     ahead = road[cell + 1:] + road[:cell + 1]
                     self.assertEqual(gap, len(ahead) - len(ahead.lstrip(".")))
 
@@ -195,30 +195,30 @@ class Base:
 
     def test_jams_are_painted_areas(self):
         for job in ONE_LANE + TWO_LANES:
-            for pictures in job.run(), job.run()[2:]:
+            for snapshots in job.run(), job.run()[2:]:
                 areas = []
-                for area in components(pictures):
+                for area in components(snapshots):
                     rows = [row for row, _, _ in area]
-                    is_cut = min(rows) == 0 or max(rows) == len(pictures) - 1
-                    areas.append((pictures[min(rows)].step, max(rows) - min(rows) + 1, len(area), is_cut))
-                found = pictures.trajectories().jams()
+                    is_cut = min(rows) == 0 or max(rows) == len(snapshots) - 1
+                    areas.append((snapshots[min(rows)].step, max(rows) - min(rows) + 1, len(area), is_cut))
+                found = snapshots.trajectories().jams()
                 self.assertEqual(sorted((it.first, it.lifetime, it.size, it.is_cut) for it in found), sorted(areas))
                 self.assertEqual([it.first for it in found], sorted(it.first for it in found))
 
     def test_cars_of_jams(self):
         for job in ONE_LANE[:3]:
-            pictures = job.run()
-            cars = {(row, cell): car for row, cells in enumerate(turned_cells(pictures)) for car, cell in enumerate(cells)}
-            areas = [len({cars[row, cell] for row, _, cell in area}) for area in components(pictures)]
-            self.assertEqual(sorted(it.cars for it in pictures.trajectories().jams()), sorted(areas))
+            snapshots = job.run()
+            cars = {(row, cell): car for row, cells in enumerate(turned_cells(snapshots)) for car, cell in enumerate(cells)}
+            areas = [len({cars[row, cell] for row, _, cell in area}) for area in components(snapshots)]
+            self.assertEqual(sorted(it.cars for it in snapshots.trajectories().jams()), sorted(areas))
 
     def test_travel_times_are_those_of_single_cells(self):
         found = 0
         for job in ONE_LANE[:4]:
-            pictures = job.run()[3:]
-            paths = pictures.trajectories()
+            snapshots = job.run()[3:]
+            paths = snapshots.trajectories()
             for start, end in (0, job.length - 1), (job.length - 1, 0), (3, 3), (6, 2):
-                expected = sorted(trips(pictures, start, end))
+                expected = sorted(trips(snapshots, start, end))
                 self.assertEqual(sorted(paths.travel_times(start, end)), expected)
                 found += len(expected)
         self.assertGreater(found, 100)
@@ -261,25 +261,25 @@ class Base:
             self.assertRaises(ValueError, call)
 
     def test_other_pictures_are_rejected(self):
-        pictures = ONE_LANE[0].run()
+        snapshots = ONE_LANE[0].run()
         with self.assertRaisesRegex(ValueError, "step 3 follows step 1: "):
-            Pictures([*pictures[:2], pictures[3]]).trajectories()
+            Snapshots([*snapshots[:2], snapshots[3]]).trajectories()
         for wrong, said in (
-            (Pictures(), "no pictures"),
-            (Pictures([Picture(0, ("0..",)), Picture(1, ("0...",))]), "step 1 has another size"),
-            (Pictures([Picture(0, ("0..",)), Picture(1, ("0.0",))]), "the cars of step 1 do not come"),
-            (Pictures([Picture(0, ("0..",)), Picture(1, ("...",))]), "the cars of step 1 do not come"),
-            (Pictures([Picture(7, ("0..",)), Picture(8, (".1.",)), Picture(9, ("..0",))]), "the cars of step 9 do not"),
-            (Pictures([Picture(0, ("0.0",)), Picture(1, (".12",))]), "the cars of step 1 do not come"),
-            (Pictures([Picture(0, ("0..", "...")), Picture(1, ("..0", "..."))]), "the cars of step 1 do not come"),
-            (Pictures([Picture(0, ("0.0", "...")), Picture(1, (".1.", ".1."))]), "the cars of step 1 do not come"),
+            (Snapshots(), "no snapshots"),
+            (Snapshots([Snapshot(0, ("0..",)), Snapshot(1, ("0...",))]), "step 1 has another size"),
+            (Snapshots([Snapshot(0, ("0..",)), Snapshot(1, ("0.0",))]), "the cars of step 1 do not come"),
+            (Snapshots([Snapshot(0, ("0..",)), Snapshot(1, ("...",))]), "the cars of step 1 do not come"),
+            (Snapshots([Snapshot(7, ("0..",)), Snapshot(8, (".1.",)), Snapshot(9, ("..0",))]), "the cars of step 9 do not"),
+            (Snapshots([Snapshot(0, ("0.0",)), Snapshot(1, (".12",))]), "the cars of step 1 do not come"),
+            (Snapshots([Snapshot(0, ("0..", "...")), Snapshot(1, ("..0", "..."))]), "the cars of step 1 do not come"),
+            (Snapshots([Snapshot(0, ("0.0", "...")), Snapshot(1, (".1.", ".1."))]), "the cars of step 1 do not come"),
         ):
             with self.assertRaisesRegex(ValueError, said):
                 wrong.trajectories()
 
     def test_a_car_that_changes_lanes(self):
-        pictures = Pictures([Picture(0, ("1...", "0.0.")), Picture(1, ("..2.", ".1.1")), Picture(2, ("1...", "2.1."))])
-        paths = pictures.trajectories()
+        snapshots = Snapshots([Snapshot(0, ("1...", "0.0.")), Snapshot(1, ("..2.", ".1.1")), Snapshot(2, ("1...", "2.1."))])
+        paths = snapshots.trajectories()
         self.assertEqual([list(row) for row in paths.lane], [[0, 1, 1], [0, 1, 1], [1, 1, 0]])
         self.assertEqual([list(row) for row in paths.cell], [[0, 0, 2], [2, 1, 3], [0, 2, 0]])
 
@@ -303,15 +303,15 @@ class ByArrays(Base, unittest.TestCase):
 
     def test_jams_are_those_of_lists(self):
         for job in ONE_LANE + TWO_LANES:
-            pictures = replace(job, steps=4 * job.steps).run()
+            snapshots = replace(job, steps=4 * job.steps).run()
             with mock.patch.dict(sys.modules, numpy=None):
-                expected = pictures.trajectories().jams()
-            self.assertEqual(pictures.trajectories().jams(), expected)
+                expected = snapshots.trajectories().jams()
+            self.assertEqual(snapshots.trajectories().jams(), expected)
 
 
 class Windows(unittest.TestCase):
     def test_stopped_time_is_that_of_the_pictures(self):
         # The size of all jams together is what the slow count has as stopped cars.
-        pictures = replace(ONE_LANE[0], steps=200).run()
-        counted = sum(it.stopped for it in windows(pictures)) + pictures[0].lanes[0].count("0")
-        self.assertEqual(sum(it.size for it in pictures.trajectories().jams()), counted)
+        snapshots = replace(ONE_LANE[0], steps=200).run()
+        counted = sum(it.stopped for it in windows(snapshots)) + snapshots[0].lanes[0].count("0")
+        self.assertEqual(sum(it.size for it in snapshots.trajectories().jams()), counted)

@@ -15,11 +15,11 @@ from unittest import mock
 
 import trlab
 from tests.test_arrays import needs
-from trlab import Job, Nasch, Own, Picture, Pictures, Point, Refused, Rickert, SlowToStart, Sweep, Table, Window
-from trlab import Failed, Start, check, explain, find_program, jam, random, version
-from trlab.program import ask
+from trlab import Job, Nasch, Own, Snapshot, Snapshots, Point, RejectedInputError, Rickert, SlowToStart, Sweep, Table, Window
+from trlab import ProgramError, InitialState, check, explain, find_program, jammed, random_cells, version
+from trlab._runs.calls import ask
 
-JOB = Job(limit=5, length=20, density=0.2, start=random(1), rule=Nasch(0.25), steps=9, at={4: Nasch(0)})
+JOB = Job(limit=5, length=20, density=0.2, start=random_cells(1), rule=Nasch(0.25), steps=9, at={4: Nasch(0)})
 SWEEP = Sweep(limit=5, length=20, rule=Nasch(0), warm=9, measure=9, cars=[1, 2, 4])
 STOP = "motion\nnum r0, 0\ngo r0\n"
 
@@ -27,52 +27,52 @@ STOP = "motion\nnum r0, 0\ngo r0\n"
 class Values(unittest.TestCase):
     def test_equal_inputs_are_equal_and_hash_alike(self):
         for one, other in (
-            (random(1), random(1)),
-            (JOB, replace(JOB, start=random(1), at={4: Nasch(0)})),
+            (random_cells(1), random_cells(1)),
+            (JOB, replace(JOB, start=random_cells(1), at={4: Nasch(0)})),
             (replace(SWEEP, cars=[1]), replace(SWEEP, cars=(1,))),
             (Job(limit=5, start=[0, -1], rule=Nasch(0), steps=1), Job(limit=5, start=(0, None), rule=Nasch(0), steps=1)),
         ):
             self.assertEqual((one, hash(one)), (other, hash(other)))
-        self.assertNotEqual(random(1), random(2))
-        self.assertNotEqual(JOB, replace(JOB, start=jam))
+        self.assertNotEqual(random_cells(1), random_cells(2))
+        self.assertNotEqual(JOB, replace(JOB, start=jammed))
         self.assertEqual(len({JOB, replace(JOB), replace(JOB, key=1)}), 2)
 
     def test_all_can_be_pickled(self):
-        for value in JOB, SWEEP, random(3), JOB.run(), JOB.series(every=3), SWEEP.sweep():
+        for value in JOB, SWEEP, random_cells(3), JOB.run(), JOB.series(every=3), SWEEP.sweep():
             self.assertEqual(pickle.loads(pickle.dumps(value)), value)
         table = pickle.loads(pickle.dumps(SWEEP.sweep()))
         self.assertEqual((type(table), table.kind), (Table, Point))
 
     def test_errors_can_be_pickled(self):
-        with self.assertRaises(Refused) as caught:
+        with self.assertRaises(RejectedInputError) as caught:
             replace(JOB, rule=Rickert(0, 0)).run()
-        for error in caught.exception, Failed(4, "full"):
+        for error in caught.exception, ProgramError(4, "full"):
             copy = pickle.loads(pickle.dumps(error))
             self.assertEqual((type(copy), str(copy), vars(copy)), (type(error), str(error), vars(error)))
 
     def test_errors_come_out_of_other_processes(self):
         rejected = replace(JOB, rule=Rickert(0, 0))
         with ProcessPoolExecutor(1) as processes:
-            with self.assertRaises(Refused) as caught:
+            with self.assertRaises(RejectedInputError) as caught:
                 list(processes.map(Job.run, [JOB, rejected]))
         self.assertEqual((caught.exception.line, caught.exception.cause), (5, 4))
         with Pool(1) as processes:
-            self.assertRaises(Refused, processes.map_async(Job.run, [JOB, rejected]).get, timeout=60)
+            self.assertRaises(RejectedInputError, processes.map_async(Job.run, [JOB, rejected]).get, timeout=60)
 
     def test_parts_and_sums_keep_their_type(self):
-        table, pictures = SWEEP.sweep(), JOB.run()
+        table, snapshots = SWEEP.sweep(), JOB.run()
         for part in table[:2], table[::-1], table + table[1:], table.copy():
             self.assertEqual((type(part), part.kind), (Table, Point))
         self.assertEqual((table[:2] + table[2:], table[1].cars), (table, 2))
-        for cut in pictures[3:], pictures + pictures, pictures.copy():
-            self.assertIsInstance(cut, Pictures)
-        self.assertEqual((pictures[:3] + pictures[3:], type(pictures[0])), (pictures, Picture))
+        for cut in snapshots[3:], snapshots + snapshots, snapshots.copy():
+            self.assertIsInstance(cut, Snapshots)
+        self.assertEqual((snapshots[:3] + snapshots[3:], type(snapshots[0])), (snapshots, Snapshot))
 
     def test_a_long_result_has_a_short_name(self):
-        self.assertEqual(repr(JOB.run()), "<10 pictures of 1 x 20 cells, steps 0 to 9>")
+        self.assertEqual(repr(JOB.run()), "<10 snapshots of 1 x 20 cells, steps 0 to 9>")
         self.assertEqual(repr(SWEEP.sweep()), "<table of 3 Points>")
         self.assertEqual(repr(Table(Window)), "<table of 0 Windows>")
-        self.assertEqual(repr(Pictures()), "<no pictures>")
+        self.assertEqual(repr(Snapshots()), "<no snapshots>")
 
     def test_a_star_import_leaves_names_of_python(self):
         names = {}
@@ -80,7 +80,7 @@ class Values(unittest.TestCase):
         self.assertFalse({"map", "random"} & set(names))
         self.assertTrue(set(trlab.__all__) <= set(names))
         self.assertIs(names.get("map", builtins.map), map)
-        self.assertIsNot(trlab.random, standard_random.random)
+        self.assertIsNot(trlab.random_cells, standard_random.random)
 
 
 class Construction(unittest.TestCase):
@@ -113,7 +113,7 @@ class Construction(unittest.TestCase):
         for word in "limit 36", "length 100001", "measure 500001", "cars 100001":
             name = word.split(" ")[0]
             changed = [word if line.startswith(name + " ") else line for line in words]
-            self.assertRaises(Refused, ask, ["sweep"], "\n".join(["sweep 1", "key " + 64 * "0", *changed]))
+            self.assertRaises(RejectedInputError, ask, ["sweep"], "\n".join(["sweep 1", "key " + 64 * "0", *changed]))
 
     def test_probabilities_are_judged_where_they_are_said(self):
         for call in (lambda: Nasch(25)), (lambda: SlowToStart(0, 2)), (lambda: Rickert(-1, 0)), (lambda: Rickert(0, "5/4")):
@@ -140,15 +140,15 @@ class Construction(unittest.TestCase):
         job = dict(limit=5, rule=Nasch(0), steps=1)
         for start in [6], [[None], [36]]:
             self.rejects(ValueError, "the limit is 5 cells per step", Job, **job, start=start)
-        self.rejects(ValueError, "the speed 6, and the limit is 5", Job, **job, length=9, cars=1, start=random(1, speed=6))
-        self.rejects(ValueError, "the speed 6, and the limit is 5", replace, SWEEP, start=random(1, speed=6))
+        self.rejects(ValueError, "the speed 6, and the limit is 5", Job, **job, length=9, cars=1, start=random_cells(1, speed=6))
+        self.rejects(ValueError, "the speed 6, and the limit is 5", replace, SWEEP, start=random_cells(1, speed=6))
 
     def test_a_start_is_one_of_those_that_are_known(self):
-        self.rejects(ValueError, "one of even, jam, random, not 'everywhere'", Start, placement="everywhere")
-        self.rejects(TypeError, "seed must be a whole number, not None", Start, placement="random")
+        self.rejects(ValueError, "one of even, jam, random, not 'everywhere'", InitialState, placement="everywhere")
+        self.rejects(TypeError, "seed must be a whole number, not None", InitialState, placement="random")
         for seed in -1, 2**256:
             self.rejects(ValueError, "seed must be between 0", random, seed=seed)
-        self.rejects(ValueError, "a seed is for random cells only", Start, placement="jam", seed=1)
+        self.rejects(ValueError, "a seed is for random cells only", InitialState, placement="jammed", seed=1)
         self.rejects(TypeError, "speed must be a whole number", random, seed=1, speed=0.5)
         self.rejects(ValueError, "speed must be between 0 and 35, not 36", random, seed=1, speed=36)
 
@@ -194,7 +194,7 @@ class Construction(unittest.TestCase):
         self.assertEqual(densities.text(), replace(SWEEP, cars=[0, 10, 20]).text())
         self.assertEqual(replace(SWEEP, cars=numpy.array([1, 2, 4])).text(), SWEEP.text())
         self.assertEqual(Nasch(numpy.float32(0.25)).lines(), Nasch(0.25).lines())
-        self.assertEqual((random(numpy.int64(3)), hash(random(numpy.int64(3)))), (random(3), hash(random(3))))
+        self.assertEqual((random_cells(numpy.int64(3)), hash(random_cells(numpy.int64(3)))), (random_cells(3), hash(random_cells(3))))
         for shape in (3, 1, 1), (3, 4):
             self.rejects(ValueError, "a road is a list", Job, limit=5, start=numpy.zeros(shape, int), rule=Nasch(0), steps=1)
 

@@ -18,7 +18,7 @@ def main():
             found = dict(trlab.results(Executors.JOBS, call=windows, executor=pool, cache=cache))
             assert found == {key: windows(job) for key, job in Executors.JOBS.items()}
         (kept,) = dict(trlab.results([WRONG], call=windows, executor=pool, errors="keep")).values()
-        assert isinstance(kept, trlab.Refused) and kept.cause == 4
+        assert isinstance(kept, trlab.RejectedInputError) and kept.cause == 4
     print("OK")
 
 

@@ -1,76 +1,70 @@
 """trlab: cellular automaton road traffic, in ordinary units.
 
-    from trlab import Job, Nasch, Sweep, random
+    from trlab import Job, Nasch, Sweep, random_cells
 
     diagram = Sweep(limit=5, length=1000, rule=Nasch("1/4"), warm=200, measure=400, densities=[0.05, 0.1, 0.2])
     for point in diagram.sweep():
-        print(point.density, point.passing)
+        print(point.density, point.flow)
 
-    job = Job(limit=5, length=100, density=0.2, start=random(1), rule=Nasch(0.25), steps=50, key=7)
+    job = Job(limit=5, length=100, density=0.2, start=random_cells(1), rule=Nasch(0.25), steps=50, key=7)
     print(job.run()[-1].lanes[0])
 
 Lengths are in cells, times in steps, speeds in cells per step; probabilities and densities (cars per cell) are
-between 0 and 1. Results depend only on the input file of a job or a sweep, which `.text()` returns. No package is
-needed, except numpy and pandas for `.to_numpy()` and `.to_pandas()`. `TRLAB` may name the program
-(see `find_program`)."""
-from .drift import Drift
-from .figure import Figure
-from .frame import Frame
-from .location import find_program
-from .files import read_tables, write_texts
-from .grid import Grid, key_for
-from .many import map, results
-from .program import Failed, Refused, version
-from .results import Picture, Pictures, Point, Table, Window
-from .rules import Nasch, Own, Rickert, Rule, SlowToStart
-from .scale import Scale
-from .space_time import SpaceTime
-from .starts import Start, even, jam, moving, random
-from .texts import Accepted, Job, Sweep, check, explain
-from .trajectories import Jam, Trajectories, Trip
-from .units import Chance, Density, Key
+between 0 and 1; a flow is in cars per step and lane. Results depend only on the input file of a job or a sweep, which
+`.text()` returns. Inputs, runs and their rows need no package; frames, arrays, estimates and plots need numpy, pandas and
+matplotlib: `pip install "trlab[analysis]"`. `TRLAB` may name the program (see `find_program`)."""
+from importlib import import_module as _import_module
+
+from ._errors import (
+    EstimateError, FrameError, IncompleteOutputError, MissingLibraryError, OutputFormatError, ParameterError, ProgramError,
+    ProgramNotFoundError, RejectedInputError, RenamedError, ResultFilesError, StudyFileError, TrlabError,
+)
+from ._inputs.jobs import Duration, Job
+from ._inputs.numbers import Density, Key, Probability
+from ._inputs.programs import AcceptedProgram, check, explain
+from ._inputs.rules import Nasch, Own, Rickert, Rule, SlowToStart
+from ._inputs.states import InitialState, even, jammed, moving, random_cells
+from ._inputs.sweeps import Sweep
+from ._renamed import IN_PACKAGE as _IN_PACKAGE, renamed as _renamed
+from ._results.drift import Drift
+from ._results.snapshots import Snapshot, Snapshots
+from ._results.tables import Point, Table, Window
+from ._results.trajectories import Jam, Trajectories, Trip
+from ._runs.calls import version
+from ._runs.cluster import read_tables, write_inputs
+from ._runs.location import find_program
+from ._runs.many import results, run_all
+from ._studies.grid import Grid, key_for
+from ._studies.study_file import read_study
 from ._version import __version__
 
+_ANALYSIS = {
+    "frames": ["UNITS", "means", "per_run", "to_si"],
+    "estimates": ["Blocking", "Lifetime", "Peak", "blocking", "lifetime", "peak", "survival"],
+    "detectors": ["detectors", "passings"],
+    "plots": ["plot_means", "plot_space_time"],
+}
+
 __all__ = [
-    "Accepted",
-    "Chance",
-    "Density",
-    "Drift",
-    "Failed",
-    "Figure",
-    "Frame",
-    "Grid",
-    "Jam",
-    "Job",
-    "Key",
-    "Nasch",
-    "Own",
-    "Picture",
-    "Pictures",
-    "Point",
-    "Refused",
-    "Rickert",
-    "Rule",
-    "Scale",
-    "SlowToStart",
-    "SpaceTime",
-    "Start",
-    "Sweep",
-    "Table",
-    "Trajectories",
-    "Trip",
-    "Window",
-    "__version__",
-    "check",
-    "even",
-    "explain",
-    "find_program",
-    "jam",
-    "key_for",
-    "moving",
-    "read_tables",
-    "results",
-    "version",
-    "write_texts",
+    "AcceptedProgram", "Density", "Drift", "Duration", "EstimateError", "FrameError", "Grid", "IncompleteOutputError",
+    "InitialState", "Jam", "Job", "Key", "MissingLibraryError", "Nasch", "OutputFormatError", "Own", "ParameterError", "Point",
+    "Probability", "ProgramError", "ProgramNotFoundError", "RejectedInputError", "RenamedError", "ResultFilesError", "Rickert",
+    "Rule", "SlowToStart", "Snapshot", "Snapshots", "StudyFileError", "Sweep", "Table", "Trajectories", "Trip", "TrlabError",
+    "Window", "__version__", "check", "even", "explain", "find_program", "jammed", "key_for", "moving", "random_cells",
+    "read_study", "read_tables", "results", "run_all", "version", "write_inputs",
 ]
-# `map` and `random` are not in this list, so that `from trlab import *` leaves Python's own names as they are.
+
+
+def __getattr__(name: str) -> object:
+    """A name of the analysis, which is imported when it is first used. Raises `RenamedError` for an old name."""
+    _renamed("trlab", name, _IN_PACKAGE)
+    for module, names in _ANALYSIS.items():
+        if name in names:
+            found: object = getattr(_import_module(f"trlab._analysis.{module}"), name)
+            globals()[name] = found
+            return found
+    raise AttributeError(f"module 'trlab' has no attribute {name!r}")
+
+
+def __dir__() -> "list[str]":
+    return sorted({*globals(), *(name for names in _ANALYSIS.values() for name in names)})

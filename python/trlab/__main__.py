@@ -2,7 +2,7 @@
 import os
 import sys
 
-from .location import find_program
+from ._runs.location import find_program
 
 
 def main() -> None:

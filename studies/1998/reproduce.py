@@ -12,13 +12,13 @@ sys.path[1:1] = [str(STUDIES), str(STUDIES.parent / "python")]
 
 from study import Mean, Study, read_rows, write_rows  # noqa: E402
 
-from trlab import Job, SlowToStart, Window, jam, moving  # noqa: E402
+from trlab import Job, SlowToStart, Window, jammed, moving  # noqa: E402
 from trlab.figure import Axis, Curve, Figure, Spot  # noqa: E402
 
 LIMIT, LENGTH, BRAKE, STOPPED_BRAKE = 5, 10000, 1 / 64, 3 / 4
 RULE = SlowToStart(BRAKE, STOPPED_BRAKE)
 DENSITIES = [0.03, 0.04, 0.045, 0.05, 0.055, 0.06, 0.08, 0.1, 0.12, 0.14, 0.15, 0.16, 0.2, 0.3]
-STARTS = {"jam": jam, "moving": moving}
+STARTS = {"jammed": jam, "moving": moving}
 # All gaps are 5 at first, so that each car just has room for the limit.
 LIFE_DENSITY, LIFE_LENGTHS, LIFE_STEPS = "1/6", [600, 1200, 2400, 4800], 3000
 
@@ -67,7 +67,7 @@ def jammed(density):
     return (1 - STOPPED_BRAKE) * (1 - density)
 
 
-LINES = {"moving": free, "jam": jammed}
+LINES = {"moving": free, "jammed": jammed}
 
 
 def branch(tables, name):
@@ -98,7 +98,7 @@ def lives_by_length(study):
     file = study.folder / "lives.csv"
     if not study.is_drawn_only:
         jobs = lives(study.is_full)
-        study.write_texts(jobs)
+        study.write_inputs(jobs)
         found = study.results(jobs, life)
         write_rows(file, ["text", "length", "life"], [[name, job.length, found[name]] for name, job in jobs.items()])
     by_length = {}
@@ -111,7 +111,7 @@ def main():
     study = Study.by_words(__file__, __doc__)
     tables = study.table("table.csv", Window, branches(study.is_full), last_half)
     found = {name: branch(tables, name) for name in STARTS}
-    for density in found["jam"]:
+    for density in found["jammed"]:
         lines = [f"{line(density):.6f} | {shown(found[name][density])}" for name, line in LINES.items()]
         print(f"| {density} |", " | ".join(lines), "|")
     for length, steps in lives_by_length(study).items():

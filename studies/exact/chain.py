@@ -10,8 +10,8 @@ from typing import Any, Dict, List, NamedTuple, Sequence, Tuple, Union
 from exact.ring import EMPTY, State, steps
 
 Number = Union[Fraction, float]
-Row = Dict[int, Fraction]
-MOST_STATES = 256
+Row = dict[int, Fraction]
+MAX_STATES = 256
 """The most states of a chain that is solved in fractions, unless the caller wants more."""
 
 
@@ -26,8 +26,8 @@ class Means(NamedTuple):
 class Chain(NamedTuple):
     """The transition probabilities from each state, and the means over the steps from it."""
 
-    rows: List[Row]
-    means: List[Means]
+    rows: list[Row]
+    means: list[Means]
 
 
 def canonical(state: State) -> State:
@@ -64,10 +64,10 @@ def chain(first: State, model: Any) -> Chain:
     return Chain(rows, means)
 
 
-def by_elimination(rows: Sequence[Row]) -> List[Fraction]:
+def by_elimination(rows: Sequence[Row]) -> list[Fraction]:
     """The stationary probabilities in fractions. (If states are left to which the chain never returns, they have 0.)"""
     left = [dict(row) for row in rows]
-    shares: List[Row] = []
+    shares: list[Row] = []
     last = len(left) - 1
     while last > 0:
         to_others = sum(chance for state, chance in left[last].items() if state < last)
@@ -82,7 +82,7 @@ def by_elimination(rows: Sequence[Row]) -> List[Fraction]:
     return [weight / total for weight in weights]
 
 
-def eliminated(left: List[Row], last: int, to_others: Fraction) -> Row:
+def eliminated(left: list[Row], last: int, to_others: Fraction) -> Row:
     """Leaves out the last state: the others go straight to where it leads. Returns how often each of them came to it,
     as a share of the times that it left."""
     share: Row = {}
@@ -95,21 +95,21 @@ def eliminated(left: List[Row], last: int, to_others: Fraction) -> Row:
     return share
 
 
-def arrows(rows: Sequence[Row]) -> List[List[Tuple[int, float]]]:
+def arrows(rows: Sequence[Row]) -> list[list[tuple[int, float]]]:
     """For each state the states that lead to it, each with the probability of that transition."""
-    found: List[List[Tuple[int, float]]] = [[] for _ in rows]
+    found: list[list[tuple[int, float]]] = [[] for _ in rows]
     for state, row in enumerate(rows):
         for target, chance in row.items():
             found[target].append((state, float(chance)))
     return found
 
 
-def step(now: Sequence[float], into: Sequence[Sequence[Tuple[int, float]]]) -> List[float]:
+def step(now: Sequence[float], into: Sequence[Sequence[tuple[int, float]]]) -> list[float]:
     """The probabilities of the states one step later."""
     return [sum([now[state] * chance for state, chance in its]) for its in into]
 
 
-def by_iteration(rows: Sequence[Row], accuracy: float = 1e-16) -> List[float]:
+def by_iteration(rows: Sequence[Row], accuracy: float = 1e-16) -> list[float]:
     """The stationary probabilities in floating point numbers: steps from equal ones, until none changes them."""
     into, now, moved = arrows(rows), [1 / len(rows)] * len(rows), 1.0
     while moved > accuracy:
@@ -127,7 +127,7 @@ def expected_distance(found: Chain, steps: int) -> float:
     return sum(share * float(means.distance) for share, means in zip(now, found.means))
 
 
-def stationary(found: Chain, most_states: int = MOST_STATES) -> Means:
+def stationary(found: Chain, most_states: int = MAX_STATES) -> Means:
     """The means of the stationary state, as fractions if the chain has at most so many states."""
     shares: Sequence[Number]
     if len(found.rows) <= most_states:

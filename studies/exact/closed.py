@@ -5,7 +5,7 @@ from math import exp, log, sqrt
 from random import Random
 from typing import List, Optional
 
-from trlab.starts import Lane
+from trlab._inputs.states import Lane
 
 
 def flow_of_long_ring(p: float, density: float) -> float:
@@ -13,7 +13,7 @@ def flow_of_long_ring(p: float, density: float) -> float:
     return (1 - sqrt(1 - 4 * (1 - p) * density * (1 - density))) / 2
 
 
-def weights(p: float, length: int, cars: int) -> List[float]:
+def weights(p: float, length: int, cars: int) -> list[float]:
     """The stationary probabilities of 1, 2, .. blocks of cars on a ring, with 1 car at least and 1 empty cell.
 
     The paper's solution gives all states with m blocks the same weight, 1 / p^m, and there are
@@ -39,14 +39,14 @@ def stationary_road(p: float, length: int, cars: int, numbers: Random) -> Lane:
     All cars are stopped: for v_max = 1 the speeds of the step before do not matter."""
     shares = weights(p, length, cars)
     (blocks,) = numbers.choices(range(1, len(shares) + 1), shares)
-    cells: List[Optional[int]] = []
+    cells: list[Optional[int]] = []
     for taken, free in zip(parts(cars, blocks, numbers), parts(length - cars, blocks, numbers)):
         cells += [0] * taken + [None] * free
     turn = numbers.randrange(length)
     return cells[turn:] + cells[:turn]
 
 
-def parts(whole: int, count: int, numbers: Random) -> List[int]:
+def parts(whole: int, count: int, numbers: Random) -> list[int]:
     """A whole number cut into so many parts of 1 at least; all ways of cutting are equally likely."""
     cuts = [0, *sorted(numbers.sample(range(1, whole), count - 1)), whole]
     return [right - left for left, right in zip(cuts, cuts[1:])]

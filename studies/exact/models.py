@@ -8,7 +8,7 @@ from dataclasses import dataclass
 from fractions import Fraction
 from typing import Dict, NamedTuple, Tuple
 
-Odds = Dict[int, Fraction]
+Odds = dict[int, Fraction]
 """The probability of each new speed."""
 
 
@@ -103,7 +103,7 @@ class CarefulOnTwoLanes(Careful):
     A car leaves a leader that is no faster, for a lane with more room, if v_max cells are empty behind it there. From
     lane 0 it does so more often than from lane 1."""
 
-    p_change: Tuple[Fraction, Fraction]  # by lane
+    p_change: tuple[Fraction, Fraction]  # by lane
 
     def change(self, car: Side) -> Fraction:
         hindered = car.gap <= car.speed and car.leader <= car.speed

@@ -10,7 +10,7 @@ from statistics import NormalDist, fmean, stdev
 STUDIES = Path(__file__).resolve().parents[1]
 sys.path[1:1] = [str(STUDIES), str(STUDIES.parent / "python")]
 
-from exact.chain import MOST_STATES, Means, chain, first_state, stationary  # noqa: E402
+from exact.chain import MAX_STATES, Means, chain, first_state, stationary  # noqa: E402
 from exact.closed import flow_of_long_ring, flow_of_ring  # noqa: E402
 from exact.inputs import CHANCES, early_rings, from_stationary, long_rings, sweeps, texts, walks  # noqa: E402
 from exact.rings import RINGS, WALKS  # noqa: E402
@@ -28,7 +28,7 @@ def solved(is_full):
     """A row for each ring: its states, and the exact means per step. The flow is a fraction if it was found as one."""
     for ring in RINGS:
         found = chain(first_state(ring.length, ring.lanes, ring.cars), ring.model)
-        means = stationary(found, 10**6 if is_full else MOST_STATES)
+        means = stationary(found, 10**6 if is_full else MAX_STATES)
         flow = ring.flow(means.distance)
         fraction = str(flow) if isinstance(flow, Fraction) else ""
         yield [ring.name, len(found.rows), *(repr(float(mean)) for mean in means), fraction]
@@ -37,7 +37,7 @@ def solved(is_full):
 def verdict(walk):
     """The chi-square of a long run."""
     job, model = walk
-    return judged(counted(picture.lanes for picture in job.pictures()), model)
+    return judged(counted(snapshot.lanes for snapshot in job.snapshots()), model)
 
 
 def run_small_rings(study):
@@ -48,7 +48,7 @@ def run_small_rings(study):
         (place / name).write_text(text.text())
     write_rows(study.folder / "exact.csv", ["ring", "states", *Means._fields, "flow"], solved(study.is_full))
     asked = sweeps(study.is_full)
-    sums = zip(asked, trlab.map(lambda sweep: Sums.of(sweep.sweep()), asked.values()))
+    sums = zip(asked, trlab.run_all(lambda sweep: Sums.of(sweep.sweep()), asked.values()))
     write_rows(study.folder / "table.csv", ["text", *Sums._fields], ([name, *row] for name, row in sums))
     found = ((name, verdict(walk)) for name, walk in walks(study.is_full).items())
     rows = ([name, f"{it.chi_square:.3f}", *it[1:]] for name, it in found)

@@ -11,7 +11,7 @@ from typing import Any, Dict, Iterator, List, NamedTuple, Tuple
 
 from exact.models import Seen, Side
 
-State = Tuple[str, ...]
+State = tuple[str, ...]
 EMPTY = "."
 
 
@@ -40,7 +40,7 @@ def leader(lane: str, cell: int) -> int:
     return int(lane[(cell + gap(lane, cell) + 1) % len(lane)])
 
 
-def lane_of(length: int, speeds: Dict[int, int]) -> str:
+def lane_of(length: int, speeds: dict[int, int]) -> str:
     """The lane with cars of these speeds, by cell."""
     return "".join(str(speeds[cell]) if cell in speeds else EMPTY for cell in range(length))
 
@@ -54,7 +54,7 @@ def motions(state: State, model: Any) -> Iterator[Outcome]:
             odds.append(model.motion(Seen(int(lane[cell]), gap(lane, cell), leader(lane, cell))).items())
     for chosen in product(*odds):
         probability, distance = Fraction(1), 0
-        lanes: List[Dict[int, int]] = [{} for _ in state]
+        lanes: list[dict[int, int]] = [{} for _ in state]
         for (number, cell), (speed, chance) in zip(cars, chosen):
             lanes[number][(cell + speed) % len(state[0])] = speed
             probability *= chance
@@ -82,7 +82,7 @@ def lane_changes(state: State, model: Any) -> Iterator[Outcome]:
             odds.append([(new, p) for new, p in ((1 - number, chance), (number, 1 - chance)) if p])
     for chosen in product(*odds):
         probability, changes = Fraction(1), 0
-        lanes: List[Dict[int, int]] = [{} for _ in state]
+        lanes: list[dict[int, int]] = [{} for _ in state]
         for (number, cell), (new, chance) in zip(cars, chosen):
             lanes[new][cell] = int(state[number][cell])
             probability *= chance
@@ -98,9 +98,9 @@ def steps(state: State, model: Any) -> Iterator[Outcome]:
 
 
 @lru_cache(maxsize=None)
-def next_states(state: State, model: Any) -> Dict[State, Fraction]:
+def next_states(state: State, model: Any) -> dict[State, Fraction]:
     """The probability of each next state."""
-    found: Dict[State, Fraction] = {}
+    found: dict[State, Fraction] = {}
     for outcome in steps(state, model):
         found[outcome.state] = found.get(outcome.state, Fraction(0)) + outcome.probability
     return found

@@ -34,7 +34,7 @@ class Ring(NamedTuple):
         """A random seed of its own for each ring and number."""
         return sha256(f"{self.name} {number}".encode()).hexdigest()
 
-    def shape(self) -> Dict[str, Any]:
+    def shape(self) -> dict[str, Any]:
         """The road as trlab takes it."""
         return {"limit": self.model.v_max, "length": self.length, "lanes": self.lanes, "rule": self.rule}
 

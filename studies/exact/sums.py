@@ -29,7 +29,7 @@ class Sums(NamedTuple):
         first, _, *sums = (sum(column) for column in zip(*parts))
         return Sums(first, self.steps, *sums)
 
-    def mean(self, name: str) -> Tuple[float, float]:
+    def mean(self, name: str) -> tuple[float, float]:
         """The mean per step of `distance`, `stopped` or `changes`, and its standard error."""
         total, squares = getattr(self, name), getattr(self, name + "2")
         variance = (squares - total**2 / self.points) / (self.points - 1)

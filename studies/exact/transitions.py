@@ -31,9 +31,9 @@ class Verdict(NamedTuple):
         return NormalDist(1 - width, width**0.5).cdf((self.chi_square / self.freedom) ** (1 / 3))
 
 
-def counted(states: Iterable[State]) -> Dict[State, Counter[State]]:
+def counted(states: Iterable[State]) -> dict[State, Counter[State]]:
     """How often each state was followed by each other one."""
-    found: Dict[State, Counter[State]] = {}
+    found: dict[State, Counter[State]] = {}
     before = None
     for state in states:
         if before is not None:
@@ -42,9 +42,9 @@ def counted(states: Iterable[State]) -> Dict[State, Counter[State]]:
     return found
 
 
-def groups(odds: Mapping[State, Fraction], visits: int) -> List[List[State]]:
+def groups(odds: Mapping[State, Fraction], visits: int) -> list[list[State]]:
     """The next states, from the rarest on, in groups that are expected often enough."""
-    found: List[List[State]] = [[]]
+    found: list[list[State]] = [[]]
     expected = 0.0
     for state in sorted(odds, key=lambda it: odds[it]):
         if expected >= LEAST_EXPECTED:

@@ -12,7 +12,7 @@ sys.path[1:1] = [str(STUDIES), str(STUDIES.parent / "python")]
 from random_starts import bias, by_sweep, from_random, in_errors, jobs_of, last_steps  # noqa: E402
 from study import Mean, Study  # noqa: E402
 
-from trlab import Nasch, Point, Sweep, even, random  # noqa: E402
+from trlab import Nasch, Point, Sweep, even, random_cells  # noqa: E402
 from trlab.figure import Axis, Curve, Figure, Spot  # noqa: E402
 
 LIMIT = 5
@@ -49,7 +49,7 @@ def settling():
         )
         for chance, density in SETTLING.items()
         for warm in (4000, 40000, 200000)
-        for name, start in (("even", even), ("random", random(77)))
+        for name, start in (("even", even), ("random", random_cells(77)))
     }
 
 

@@ -9,14 +9,14 @@ import sys
 import webbrowser
 import zlib
 from pathlib import Path
-from typing import List, Optional
+from typing import Optional
 
-from ..program import Failed, Refused
+from .._errors import ProgramError, RejectedInputError
 from .export import exported
-from .server import MOST_BYTES, Lab
+from .server import MAX_BYTES, Lab
 
 
-def main(words: Optional[List[str]] = None) -> None:
+def main(words: Optional[list[str]] = None) -> None:
     """Serve the page until it is interrupted, or export a run."""
     parser = argparse.ArgumentParser(
         prog="trlab-lab", description="Show moving traffic in the browser, computed by trlab on this machine."
@@ -33,7 +33,7 @@ def main(words: Optional[List[str]] = None) -> None:
             Path(options.export).write_text(exported(sys.stdin.read()), encoding="utf-8")
         else:
             _serve(options.port, fragment(options.job) if options.job else "", options.no_browser)
-    except (Failed, OSError, Refused, ValueError, OverflowError) as error:
+    except (ProgramError, OSError, RejectedInputError, ValueError, OverflowError) as error:
         sys.exit(f"trlab-lab: {error}")
 
 
@@ -42,8 +42,8 @@ def fragment(job: str) -> str:
     if "#job=" in job:
         return job[job.index("#job=") :]
     text = Path(job).read_bytes()
-    if len(text) > MOST_BYTES:
-        raise ValueError(f"{job} is too long: at most {MOST_BYTES} bytes are allowed")
+    if len(text) > MAX_BYTES:
+        raise ValueError(f"{job} is too long: at most {MAX_BYTES} bytes are allowed")
     packer = zlib.compressobj(9, zlib.DEFLATED, -15)
     return "#job=" + base64.urlsafe_b64encode(packer.compress(text) + packer.flush()).rstrip(b"=").decode()
 

@@ -8,17 +8,18 @@ import json
 import re
 from html import escape
 from pathlib import Path
-from typing import TYPE_CHECKING, Iterator, Optional
+from collections.abc import Iterator
+from typing import TYPE_CHECKING, Optional
 
-from ..program import ask_by_line
-from ..starts import SPEEDS
+from .._runs.calls import ask_by_line
+from .._inputs.states import SPEEDS
 
 if TYPE_CHECKING:
-    from ..results import Pictures
+    from .._results.snapshots import Snapshots
 
 HERE = Path(__file__).resolve().parent
 SCRIPTS = ("job", "film", "draw", "player", "exported")
-MOST_BYTES = 256 * 1024 * 1024
+MAX_BYTES = 256 * 1024 * 1024
 """The maximum size of the snapshots in one file, before they are compressed."""
 
 _PAGE = """<!doctype html>
@@ -44,19 +45,19 @@ _PAGE = """<!doctype html>
 """
 
 
-def page_of(pictures: Pictures, limit: Optional[int] = None, title: str = "") -> str:
+def page_of(snapshots: Snapshots, limit: Optional[int] = None, title: str = "") -> str:
     """A web page that plays these snapshots. `limit` is the maximum speed in cells per step, for the colours; None means
     the highest speed of the snapshots. Raises `ValueError` if there are no snapshots, if they do not begin at step 0, or
     if they are too long."""
-    if not pictures or pictures[0].step != 0:
+    if not snapshots or snapshots[0].step != 0:
         raise ValueError("a page needs the snapshots of a run from step 0 on")
-    lines = (line for it in pictures for line in (f"step {it.step}", *it.lanes))
-    fastest = limit or max(1, pictures.space_time().fastest)
+    lines = (line for it in snapshots for line in (f"step {it.step}", *it.lanes))
+    fastest = limit or max([1, *(SPEEDS.find(sign) for snapshot in snapshots for sign in set().union(*snapshot.lanes))])
     return _page((line + "\n" for line in lines), fastest, title)
 
 
 def exported(text: str, title: str = "") -> str:
-    """A web page that plays the run of a job file. Raises `Refused` if trlab rejects it."""
+    """A web page that plays the run of a job file. Raises `RejectedInputError` if trlab rejects it."""
     limit = re.search(r"^limit ([0-9]{1,2})$", text, re.M)
     return _page(ask_by_line(["run"], text), int(limit[1]) if limit else 1, title)
 
@@ -66,8 +67,8 @@ def _page(lines: Iterator[str], limit: int, title: str) -> str:
     for line in lines:
         output.append(line)
         size += len(line)
-        if size > MOST_BYTES:
-            raise ValueError(f"the snapshots are too long for one file: at most {MOST_BYTES} bytes are allowed")
+        if size > MAX_BYTES:
+            raise ValueError(f"the snapshots are too long for one file: at most {MAX_BYTES} bytes are allowed")
     lanes = [line.rstrip("\n") for line in output[1:3] if not line.startswith("step ")]
     cars = sum(lane.count(sign) for lane in lanes for sign in SPEEDS)
     steps = len(output) // (len(lanes) + 1) - 1

@@ -3,14 +3,15 @@ from __future__ import annotations
 
 import json
 import warnings
-from typing import Any, Dict, List, Tuple
+from typing import Any
 
-from ..rules import Nasch, Own, Rickert, Rule, SlowToStart
-from ..starts import SPEEDS, even, jam, random
-from ..texts import Job, Sweep
-from ..units import ALWAYS, parts
+from .._inputs.rules import Nasch, Own, Rickert, Rule, SlowToStart
+from .._inputs.states import SPEEDS, even, jammed, random_cells
+from .._inputs.jobs import Job
+from .._inputs.sweeps import Sweep
+from .._inputs.numbers import ALWAYS, parts
 
-Controls = Dict[str, Any]
+Controls = dict[str, Any]
 DENSITIES = [k / 50 if k <= 16 else 0.32 + (k - 16) * 0.045 for k in range(1, 31)]
 """The densities of a sweep, closer to each other near the maximum of the flow."""
 
@@ -18,7 +19,7 @@ DENSITIES = [k / 50 if k <= 16 else 0.32 + (k - 16) * 0.045 for k in range(1, 31
 def job_file(controls: Controls) -> str:
     """The job file: `rules` in their order, each with the step `at` which it takes over, and a road by its `start`."""
     rules = {rule["at"]: _rule(rule, controls["lanes"]) for rule in controls["rules"]}
-    start: Any = {"even": even, "jam": jam}.get(controls["start"]) or random(int(controls["key"]))
+    start: Any = {"even": even, "jam": jammed}.get(controls["start"]) or random_cells(int(controls["key"]))
     shape = {name: controls[name] for name in ("length", "lanes", "cars")}
     if controls["start"] == "file":
         start, shape = [[None if sign == "." else SPEEDS.index(sign) for sign in lane] for lane in controls["road"]], {}
@@ -80,7 +81,7 @@ def _decimal(number: str) -> float:
     return next(it for digits in range(12) if parts(it := round(exact, digits)) == int(number))
 
 
-def _programs(lines: List[str], place: int) -> Tuple[str, str, int]:
+def _programs(lines: list[str], place: int) -> tuple[str, str, int]:
     """The motion program and the change program from a line on, and the line after them."""
     found = ["", ""]
     for part in range(2):

@@ -14,13 +14,13 @@ import sys
 import threading
 from http.server import BaseHTTPRequestHandler, ThreadingHTTPServer
 from pathlib import Path
-from typing import Any, Dict, List, Optional, Set
+from typing import Any, Optional
 
-from ..location import find_program
+from .._runs.location import find_program
 from . import jobs
 
 HERE = Path(__file__).resolve().parent
-MOST_BYTES = 4 * 1024 * 1024
+MAX_BYTES = 4 * 1024 * 1024
 """The maximum size of an input, which is also that of trlab."""
 PIECE = 65536
 PATIENCE = 2.0
@@ -51,7 +51,7 @@ HEADERS = {
 }
 
 
-def examples() -> Dict[str, str]:
+def examples() -> dict[str, str]:
     """The example inputs by file name: those of the package, or of the checkout."""
     packed = HERE / "examples"
     folder = packed if packed.is_dir() else HERE.parents[2] / "examples"
@@ -73,13 +73,13 @@ class Lab(ThreadingHTTPServer):
         self.runs = threading.BoundedSemaphore(processors)
         self.questions = threading.BoundedSemaphore(processors)
         self.lock, self.closing = threading.Lock(), False
-        self.children: Set[subprocess.Popen[bytes]] = set()
+        self.children: set[subprocess.Popen[bytes]] = set()
 
     @property
     def address(self) -> str:
         return f"http://127.0.0.1:{self.server_port}/{self.token}/"
 
-    def start(self, words: List[str], text: bytes) -> subprocess.Popen[bytes]:
+    def start(self, words: list[str], text: bytes) -> subprocess.Popen[bytes]:
         """A process of trlab that reads this input. Progress lines, if any, come before the output."""
         source = os.memfd_create("trlab-lab")
         try:
@@ -149,7 +149,7 @@ class Page(BaseHTTPRequestHandler):
         elif not re.fullmatch("[0-9]{1,18}", length, re.ASCII):
             self.close_connection = True
             self.answer(411, b"The request has no Content-Length.\n")
-        elif int(length) > MOST_BYTES:
+        elif int(length) > MAX_BYTES:
             self.close_connection = True
             self.answer(413, b"The input is too long: at most 4194304 bytes are allowed.\n")
         elif name in WRITTEN:
@@ -163,7 +163,7 @@ class Page(BaseHTTPRequestHandler):
     def allowed(self) -> Optional[str]:
         """The requested name, if the request comes from a page of this server; otherwise the request is refused."""
         host, origin = self.headers.get("Host"), self.headers.get("Origin")
-        origins: Set[Optional[str]] = {f"http://{host}"} if self.command == "POST" else {f"http://{host}", None}
+        origins: set[Optional[str]] = {f"http://{host}"} if self.command == "POST" else {f"http://{host}", None}
         own = host in self.server.hosts and origin in origins
         token, slash, name = self.path[1:].partition("?")[0].partition("/")
         if own and slash and secrets.compare_digest(token.encode(), self.server.token.encode()):
@@ -219,7 +219,7 @@ class Page(BaseHTTPRequestHandler):
         self.begin(status, kind, {"Content-Length": str(len(body))})
         self.wfile.write(body)
 
-    def begin(self, status: int, kind: str, more: Dict[str, str]) -> None:
+    def begin(self, status: int, kind: str, more: dict[str, str]) -> None:
         self.send_response(status)
         for name, value in {"Content-Type": f"{kind}; charset=utf-8", **HEADERS, **more}.items():
             self.send_header(name, value)

@@ -1,0 +1,1 @@
+"""Analysis on numpy, pandas and matplotlib: frames, means, estimates, detectors and plots."""

@@ -1,0 +1,102 @@
+"""The errors of this package. Each has `TrlabError` as its base, and there is one class per situation."""
+from __future__ import annotations
+
+from collections.abc import Mapping
+from typing import Any, Optional
+
+
+class TrlabError(Exception):
+    """The base class of all errors of trlab."""
+
+
+class ParameterError(TrlabError, ValueError, TypeError):
+    """A parameter that has the wrong type, is out of range or contradicts another one. The message names it."""
+
+
+class RenamedError(TrlabError):
+    """A name of an older version. The message has its replacement."""
+
+
+class MissingLibraryError(TrlabError, ImportError):
+    """A library that the analysis needs is not installed. The message says how to install it."""
+
+
+class ProgramNotFoundError(TrlabError, FileNotFoundError):
+    """The program `trlab` was not found, or is damaged, foreign or not executable."""
+
+
+class ProgramError(TrlabError):
+    """The program ended with an error other than a rejected input: its exit `status`, and the `message` that it wrote to
+    standard error."""
+
+    def __init__(self, status: int, message: str) -> None:
+        super().__init__(status, message)
+        self.status, self.message = status, message
+
+    def __str__(self) -> str:
+        return f"trlab ended with status {self.status}: {self.message.strip() or _MEANING.get(self.status, 'no message')}"
+
+
+_MEANING = {3: "memory ran out", 4: "reading the input or writing the output failed"}
+
+
+class RejectedInputError(TrlabError):
+    """An input that the program rejects. The message is the text of `trlab explain`; the attributes are values of `trlab
+    explain --json`:
+
+    - `answer`: the output of the command, for example `fault line 5 cause 2`;
+    - `line`, from 1 (0: the input is too long), and its rejected bytes `first` to `last`, from 1 (None: the whole
+      line);
+    - `cause`: the error number of an input, or None; `reason`: the verifier's, also for a program within an input, or
+      None;
+    - `pc`: the rejected instruction of a program, from 0, or None;
+    - `meaning`, and `found` and `advice`, which may be None;
+    - `expected`: a list of strings; `facts`: a list of the facts known before the rejected instruction;
+    - `repairs`: a list of dicts with `why`, and `edits` or else a `command` that accepts the input. An edit is a dict:
+      the bytes `first` to `last` of `line` become `replacement`, which is inserted before `first` if `last` is
+      `first` - 1."""
+
+    def __init__(self, explanation: str, report: Mapping[str, Any]) -> None:
+        super().__init__(explanation, report)
+        error: Mapping[str, Any] = report["error"]
+        self.explanation = explanation
+        self.answer: str = report["answer"]
+        self.line: int = error["line"]
+        self.first: Optional[int] = error["first"]
+        self.last: Optional[int] = error["last"]
+        self.cause: Optional[int] = error["number"] if error["kind"] == "cause" else None
+        self.reason: Optional[int] = error["number"] if error["kind"] == "reason" else (error["reason"] or {}).get("number")
+        self.pc: Optional[int] = error["pc"]
+        self.meaning: str = error["meaning"]
+        self.found: Optional[str] = error["found"]
+        self.expected: list[str] = error["expected"]
+        self.advice: Optional[str] = error["advice"]
+        self.facts: list[str] = report["facts"]
+        self.repairs: list[dict[str, Any]] = report["repairs"]
+
+    def __str__(self) -> str:
+        return self.explanation
+
+
+class IncompleteOutputError(TrlabError):
+    """An output of the program that ends too early or too late for its input, whatever the exit status says."""
+
+
+class OutputFormatError(TrlabError, ValueError):
+    """A text that is not an output of `trlab run`, `series` or `sweep`. The message names the line."""
+
+
+class ResultFilesError(TrlabError, ValueError):
+    """Files of results that are missing, cut off, damaged or of other inputs. The message names each."""
+
+
+class StudyFileError(TrlabError, ValueError):
+    """A file that is not a study, or one that another program made."""
+
+
+class FrameError(TrlabError, ValueError):
+    """A data frame that cannot give the requested number. The message says what to do."""
+
+
+class EstimateError(TrlabError, ValueError):
+    """Data from which the requested estimate does not follow. The message says what to do."""

@@ -1,0 +1,1 @@
+"""Inputs: what trlab runs, checked when it is made."""

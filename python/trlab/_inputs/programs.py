@@ -1,0 +1,26 @@
+"""Driver programs: verify one, and explain any input."""
+from __future__ import annotations
+
+from typing import NamedTuple, Union
+
+from .._runs.calls import ask, explained
+from .sweeps import Sweep
+from .jobs import Job
+
+
+class AcceptedProgram(NamedTuple):
+    """An accepted driver program: its maximum number of instructions per car and step, and its canonical form."""
+
+    budget: int
+    program: str
+
+
+def check(program: str) -> AcceptedProgram:
+    """Verify a driver program: text that begins with `motion` or `change`, or one line `code X`. Raises `RejectedInputError`."""
+    first, _, written = ask(["check"], program.lstrip("\n")).partition("\n")
+    return AcceptedProgram(int(first.split(" ")[-1]), written)
+
+
+def explain(text: Union[str, Job, Sweep]) -> str:
+    """The output of `trlab explain`: the error in an input and how to fix it, or the work of a valid input."""
+    return explained(text if isinstance(text, str) else text.text()).stdout.rstrip("\n")

@@ -1,0 +1,42 @@
+"""Names of older versions, and their replacements: an old name raises an error that says the new one."""
+from __future__ import annotations
+
+from collections.abc import Mapping
+
+from ._errors import RenamedError
+
+IN_PACKAGE = {
+    "Accepted": "trlab.AcceptedProgram",
+    "Chance": "trlab.Probability",
+    "Failed": "trlab.ProgramError",
+    "Figure": "matplotlib: see `trlab.plot_means`",
+    "Frame": "pandas.DataFrame, which `Grid.run` returns; its means are `trlab.means(frame, over=\"seed\")`",
+    "Picture": "trlab.Snapshot",
+    "Pictures": "trlab.Snapshots",
+    "Refused": "trlab.RejectedInputError",
+    "Scale": "trlab.to_si(frame, cell=7.5, step=1)",
+    "SpaceTime": "trlab.plot_space_time",
+    "Start": "trlab.InitialState",
+    "figure": "trlab.plot_means",
+    "frame": "trlab.means",
+    "jam": "trlab.jammed",
+    "map": "trlab.run_all",
+    "random": "trlab.random_cells",
+    "write_texts": "trlab.write_inputs",
+}
+"""Names of the package."""
+
+IN_ROW = {"passing": "`flow`, in cars per step; the whole number of the file is `flow_millionths`"}
+"""Attributes of rows."""
+
+IN_SNAPSHOTS = {
+    "to_numpy": "`speeds()`: floats, NaN for an empty cell (`to_numpy()` gave int8, -1 for an empty cell)",
+    "space_time": "`trlab.plot_space_time(snapshots)`",
+}
+"""Attributes of `Snapshots`."""
+
+
+def renamed(owner: str, name: str, names: Mapping[str, str]) -> None:
+    """Raises `RenamedError` if this is an old name of the owner."""
+    if name in names:
+        raise RenamedError(f"{owner} has no `{name}` since version 0.6: use {names[name]}")

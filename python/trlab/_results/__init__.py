@@ -1,0 +1,1 @@
+"""Results: what the program wrote, as rows, snapshots and trajectories."""

@@ -1,0 +1,1 @@
+"""Runs: find the program, run it, keep its outputs."""

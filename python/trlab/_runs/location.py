@@ -1,0 +1,171 @@
+"""Find the program: named by `TRLAB`, packed in the installed package, in the checkout, or on the `PATH`."""
+from __future__ import annotations
+
+import atexit
+import functools
+import gzip
+import hashlib
+import os
+import shutil
+import subprocess
+import tempfile
+from pathlib import Path
+from collections.abc import Iterator
+from typing import NoReturn, Optional
+
+_HERE = Path(__file__).resolve().parents[1]
+_PACKED = _HERE / "programs"
+_SCRIPT = _HERE.parents[1] / "trlab"
+# What Linux calls the features that a processor of level x86-64-v3 has beyond the oldest ones.
+_V3 = set("cx16 lahf_lm pni popcnt sse4_1 sse4_2 ssse3 abm avx avx2 bmi1 bmi2 f16c fma movbe xsave".split())
+# Set while the command `trlab` runs a program that it found on the PATH, which may be this command again.
+_ON_PATH = "TRLAB_FOUND_ON_PATH"
+
+
+def find_program() -> str:
+    """The path of the program, which is the first of these:
+
+    1. the environment variable `TRLAB`, a path that may be relative or begin with `~`;
+    2. the program of the installed package, unpacked on first use into `$XDG_CACHE_HOME/trlab` or `~/.cache/trlab`,
+       and compared with its SHA-256;
+    3. the program of the checkout, as `./trlab` finds it;
+    4. `trlab` on the `PATH`.
+
+    Raises `FileNotFoundError` if none is found, and `ValueError` if `TRLAB` names something else."""
+    named = os.environ.get("TRLAB")
+    return _named(named) if named else _packed() or _of_checkout() or _on_path() or _nowhere()
+
+
+def sha256_of_program(path: str) -> str:
+    """The SHA-256 of a program, 64 hexadecimal digits. That of a script such as `./trlab` is the one of the program which
+    the script runs."""
+    return hashlib.sha256(_program_behind(path).read_bytes()).hexdigest()
+
+
+def _program_behind(path: str) -> Path:
+    """The program that a script such as `./trlab` runs, or the file itself."""
+    with open(path, "rb") as file:
+        if file.read(2) != b"#!":
+            return Path(path)
+    asked = subprocess.run(
+        [path, "--where"], stdin=subprocess.DEVNULL, stdout=subprocess.PIPE, stderr=subprocess.DEVNULL, text=True
+    )
+    named = Path(asked.stdout.rstrip("\n"))
+    return named if asked.returncode == 0 and named.is_absolute() and named.is_file() else Path(path)
+
+
+def _named(name: str) -> str:
+    path = Path(name).expanduser().absolute()
+    if not path.is_file():
+        raise FileNotFoundError(f"TRLAB is {name!r}, and there is no file {path}")
+    if not os.access(path, os.X_OK):
+        raise PermissionError(f"TRLAB is {name!r}, and {path} is not executable")
+    if not _is_trlab(str(path), path.stat().st_mtime_ns):
+        raise ValueError(f"TRLAB is {name!r}, and {path} is not trlab: it does not answer to --version as trlab does")
+    return str(path)
+
+
+@functools.lru_cache(maxsize=None)
+def _is_trlab(path: str, changed: int) -> bool:
+    """Whether a program, which was changed last at this time, says that it is trlab."""
+    try:
+        asked = subprocess.run(
+            [path, "--version"], stdin=subprocess.DEVNULL, stdout=subprocess.PIPE, stderr=subprocess.DEVNULL, timeout=60
+        )
+    except (OSError, subprocess.TimeoutExpired):
+        return False
+    return asked.returncode == 0 and asked.stdout.startswith(b"trlab ")
+
+
+@functools.lru_cache(maxsize=None)
+def _packed() -> Optional[str]:
+    """The program of the installed package, which a checkout does not have."""
+    if not _PACKED.is_dir():
+        return None
+    level = "x86-64-v3" if _V3 <= _features() else "x86-64-v2"
+    released = dict(line.split() for line in (_PACKED / "release.txt").read_text().splitlines() if line[:1] != "#")
+    for folder in _folders():
+        path = folder / f"trlab-{level}-{released[level]}"
+        if _has_sum(path, released[level]) or _unpacked(_PACKED / f"trlab-{level}.gz", path, released[level]):
+            return str(path)
+    raise OSError(f"the program in {_PACKED} is damaged, or can be kept nowhere: install trlab again")
+
+
+def _features() -> set[str]:
+    """What this processor has, in the words of Linux."""
+    try:
+        lines = Path("/proc/cpuinfo").read_text().splitlines()
+    except OSError:
+        return set()
+    return set(next((line for line in lines if line.startswith("flags")), "").split())
+
+
+def _folders() -> Iterator[Path]:
+    """Where the unpacked program may be kept: the user's cache, or else a folder that this process removes."""
+    home = os.environ.get("XDG_CACHE_HOME") or os.path.expanduser("~/.cache")
+    if os.path.isabs(home):
+        yield Path(home) / "trlab"
+    folder = tempfile.mkdtemp(prefix="trlab-")
+    atexit.register(shutil.rmtree, folder, ignore_errors=True)
+    yield Path(folder)
+
+
+def _has_sum(path: Path, sha256: str) -> bool:
+    try:
+        return os.access(path, os.X_OK) and hashlib.sha256(path.read_bytes()).hexdigest() == sha256
+    except OSError:
+        return False
+
+
+def _unpacked(packed: Path, path: Path, sha256: str) -> bool:
+    """Whether a program was unpacked whole: it is written under another name, then moved into place."""
+    content = gzip.decompress(packed.read_bytes())
+    if hashlib.sha256(content).hexdigest() != sha256:
+        return False
+    try:
+        path.parent.mkdir(parents=True, exist_ok=True)
+        handle, new = tempfile.mkstemp(prefix=".new-", dir=path.parent)
+    except OSError:
+        return False
+    try:
+        with os.fdopen(handle, "wb") as file:
+            file.write(content)
+            file.flush()
+            os.fsync(file.fileno())
+        os.chmod(new, 0o755)
+        os.replace(new, path)
+    except OSError:
+        os.unlink(new)
+        return False
+    return True
+
+
+@functools.lru_cache(maxsize=None)
+def _of_checkout() -> Optional[str]:
+    if not (_SCRIPT.is_file() and os.access(_SCRIPT, os.X_OK) and (_SCRIPT.parent / "release").is_dir()):
+        return None
+    asked = subprocess.run([_SCRIPT, "--where"], stdout=subprocess.PIPE, stderr=subprocess.PIPE, text=True)
+    if asked.returncode != 0:
+        raise OSError(asked.stderr.strip() or f"{_SCRIPT} ended with status {asked.returncode}")
+    return asked.stdout.rstrip("\n")
+
+
+def _on_path() -> Optional[str]:
+    if _ON_PATH in os.environ:
+        return None
+    found = shutil.which("trlab")
+    if found is None or not _is_trlab_from_path(found):
+        return None
+    return found
+
+
+def _is_trlab_from_path(path: str) -> bool:
+    os.environ[_ON_PATH] = path
+    try:
+        return _is_trlab(path, os.stat(path).st_mtime_ns)
+    finally:
+        del os.environ[_ON_PATH]
+
+
+def _nowhere() -> NoReturn:
+    raise FileNotFoundError("trlab is not found: install it with pip, put it on the PATH, or name the program in TRLAB")

@@ -1,0 +1,239 @@
+"""Many inputs, side by side: results as they finish, kept in a folder, with threads or any other executor."""
+from __future__ import annotations
+
+import atexit
+import functools
+import itertools
+import os
+import threading
+from concurrent.futures import BrokenExecutor, Executor, Future, ThreadPoolExecutor, wait
+from contextlib import contextmanager
+from pathlib import Path
+from queue import SimpleQueue
+from collections.abc import Callable, Iterable, Iterator, Mapping
+from typing import Any, Optional, TypeVar, Union, overload
+
+from .cache import Cache
+from .ownership import Lease
+from .progress import Line, Progress, reporter
+from .processes import Processes, Setting, set_to, setting
+from .._inputs.jobs import Job
+from .._inputs.sweeps import Sweep
+from .._inputs.numbers import whole
+
+Text = TypeVar("Text")
+Name = TypeVar("Name")
+Result = TypeVar("Result")
+
+# The processes of the runs that go on in this process, by the path of their lease.
+_RUNS: dict[str, Processes] = {}
+
+
+def table_or_snapshots(text: Union[Job, Sweep]) -> Any:
+    """The table of a sweep, or the snapshots of a job."""
+    return text.sweep() if isinstance(text, Sweep) else text.run()
+
+
+@overload
+def results(
+    texts: Mapping[Name, Text],
+    call: Optional[Callable[[Text], Any]] = ...,
+    cache: Union[None, str, Path] = ...,
+    executor: Optional[Executor] = ...,
+    progress: Progress = ...,
+    errors: str = ...,
+    at_once: Optional[int] = ...,
+) -> Iterator[tuple[Name, Any]]: ...
+
+
+@overload
+def results(
+    texts: Iterable[Text],
+    call: Optional[Callable[[Text], Any]] = ...,
+    cache: Union[None, str, Path] = ...,
+    executor: Optional[Executor] = ...,
+    progress: Progress = ...,
+    errors: str = ...,
+    at_once: Optional[int] = ...,
+) -> Iterator[tuple[int, Any]]: ...
+
+
+def results(
+    texts: Any,
+    call: Optional[Callable[[Any], Any]] = None,
+    cache: Union[None, str, Path] = None,
+    executor: Optional[Executor] = None,
+    progress: Progress = None,
+    errors: str = "raise",
+    at_once: Optional[int] = None,
+) -> Iterator[tuple[Any, Any]]:
+    """Run many inputs in parallel, and yield the name and result of each as it finishes:
+
+        for name, table in trlab.results(sweeps, cache="study/cache", progress=True):
+            print(name, table[0].flow)
+
+    - `texts` maps names to jobs or sweeps, or is a list, with the numbers 0, 1, 2 and so on as names.
+    - `call` is applied to each input, by default `Sweep.sweep` or `Job.run`. It should return a whole result, not an
+      iterator, for example `lambda job: job.series(every=100, first=1000)`.
+    - `cache` is a folder that keeps the outputs of the program. If a run is interrupted, even by `kill -9`, start it
+      again with the same folder: finished outputs are read, and `call` is applied to them again. Files are named by
+      the SHA-256 of arguments, input and program, so a change never gets an old result; damaged files are not used.
+      Several runs, also on several machines, may share a folder.
+    - `executor` is any executor of `concurrent.futures`, which you shut down yourself; by default each thread waits
+      for one process of the program. With other processes (`ProcessPoolExecutor`, dask's `client.get_executor()`,
+      `mpi4py.futures.MPIPoolExecutor`, joblib's `get_reusable_executor()`), `call` must be a top-level function of a
+      module, unless the executor can send others.
+    - `progress=True` reports on standard error; a function is called with the numbers of finished and of all inputs.
+    - `errors="raise"` raises the first exception of a call, for example `RejectedInputError`; `errors="keep"` yields it as the
+      result and continues.
+    - `at_once` is the number of inputs that run at a time, by default one per processor, or as many as the executor
+      takes.
+
+    After an exception, Ctrl-C or a `break`, no process of the program continues. If a variable holds the iterator,
+    call its `.close()`; otherwise its processes end when Python exits."""
+    if errors not in ("raise", "keep"):
+        raise ValueError(f'errors must be "raise" or "keep", not {errors!r}')
+    if at_once is not None:
+        whole("at_once", at_once, 1, 10**6)
+    named = dict(texts) if isinstance(texts, Mapping) else dict(enumerate(texts))
+    if call is None:
+        for name, text in named.items():
+            if not isinstance(text, (Job, Sweep)):
+                raise TypeError(f"input {name!r} is not a Job or a Sweep: {text!r}")
+    kept, report = _cache_for(cache), reporter(progress)
+    return _results(named, call or table_or_snapshots, kept, executor, report, errors == "keep", at_once)
+
+
+def run_all(inputs: Iterable[Text], call: Callable[[Text], Result], at_once: Optional[int] = None) -> list[Result]:
+    """Apply `call` to every input and return the results in order, for example `run_all(sweeps, Sweep.sweep)`. `at_once` is
+    as in `results`. If a call raises an exception, the other calls are stopped and it is raised."""
+    found = dict(results(list(inputs), call, at_once=at_once))
+    return [found[place] for place in range(len(found))]
+
+
+def _cache_for(folder: Union[None, str, Path]) -> Optional[Cache]:
+    """The cache in a folder; without one that of the task in which this runs, if it does."""
+    if folder is None:
+        now = setting()
+        return None if now is None else now.cache
+    cache = Cache(folder)
+    cache.create()
+    return cache
+
+
+def _results(
+    named: Mapping[Any, Any],
+    call: Callable[[Any], Any],
+    cache: Optional[Cache],
+    executor: Optional[Executor],
+    report: Optional[Callable[[int, int], object]],
+    are_errors_kept: bool,
+    at_once: Optional[int],
+) -> Iterator[tuple[Any, Any]]:
+    finished: SimpleQueue[Future[Any]] = SimpleQueue()
+    names: dict[Future[Any], Any] = {}
+    inputs = iter(named.items())
+    with _running(executor, cache, at_once, names) as (pool, lease, waiting):
+
+        def submit(count: Optional[int]) -> None:
+            for name, text in itertools.islice(inputs, count):
+                future = pool.submit(_task, call, text, cache, lease)
+                names[future] = name
+                future.add_done_callback(finished.put)
+
+        submit(waiting)
+        try:
+            for done in range(1, len(named) + 1):
+                future = finished.get()
+                name = names.pop(future)
+                found = _found(future, are_errors_kept)
+                submit(1)
+                if report is not None:
+                    report(done, len(named))
+                yield name, found
+        finally:
+            if isinstance(report, Line):
+                report.end()
+
+
+@contextmanager
+def _running(
+    executor: Optional[Executor], cache: Optional[Cache], at_once: Optional[int], futures: dict[Future[Any], Any]
+) -> Iterator[tuple[Executor, Lease, Optional[int]]]:
+    """The executor, the lease of the run, and how many inputs it gets at first. At the end nothing of it goes on."""
+    now = setting()
+    processes = Processes(None if now is None else now.processes)
+    # A run inside a task of another run leaves the other processors to the other tasks.
+    count = at_once or (len(os.sched_getaffinity(0)) if now is None else 1)
+    pool = executor or ThreadPoolExecutor(count, "trlab")
+    lease = Lease.new(None if cache is None else cache.folder)
+    _RUNS[lease.path] = processes
+    _stop_at_exit()
+    try:
+        if executor is not None:
+            lease.begin()
+        # Threads of our own always have an input at hand while the caller looks at a result.
+        yield pool, lease, at_once if executor is not None else 2 * count
+    finally:
+        processes.stop()
+        running = [future for future in futures if not future.cancel()]
+        lease.end()
+        wait(running, timeout=10)
+        if executor is None:
+            pool.shutdown()
+        del _RUNS[lease.path]
+
+
+def _found(future: Future[Any], are_errors_kept: bool) -> Any:
+    """The result of a call, or its exception if these are kept; one of the executor itself is always raised."""
+    error = future.exception()
+    if are_errors_kept and isinstance(error, Exception) and not isinstance(error, BrokenExecutor):
+        return error
+    return future.result()
+
+
+def _task(call: Callable[[Any], Any], text: Any, cache: Optional[Cache], lease: Lease) -> Any:
+    """Apply a call to an input, in the thread, process or machine that the executor chooses."""
+    with _processes_of(lease) as processes, set_to(Setting(processes, cache)):
+        return call(text)
+
+
+@contextmanager
+def _processes_of(lease: Lease) -> Iterator[Processes]:
+    """The processes of a run. In another process they are stopped from here when the run has ended."""
+    if lease.is_here():
+        # A task that begins after its run has ended belongs to nothing.
+        yield _RUNS.get(lease.path) or Processes(is_stopped=True)
+        return
+    processes, ended = Processes(), threading.Event()
+    if not lease.can_be_seen():
+        yield processes
+        return
+    with lease.task():
+        threading.Thread(target=_watch_lease, args=(lease, processes, ended), daemon=True).start()
+        try:
+            yield processes
+        finally:
+            ended.set()
+
+
+def _watch_lease(lease: Lease, processes: Processes, ended: threading.Event) -> None:
+    """Stops processes when the run that they belong to has ended elsewhere."""
+    while not lease.is_over():
+        if ended.wait(0.1):
+            return
+    processes.stop()
+
+
+@functools.lru_cache(maxsize=None)
+def _stop_at_exit() -> None:
+    """Has all runs stopped when Python exits, also those whose iterators are still held.
+
+    Executors wait for their threads at an earlier time than that of `atexit`, so that this must come before."""
+    getattr(threading, "_register_atexit", atexit.register)(_stop_all)
+
+
+def _stop_all() -> None:
+    for path, processes in list(_RUNS.items()):
+        Path(path).unlink(missing_ok=True)
+        processes.stop()

@@ -1,0 +1,1 @@
+"""Studies: many inputs with their parameters, and one frame of all results."""
