@@ -9,10 +9,13 @@ BEGIN {
     FS = ","
     left = 70; right = 560; top = 20; bottom = 340
     colors = split("#0072b2 #d55e00 #009e73 #cc79a7 #e69f00 #56b4e9", color, " ")
+    sweep_heading = "cars,cells,steps,distance,stopped,changes,flow"
+    series_heading = "step," sweep_heading ",cars0,distance0,stopped0,cars1,distance1,stopped1"
 }
 
 # A table begins.
-$1 == "cars" || $1 == "step" {
+$0 == sweep_heading || $0 == series_heading {
+    if (tables && is_series != ($1 == "step")) refuse("tables of `sweep` and of `series` are not drawn together")
     is_series = $1 == "step"
     tables++
     label[tables] = FILENAME
@@ -27,14 +30,31 @@ $1 == "cars" || $1 == "step" {
         paint[label[tables]] = color[(labels - 1) % colors + 1]
         row[label[tables]] = labels
     }
+    columns = NF
     next
 }
 
+FNR == 1 { refuse("this is not a table of trlab sweep or trlab series: " $0) }
+!/^[0-9]+(,[0-9]+)+$/ || NF != columns || !is_row(is_series) { refuse("line " FNR " is not a row of the table: " $0) }
+
 # A window of a series: how far a car has come by its end, as a mean over all cars.
-is_series { add_point($1, y[tables, points[tables]] + $5 / $2); next }
+is_series && $2 > 0 { add_point($1, y[tables, points[tables]] + $5 / $2); next }
 
 # A point of a fundamental diagram.
-{ add_point($1 / $2, $7 / 1000000) }
+!is_series { add_point($1 / $2, $7 / 1000000) }
+
+# Whether the flow of a row follows from its distance, cells and steps: in a row that is cut off it does not.
+function is_row(before,  area, difference) {
+    area = $(2 + before) * $(3 + before)
+    difference = area ? $(4 + before) / area - $(7 + before) / 1000000 : 1
+    return difference > -0.000001 && difference < 0.000002
+}
+
+function refuse(why) {
+    print "diagram.awk: " why > "/dev/stderr"
+    failed = 1
+    exit 1
+}
 
 function add_point(across, up) {
     points[tables]++
@@ -99,6 +119,8 @@ function legend(name,  y) {
 }
 
 END {
+    if (failed) exit 1
+    if (!tables) refuse("there is no table: did trlab reject its input?")
     width = widest > 0 ? widest : 1
     height = highest > 0 ? highest * 1.05 : 1
     print "<svg xmlns=\"http://www.w3.org/2000/svg\" viewBox=\"0 0 580 400\" font-family=\"sans-serif\" font-size=\"13\">"

@@ -3,7 +3,7 @@
 #   ./trlab run < examples/jams.job | awk -f docs/spacetime.awk > jams.svg
 #
 # Time runs down. The colour of a car is its speed, and empty cells are white. Two lanes are drawn side by side.
-# Pictures may be several steps apart, at equal distances.
+# Snapshots may be several steps apart, at equal distances.
 
 BEGIN {
     signs = "0123456789abcdefghijklmnopqrstuvwxyz"
@@ -15,15 +15,12 @@ BEGIN {
 $1 == "step" {
     if (!steps++) first = $2
     else if (steps == 2) every = $2 - first
+    else if ($2 != first + (steps - 1) * every) refuse("the snapshots are not at equal distances of steps: step " $2)
     lane = 0
     next
 }
 
-!steps {
-    print "this is not the output of trlab run: " $0 > "/dev/stderr"
-    failed = 1
-    exit 1
-}
+!steps { refuse("this is not the output of trlab run: " $0) }
 
 {
     cells = length($0)
@@ -33,6 +30,12 @@ $1 == "step" {
         if (sign != ".") draw(lane, index(signs, sign) - 1, x, run)
     }
     if (++lane > lanes) lanes = lane
+}
+
+function refuse(why) {
+    print "spacetime.awk: " why > "/dev/stderr"
+    failed = 1
+    exit 1
 }
 
 # Adds neighbouring cars of one speed to the path of their lane and speed, from where the path ended before.
@@ -118,7 +121,7 @@ function legend(x,  speed, y, title) {
 
 END {
     if (failed) exit 1
-    if (!cells) exit
+    if (!cells) refuse("there is no snapshot: did trlab reject its input, or is `--from` after the last step?")
     fastest += 0
     across = (lanes > 1 ? 300 : 600) / cells
     if (across > 12) across = 12
