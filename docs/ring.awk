@@ -1,0 +1,92 @@
+# A moving picture of the output of `trlab run` on one lane: a ring of cars, as an animated SVG image for browsers.
+#
+#   ./trlab run < examples/phantom_jams.job | awk -f docs/ring.awk > ring.svg
+#
+# The run is shown again and again, five steps per second (with `-v steps=60` only its first 60 steps). The colour of a
+# car is its speed, as in a space-time diagram. Snapshots must be of consecutive steps.
+
+BEGIN {
+    signs = "0123456789abcdefghijklmnopqrstuvwxyz"
+    # Red, green and blue of the colour map viridis at nine equal distances, from dark violet to yellow.
+    split("68 1 84 71 45 123 59 82 139 44 114 142 33 145 140 40 174 128 94 201 98 173 220 48 253 231 37", map, " ")
+}
+
+$1 == "step" {
+    if (shown && $2 != last + 1) refuse("the snapshots must be of consecutive steps: step " $2 " follows step " last)
+    last = $2
+    lane = 0
+    is_over = steps != "" && shown > steps
+    next
+}
+
+# The rest is read too, so that trlab can write it.
+is_over { next }
+
+!/^[0-9a-z.]+$/ { refuse("this is not the output of trlab run: " $0) }
+lane++ { refuse("a ring has one lane, and this road has two") }
+
+{
+    cells = length($0)
+    split("", now)
+    for (cell = 0; cell < cells; cell++) {
+        sign = substr($0, cell + 1, 1)
+        if (sign != ".") put(cell, index(signs, sign) - 1)
+    }
+    split("", at)
+    for (cell in now) at[cell] = now[cell]
+    shown++
+}
+
+# Puts a car into the cell that it has reached; it came from the cell that is as far behind as its speed says.
+function put(cell, speed,  car, came) {
+    came = (cell - speed + cells) % cells
+    if (shown && !(came in at)) refuse("the cars of step " last " do not come from those of the step before")
+    car = shown ? at[came] : ++cars
+    now[cell] = car
+    distance[car] = shown ? distance[car] + speed : cell
+    angles[car] = angles[car] (shown ? ";" : "") degrees(distance[car])
+    speeds[car] = speeds[car] (shown ? " " : "") speed
+    if (speed > fastest) fastest = speed
+}
+
+function refuse(why) {
+    print "ring.awk: " why > "/dev/stderr"
+    failed = 1
+    exit 1
+}
+
+# The angle of a car that has driven this far, in degrees to the right of the top.
+function degrees(far) { return sprintf("%.5g", 360 * far / cells) }
+
+# The colour of a speed in three hexadecimal digits, from dark for stopped cars to light for the fastest ones.
+function colour(speed,  place, k) {
+    place = fastest ? 8 * 0.92 * speed / fastest : 0
+    k = int(place)
+    return sprintf("#%x%x%x", between(k, place - k, 1), between(k, place - k, 2), between(k, place - k, 3))
+}
+
+function between(k, share, part) {
+    return int((map[3 * k + part] * (1 - share) + map[3 * k + 3 + part] * share) / 17 + 0.5)
+}
+
+# A car moves during a step with the speed that the next snapshot shows.
+function car_of(car,  count, parts, k, colours) {
+    count = split(speeds[car], parts, " ")
+    for (k = 2; k <= count; k++) colours = colours (k > 2 ? ";" : "") colour(parts[k])
+    printf "<circle cy=\"-120\" r=\"%.1f\" fill=\"%s\">", radius, colour(parts[1])
+    timing = sprintf("dur=\"%.1fs\" repeatCount=\"indefinite\"", (count - 1) / 5)
+    printf "<animateTransform attributeName=\"transform\" type=\"rotate\" %s values=\"%s\"/>", timing, angles[car]
+    printf "<animate attributeName=\"fill\" calcMode=\"discrete\" %s values=\"%s\"/></circle>\n", timing, colours
+}
+
+END {
+    if (failed) exit 1
+    if (shown < 2) refuse("a moving picture needs two snapshots: did trlab reject its input?")
+    radius = 0.45 * 2 * 3.14159265 * 120 / cells
+    radius = radius > 8 ? 8 : radius < 2 ? 2 : radius
+    print "<svg xmlns=\"http://www.w3.org/2000/svg\" viewBox=\"-140 -140 280 280\" width=\"280\" height=\"280\">"
+    print "<rect x=\"-140\" y=\"-140\" width=\"280\" height=\"280\" fill=\"white\"/>"
+    printf "<circle r=\"120\" fill=\"none\" stroke=\"#e0e0e0\" stroke-width=\"%.1f\"/>\n", 2 * radius + 4
+    for (car = 1; car <= cars; car++) car_of(car)
+    print "</svg>"
+}
