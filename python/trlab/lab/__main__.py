@@ -30,7 +30,7 @@ def main(words: Optional[list[str]] = None) -> None:
         if options.export:
             if options.job:
                 parser.error("--export reads the job from standard input: trlab-lab --export FILE < JOB")
-            Path(options.export).write_text(exported(sys.stdin.read()), encoding="utf-8")
+            Path(options.export).write_text(exported(sys.stdin.buffer.read().decode("utf-8", "surrogateescape")), encoding="utf-8")
         else:
             _serve(options.port, fragment(options.job) if options.job else "", options.no_browser)
     except (ProgramError, OSError, RejectedInputError, ValueError, OverflowError) as error:
@@ -51,7 +51,9 @@ def fragment(job: str) -> str:
 def _serve(port: int, opened: str, no_browser: bool) -> None:
     if not 0 <= port <= 65535:
         raise ValueError(f"the port must be between 0 and 65535, not {port}")
-    for ending in signal.SIGTERM, signal.SIGHUP:
+    # Whoever started Python may ignore it, and then exit statuses of trlab are lost.
+    signal.signal(signal.SIGCHLD, signal.SIG_DFL)
+    for ending in signal.SIGTERM, signal.SIGHUP, signal.SIGQUIT:
         signal.signal(ending, lambda *_: sys.exit())
     try:
         lab = Lab(port)
