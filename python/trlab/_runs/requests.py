@@ -37,12 +37,20 @@ class Request(NamedTuple):
             return 1 + self.text.count("\ncars ")
         if command not in ("run", "series"):
             return None
-        every, first = max(1, self._number("every", 1)), self._number("from", 0)
-        found = re.compile("[0-9]{1,10}").match(self.text, self.text.rfind("\nsteps ") + len("\nsteps "))
-        going = (int(found[0]) if found else 0) - first
+        every, first = self.windows()
+        going = self.steps() - first
         if command == "series":
             return 1 + max(0, going) // every
         return 0 if going < 0 else (going // every + 1) * (1 + self.text.count("\nlane "))
+
+    def windows(self) -> tuple[int, int]:
+        """The width of the windows of a series, or the distance of the snapshots of a run, and the first step."""
+        return max(1, self._number("every", 1)), self._number("from", 0)
+
+    def steps(self) -> int:
+        """The number of steps of a job."""
+        found = re.compile("[0-9]{1,10}").match(self.text, self.text.rfind("\nsteps ") + len("\nsteps "))
+        return int(found[0]) if found else 0
 
     def _number(self, name: str, unsaid: int) -> int:
         """The number of an option."""

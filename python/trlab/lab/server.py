@@ -66,6 +66,7 @@ class Lab(ThreadingHTTPServer):
     daemon_threads = True
 
     def __init__(self, port: int = 0) -> None:
+        need_exit_statuses()
         self.program = find_program()
         super().__init__(("127.0.0.1", port), Page)
         self.token = secrets.token_urlsafe(24)
@@ -82,7 +83,6 @@ class Lab(ThreadingHTTPServer):
 
     def start(self, words: list[str], text: bytes) -> subprocess.Popen[bytes]:
         """A process of trlab that reads this input. Progress lines, if any, come before the output."""
-        need_exit_statuses()
         source = os.memfd_create("trlab-lab")
         try:
             with open(source, "wb", closefd=False) as file:
