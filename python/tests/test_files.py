@@ -69,7 +69,7 @@ class Arrays(Folder):
 
     def test_an_output_that_is_cut_off_is_no_result(self):
         cuts = Path(self.place) / "cuts"
-        cuts.write_text(f'#!/bin/sh\n"{find_program()}" "$@" | head -c 100\n[ "$1" = --version ] || exit $(cat "{self.place}/status")\n')
+        cuts.write_text(f'#!/bin/sh\n"{find_program()}" "$@" | head -c 60\n[ "$1" = --version ] || exit $(cat "{self.place}/status")\n')
         cuts.chmod(0o755)
         script = write_inputs(self.folder, SWEEPS, program=str(cuts))
         told = {3: "trlab ended with status 3: memory ran out", 0: "trlab wrote 2 of 3 lines"}

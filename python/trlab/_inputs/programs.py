@@ -23,4 +23,4 @@ def check(program: str) -> AcceptedProgram:
 
 def explain(text: Union[str, Job, Sweep]) -> str:
     """The output of `trlab explain`: the error in an input and how to fix it, or the work of a valid input."""
-    return explained(text if isinstance(text, str) else text.text()).rstrip("\n")
+    return explained(text if isinstance(text, str) else text.text()).stdout.rstrip("\n")

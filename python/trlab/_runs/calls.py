@@ -5,12 +5,14 @@ import io
 import json
 from contextlib import closing
 from collections.abc import Generator, Iterator, Sequence
+from typing import NamedTuple
 
 from .location import find_program, sha256_of_program
 from .._errors import OutputFormatError, ProgramError, RejectedInputError
 from .processes import RejectionError, output_of, run
 from .requests import Request
 
+REJECTED = 1
 # `explain` reads a rejected input as one of these commands does.
 _READ_AS = {"series": "run"}
 
@@ -51,15 +53,27 @@ def _output_of(words: Sequence[str], text: str) -> Generator[bytes, None, None]:
 def _explanation(request: Request, rejection: ProgramError) -> Exception:
     """The error for an input that the program rejects."""
     word = _READ_AS.get(request.words[0], request.words[0])
-    report = json.loads(explained(request.text, "--json", word))
-    if report["error"] is None:
+    explanation = explained(request.text, "--json", word)
+    if explanation.returncode != REJECTED:
         return ProgramError(rejection.status, f"it rejects an input that `trlab explain {word}` accepts: {rejection.message}")
-    return RejectedInputError(explained(request.text, word).rstrip("\n"), report)
+    return RejectedInputError(explained(request.text, word).stdout.rstrip("\n"), json.loads(explanation.stdout))
 
 
-def explained(text: str, *words: str) -> str:
-    """The output of `trlab explain` for an input, read as for this command, or as its first word says."""
-    return _decoded(b"".join(run(Request(("explain", *words), text))))
+class Explanation(NamedTuple):
+    """What `trlab explain` writes, and its exit status, which is 1 for a rejected input."""
+
+    stdout: str
+    returncode: int
+
+
+def explained(text: str, *words: str) -> Explanation:
+    """The explanation of an input, read as for this command, or as its first word says."""
+    output, blocks = b"", run(Request(("explain", *words), text))
+    while True:
+        try:
+            output += next(blocks)
+        except StopIteration as end:
+            return Explanation(_decoded(output), end.value)
 
 
 def version() -> str:

@@ -18,7 +18,6 @@ from .cluster_script import script_of
 from .location import asked, find_program
 from .ownership import new_path
 from .parts import joined, kind_of, requests_of
-from .possible import impossibility
 from .requests import Request
 
 _PART = re.compile(r"(.+)~([0-9]+)of([0-9]+)")
@@ -262,11 +261,9 @@ def _read(place: Path, file: _File) -> Table[Any]:
     content = _content_of_result(place, file)
     try:
         table: Table[Any] = Table.read(kind_of(file.request.words), content)
-        wrong = impossibility(table, content)
     except (TypeError, ValueError) as error:
         raise ResultFilesError(f"{file.result} is damaged: {error}") from None
-    faults = [f"is damaged: {wrong}"] if wrong else _differences(place, file, table) if file.request.text else []
-    for fault in faults:
+    for fault in _differences(place, file, table) if file.request.text else ():
         raise ResultFilesError(f"{file.result} {fault}")
     return table
 

@@ -6,7 +6,8 @@ from typing import Any, Union
 
 from .._errors import ParameterError
 from .._inputs.jobs import Job
-from .._inputs.sweep_parts import is_of_jobs
+from .._inputs.numbers import MAX_STEPS
+from .._inputs.states import even
 from .._inputs.sweeps import Sweep
 from .._results.tables import Point, Table, Window
 from .requests import Request
@@ -21,7 +22,7 @@ def requests_of(given: Union[Job, Sweep], words: Sequence[str]) -> list[Request]
         raise ParameterError(f"an input is a Job or a Sweep, not {given!r}")
     if words[:1] != ["sweep"]:
         raise ParameterError(f'a sweep needs words that begin with "sweep", not {list(words)}')
-    if not is_of_jobs(given):
+    if given.start == even and given.warm + given.measure <= MAX_STEPS:
         return [Request(tuple(words), part.text()) for part in given.parts()]
     if len(words) > 1:
         raise ParameterError(f"the points of this sweep are jobs, which have no options: leave out {' '.join(words[1:])}")

@@ -150,8 +150,8 @@ def output_of(request: Request) -> Iterator[bytes]:
     return run(request) if now is None or now.cache is None else now.cache.output_of(request)
 
 
-def run(request: Request) -> Iterator[bytes]:
-    """The same output, from no cache."""
+def run(request: Request) -> Generator[bytes, None, int]:
+    """The same output, from no cache. The value at the end is the exit status, which is 0 unless it is an explanation."""
     need_exit_statuses()
     with _processes_now() as processes, tempfile.TemporaryFile() as source, tempfile.TemporaryFile() as said:
         source.write(request.content())
@@ -176,6 +176,7 @@ def run(request: Request) -> Iterator[bytes]:
             said.seek(0)
             raise ProgramError(process.returncode, said.read(_LONGEST_MESSAGE).decode(errors="replace"))
         length.end()
+        return process.returncode
 
 
 @contextmanager
