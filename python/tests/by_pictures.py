@@ -50,7 +50,7 @@ def window(snapshots: Sequence[Snapshot]) -> Window:
         distance=distance,
         stopped=stopped0 + stopped1,
         changes=sum(changes(*pair) for pair in zip(snapshots, behind)),
-        flow=distance * 1000000 // (cells * steps),
+        flow_millionths=distance * 1000000 // (cells * steps),
         cars0=cars0,
         distance0=distance0,
         stopped0=stopped0,

@@ -14,7 +14,6 @@ from .._runs.location import find_program, sha256_of_program
 from .._runs.many import results as results_of
 from .._runs.calls import ask
 from .._results.tables import Point, Table, Window
-from .._inputs.sweep_parts import is_of_jobs
 from .._inputs.jobs import Job
 from .._inputs.sweeps import Sweep
 
@@ -60,7 +59,7 @@ def save(grid: Any, path: Union[str, Path], words: Sequence[str]) -> None:
         parts: list[Union[Job, Sweep]] = [text]
         how = list(words)
         if isinstance(text, Sweep):
-            parts, how = (list(text.jobs()), ["series", "--every", str(text.measure), "--from", str(text.warm)]) if is_of_jobs(text) \
+            parts, how = (list(text.jobs()), ["series", "--every", str(text.measure), "--from", str(text.warm)]) if text.is_of_jobs() \
                 else (list(text.parts()), ["sweep"])
         kind = "sweep" if how[0] == "sweep" else "job"
         names = [f"inputs/{number:06}_{part:04}.{kind}" for part in range(len(parts))]
