@@ -8,7 +8,7 @@ from unittest import mock
 from tests.by_pictures import windows
 from trlab import Job, Nasch, Own, Snapshot, Rickert, SlowToStart, Sweep, Table, Window, jammed, random_cells
 from trlab._inputs import long_jobs
-from trlab._inputs.words import Shown
+from trlab._inputs.words import Asked
 from trlab._runs.calls import ask_by_line
 
 HALF = Own("motion\nget r0, gap\ndiv r0, r0, 2\nget r1, limit\nmin r0, r0, r1\ngo r0\n")
@@ -85,12 +85,17 @@ class LongRuns(unittest.TestCase):
         with short_inputs(20):
             snapshots = TWO.run()
             for every, first in (1, 0), (1, 20), (7, 0), (7, 3), (20, 20), (3, 41), (60, 50):
-                self.assertEqual(list(long_jobs.snapshots(TWO, Shown(every, first, []))), snapshots[first::every])
+                self.assertEqual(list(long_jobs.snapshots(TWO, Asked(every, first, 1))), snapshots[first::every])
                 self.assertEqual(TWO.run(every=every, first=first), snapshots[first::every])
 
     def test_other_pictures_are_not_asked_for(self):
         asked = []
-        with short_inputs(20), mock.patch.object(long_jobs, "ask_by_line", lambda words, text: asked.append(words) or ask_by_line(words, text)):
+
+        def ask(words, text):
+            asked.append(words)
+            return ask_by_line(words, text)
+
+        with short_inputs(20), mock.patch("trlab._inputs.long_jobs.ask_by_line", ask), mock.patch("trlab._inputs.jobs.ask_by_line", ask):
             self.assertEqual([it.step for it in TWO.snapshots(every=25, first=10)], [10, 35])
             TWO.series(every=40, first=10)
         self.assertEqual({(*words,) for words in asked if words[0] == "run"}, {("run", "--every", "5"), ("run", "--from", "20")})
@@ -134,7 +139,7 @@ class LongRuns(unittest.TestCase):
         job = Job(limit=1, length=3, cars=1, rule=Nasch(0.5), steps=500015, at={499990: Nasch(0), 500010: Nasch(1)})
         before, seam, after = job.series(every=10, first=499985)
         self.assertEqual([it.step for it in (before, seam, after)], [499995, 500005, 500015])
-        self.assertEqual((seam.distance, seam.stopped, seam.flow), (10, 0, 333333))
+        self.assertEqual((seam.distance, seam.stopped, seam.flow_millionths), (10, 0, 333333))
         self.assertEqual((after.distance, after.stopped, after.cars, after.steps), (5, 5, 1, 10))
         self.assertTrue(5 <= before.distance <= 10)
 

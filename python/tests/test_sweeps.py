@@ -93,11 +93,12 @@ class Roads(unittest.TestCase):
         self.rejects([], "at least one point")
         self.rejects([ROAD, [5]], "road 1 of `start` has 1 x 1 cells, and the sweep has 1 x 5")
         self.rejects([[ROAD, ROAD]], "road 0 of `start` has 2 x 5 cells, and the sweep has 1 x 5")
-        self.rejects([ROAD, ["0"]], "road 1 of `start`: a road is a list of speeds")
+        self.rejects([ROAD, [0.5]], "road 1 of `start`: a road is a list of speeds")
+        self.rejects([ROAD, ["0"]], "road 1 of `start` has 1 x 1 cells, and the sweep has 1 x 5")
         self.rejects([5 * [6]], "road 0 of `start`: a car has the speed 6, and the limit is 5")
         self.rejects([ROAD], "leave `cars` and `densities` out", cars=[2])
         self.rejects("even", "for one road write")
-        self.assertRaisesRegex(ValueError, "has 1 x 2 cells, and the sweep has 2 x 2", replace, PAIRS, start=[[0, 0], [0, 0]])
+        self.assertRaisesRegex(ValueError, "has 1 x 2 cells, and the sweep has 2 x 2", replace, PAIRS, start=[[0, None], [0, None]])
 
     @needs("numpy")
     def test_roads_of_numpy(self):

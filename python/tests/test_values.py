@@ -15,7 +15,7 @@ from unittest import mock
 
 import trlab
 from tests.test_arrays import needs
-from trlab import Job, Nasch, Own, Snapshot, Snapshots, Point, RejectedInputError, Rickert, SlowToStart, Sweep, Table, Window
+from trlab import Job, Nasch, Own, Snapshot, Snapshots, Point, RejectedInputError, RenamedError, Rickert, SlowToStart, Sweep, Table, Window
 from trlab import ProgramError, InitialState, check, explain, find_program, jammed, random_cells, version
 from trlab._runs.calls import ask
 
@@ -129,6 +129,11 @@ class Construction(unittest.TestCase):
     def test_cars_or_a_density(self):
         for more in {}, {"cars": 1, "density": 0.1}:
             self.assertRaises(ValueError, Job, limit=5, length=10, rule=Nasch(0), steps=1, **more)
+
+    def test_old_names_say_the_new_ones(self):
+        for name, new in ("pictures", "snapshots"), ("wait", "time_until"):
+            self.rejects(RenamedError, f"a job has no `{name}` .* use `{new}", getattr, JOB, name)
+        self.assertFalse(hasattr(JOB, "nothing"))
 
     def test_a_road_has_one_lane_or_two(self):
         job = dict(limit=5, rule=Nasch(0), steps=1)

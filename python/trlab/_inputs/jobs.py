@@ -8,6 +8,7 @@ from collections.abc import Callable, Generator, Iterator, Mapping, Sequence
 from typing import TYPE_CHECKING, Any, NamedTuple, Optional, Union, cast
 
 from .._errors import IncompleteOutputError, ParameterError
+from .._renamed import IN_JOB, renamed
 from .._runs.calls import ask, ask_by_line, ask_for_bytes
 from .._runs.processes import set_to, setting
 from .._results.snapshots import Snapshot, Snapshots, snapshots_in
@@ -17,9 +18,10 @@ from .rules import Rule, Schedule, need_rule
 from .states import InitialState, even, tell_lanes
 from .roads import Road, cars_on, lanes_of, speeds_of
 from .numbers import (
-    MAX_CELLS, MAX_SPEED, MAX_STEPS, Density, Key, cars_at, checked_key, derived_key, key_digits, share, shown, store, whole,
+    MAX_ALL_STEPS, MAX_CELLS, MAX_SPEED, MAX_STEPS, Density, Key, cars_at, checked_key, derived_key, key_digits, share, shown,
+    store, whole,
 )
-from .words import Shown, input_text
+from .words import Asked, input_text
 
 if TYPE_CHECKING:
     import pandas
@@ -53,7 +55,7 @@ class Job:
     at: Mapping[int, Rule] = field(default_factory=dict)
 
     def __post_init__(self) -> None:
-        store(self, limit=whole("limit", self.limit, 1, MAX_SPEED), steps=whole("steps", self.steps, 0))
+        store(self, limit=whole("limit", self.limit, 1, MAX_SPEED), steps=whole("steps", self.steps, 0, MAX_ALL_STEPS))
         store(self, lanes=whole("lanes", self.lanes, 1, 2), key=checked_key(self.key), rule=need_rule(self.rule))
         store(self, at=Schedule(self.at, self.steps))
         if self.length is not None:
@@ -136,14 +138,14 @@ class Job:
 
         `first` is at most `steps`, so that there is a snapshot. `workers` is the number of threads, 1 to 16; results do not depend
         on it. Raises `ParameterError` before anything runs."""
-        asked = Shown.of_snapshots(self.steps, every, first, workers)
+        asked = Asked.snapshots(self.steps, every, first, workers)
         if self.steps > MAX_STEPS:
             return Snapshots(long_jobs.snapshots(self, asked))
         return Snapshots.read(ask_for_bytes(["run", *asked.words()], self.text()))
 
     def snapshots(self, workers: int = 1, every: int = 1, first: int = 0) -> Iterator[Snapshot]:
         """Iterate over the snapshots of `run` while the program runs, keeping only one."""
-        asked = Shown.of_snapshots(self.steps, every, first, workers)
+        asked = Asked.snapshots(self.steps, every, first, workers)
         if self.steps > MAX_STEPS:
             return long_jobs.snapshots(self, asked)
         return snapshots_in(ask_by_line(["run", *asked.words()], self.text()))
@@ -152,7 +154,7 @@ class Job:
         """The counts of each window of `every` steps, from step `first` on, as `trlab series` writes them. The windows fill the run:
         `steps - first` must be a positive multiple of `every`, otherwise `ParameterError` names numbers that fit. A job of more
         than 500,000 steps takes about twice as long per step."""
-        asked = Shown.of_windows(self.steps, every, first, workers)
+        asked = Asked.windows(self.steps, every, first, workers)
         if self.steps > MAX_STEPS:
             return Table(Window, long_jobs.windows(self, asked))
         return Table.read(Window, ask(["series", *asked.words()], self.text()))
@@ -168,7 +170,7 @@ class Job:
         False; anything else raises `ParameterError`. The output is cut off, so it is never kept in a cache of `trlab.results`."""
         if not callable(condition):
             raise ParameterError(f"`condition` must be a function of a window, not {shown(condition)}")
-        asked = Shown.of_windows(self.steps, every, first, 1)
+        asked = Asked.windows(self.steps, every, first, 1)
         last = asked.first
         with _without_cache(), closing(self._windows(asked)) as windows:
             for window in windows:
@@ -179,7 +181,7 @@ class Job:
             raise IncompleteOutputError(f"the series ended after {last} of {self.steps} steps")
         return Duration(last - asked.first, False)
 
-    def _windows(self, asked: Shown) -> Generator[Window, None, None]:
+    def _windows(self, asked: Asked) -> Generator[Window, None, None]:
         """Iterate over the windows while the program runs."""
         if self.steps > MAX_STEPS:
             yield from long_jobs.windows(self, asked)
@@ -190,7 +192,7 @@ class Job:
         """Detector tables of the run, window by window: see `trlab.detectors`. Snapshots are not kept."""
         from .._analysis.detectors import detectors
 
-        asked = Shown.of_windows(self.steps, every, first, 1)
+        asked = Asked.windows(self.steps, every, first, 1)
         return detectors(self.snapshots(first=asked.first), cells, asked.every)
 
     def continued(self, snapshot: Snapshot, key: Optional[Key] = None, steps: Optional[int] = None) -> Job:
@@ -204,12 +206,18 @@ class Job:
         if not isinstance(snapshot, Snapshot):
             raise ParameterError(f"a job is continued from a snapshot, for example `job.run()[-1]`, not from {shown(snapshot)}")
         done = whole("the step of the snapshot", snapshot.step, 0, self.steps)
-        going = self.steps if steps is None else whole("steps", steps, 0)
+        going = self.steps if steps is None else whole("steps", steps, 0, MAX_ALL_STEPS)
         return replace(
             self, start=tuple(snapshot.lanes), length=None, lanes=1, cars=None, density=None, rule=self._rule_at(done), steps=going,
             at={step - done: rule for step, rule in self.at.items() if done < step < done + going},
             key=derived_key("continued", self.key, done) if key is None else key,
         )
+
+    if not TYPE_CHECKING:
+
+        def __getattr__(self, name: str) -> Any:
+            renamed("a job", name, IN_JOB)
+            raise AttributeError(f"a job has no attribute {name!r}")
 
     def _rule_at(self, step: int) -> Rule:
         """The rule that is in force at a step."""

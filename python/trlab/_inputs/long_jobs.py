@@ -15,7 +15,7 @@ from .._runs.calls import ask_by_line
 from .._results.snapshots import Snapshot, snapshots_in
 from .._results.tables import Table, Window
 from .numbers import MAX_STEPS
-from .words import Shown
+from .words import Asked, option
 
 if TYPE_CHECKING:
     from .jobs import Job
@@ -39,12 +39,12 @@ def _parts(job: Job, last_of: Callable[[Job], Snapshot]) -> Iterator[_Part]:
     yield _Part(offset, job)
 
 
-def snapshots(job: Job, asked: Shown) -> Iterator[Snapshot]:
+def snapshots(job: Job, asked: Asked) -> Iterator[Snapshot]:
     """The snapshots that were asked for, one by one.
 
     The last snapshot of each input is needed too. So the program prints every snapshot whose step is a multiple of a number
     that divides `every`, `first` and the steps of an input."""
-    options = ["--every", str(gcd(asked.every, asked.first, MAX_STEPS)), *asked.workers]
+    options = ["--every", str(gcd(asked.every, asked.first, MAX_STEPS)), *option("workers", asked.workers, 1)]
     last: list[Snapshot] = []
     for offset, part in _parts(job, lambda _: last.pop()):
         for snapshot in snapshots_in(ask_by_line(["run", *options], part.text())):
@@ -55,7 +55,7 @@ def snapshots(job: Job, asked: Shown) -> Iterator[Snapshot]:
                 yield snapshot._replace(step=step)
 
 
-def windows(job: Job, asked: Shown) -> Iterator[Window]:
+def windows(job: Job, asked: Asked) -> Iterator[Window]:
     """The windows that were asked for, one by one.
 
     Windows may begin in one input and end in the next one, so they are put together from narrower windows, whose width
@@ -64,11 +64,11 @@ def windows(job: Job, asked: Shown) -> Iterator[Window]:
     return _joined(_narrow_windows(job, width, asked), asked.every // width)
 
 
-def _narrow_windows(job: Job, width: int, asked: Shown) -> Iterator[Window]:
+def _narrow_windows(job: Job, width: int, asked: Asked) -> Iterator[Window]:
     """Iterate over the windows of `width` steps from the first step on."""
     for offset, part in _parts(job, lambda it: _last_snapshot(it, asked.workers)):
         if asked.first < offset + part.steps:
-            options = ["--every", str(width), "--from", str(max(0, asked.first - offset)), *asked.workers]
+            options = ["--every", str(width), "--from", str(max(0, asked.first - offset)), *option("workers", asked.workers, 1)]
             for window in windows_in(ask_by_line(["series", *options], part.text())):
                 yield window._replace(step=offset + window.step)
 
@@ -82,9 +82,9 @@ def windows_in(lines: Iterator[str]) -> Iterator[Window]:
         yield window
 
 
-def _last_snapshot(job: Job, workers: list[str]) -> Snapshot:
+def _last_snapshot(job: Job, workers: int) -> Snapshot:
     """The last snapshot of an input. The program prints no other one."""
-    (last,) = snapshots_in(ask_by_line(["run", "--from", str(job.steps), *workers], job.text()))
+    (last,) = job.snapshots(workers=workers, first=job.steps)
     return last
 
 

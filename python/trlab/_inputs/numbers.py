@@ -32,6 +32,9 @@ MAX_CELLS, MAX_SPEED, MAX_STEPS, MAX_POINTS = 100000, 35, 500000, 200
 """The greatest length of a lane in cells, maximum speed in cells per step, number of steps and number of points of one
 input."""
 
+MAX_ALL_STEPS = 10**15
+"""The greatest number of steps of a job, whose inputs have at most `MAX_STEPS`; it would take months."""
+
 MAX_KEY = 2**256 - 1
 """The greatest key, and the greatest seed of random cells."""
 

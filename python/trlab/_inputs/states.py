@@ -5,11 +5,13 @@ cell 2 on lane 0 and so on."""
 from __future__ import annotations
 
 import random as _random
+import sys
 import warnings
 from contextlib import contextmanager
 from contextvars import ContextVar
 from dataclasses import dataclass, replace
 from math import gcd
+from types import FrameType
 from collections.abc import Iterable, Iterator
 from typing import Optional
 
@@ -117,7 +119,7 @@ def lanes_are_told() -> Iterator[None]:
 
 
 def tell_lanes(start: object, counts: Iterable[int], length: int, lanes: int) -> None:
-    """Warns if evenly spaced cars are not halved between two lanes; the caller is called by the `__init__` of an input."""
+    """Warns if evenly spaced cars are not halved between two lanes."""
     if lanes != 2 or not isinstance(start, InitialState) or start.placement != "even" or _IS_TOLD.get():
         return
     uneven = [cars for cars in dict.fromkeys(counts) if surplus(cars, length) > 1]
@@ -130,5 +132,15 @@ def tell_lanes(start: object, counts: Iterable[int], length: int, lanes: int) ->
         f"{(cars - more) // 2} on lane 1{others}: use `start=random_cells(seed)`, or "
         f"{' or '.join(map(str, halved(cars, length)))} cars",
         TrlabWarning,
-        stacklevel=4,
+        stacklevel=_level_of_user(),
     )
+
+
+def _level_of_user() -> int:
+    """The `stacklevel` for a warning of the caller that points to the line outside of this package, also through
+    `dataclasses.replace`."""
+    frame: Optional[FrameType] = sys._getframe(1)
+    level = 0
+    while frame is not None and frame.f_globals.get("__name__", "").split(".")[0] in ("trlab", "dataclasses"):
+        frame, level = frame.f_back, level + 1
+    return level + 1 if frame is not None else 1

@@ -12,12 +12,13 @@ from .._results.tables import Point, Table
 from . import reading
 from .jobs import Job
 from .numbers import (
-    MAX_CELLS, MAX_POINTS, MAX_SPEED, MAX_STEPS, Density, Key, cars_at, checked_key, derived_key, key_digits, share, shown, store, whole,
+    MAX_ALL_STEPS, MAX_CELLS, MAX_POINTS, MAX_SPEED, MAX_STEPS, MAX_THREADS, Density, Key, cars_at, checked_key, derived_key, key_digits,
+    share, shown, store, whole,
 )
 from .roads import Road, cars_on, roads_of
 from .rules import Rule, need_rule
 from .states import InitialState, even, lanes_are_told, tell_lanes
-from .words import input_text, threads
+from .words import input_text, option
 
 
 @dataclass(frozen=True)
@@ -59,7 +60,7 @@ class Sweep:
     def __post_init__(self) -> None:
         store(self, limit=whole("limit", self.limit, 1, MAX_SPEED), length=whole("length", self.length, 1, MAX_CELLS))
         store(self, lanes=whole("lanes", self.lanes, 1, 2), key=checked_key(self.key), rule=need_rule(self.rule))
-        store(self, warm=whole("warm", self.warm, 0), measure=whole("measure", self.measure, 1))
+        store(self, warm=whole("warm", self.warm, 0, MAX_ALL_STEPS // 2), measure=whole("measure", self.measure, 1, MAX_ALL_STEPS // 2))
         if self.cars is not None:
             store(self, cars=tuple(whole("cars", cars, 0, self.cells()) for cars in _listed("cars", self.cars)))
         if self.densities is not None:
@@ -162,9 +163,10 @@ class Sweep:
     def sweep(self, runners: int = 1, workers: int = 1) -> Table[Point]:
         """The table, one row per point, in order. `runners` points, 1 to 16, run at a time, each with `workers` threads, 1 to 16,
         which does not change the table."""
-        options = threads("runners", runners) + threads("workers", workers)
+        runners, workers = whole("runners", runners, 1, MAX_THREADS), whole("workers", workers, 1, MAX_THREADS)
         if self.is_of_jobs():
             return self._table_of_jobs(runners, workers)
+        options = option("runners", runners, 1) + option("workers", workers, 1)
         tables = [Table.read(Point, ask(["sweep", *options], part.text())) for part in self.parts()]
         return Table(Point, [point for table in tables for point in table])
 

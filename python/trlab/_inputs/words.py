@@ -13,29 +13,30 @@ def input_text(lines: Sequence[str]) -> str:
     return "".join(line + "\n" for line in lines)
 
 
-def threads(name: str, number: object) -> list[str]:
-    """The words of a number of workers or runners; none for its default value."""
-    count = whole(name, number, 1, MAX_THREADS)
-    return [] if count == 1 else [f"--{name}", str(count)]
+def option(name: str, number: int, unsaid: int) -> list[str]:
+    """The words of an option; none for its default value."""
+    return [] if number == unsaid else [f"--{name}", str(number)]
 
 
-class Shown(NamedTuple):
-    """The steps of a run that are shown, from `first` on, and the words for its workers."""
+class Asked(NamedTuple):
+    """The steps that a run shows, from `first` on, and its number of threads. All numbers are checked."""
 
     every: int
     first: int
-    workers: list[str]
+    workers: int
 
     @classmethod
-    def of_snapshots(cls, steps: int, every: object, first: object, workers: object) -> Shown:
+    def snapshots(cls, steps: int, every: object, first: object, workers: object) -> Asked:
         """Raises `ParameterError` if a number is not one that a run of so many steps can have."""
-        return cls(whole("every", every, 1, max(MAX_STEPS, steps)), whole("first", first, 0, steps), threads("workers", workers))
+        return cls(
+            whole("every", every, 1, max(MAX_STEPS, steps)), whole("first", first, 0, steps), whole("workers", workers, 1, MAX_THREADS)
+        )
 
     @classmethod
-    def of_windows(cls, steps: int, every: object, first: object, workers: object) -> Shown:
+    def windows(cls, steps: int, every: object, first: object, workers: object) -> Asked:
         """The same for windows. Raises `ParameterError` with numbers that fit if the steps from `first` on are not whole
         windows."""
-        found = cls.of_snapshots(steps, every, first, workers)
+        found = cls.snapshots(steps, every, first, workers)
         counted = steps - found.first
         left = counted % found.every
         if counted < found.every:
@@ -51,8 +52,7 @@ class Shown(NamedTuple):
 
     def words(self) -> list[str]:
         """The options of `trlab run` and `trlab series`."""
-        every = [] if self.every == 1 else ["--every", str(self.every)]
-        return every + ([] if self.first == 0 else ["--from", str(self.first)]) + self.workers
+        return option("every", self.every, 1) + option("from", self.first, 0) + option("workers", self.workers, 1)
 
 
 def _nearest_divisor(number: int, wish: int) -> int:

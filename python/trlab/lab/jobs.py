@@ -27,8 +27,9 @@ def job_file(controls: Controls) -> str:
     at = [(whole("the first step of a rule", rule["at"], 0), _rule(rule, controls["lanes"])) for rule in later]
     if len(dict(at)) < len(at):
         raise ParameterError("two rules take over at the same step")
-    road: Controls = {"start": controls["road"]}
-    if controls["start"] != "file":
+    if controls["start"] == "file":
+        road: Controls = {"start": controls["road"]}
+    else:
         road = {name: controls[name] for name in ("length", "lanes", "cars")}
         road["start"] = _initial_state(controls["start"], _key(controls))
     with lanes_are_told():
@@ -45,7 +46,7 @@ def sweep_file(controls: Controls) -> str:
     length, lanes = whole("length", shape["length"], 1), whole("lanes", shape["lanes"], 1, 2)
     counts = {round(density * length * lanes) for density in DENSITIES}
     if lanes == 2:
-        counts = {halved(cars, length)[0] for cars in counts}
+        counts = {min(halved(cars, length), key=lambda near: abs(near - cars)) for cars in counts}
     return Sweep(rule=_rule(controls["rule"], lanes), cars=sorted(counts), key=_key(controls), **shape).text()
 
 
