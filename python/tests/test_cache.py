@@ -12,8 +12,10 @@ from unittest import mock
 import trlab
 from tests.processes import calls, child, end, logging_program, marked, until
 from trlab import ProgramError, Job, Nasch, RejectedInputError, Rickert, Sweep
-from trlab._runs.cache import Cache, key_of
+from trlab._runs import cache as caching
+from trlab._runs.cache import Cache
 from trlab._runs.ownership import new_path
+from trlab._runs.requests import Request
 
 SHAPE = Sweep(limit=5, length=100, rule=Nasch(0.25), warm=10, measure=20, cars=[10, 20])
 SWEEPS = {f"key_{key}": replace(SHAPE, key=key) for key in range(5)}
@@ -93,6 +95,11 @@ class Keys(unittest.TestCase):
                 with mock.patch.dict("os.environ", TRLAB=str(script)):
                     keys.add(key_of(["series"], "a"))
         self.assertEqual(len(keys), 2)
+
+
+def key_of(words, text):
+    """The key of the call with these words and this input."""
+    return caching.key_of(Request(tuple(words), text))
 
 
 def other_version(folder, version="0"):
@@ -191,7 +198,7 @@ class Killed(unittest.TestCase):
             third, _ = child(MANY, str(cache), TRLAB=program).communicate()
         self.assertEqual(json.loads(third.splitlines()[-1]), json.loads(written.splitlines()[-1]))
 
-    def test_programs_that_a_killed_run_left_are_killed_by_the_next_one(self):
+    def test_programs_of_a_killed_run_end_and_the_next_one_removes_its_files(self):
         with tempfile.TemporaryDirectory() as cache:
             running = child(LONG, "threads", "interrupt", cache)
             self.assertEqual(running.stdout.readline(), "first\n")
@@ -201,9 +208,8 @@ class Killed(unittest.TestCase):
             self.assertTrue(until(lambda: len(marked(mine.mark, trlab.find_program())) == 3))
             running.kill()
             running.communicate()
-            self.assertEqual(len(marked(running.mark)), 3)
-            Cache(cache).create()
             self.assertTrue(until(lambda: not marked(running.mark)))
+            Cache(cache).create()
             self.assertEqual(len(marked(mine.mark, trlab.find_program())), 3)
             self.assertEqual(len([file for file in Path(cache).iterdir() if file.name.startswith(".new")]), 3)
             end(mine)

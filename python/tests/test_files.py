@@ -9,7 +9,7 @@ from dataclasses import replace
 from pathlib import Path
 
 from tests.processes import calls, child, end, logging_program, marked, until
-from trlab import Job, Nasch, Point, Rickert, Sweep, Window, find_program, read_tables, write_inputs
+from trlab import Job, Nasch, Point, ResultFilesError, Rickert, Sweep, Window, find_program, read_tables, write_inputs
 
 SHAPE = Sweep(limit=5, length=100, rule=Nasch(0.25), warm=10, measure=20, cars=[10, 20])
 SWEEPS = {f"key {key}": replace(SHAPE, key=key) for key in range(5)}
@@ -69,12 +69,18 @@ class Arrays(Folder):
 
     def test_an_output_that_is_cut_off_is_no_result(self):
         cuts = Path(self.place) / "cuts"
-        cuts.write_text(f'#!/bin/sh\n"{find_program()}" "$@" | head -c 100\nexit 3\n')
+        cuts.write_text(f'#!/bin/sh\n"{find_program()}" "$@" | head -c 60\n[ "$1" = --version ] || exit $(cat "{self.place}/status")\n')
         cuts.chmod(0o755)
         script = write_inputs(self.folder, SWEEPS, program=str(cuts))
-        status, said = self.task(script, 1)
-        self.assertEqual((status, self.results()), (3, []))
-        self.assertTrue(said.startswith("key 0.sweep has no result, trlab ended with status 3: cars,cells"), said)
+        told = {3: "trlab ended with status 3: memory ran out", 0: "trlab wrote 2 of 3 lines"}
+        told[4] = "trlab ended with status 4: reading the input or writing the output failed"
+        for ended, why in told.items():
+            (Path(self.place) / "status").write_text(str(ended))
+            with self.subTest(status=ended):
+                self.assertEqual(self.task(script, 1), (ended or 1, f"key 0.sweep has no result, {why}\n"))
+                self.assertEqual(self.results(), [])
+                kept = read_tables(self.folder, Point, {"key 0": SWEEPS["key 0"]}, errors="keep")["key 0"]
+                self.assertEqual((type(kept), str(kept)), (ResultFilesError, f"key 0.csv is missing: {why}"))
 
     def test_a_killed_task_leaves_no_result(self):
         script = write_inputs(self.folder, {"long": LONG, "short": JOB}, ["series"], per_task=2)
@@ -116,8 +122,8 @@ class Arrays(Folder):
         self.task(write_inputs(self.folder, SWEEPS), 1)
         write_inputs(self.folder, SWEEPS)
         changed = {**SWEEPS, "key 0": replace(SHAPE, measure=21)}
-        self.assertRaisesRegex(FileExistsError, "key 0.csv", write_inputs, self.folder, changed)
-        self.assertRaisesRegex(FileExistsError, "key 0.csv", write_inputs, self.folder, SWEEPS, ["sweep", "--runners", "2"])
+        self.assertRaisesRegex(ResultFilesError, "key 0.csv", write_inputs, self.folder, changed)
+        self.assertRaisesRegex(ResultFilesError, "key 0.csv", write_inputs, self.folder, SWEEPS, ["sweep", "--runners", "2"])
         write_inputs(self.folder, {**SWEEPS, "key 1": replace(SHAPE, measure=21)})
 
 
@@ -179,7 +185,7 @@ class Tables(Folder):
             self.assertEqual(self.fault({"key 0": other}), ["key 0.csv has other points than its sweep"])
 
     def test_every_cut_of_a_series_is_found(self):
-        for every, first in (1, 0), (3, 0), (3, 1), (4, 1), (10, 0):
+        for every, first in (1, 0), (5, 0), (3, 1), (4, 2), (10, 0):
             words = ["series", "--every", str(every), "--from", str(first)]
             folder = self.folder / f"{every} {first}"
             self.task(write_inputs(folder, {"a": JOB}, words))

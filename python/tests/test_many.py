@@ -85,7 +85,7 @@ class Exceptions(unittest.TestCase):
         with self.assertRaises(RejectedInputError):
             list(trlab.results({"good": JOB, "wrong": WRONG}))
         with self.assertRaises(RejectedInputError):
-            trlab.run_all(Job.run, [JOB, WRONG])
+            trlab.run_all([JOB, WRONG], Job.run)
 
     def test_a_rejected_input_is_kept(self):
         found = dict(trlab.results({"good": JOB, "wrong": WRONG, "also_good": replace(JOB, key=1)}, errors="keep"))
@@ -182,7 +182,7 @@ class Executors(unittest.TestCase):
 class Nested(unittest.TestCase):
     def test_a_run_inside_a_call_uses_its_cache(self):
         def both(key):
-            return trlab.run_all(Sweep.sweep, [replace(SHAPE, key=key), replace(SHAPE, key=key + 1)])
+            return trlab.run_all([replace(SHAPE, key=key), replace(SHAPE, key=key + 1)], Sweep.sweep)
 
         with tempfile.TemporaryDirectory() as folder:
             program = logging_program(folder)

@@ -11,8 +11,8 @@ from pathlib import Path
 from unittest import mock
 
 from tests.by_pictures import windows
-from trlab import ProgramError, Job, Nasch, Own, Snapshot, Snapshots, Point, RejectedInputError, Rickert, SlowToStart, Sweep, Table, Window
-from trlab import check, even, find_program, jammed, map, moving, random_cells, read_tables, write_inputs
+from trlab import ParameterError, ProgramError, Job, Nasch, Own, Snapshots, Point, RejectedInputError, Rickert, SlowToStart, Sweep, Table, Window
+from trlab import check, even, find_program, jammed, moving, random_cells, read_tables, run_all, write_inputs
 from trlab._runs.calls import ask
 
 EXAMPLES = Path(__file__).resolve().parents[2] / "examples"
@@ -41,9 +41,8 @@ class Sweeps(unittest.TestCase):
         self.assertEqual(table, Table.read(Point, table.csv()))
 
     def test_what_a_point_tells(self):
-        point = Point(cars=4, cells=20, steps=10, distance=60, stopped=8, changes=0, flow=300000)
-        self.assertEqual((point.density, point.passing, point.speed, point.stopped_share), (0.2, 0.3, 1.5, 0.2))
-        self.assertEqual(Point(0, 20, 10, 0, 0, 0, 0).speed, 0)
+        point = Point(cars=4, cells=20, steps=10, distance=60, stopped=8, changes=0, flow_millionths=300000)
+        self.assertEqual((point.density, point.flow, point.speed, point.stopped_share), (0.2, 0.3, 1.5, 0.2))
 
     def test_no_other_table_is_read(self):
         self.assertRaises(ValueError, Table.read, Window, example("fundamental_diagram.csv"))
@@ -69,7 +68,7 @@ class Runs(unittest.TestCase):
         two = Job(limit=3, length=40, lanes=2, cars=20, start=random_cells(2), rule=Rickert(0.25, 1), steps=50, at={35: Nasch(0.5)})
         for job in one, two:
             each = job.run()
-            for every, first in (1, 0), (1, 20), (7, 0), (7, 3), (50, 0), (20, 10), (3, 50), (60, 50), (1, 51), (500000, 500000):
+            for every, first in (1, 0), (1, 20), (7, 0), (7, 3), (50, 0), (20, 10), (3, 50), (60, 50):
                 with self.subTest(every=every, first=first):
                     shown = job.run(every=every, first=first, workers=2)
                     self.assertEqual(shown, each[first::every])
@@ -77,19 +76,19 @@ class Runs(unittest.TestCase):
                     self.assertEqual(shown.text(), Snapshots.read(shown.text()).text())
 
     def test_what_is_asked_of_a_run(self):
+        job = Job(limit=5, start=[0, None], rule=Nasch(0), steps=5)
         with tempfile.TemporaryDirectory() as folder:
-            with stand_in(folder, f"echo $@ >>{folder}/words\ncat >/dev/null\necho step 5\necho 0.\n"):
-                job = Job(limit=5, start=[0, None], rule=Nasch(0), steps=5)
-                told = [job.run(), job.run(3), job.run(every=10, first=5, workers=3), list(job.snapshots(2, 4, 1))]
-            self.assertEqual(told, 4 * [[Snapshot(5, ("0.",))]])
+            with stand_in(folder, f'echo $@ >>{folder}/words\nexec "{find_program()}" "$@"\n'):
+                told = [job.run(3), job.run(every=10, first=5, workers=3), list(job.snapshots(2, 4, 1))]
             words = (Path(folder) / "words").read_text().splitlines()
-        self.assertEqual(words, ["run", "run --workers 3", "run --every 10 --from 5 --workers 3", "run --every 4 --from 1 --workers 2"])
+        self.assertEqual([[it.step for it in snapshots] for snapshots in told], [[0, 1, 2, 3, 4, 5], [5], [1, 5]])
+        self.assertEqual(words, ["run --workers 3", "run --every 10 --from 5 --workers 3", "run --every 4 --from 1 --workers 2"])
 
     def test_numbers_of_steps_are_judged_by_the_program(self):
         job = Job(limit=5, start=[0, None], rule=Nasch(0), steps=5)
         for options in {"every": 0}, {"every": 500001}, {"first": -1}, {"first": 500001}:
             for call in job.run, job.series, lambda **options: list(job.snapshots(**options)):
-                self.assertRaises(ProgramError, call, **options)
+                self.assertRaises((ParameterError, ProgramError), call, **options)
 
     def test_more_than_a_pipe_holds(self):
         job = Job(limit=5, length=100000, density=1, lanes=2, rule=Rickert(0, 1), steps=1)
@@ -125,15 +124,13 @@ class Series(unittest.TestCase):
                 self.assertEqual(told, list(windows(job.snapshots(), every, first)))
 
     def test_what_is_asked_for(self):
-        table = ",".join(Window._fields) + "\n0,1,2,3,4,5,6,7,8,9,10,11,12,13\n"
+        job = self.JOBS[0]
         with tempfile.TemporaryDirectory() as folder:
-            lines = f"echo $@ >{folder}/words\ncat >{folder}/text\ncat <<'END'\n{table}END\n"
-            with stand_in(folder, lines):
-                told = self.JOBS[0].series(every=10, first=5, workers=3)
-            self.assertEqual(told, [Window(*range(14))])
-            self.assertEqual(told.csv(), table)
-            self.assertEqual((Path(folder) / "words").read_text(), "series --every 10 --from 5 --workers 3\n")
-            self.assertEqual((Path(folder) / "text").read_text(), self.JOBS[0].text())
+            with stand_in(folder, f'echo $@ >{folder}/words\ntee {folder}/text | "{find_program()}" "$@"\n'):
+                told = job.series(every=15, first=5, workers=3)
+            self.assertEqual((Path(folder) / "words").read_text(), "series --every 15 --from 5 --workers 3\n")
+            self.assertEqual((Path(folder) / "text").read_text(), job.text())
+        self.assertEqual(told, job.series(every=15, first=5))
 
 
 class Refusals(unittest.TestCase):
@@ -215,11 +212,11 @@ class Many(unittest.TestCase):
         self.sweeps = [replace(shape, key=key) for key in range(5)]
 
     def test_in_order(self):
-        self.assertEqual(map(Sweep.sweep, self.sweeps, at_once=3), [it.sweep() for it in self.sweeps])
+        self.assertEqual(run_all(self.sweeps, Sweep.sweep, at_once=3), [it.sweep() for it in self.sweeps])
 
     def test_the_first_that_fails(self):
         with self.assertRaises(RejectedInputError):
-            map(Job.run, [Job(limit=5, length=5, cars=1, rule=rule, steps=1) for rule in (Nasch(0), Rickert(0, 0))])
+            run_all([Job(limit=5, length=5, cars=1, rule=rule, steps=1) for rule in (Nasch(0), Rickert(0, 0))], Job.run)
 
     def test_by_files(self):
         with tempfile.TemporaryDirectory(prefix="a blank ") as folder:

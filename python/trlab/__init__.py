@@ -16,7 +16,7 @@ matplotlib: `pip install "trlab[analysis]"`. `TRLAB` may name the program (see `
 from importlib import import_module as _import_module
 
 from ._errors import (
-    EstimateError, FrameError, IncompleteOutputError, MissingLibraryError, OutputFormatError, ParameterError, ProgramError,
+    EstimateError, ExitStatusError, FrameError, IncompleteOutputError, MissingLibraryError, OutputFormatError, ParameterError, ProgramError,
     ProgramNotFoundError, RejectedInputError, RenamedError, ResultFilesError, StudyFileError, TrlabError, TrlabWarning,
 )
 from ._inputs.jobs import Duration, Job
@@ -46,7 +46,7 @@ _ANALYSIS = {
 }
 
 __all__ = [
-    "AcceptedProgram", "Density", "Drift", "Duration", "EstimateError", "FrameError", "Grid", "IncompleteOutputError",
+    "AcceptedProgram", "Density", "Drift", "Duration", "EstimateError", "ExitStatusError", "FrameError", "Grid", "IncompleteOutputError",
     "InitialState", "Jam", "Job", "Key", "MissingLibraryError", "Nasch", "OutputFormatError", "Own", "ParameterError", "Point",
     "Probability", "ProgramError", "ProgramNotFoundError", "RejectedInputError", "RenamedError", "ResultFilesError", "Rickert",
     "Rule", "SlowToStart", "Snapshot", "Snapshots", "StudyFileError", "Sweep", "Table", "Trajectories", "Trip", "TrlabError",

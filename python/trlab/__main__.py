@@ -9,9 +9,9 @@ def main() -> None:
     """Replace this process with the program, which gets its arguments and streams."""
     try:
         program = find_program()
-    except (OSError, ValueError) as error:
+        os.execv(program, [program, *sys.argv[1:]])
+    except OSError as error:
         sys.exit(f"trlab: {error}")
-    os.execv(program, [program, *sys.argv[1:]])
 
 
 if __name__ == "__main__":

@@ -86,6 +86,10 @@ class IncompleteOutputError(TrlabError):
     """An output of the program that ends too early or too late for its input, whatever the exit status says."""
 
 
+class ExitStatusError(TrlabError):
+    """The exit status of the program cannot be known, so that a failed run could pass for a good one. The message says why."""
+
+
 class OutputFormatError(TrlabError, ValueError):
     """A text that is not an output of `trlab run`, `series` or `sweep`. The message names the line."""
 

@@ -7,7 +7,7 @@ from fractions import Fraction
 from pathlib import Path
 from typing import Any, Optional, Protocol, TypeVar, Union
 
-from .._errors import ParameterError, ProgramError, RejectedInputError
+from .._errors import ParameterError, RejectedInputError
 from .._runs.calls import explained
 from .numbers import ALWAYS
 from .rules import Nasch, Own, Rickert, Rule, SlowToStart
@@ -34,11 +34,9 @@ def content_of(path: Union[str, os.PathLike[str]], kind: str) -> str:
 
 def need_accepted(command: str, text: str) -> None:
     """Raises `RejectedInputError` if the program rejects this input for a command, `run` or `sweep`."""
-    report = explained(text, "--json", command)
-    if report.returncode == 1:
-        raise RejectedInputError(explained(text, command).stdout.rstrip("\n"), json.loads(report.stdout))
-    if report.returncode != 0:
-        raise ProgramError(report.returncode, report.stderr)
+    report = json.loads(explained(text, "--json", command))
+    if report["error"] is not None:
+        raise RejectedInputError(explained(text, command).rstrip("\n"), report)
 
 
 def need_same(read: Input, text: str) -> Input:

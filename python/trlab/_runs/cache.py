@@ -1,32 +1,37 @@
 """Outputs of the program, kept in a folder: each is there as a whole or not at all, whenever a process is killed."""
 from __future__ import annotations
 
+import errno
 import functools
 import hashlib
 import os
-import subprocess
-from contextlib import contextmanager
+import warnings
 from pathlib import Path
-from collections.abc import Iterator, Sequence
+from collections.abc import Iterator
 from typing import IO, Optional, Union
 
-from .location import find_program, sha256_of_program
-from .ownership import new_path, remove_left
-from .._errors import ProgramError
-from .processes import started
+from .location import asked, find_program, sha256_of_program
+from .ownership import new_path, owned, remove_left
+from .._errors import IncompleteOutputError, ParameterError, ResultFilesError
+from .processes import run
+from .requests import Length, Request
 
 _HEADING = len(f"trlab-output-1 {64 * '0'} {64 * '0'}\n")
 _BLOCK = 1 << 20
+_READ_ONLY = (errno.EACCES, errno.EPERM, errno.EROFS)
 
 
 class Cache:
     """A folder with one file for each call of the program.
 
     A file is named after its key, the SHA-256 of the program's arguments, the input and the program. Its first line has
-    the key and the SHA-256 of the output, which follows. A file that does not match its first line or its name is never
-    used, and is replaced. Several processes, on several machines too, can use one folder at the same time."""
+    the key and the SHA-256 of the output, which follows and is complete. A file that does not match its first line, its name
+    or its input is never used, and is replaced. Several processes, on several machines too, can use one folder at the same
+    time. Outputs that are missing in a folder that cannot be written to are not kept."""
 
     def __init__(self, folder: Union[str, Path]) -> None:
+        if not str(folder):
+            raise ParameterError('the cache needs the path of a folder, not "": Path(".") is the current folder')
         self.folder = Path(folder).expanduser().absolute()
 
     def create(self) -> None:
@@ -37,69 +42,66 @@ class Cache:
     def path(self, key: str) -> Path:
         return self.folder / f"{key}.out"
 
-    def kept(self, key: str) -> Optional[IO[bytes]]:
+    def output_of(self, request: Request) -> Iterator[bytes]:
+        """As `processes.output_of`; the output is kept if its length follows from the input."""
+        if request.lines() is None:
+            yield from run(request)
+            return
+        key = key_of(request)
+        kept = self._kept(key, request)
+        if kept is not None:
+            with kept:
+                yield from _rest(kept)
+            return
+        with owned(new_path(self.folder, "new")) as path:
+            try:
+                file = open(path, "x+b")
+            except OSError as fault:
+                _say_that_nothing_is_kept(self.folder, fault)
+                yield from run(request)
+                return
+            with file:
+                _write(file, key, request)
+                self._move(path, key)
+                file.seek(_HEADING)
+                yield from _rest(file)
+
+    def _kept(self, key: str, request: Request) -> Optional[IO[bytes]]:
         """The output with this key, open for reading, or None if there is none or if it is damaged."""
+        path = self.path(key)
         try:
-            file = open(self.path(key), "rb")
-        except FileNotFoundError:
+            # Anything else, a pipe or a device, might have no end.
+            if not path.is_file():
+                return None
+            file = open(path, "rb", opener=lambda name, flags: os.open(name, flags | os.O_NONBLOCK))
+        except OSError:
             return None
-        heading, digest = file.read(_HEADING), _digest(file)
-        if heading == _heading(key, digest):
+        if file.read(_HEADING) == _heading(key, _digest(file, request)):
             file.seek(_HEADING)
             return file
         file.close()
         return None
 
-    @contextmanager
-    def output_of(self, words: Sequence[str], text: str) -> Iterator[IO[bytes]]:
-        """As `running.output_of`; the output is kept if the program ends with status 0."""
-        key = key_of(words, text)
-        kept = self.kept(key)
-        if kept is not None:
-            with kept:
-                yield kept
-            return
-        with self._begun() as file:
-            failed = _run_into(file, words, text)
-            if failed is None:
-                self._keep(file, key)
-            file.seek(_HEADING)
-            yield file
-            if failed is not None:
-                raise failed
-
-    @contextmanager
-    def _begun(self) -> Iterator[IO[bytes]]:
-        """A new file under another name, which is removed unless it was moved into its place."""
-        path = new_path(self.folder, "new")
-        with open(path, "x+b") as file:
-            try:
-                yield file
-            finally:
-                path.unlink(missing_ok=True)
-
-    def _keep(self, file: IO[bytes], key: str) -> None:
-        """Moves a whole output into its place."""
-        file.seek(_HEADING)
-        digest = _digest(file)
-        file.seek(0)
-        file.write(_heading(key, digest))
-        file.flush()
-        os.fsync(file.fileno())
-        os.replace(file.name, self.path(key))
+    def _move(self, path: Path, key: str) -> None:
+        """Moves a whole output into its place, from which it replaces anything but a folder."""
+        try:
+            os.replace(path, self.path(key))
+        except IsADirectoryError:
+            raise ResultFilesError(f"{self.path(key)} is a folder, and the cache needs this name: remove it") from None
+        except OSError as fault:
+            _say_that_nothing_is_kept(self.folder, fault)
 
 
-def key_of(words: Sequence[str], text: str) -> str:
+def key_of(request: Request) -> str:
     """The key of a call: the SHA-256 of the program's version, its own SHA-256, the arguments and the input, each of
     them after its length in bytes and a colon."""
     digest = hashlib.sha256()
-    for part in [*program_identity(), "\0".join(words), text]:
-        content = part.encode()
-        digest.update(b"%d:" % len(content) + content)
+    for part in [*map(str.encode, program_identity()), "\0".join(request.words).encode(), request.content()]:
+        digest.update(b"%d:" % len(part) + part)
     return digest.hexdigest()
 
 
-def program_identity() -> Sequence[str]:
+def program_identity() -> tuple[str, str]:
     """The version of the program and its SHA-256."""
     path = find_program()
     now = os.stat(path)
@@ -107,32 +109,48 @@ def program_identity() -> Sequence[str]:
 
 
 @functools.lru_cache(maxsize=None)
-def _identity(path: str, changed: int, size: int, number: int) -> Sequence[str]:
+def _identity(path: str, changed: int, size: int, number: int) -> tuple[str, str]:
     """The version and SHA-256 of a program, which is read once as long as the file does not change."""
-    version = subprocess.run([path, "--version"], stdin=subprocess.DEVNULL, stdout=subprocess.PIPE, check=True).stdout
-    return version.decode().split("\n")[0], sha256_of_program(path)
+    return (asked(path, "--version") or "").split("\n")[0], sha256_of_program(path)
+
+
+def _say_that_nothing_is_kept(folder: Path, fault: OSError) -> None:
+    """Warns that outputs are not kept in a folder that cannot be written to. Raises any other fault."""
+    if fault.errno not in _READ_ONLY:
+        raise fault
+    warnings.warn(f"new outputs are not kept, because {folder} cannot be written to: {fault.strerror}", stacklevel=2)
+
+
+def _write(file: IO[bytes], key: str, request: Request) -> None:
+    """Writes the heading and the whole output of the program."""
+    file.write(bytes(_HEADING))
+    digest = hashlib.sha256()
+    for block in run(request):
+        file.write(block)
+        digest.update(block)
+    file.seek(0)
+    file.write(_heading(key, digest.hexdigest()))
+    file.flush()
+    os.fsync(file.fileno())
 
 
 def _heading(key: str, digest: str) -> bytes:
     return f"trlab-output-1 {key} {digest}\n".encode()
 
 
-def _digest(file: IO[bytes]) -> str:
-    """The SHA-256 of the rest of a file."""
-    digest = hashlib.sha256()
-    for block in iter(lambda: file.read(_BLOCK), b""):
-        digest.update(block)
-    return digest.hexdigest()
+def _rest(file: IO[bytes]) -> Iterator[bytes]:
+    """The rest of a file in blocks."""
+    return iter(lambda: file.read(_BLOCK), b"")
 
 
-def _run_into(file: IO[bytes], words: Sequence[str], text: str) -> Optional[ProgramError]:
-    """Writes the output of the program behind the place of the first line, and says how it failed."""
-    file.write(bytes(_HEADING))
-    file.flush()
+def _digest(file: IO[bytes], request: Request) -> str:
+    """The SHA-256 of the rest of a file, or "" if this is not a complete output of the request."""
+    digest, length = hashlib.sha256(), Length(request)
     try:
-        with started(words, text, file.fileno()) as process:
-            process.wait()
-    except ProgramError as failed:
-        return failed
-    return None
-
+        for block in _rest(file):
+            digest.update(block)
+            length.add(block)
+        length.end()
+    except (IncompleteOutputError, OSError):
+        return ""
+    return digest.hexdigest()

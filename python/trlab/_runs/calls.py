@@ -1,59 +1,88 @@
 """Calls of the program, and its errors."""
 from __future__ import annotations
 
+import io
 import json
-import subprocess
-from itertools import chain
-from collections.abc import Iterator, Mapping, Sequence
-from typing import Any, Optional
+from contextlib import closing
+from collections.abc import Generator, Iterator, Sequence
+from typing import NamedTuple
 
 from .location import find_program, sha256_of_program
-from .._errors import ProgramError, RejectedInputError
-from .processes import output_of
+from .._errors import OutputFormatError, ProgramError, RejectedInputError
+from .processes import RejectionError, output_of, run
+from .requests import Request
 
-REFUSED = 1
+REJECTED = 1
 # `explain` reads a rejected input as one of these commands does.
 _READ_AS = {"series": "run"}
 
 
 def ask(words: Sequence[str], text: str) -> str:
     """The output of the program for these arguments and this input."""
-    return ask_for_bytes(words, text).decode()
+    return _decoded(ask_for_bytes(words, text))
 
 
 def ask_for_bytes(words: Sequence[str], text: str) -> bytes:
     """The same output as bytes."""
-    with output_of(words, text) as output:
-        found = output.read()
-        _raise_if_refused(found, words, text)
-    return found
+    return b"".join(_output_of(words, text))
 
 
 def ask_by_line(words: Sequence[str], text: str) -> Iterator[str]:
-    """Iterate over the lines of the output while the program runs, keeping one line at a time."""
-    with output_of(words, text) as output:
-        first = output.readline()
-        _raise_if_refused(first, words, text)
-        yield from map(bytes.decode, chain([first] if first else [], output))
+    """Iterate over the lines of the output while the program runs, keeping few of them at a time."""
+    begun = b""
+    with closing(_output_of(words, text)) as blocks:
+        for block in blocks:
+            end = block.rfind(b"\n") + 1
+            if end:
+                yield from io.StringIO(_decoded(begun + block[:end]))
+                begun = b""
+            begun += block[end:]
+    if begun:
+        yield _decoded(begun)
 
 
-def _raise_if_refused(begun: bytes, words: Sequence[str], text: str) -> None:
-    """Raises `RejectedInputError` if an output begins with a line that says that the input is rejected."""
-    if begun.startswith((b"fault ", b"refused ")):
-        word = _READ_AS.get(words[0], words[0])
-        said, report = explained(text, word), explained(text, "--json", word)
-        if report.returncode != REFUSED:
-            raise ProgramError(report.returncode, report.stderr)
-        raise RejectedInputError(said.stdout.rstrip("\n"), json.loads(report.stdout))
+def _output_of(words: Sequence[str], text: str) -> Generator[bytes, None, None]:
+    """The output in blocks. Raises `RejectedInputError` if the input is rejected."""
+    request = Request(tuple(words), text)
+    try:
+        yield from output_of(request)
+    except RejectionError as rejection:
+        raise _explanation(request, rejection) from None
 
 
-def explained(text: str, *words: str) -> subprocess.CompletedProcess[str]:
-    """The outcome of `trlab explain` for an input, read as for this command, or as its first word says."""
-    return subprocess.run(
-        [find_program(), "explain", *words], input=text, stdout=subprocess.PIPE, stderr=subprocess.PIPE, text=True
-    )
+def _explanation(request: Request, rejection: ProgramError) -> Exception:
+    """The error for an input that the program rejects."""
+    word = _READ_AS.get(request.words[0], request.words[0])
+    explanation = explained(request.text, "--json", word)
+    if explanation.returncode != REJECTED:
+        return ProgramError(rejection.status, f"it rejects an input that `trlab explain {word}` accepts: {rejection.message}")
+    return RejectedInputError(explained(request.text, word).stdout.rstrip("\n"), json.loads(explanation.stdout))
+
+
+class Explanation(NamedTuple):
+    """What `trlab explain` writes, and its exit status, which is 1 for a rejected input."""
+
+    stdout: str
+    returncode: int
+
+
+def explained(text: str, *words: str) -> Explanation:
+    """The explanation of an input, read as for this command, or as its first word says."""
+    output, blocks = b"", run(Request(("explain", *words), text))
+    while True:
+        try:
+            output += next(blocks)
+        except StopIteration as end:
+            return Explanation(_decoded(output), end.value)
 
 
 def version() -> str:
     """The version of the program, the logic of its proof, and its SHA-256, one per line."""
     return ask(["--version"], "") + f"SHA-256 {sha256_of_program(find_program())}"
+
+
+def _decoded(output: bytes) -> str:
+    try:
+        return output.decode("utf-8")
+    except UnicodeDecodeError as fault:
+        raise OutputFormatError(f"the program wrote bytes that are no text: {fault}") from None

@@ -1,58 +1,51 @@
 """Many inputs as files: a folder that runs on a cluster, and the tables that come back."""
 from __future__ import annotations
 
+import hashlib
 import os
-import shlex
+import re
+import shutil
 from pathlib import Path
-from collections.abc import Mapping, Sequence
-from typing import Optional, Union
+from collections.abc import Iterator, Mapping, Sequence
+from typing import Any, Literal, NamedTuple, Optional, Union, overload
 
-from .location import find_program
-from .ownership import new_path
-from .._results.tables import Point, Row, Table, Window
+from .._errors import ParameterError, ProgramNotFoundError, ResultFilesError
 from .._inputs.jobs import Job
-from .._inputs.sweeps import Sweep
 from .._inputs.numbers import whole
+from .._inputs.sweeps import Sweep
+from .._results.tables import Point, Row, Table, Window
+from .cluster_script import script_of
+from .location import asked, find_program
+from .ownership import new_path
+from .parts import joined, kind_of, requests_of
+from .requests import Request
 
-_ARRAY = """#!/bin/sh
-#SBATCH --array=1-{tasks} --cpus-per-task=1 --output={folder}/slurm-%A_%a.out
-# Task i of the array runs up to {per_task} of the {inputs} inputs that array.txt lists. Without a task number this
-# script runs all of them, one after the other. A result is complete or absent: trlab writes to a hidden file, which is
-# moved into place if trlab ends with status 0. Inputs that have a result are skipped.
-cd -- {folder} || exit 1
-last=$((${{SLURM_ARRAY_TASK_ID:-1}} * {per_task}))
-lines="$((last - {per_task} + 1)),${{last}}p"
-[ "${{SLURM_ARRAY_TASK_ID:-}}" ] || lines='p'
-status=0 new='' running=''
-stop() {{
-    [ -z "$running" ] || kill "$running" 2>/dev/null
-    [ -z "$new" ] || rm -f -- "$new"
-    exit 143
-}}
-trap stop HUP INT TERM
-while IFS= read -r name; do
-    [ "$name" ] && ! [ -e "$name.{result}" ] || continue
-    new=".$name.new.$(uname -n).$$"
-    {command} < "$name.{kind}" > "$new" &
-    running=$!
-    if wait "$running"; then
-        mv -f -- "$new" "$name.{result}" && rm -f -- ".$name.new."*
-    else
-        status=$?
-        echo "$name.{kind} has no result, trlab ended with status $status: $(head -n 1 -- "$new")" >&2
-        rm -f -- "$new"
-    fi
-    new='' running=''
-done <<END
-$(sed -n "$lines" array.txt)
-END
-exit $status
-"""
+_PART = re.compile(r"(.+)~([0-9]+)of([0-9]+)")
+
+
+class _File(NamedTuple):
+    """A request as a file, whose name has no ending."""
+
+    name: str
+    request: Request
+
+    @property
+    def input(self) -> str:
+        return f"{self.name}.{'sweep' if self.request.words[0] == 'sweep' else 'job'}"
+
+    @property
+    def result(self) -> str:
+        return f"{self.name}.{'out' if self.request.words[0] == 'run' else 'csv'}"
+
+    def line(self) -> str:
+        """The line of array.txt."""
+        endings = [name.rpartition(".")[2] for name in (self.input, self.result)]
+        return "\t".join([str(self.request.lines()), *endings, " ".join(self.request.words), self.name]) + "\n"
 
 
 def write_inputs(
     folder: Union[str, Path],
-    texts: Mapping[str, Union[Job, Sweep]],
+    inputs: Mapping[str, Union[Job, Sweep]],
     words: Sequence[str] = ("sweep",),
     program: Optional[str] = None,
     per_task: int = 1,
@@ -64,124 +57,262 @@ def write_inputs(
 
     A task passes `per_task` inputs to the program with these words, for example `["series", "--every", "100"]`, and
     writes `folder/NAME.csv` (`folder/NAME.out` for `run`). A result is complete or absent, even if a task is killed;
-    a restarted task skips finished inputs. Slurm's messages go to `folder/slurm-*.out`. If the cluster
-    limits the number of tasks, often to 1001, increase `per_task`. Without Slurm, `sh folder/array.sh` runs all
-    inputs in sequence, and GNU parallel runs N tasks side by side:
+    a restarted task skips finished inputs. Slurm's messages go to `folder/slurm-*.out`, and `folder/NAME.error` says why
+    an input has no result. If the cluster limits the number of tasks, often to 1001, increase `per_task`. Without Slurm,
+    `sh folder/array.sh` runs all inputs in sequence, and GNU parallel runs N tasks side by side (the script names N):
 
         seq N | parallel SLURM_ARRAY_TASK_ID={} sh folder/array.sh
 
-    `program` is the path of trlab on the tasks' machines, by default its path here. Raises `FileExistsError` if the
-    folder has a result of another input or of other words under one of the names."""
-    place = Path(folder).expanduser().resolve()
+    A sweep that is no single file, because it is long or from another state than `even`, is written as several, such as
+    `folder/NAME~3of20.job`, from whose results `read_tables` makes its table.
+
+    `program` is the path of trlab on the tasks' machines, by default its path here. All results of a folder are of one
+    program: `array.program` has its version and SHA-256, and a task ends with an error if it finds another one. Raises
+    `ResultFilesError` if the folder has a result of another program, of another input or of other words under one of the
+    names, and `ParameterError` for names that no file can have."""
+    place = _place(folder)
     count = whole("per_task", per_task, 1, 10**9)
-    kind, result = ("sweep" if words[0] == "sweep" else "job"), ("out" if words[0] == "run" else "csv")
-    command = shlex.join([program or find_program(), *words])
-    written = {f"{_checked(name)}.{kind}": text.text() for name, text in texts.items()}
+    found = program or find_program()
+    files = [file for name, given in inputs.items() for file in _files(_checked(name), given, _checked_words(words))]
+    if len({file.name for file in files}) < len(files):
+        raise ParameterError("two inputs have the same file name")
     place.mkdir(parents=True, exist_ok=True)
-    _check_results(place, written, result, shlex.join(words))
-    written["array.txt"] = "".join(f"{name}\n" for name in texts)
-    written["array.words"] = shlex.join(words) + "\n"
-    written["array.sh"] = _ARRAY.format(
-        folder=shlex.quote(str(place)),
-        kind=kind,
-        result=result,
-        command=command,
-        per_task=count,
-        inputs=len(texts),
-        tasks=max(1, -(-len(texts) // count)),
-    )
-    for name, content in written.items():
-        _write(place / name, content)
+    before = _words_in(place)
+    _check_results(place, files, before)
+    _keep_identity(place, _identity(found))
+    for file in files:
+        _write(place / file.input, file.request.text)
+        (place / f"{file.name}.error").unlink(missing_ok=True)
+    told = {**before, **{file.name: file.request.words for file in files}}
+    _write(place / "array.words", "".join(f"{name}\t{' '.join(words)}\n" for name, words in told.items()))
+    _write(place / "array.txt", "".join(file.line() for file in files))
+    _write(place / "array.sh", script_of(place, found, len(files), count))
     return place / "array.sh"
 
 
+@overload
 def read_tables(
-    folder: Union[str, Path], kind: type[Row], texts: Optional[Mapping[str, Union[Job, Sweep]]] = None
-) -> dict[str, Table[Row]]:
-    """Read the tables `folder/NAME.csv` of these tasks, by name; `kind` is `Point` or `Window`. With the `texts` of
-    `write_inputs` the tables come in their order, and each must be whole: one `ValueError` names every missing, empty,
-    short or damaged file. Without `texts` every table of the folder is read, and a table that ends after a whole row
-    counts as whole."""
+    folder: Union[str, Path],
+    kind: type[Row],
+    inputs: Optional[Mapping[str, Union[Job, Sweep]]] = ...,
+    errors: Literal["raise"] = ...,
+) -> dict[str, Table[Row]]: ...
+
+
+@overload
+def read_tables(
+    folder: Union[str, Path],
+    kind: type[Row],
+    inputs: Optional[Mapping[str, Union[Job, Sweep]]] = ...,
+    *,
+    errors: str,
+) -> dict[str, Any]: ...
+
+
+def read_tables(
+    folder: Union[str, Path],
+    kind: type[Row],
+    inputs: Optional[Mapping[str, Union[Job, Sweep]]] = None,
+    errors: str = "raise",
+) -> dict[str, Any]:
+    """Read the tables of a folder of `write_inputs`, by name; `kind` is `Point` for sweeps and `Window` for series. With the
+    `inputs` of `write_inputs` the tables come in their order, and each must be the complete table of its input. Without
+    them every table of the folder is read, and one that ends after a whole row counts as complete.
+
+    One `ResultFilesError` names every table that is missing, empty, short, damaged, impossible or of another input. With
+    `errors="keep"` each of these tables is a `ResultFilesError` in the result, so that the others can be used, for
+    example by `Grid.frame`."""
+    if errors not in ("raise", "keep"):
+        raise ParameterError(f'errors must be "raise" or "keep", not {errors!r}')
     place = Path(folder).expanduser()
-    names = sorted(file.stem for file in place.glob("[!.]*.csv")) if texts is None else list(texts)
-    found: dict[str, Table[Row]] = {}
+    found: dict[str, Any] = {}
     faults: list[str] = []
-    for name in names:
+    for name, files in _wanted(place, kind, inputs).items():
         try:
-            found[name] = _read(place, name, kind, None if texts is None else texts[name])
-        except ValueError as fault:
-            faults.append(f"{name}.csv {fault}")
-    if faults:
+            found[name] = joined(kind, [_read(place, file) for file in files])
+        except ResultFilesError as fault:
+            found[name] = fault
+            faults.append(str(fault))
+    if faults and errors == "raise":
         shown = "\n".join(f"  {fault}" for fault in faults)
-        raise ValueError(f"{len(faults)} of {len(names)} tables in {place} cannot be used:\n{shown}")
+        raise ResultFilesError(f"{len(faults)} of {len(found)} tables in {place} cannot be used:\n{shown}")
     return found
+
+
+def _place(folder: Union[str, Path]) -> Path:
+    """A folder that a line of a script can name."""
+    place = Path(folder).expanduser().resolve()
+    if not str(folder) or not str(place).isprintable():
+        raise ParameterError(f"{str(place) if str(folder) else ''!r} cannot be the folder: its path must be printable")
+    return place
 
 
 def _checked(name: str) -> str:
     """A name that is the beginning of a file name, and one line."""
-    if not name or "/" in name or name.startswith(".") or not name.isprintable():
-        raise ValueError(f"{name!r} cannot be the name of a file: no slashes, control characters or a leading dot")
+    if not isinstance(name, str) or not name or "/" in name or name.startswith(".") or not name.isprintable() or _PART.fullmatch(name):
+        raise ParameterError(f"{name!r} cannot be the name of a file: no slashes, control characters, leading dot or ending ~1of2")
     return name
 
 
-def _check_results(place: Path, written: Mapping[str, str], result: str, words: str) -> None:
-    """Raises `FileExistsError` if there are results that other inputs or other words gave."""
-    before = place / "array.words"
-    is_other = before.exists() and before.read_text().rstrip("\n") != words
-    for name, text in written.items():
-        file, old = place / name, (place / name).with_name(f"{name.rpartition('.')[0]}.{result}")
-        if old.exists() and (is_other or not file.exists() or file.read_text() != text):
-            raise FileExistsError(f"{old} is the result of another input: remove it, or take another folder")
+def _checked_words(words: Sequence[str]) -> list[str]:
+    """Words of the command line, which a shell reads as they are."""
+    found = list(words)
+    if isinstance(words, str) or not found or not all(re.fullmatch("[a-zA-Z0-9=-]+", word) for word in found):
+        raise ParameterError(f'words must be a list such as ["series", "--every", "100"], not {words!r}')
+    return found
+
+
+def _files(name: str, given: Union[Job, Sweep], words: Sequence[str]) -> list[_File]:
+    """The files of an input."""
+    requests = requests_of(given, words)
+    several = len(requests) > 1
+    return [
+        _File(f"{name}~{number}of{len(requests)}" if several else name, request) for number, request in enumerate(requests, 1)
+    ]
+
+
+def _words_in(place: Path) -> dict[str, tuple[str, ...]]:
+    """The words for each file that a folder was written with."""
+    try:
+        lines = (place / "array.words").read_text("utf-8").splitlines()
+    except FileNotFoundError:
+        return {}
+    return {name: tuple(words.split(" ")) for name, tab, words in (line.partition("\t") for line in lines) if tab}
+
+
+def _check_results(place: Path, files: Sequence[_File], before: Mapping[str, tuple[str, ...]]) -> None:
+    """Raises `ResultFilesError` if there are results that other inputs or other words gave."""
+    for file in files:
+        if (place / file.result).exists() and (
+            before.get(file.name) != file.request.words or _content(place / file.input) != file.request.text
+        ):
+            raise ResultFilesError(f"{place / file.result} is the result of another input: remove it, or take another folder")
+
+
+def _identity(program: str) -> Optional[str]:
+    """The version and the SHA-256 of a program as array.sh finds them, or None if it is not on this machine."""
+    path = shutil.which(program)
+    if path is None:
+        return None
+    version = (asked(path, "--version") or "").split("\n")[0]
+    if not version.startswith("trlab "):
+        raise ProgramNotFoundError(f"{path} is not trlab: it does not answer to --version as trlab does")
+    return f"{version} {hashlib.sha256(Path(path).read_bytes()).hexdigest()}"
+
+
+def _keep_identity(place: Path, identity: Optional[str]) -> None:
+    """Has a folder remember its program. Raises `ResultFilesError` if it has results of another one."""
+    file = place / "array.program"
+    before = _content(file)
+    if before is not None and before == f"{identity}\n":
+        return
+    has_results = any(place.glob("*.csv")) or any(place.glob("*.out"))
+    if has_results and (before is None or identity is not None):
+        old = "an unknown program" if before is None else f"another program, {before.strip()}"
+        raise ResultFilesError(f"{place} has results of {old}: take another folder, or remove its results")
+    if identity is not None:
+        _write(file, f"{identity}\n")
+    elif not has_results:
+        file.unlink(missing_ok=True)
+
+
+def _content(file: Path) -> Optional[str]:
+    """The content of a file, or None if there is none, or no text."""
+    try:
+        return file.read_bytes().decode()
+    except (FileNotFoundError, UnicodeDecodeError):
+        return None
 
 
 def _write(file: Path, content: str) -> None:
     """Writes a file as a whole: a task that reads it now gets the old or the new one."""
     new = new_path(file.parent, "text")
-    new.write_text(content, encoding="utf-8")
+    new.write_bytes(content.encode())
     os.replace(new, file)
 
 
-def _read(place: Path, name: str, kind: type[Row], text: Union[None, Job, Sweep]) -> Table[Row]:
-    """A table; raises `ValueError` with its fault, as the end of a sentence about its file."""
+def _wanted(place: Path, kind: Any, inputs: Optional[Mapping[str, Union[Job, Sweep]]]) -> dict[str, list[_File]]:
+    """The files whose results are the tables, by the names of the tables."""
+    before = _words_in(place)
+    if inputs is None:
+        return _all_in(place, kind, before)
+    found: dict[str, list[_File]] = {}
+    for name, given in inputs.items():
+        if kind is not (Point if isinstance(given, Sweep) else Window):
+            raise ParameterError(f"the tables of sweeps are of kind Point, those of jobs of kind Window: {name!r} is a {type(given).__name__}")
+        files = _files(name, given, ["sweep"] if isinstance(given, Sweep) else ["series"])
+        found[name] = [_File(it.name, it.request._replace(words=before.get(it.name, it.request.words))) for it in files]
+    return found
+
+
+def _all_in(place: Path, kind: Any, before: Mapping[str, tuple[str, ...]]) -> dict[str, list[_File]]:
+    """The same for all tables of a folder, whose inputs nobody knows."""
+    found: dict[str, list[_File]] = {}
+    for name in sorted(file.stem for file in place.glob("[!.]*.csv")):
+        part = _PART.fullmatch(name)
+        names = [f"{part[1]}~{number}of{part[3]}" for number in range(1, int(part[3]) + 1)] if part else [name]
+        unsaid = ("sweep",) if kind is Point else ("series",)
+        found[part[1] if part else name] = [_File(it, Request(before.get(it, unsaid), "")) for it in names]
+    return found
+
+
+def _read(place: Path, file: _File) -> Table[Any]:
+    """A table; raises `ResultFilesError` with its fault. An empty text stands for an input that nobody knows."""
+    content = _content_of_result(place, file)
     try:
-        content = (place / f"{name}.csv").read_text()
-    except FileNotFoundError:
-        raise ValueError("is missing") from None
-    except UnicodeDecodeError:
-        raise ValueError("is not a text") from None
-    if not content:
-        raise ValueError("is empty")
-    if not content.endswith("\n"):
-        raise ValueError("is cut off in the middle of a line")
-    try:
-        table = Table.read(kind, content)
-    except (TypeError, ValueError) as fault:
-        raise ValueError(f"is damaged: {fault}") from None
-    if text is not None:
-        _check_input(place, name, text)
-        _check_rows(table, text)
+        table: Table[Any] = Table.read(kind_of(file.request.words), content)
+    except (TypeError, ValueError) as error:
+        raise ResultFilesError(f"{file.result} is damaged: {error}") from None
+    for fault in _differences(place, file, table) if file.request.text else ():
+        raise ResultFilesError(f"{file.result} {fault}")
     return table
 
 
-def _check_input(place: Path, name: str, text: Union[Job, Sweep]) -> None:
-    """Raises `ValueError` if the folder has another input for a table."""
-    file = place / f"{name}.{'sweep' if isinstance(text, Sweep) else 'job'}"
-    if file.exists() and file.read_text() != text.text():
-        raise ValueError(f"is the result of another input, {file.name}")
+def _content_of_result(place: Path, file: _File) -> str:
+    try:
+        content = (place / file.result).read_bytes().decode()
+    except FileNotFoundError:
+        why = _content(place / f"{file.name}.error")
+        raise ResultFilesError(f"{file.result} is missing" + (f": {why.strip()}" if why else "")) from None
+    except UnicodeDecodeError:
+        raise ResultFilesError(f"{file.result} is not a text") from None
+    except OSError as fault:
+        raise ResultFilesError(f"{file.result} cannot be read: {fault.strerror}") from None
+    if not content.endswith("\n"):
+        raise ResultFilesError(f"{file.result} is {'cut off in the middle of a line' if content else 'empty'}")
+    return content
 
 
-def _check_rows(table: Sequence[Union[Point, Window]], text: Union[Job, Sweep]) -> None:
-    """Raises `ValueError` if a table does not have the rows that its input gives."""
-    if isinstance(text, Sweep):
-        counts = text.counts()
-        if len(table) < len(counts):
-            raise ValueError(f"is short: it has {len(table)} of {len(counts)} points")
-        if [row.cars for row in table] != counts or any(row.steps != text.measure for row in table):
-            raise ValueError("has other points than its sweep")
-        return
-    windows = [row for row in table if isinstance(row, Window)]
-    ends = [row.step for row in windows]
-    if not ends or ends[-1] + windows[-1].steps <= text.steps:
-        raise ValueError(f"is short: its last window ends after {ends[-1] if ends else 0} of {text.steps} steps")
-    if ends[-1] > text.steps or any(step + row.steps != row.step for step, row in zip(ends, windows[1:])):
-        raise ValueError("has other windows than its job")
+def _differences(place: Path, file: _File, table: Table[Any]) -> Iterator[str]:
+    """Why a table is not that of its input, as the end of a sentence."""
+    text = file.request.text
+    if _content(place / file.input) not in (None, text):
+        yield f"is the result of another input, {file.input}"
+    if table.kind is Point:
+        yield from _differences_of_points(text, table)
+    else:
+        yield from _differences_of_windows(file.request, table)
+
+
+def _differences_of_points(text: str, table: Table[Any]) -> Iterator[str]:
+    counts = [int(number) for number in re.findall("^cars ([0-9]+)$", text, re.M)]
+    length, lanes, measure = (int(number) for number in re.findall("^(?:length|lanes|measure) ([0-9]+)$", text, re.M))
+    if len(table) < len(counts):
+        yield f"is short: it has {len(table)} of {len(counts)} points"
+    if [(row.cars, row.cells, row.steps) for row in table] != [(count, length * lanes, measure) for count in counts]:
+        yield "has other points than its sweep"
+
+
+def _differences_of_windows(request: Request, table: Table[Any]) -> Iterator[str]:
+    steps, ends = request.steps(), [row.step for row in table]
+    if not ends or ends[-1] + table[-1].steps <= steps:
+        yield f"is short: its last window ends after {ends[-1] if ends else 0} of {steps} steps"
+    if ends[-1] > steps or any(end + row.steps != row.step for end, row in zip(ends, table[1:])):
+        yield "has other windows than its job"
+    lanes = re.findall("^lane (.+)$", request.text, re.M)
+    road = sum(map(len, lanes)), sum(len(lane) - lane.count(".") for lane in lanes)
+    if any((row.cells, row.cars) != road for row in table):
+        yield "has another road than its job"
+    every, first = request.windows()
+    if len(request.words) > 1 and (table[0].steps, ends[0]) != (every, first + every):
+        yield f"has other windows than `{request}`"

@@ -9,9 +9,13 @@ import os
 import shutil
 import subprocess
 import tempfile
+import zlib
 from pathlib import Path
 from collections.abc import Iterator
 from typing import NoReturn, Optional
+
+from .._errors import ProgramNotFoundError
+from .ownership import new_path, owned, remove_left
 
 _HERE = Path(__file__).resolve().parents[1]
 _PACKED = _HERE / "programs"
@@ -31,7 +35,7 @@ def find_program() -> str:
     3. the program of the checkout, as `./trlab` finds it;
     4. `trlab` on the `PATH`.
 
-    Raises `FileNotFoundError` if none is found, and `ValueError` if `TRLAB` names something else."""
+    Raises `ProgramNotFoundError` if none is found, if it is damaged, or if `TRLAB` names something else."""
     named = os.environ.get("TRLAB")
     return _named(named) if named else _packed() or _of_checkout() or _on_path() or _nowhere()
 
@@ -47,34 +51,36 @@ def _program_behind(path: str) -> Path:
     with open(path, "rb") as file:
         if file.read(2) != b"#!":
             return Path(path)
-    asked = subprocess.run(
-        [path, "--where"], stdin=subprocess.DEVNULL, stdout=subprocess.PIPE, stderr=subprocess.DEVNULL, text=True
-    )
-    named = Path(asked.stdout.rstrip("\n"))
-    return named if asked.returncode == 0 and named.is_absolute() and named.is_file() else Path(path)
+    named = Path((asked(path, "--where") or "").rstrip("\n"))
+    return named if named.is_absolute() and named.is_file() else Path(path)
+
+
+def asked(path: str, word: str) -> Optional[str]:
+    """What a program writes for `--version` or `--where`, or None if it cannot be run or ends with an error."""
+    try:
+        ran = subprocess.run(
+            [path, word], stdin=subprocess.DEVNULL, stdout=subprocess.PIPE, stderr=subprocess.DEVNULL, timeout=60
+        )
+    except (OSError, subprocess.TimeoutExpired):
+        return None
+    return os.fsdecode(ran.stdout) if ran.returncode == 0 else None
 
 
 def _named(name: str) -> str:
-    path = Path(name).expanduser().absolute()
+    path = Path(os.path.expanduser(name)).absolute()
     if not path.is_file():
-        raise FileNotFoundError(f"TRLAB is {name!r}, and there is no file {path}")
+        raise ProgramNotFoundError(f"TRLAB is {name!r}, and there is no file {path}")
     if not os.access(path, os.X_OK):
-        raise PermissionError(f"TRLAB is {name!r}, and {path} is not executable")
+        raise ProgramNotFoundError(f"TRLAB is {name!r}, and {path} is not executable")
     if not _is_trlab(str(path), path.stat().st_mtime_ns):
-        raise ValueError(f"TRLAB is {name!r}, and {path} is not trlab: it does not answer to --version as trlab does")
+        raise ProgramNotFoundError(f"TRLAB is {name!r}, and {path} is not trlab: it does not answer to --version as trlab does")
     return str(path)
 
 
 @functools.lru_cache(maxsize=None)
 def _is_trlab(path: str, changed: int) -> bool:
     """Whether a program, which was changed last at this time, says that it is trlab."""
-    try:
-        asked = subprocess.run(
-            [path, "--version"], stdin=subprocess.DEVNULL, stdout=subprocess.PIPE, stderr=subprocess.DEVNULL, timeout=60
-        )
-    except (OSError, subprocess.TimeoutExpired):
-        return False
-    return asked.returncode == 0 and asked.stdout.startswith(b"trlab ")
+    return (asked(path, "--version") or "").startswith("trlab ")
 
 
 @functools.lru_cache(maxsize=None)
@@ -83,18 +89,18 @@ def _packed() -> Optional[str]:
     if not _PACKED.is_dir():
         return None
     level = "x86-64-v3" if _V3 <= _features() else "x86-64-v2"
-    released = dict(line.split() for line in (_PACKED / "release.txt").read_text().splitlines() if line[:1] != "#")
+    released = dict(line.split() for line in (_PACKED / "release.txt").read_text("utf-8").splitlines() if line[:1] != "#")
     for folder in _folders():
         path = folder / f"trlab-{level}-{released[level]}"
         if _has_sum(path, released[level]) or _unpacked(_PACKED / f"trlab-{level}.gz", path, released[level]):
             return str(path)
-    raise OSError(f"the program in {_PACKED} is damaged, or can be kept nowhere: install trlab again")
+    raise ProgramNotFoundError(f"the program in {_PACKED} is damaged, or can be kept nowhere: install trlab again")
 
 
 def _features() -> set[str]:
     """What this processor has, in the words of Linux."""
     try:
-        lines = Path("/proc/cpuinfo").read_text().splitlines()
+        lines = Path("/proc/cpuinfo").read_text("utf-8", "replace").splitlines()
     except OSError:
         return set()
     return set(next((line for line in lines if line.startswith("flags")), "").split())
@@ -119,35 +125,38 @@ def _has_sum(path: Path, sha256: str) -> bool:
 
 def _unpacked(packed: Path, path: Path, sha256: str) -> bool:
     """Whether a program was unpacked whole: it is written under another name, then moved into place."""
-    content = gzip.decompress(packed.read_bytes())
+    try:
+        content = gzip.decompress(packed.read_bytes())
+    except (EOFError, OSError, zlib.error):
+        return False
     if hashlib.sha256(content).hexdigest() != sha256:
         return False
     try:
         path.parent.mkdir(parents=True, exist_ok=True)
-        handle, new = tempfile.mkstemp(prefix=".new-", dir=path.parent)
+        remove_left(path.parent)
+        with owned(new_path(path.parent, "new")) as new:
+            with open(new, "xb") as file:
+                file.write(content)
+                file.flush()
+                os.fsync(file.fileno())
+                os.fchmod(file.fileno(), 0o755)
+            os.replace(new, path)
     except OSError:
         return False
-    try:
-        with os.fdopen(handle, "wb") as file:
-            file.write(content)
-            file.flush()
-            os.fsync(file.fileno())
-        os.chmod(new, 0o755)
-        os.replace(new, path)
-    except OSError:
-        os.unlink(new)
-        return False
-    return True
+    # Nothing can be run from some file systems.
+    return os.access(path, os.X_OK)
 
 
 @functools.lru_cache(maxsize=None)
 def _of_checkout() -> Optional[str]:
     if not (_SCRIPT.is_file() and os.access(_SCRIPT, os.X_OK) and (_SCRIPT.parent / "release").is_dir()):
         return None
-    asked = subprocess.run([_SCRIPT, "--where"], stdout=subprocess.PIPE, stderr=subprocess.PIPE, text=True)
-    if asked.returncode != 0:
-        raise OSError(asked.stderr.strip() or f"{_SCRIPT} ended with status {asked.returncode}")
-    return asked.stdout.rstrip("\n")
+    ran = subprocess.run([_SCRIPT, "--where"], stdin=subprocess.DEVNULL, stdout=subprocess.PIPE, stderr=subprocess.PIPE)
+    path = os.fsdecode(ran.stdout).rstrip("\n")
+    if ran.returncode != 0 or not path:
+        said = ran.stderr.decode("utf-8", "replace").strip()
+        raise ProgramNotFoundError(said or f"{_SCRIPT} ended with status {ran.returncode}")
+    return path
 
 
 def _on_path() -> Optional[str]:
@@ -168,4 +177,4 @@ def _is_trlab_from_path(path: str) -> bool:
 
 
 def _nowhere() -> NoReturn:
-    raise FileNotFoundError("trlab is not found: install it with pip, put it on the PATH, or name the program in TRLAB")
+    raise ProgramNotFoundError("trlab is not found: install it with pip, put it on the PATH, or name the program in TRLAB")

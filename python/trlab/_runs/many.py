@@ -1,43 +1,43 @@
 """Many inputs, side by side: results as they finish, kept in a folder, with threads or any other executor."""
 from __future__ import annotations
 
-import atexit
-import functools
 import itertools
 import os
 import threading
 from concurrent.futures import BrokenExecutor, Executor, Future, ThreadPoolExecutor, wait
-from contextlib import contextmanager
+from contextlib import contextmanager, nullcontext
 from pathlib import Path
 from queue import SimpleQueue
 from collections.abc import Callable, Iterable, Iterator, Mapping
 from typing import Any, Optional, TypeVar, Union, overload
 
+from .._errors import ParameterError
 from .cache import Cache
 from .ownership import Lease
 from .progress import Line, Progress, reporter
-from .processes import Processes, Setting, set_to, setting
+from .processes import Processes, Setting, new_processes, set_to, setting
 from .._inputs.jobs import Job
 from .._inputs.sweeps import Sweep
 from .._inputs.numbers import whole
 
-Text = TypeVar("Text")
+Input = TypeVar("Input")
 Name = TypeVar("Name")
 Result = TypeVar("Result")
 
 # The processes of the runs that go on in this process, by the path of their lease.
 _RUNS: dict[str, Processes] = {}
+os.register_at_fork(after_in_child=_RUNS.clear)
 
 
-def table_or_snapshots(text: Union[Job, Sweep]) -> Any:
+def table_or_snapshots(it: Union[Job, Sweep]) -> Any:
     """The table of a sweep, or the snapshots of a job."""
-    return text.sweep() if isinstance(text, Sweep) else text.run()
+    return it.sweep() if isinstance(it, Sweep) else it.run()
 
 
 @overload
 def results(
-    texts: Mapping[Name, Text],
-    call: Optional[Callable[[Text], Any]] = ...,
+    inputs: Mapping[Name, Input],
+    call: Optional[Callable[[Input], Any]] = ...,
     cache: Union[None, str, Path] = ...,
     executor: Optional[Executor] = ...,
     progress: Progress = ...,
@@ -48,8 +48,8 @@ def results(
 
 @overload
 def results(
-    texts: Iterable[Text],
-    call: Optional[Callable[[Text], Any]] = ...,
+    inputs: Iterable[Input],
+    call: Optional[Callable[[Input], Any]] = ...,
     cache: Union[None, str, Path] = ...,
     executor: Optional[Executor] = ...,
     progress: Progress = ...,
@@ -59,7 +59,7 @@ def results(
 
 
 def results(
-    texts: Any,
+    inputs: Any,
     call: Optional[Callable[[Any], Any]] = None,
     cache: Union[None, str, Path] = None,
     executor: Optional[Executor] = None,
@@ -72,13 +72,14 @@ def results(
         for name, table in trlab.results(sweeps, cache="study/cache", progress=True):
             print(name, table[0].flow)
 
-    - `texts` maps names to jobs or sweeps, or is a list, with the numbers 0, 1, 2 and so on as names.
+    - `inputs` maps names to jobs or sweeps, or is a list, with the numbers 0, 1, 2 and so on as names.
     - `call` is applied to each input, by default `Sweep.sweep` or `Job.run`. It should return a whole result, not an
       iterator, for example `lambda job: job.series(every=100, first=1000)`.
     - `cache` is a folder that keeps the outputs of the program. If a run is interrupted, even by `kill -9`, start it
       again with the same folder: finished outputs are read, and `call` is applied to them again. Files are named by
-      the SHA-256 of arguments, input and program, so a change never gets an old result; damaged files are not used.
-      Several runs, also on several machines, may share a folder.
+      the SHA-256 of arguments, input and program, so a change never gets an old result; only complete outputs are kept,
+      and damaged files are not used. Several runs, also on several machines, may share a folder. A folder that cannot
+      be written to is read, and a warning says that new outputs are not kept.
     - `executor` is any executor of `concurrent.futures`, which you shut down yourself; by default each thread waits
       for one process of the program. With other processes (`ProcessPoolExecutor`, dask's `client.get_executor()`,
       `mpi4py.futures.MPIPoolExecutor`, joblib's `get_reusable_executor()`), `call` must be a top-level function of a
@@ -90,23 +91,27 @@ def results(
       takes.
 
     After an exception, Ctrl-C or a `break`, no process of the program continues. If a variable holds the iterator,
-    call its `.close()`; otherwise its processes end when Python exits."""
+    call its `.close()`; otherwise its processes end when Python exits. SIGTERM and SIGHUP, which `scancel`, systemd and
+    Docker send, end the processes too before they end Python, if `results` runs in the main thread and your script does
+    not handle these signals itself."""
     if errors not in ("raise", "keep"):
-        raise ValueError(f'errors must be "raise" or "keep", not {errors!r}')
+        raise ParameterError(f'errors must be "raise" or "keep", not {errors!r}')
     if at_once is not None:
-        whole("at_once", at_once, 1, 10**6)
-    named = dict(texts) if isinstance(texts, Mapping) else dict(enumerate(texts))
+        at_once = whole("at_once", at_once, 1, 10**6)
+    named = dict(inputs) if isinstance(inputs, Mapping) else dict(enumerate(inputs))
     if call is None:
-        for name, text in named.items():
-            if not isinstance(text, (Job, Sweep)):
-                raise TypeError(f"input {name!r} is not a Job or a Sweep: {text!r}")
+        for name, given in named.items():
+            if not isinstance(given, (Job, Sweep)):
+                raise ParameterError(f"input {name!r} is not a Job or a Sweep: {given!r}")
     kept, report = _cache_for(cache), reporter(progress)
     return _results(named, call or table_or_snapshots, kept, executor, report, errors == "keep", at_once)
 
 
-def run_all(inputs: Iterable[Text], call: Callable[[Text], Result], at_once: Optional[int] = None) -> list[Result]:
+def run_all(inputs: Iterable[Input], call: Callable[[Input], Result], at_once: Optional[int] = None) -> list[Result]:
     """Apply `call` to every input and return the results in order, for example `run_all(sweeps, Sweep.sweep)`. `at_once` is
     as in `results`. If a call raises an exception, the other calls are stopped and it is raised."""
+    if callable(inputs) and not callable(call):
+        raise ParameterError("the inputs come first: run_all(inputs, call)")
     found = dict(results(list(inputs), call, at_once=at_once))
     return [found[place] for place in range(len(found))]
 
@@ -136,8 +141,8 @@ def _results(
     with _running(executor, cache, at_once, names) as (pool, lease, waiting):
 
         def submit(count: Optional[int]) -> None:
-            for name, text in itertools.islice(inputs, count):
-                future = pool.submit(_task, call, text, cache, lease)
+            for name, given in itertools.islice(inputs, count):
+                future = pool.submit(_task, call, given, cache, lease)
                 names[future] = name
                 future.add_done_callback(finished.put)
 
@@ -162,26 +167,27 @@ def _running(
 ) -> Iterator[tuple[Executor, Lease, Optional[int]]]:
     """The executor, the lease of the run, and how many inputs it gets at first. At the end nothing of it goes on."""
     now = setting()
-    processes = Processes(None if now is None else now.processes)
     # A run inside a task of another run leaves the other processors to the other tasks.
     count = at_once or (len(os.sched_getaffinity(0)) if now is None else 1)
-    pool = executor or ThreadPoolExecutor(count, "trlab")
     lease = Lease.new(None if cache is None else cache.folder)
-    _RUNS[lease.path] = processes
-    _stop_at_exit()
-    try:
-        if executor is not None:
-            lease.begin()
-        # Threads of our own always have an input at hand while the caller looks at a result.
-        yield pool, lease, at_once if executor is not None else 2 * count
-    finally:
-        processes.stop()
-        running = [future for future in futures if not future.cancel()]
-        lease.end()
-        wait(running, timeout=10)
-        if executor is None:
-            pool.shutdown()
-        del _RUNS[lease.path]
+    with new_processes(None if now is None else now.processes) as processes:
+        pool = executor or ThreadPoolExecutor(count, "trlab")
+        _RUNS[lease.path] = processes
+        running: list[Future[Any]] = []
+        try:
+            with nullcontext() if executor is None else lease.held():
+                try:
+                    # Threads of our own always have an input at hand while the caller looks at a result.
+                    yield pool, lease, at_once if executor is not None else 2 * count
+                finally:
+                    processes.stop()
+                    running += [future for future in futures if not future.cancel()]
+        finally:
+            lease.wait_for_tasks()
+            wait(running, timeout=10)
+            if executor is None:
+                pool.shutdown()
+            del _RUNS[lease.path]
 
 
 def _found(future: Future[Any], are_errors_kept: bool) -> Any:
@@ -192,10 +198,10 @@ def _found(future: Future[Any], are_errors_kept: bool) -> Any:
     return future.result()
 
 
-def _task(call: Callable[[Any], Any], text: Any, cache: Optional[Cache], lease: Lease) -> Any:
+def _task(call: Callable[[Any], Any], given: Any, cache: Optional[Cache], lease: Lease) -> Any:
     """Apply a call to an input, in the thread, process or machine that the executor chooses."""
     with _processes_of(lease) as processes, set_to(Setting(processes, cache)):
-        return call(text)
+        return call(given)
 
 
 @contextmanager
@@ -205,16 +211,17 @@ def _processes_of(lease: Lease) -> Iterator[Processes]:
         # A task that begins after its run has ended belongs to nothing.
         yield _RUNS.get(lease.path) or Processes(is_stopped=True)
         return
-    processes, ended = Processes(), threading.Event()
-    if not lease.can_be_seen():
-        yield processes
-        return
-    with lease.task():
-        threading.Thread(target=_watch_lease, args=(lease, processes, ended), daemon=True).start()
-        try:
+    with new_processes() as processes:
+        if not lease.can_be_seen():
             yield processes
-        finally:
-            ended.set()
+            return
+        ended = threading.Event()
+        with lease.task():
+            threading.Thread(target=_watch_lease, args=(lease, processes, ended), daemon=True).start()
+            try:
+                yield processes
+            finally:
+                ended.set()
 
 
 def _watch_lease(lease: Lease, processes: Processes, ended: threading.Event) -> None:
@@ -223,17 +230,3 @@ def _watch_lease(lease: Lease, processes: Processes, ended: threading.Event) -> 
         if ended.wait(0.1):
             return
     processes.stop()
-
-
-@functools.lru_cache(maxsize=None)
-def _stop_at_exit() -> None:
-    """Has all runs stopped when Python exits, also those whose iterators are still held.
-
-    Executors wait for their threads at an earlier time than that of `atexit`, so that this must come before."""
-    getattr(threading, "_register_atexit", atexit.register)(_stop_all)
-
-
-def _stop_all() -> None:
-    for path, processes in list(_RUNS.items()):
-        Path(path).unlink(missing_ok=True)
-        processes.stop()

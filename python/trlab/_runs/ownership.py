@@ -4,16 +4,19 @@ from __future__ import annotations
 import functools
 import os
 import secrets
-import signal
 import socket
 import tempfile
 import time
-from contextlib import contextmanager
+from contextlib import contextmanager, suppress
 from pathlib import Path
 from collections.abc import Iterator
 from typing import NamedTuple, Optional
 
 _SIGN = "-trlab-"
+
+# The files of this process that exist only as long as it works on them.
+_OWNED: set[Path] = set()
+os.register_at_fork(after_in_child=_OWNED.clear)
 
 
 @functools.lru_cache(maxsize=None)
@@ -31,31 +34,36 @@ def new_path(folder: Path, kind: str) -> Path:
     return folder / f".{kind}{_SIGN}{machine()}-{os.getpid()}-{secrets.token_hex(8)}"
 
 
-def remove_left(folder: Path) -> None:
-    """Removes the files of `new_path` whose processes were on this machine and have ended.
+@contextmanager
+def owned(path: Path) -> Iterator[Path]:
+    """A path whose file is removed at the end of the block, or before if a signal ends this process."""
+    _OWNED.add(path)
+    try:
+        yield path
+    finally:
+        path.unlink(missing_ok=True)
+        _OWNED.discard(path)
 
-    A process that was killed may have left programs that still write to them: these are killed."""
-    left = [file for file in folder.resolve().glob(f".*{_SIGN}{machine()}-*-*") if _is_left(file)]
-    if left:
-        _kill_writers({str(file) for file in left})
-    for file in left:
-        file.unlink(missing_ok=True)
+
+def remove_owned() -> None:
+    """Removes the files that this process owns now."""
+    for path in list(_OWNED):
+        with suppress(OSError):
+            path.unlink(missing_ok=True)
+
+
+def remove_left(folder: Path) -> None:
+    """Removes the files of `new_path` whose processes were on this machine and have ended."""
+    for file in folder.glob(f".*{_SIGN}{machine()}-*-*"):
+        if _is_left(file):
+            # Those in a read-only folder stay.
+            with suppress(OSError):
+                file.unlink(missing_ok=True)
 
 
 def _is_left(file: Path) -> bool:
     number = file.name.split("-")[-2]
     return number.isdecimal() and not _is_running(int(number))
-
-
-def _kill_writers(files: set[str]) -> None:
-    """Kills the processes whose standard output is one of these files."""
-    for process in Path("/proc").glob("[0-9]*"):
-        try:
-            if os.readlink(process / "fd" / "1") in files:
-                os.kill(int(process.name), signal.SIGKILL)
-        except OSError:
-            # It has ended, or belongs to somebody else.
-            continue
 
 
 def _is_running(number: int) -> bool:
@@ -73,29 +81,29 @@ class Lease(NamedTuple):
 
     @classmethod
     def new(cls, folder: Optional[Path]) -> Lease:
-        """A lease of this process, in a folder or in the one for temporary files."""
-        path = new_path(folder or Path(tempfile.gettempdir()), "running")
-        return cls(str(path), machine(), os.getpid())
+        """A lease of this process, in a folder that can be written to or in the one for temporary files."""
+        place = folder if folder is not None and os.access(folder, os.W_OK) else Path(tempfile.gettempdir())
+        return cls(str(new_path(place, "running")), machine(), os.getpid())
 
-    def begin(self) -> None:
-        Path(self.path).touch()
+    @contextmanager
+    def held(self) -> Iterator[None]:
+        """The run goes on until the block ends."""
+        with owned(Path(self.path)) as path:
+            path.touch()
+            yield
 
-    def end(self) -> None:
-        """Ends the run, and waits until its tasks in other processes have noticed it, for 10 seconds at most."""
+    def wait_for_tasks(self) -> None:
+        """Waits until the tasks in other processes have noticed that the run is over, for 10 seconds at most."""
         path, latest = Path(self.path), time.monotonic() + 10
-        path.unlink(missing_ok=True)
         while any(path.parent.glob(f"{path.name}.*")) and time.monotonic() < latest:
             time.sleep(0.02)
 
     @contextmanager
     def task(self) -> Iterator[None]:
         """Marks, for the end of the run, that a task of this process is running."""
-        mark = Path(f"{self.path}.{machine()}-{os.getpid()}-{secrets.token_hex(8)}")
-        mark.touch()
-        try:
+        with owned(Path(f"{self.path}.{machine()}-{os.getpid()}-{secrets.token_hex(8)}")) as mark:
+            mark.touch()
             yield
-        finally:
-            mark.unlink(missing_ok=True)
 
     def is_here(self) -> bool:
         """Whether the run belongs to this process."""

@@ -1,39 +1,68 @@
-"""Processes of the program: started for one input, stopped together, their outputs kept in a cache if there is one."""
+"""Processes of the program: started for one request, judged when they end, and stopped together."""
 from __future__ import annotations
 
+import atexit
+import errno
+import functools
+import os
 import subprocess
 import tempfile
 import threading
-from contextlib import contextmanager
+from contextlib import contextmanager, suppress
 from contextvars import ContextVar
-from collections.abc import Iterator, Sequence
+from collections.abc import Generator, Iterator
 from typing import IO, TYPE_CHECKING, NamedTuple, Optional
 
-from .._errors import ProgramError
+from .._errors import ProgramError, ProgramNotFoundError
 from .location import find_program
+from .ownership import remove_owned
+from .requests import Length, Request
+from .signals import Ending, need_exit_statuses, wait_for
 
 if TYPE_CHECKING:
     from .cache import Cache
 
+_BLOCK = 1 << 16
+_LONGEST_MESSAGE = 1 << 16
+_REJECTIONS = (b"fault ", b"refused ")
+_NOT_FOUND = (errno.ENOENT, errno.EACCES, errno.ENOEXEC, errno.ENOTDIR, errno.ELOOP)
+
+
+class RejectionError(ProgramError):
+    """The program wrote that it rejects the input."""
+
 
 class Processes:
-    """The running processes of one `results`, so that all of them can be stopped.
+    """The running processes of one `results`, or of one call outside of all tasks, so that all of them can be stopped.
 
     Processes of a `results` inside a call belong to the `outer` one too."""
 
     def __init__(self, outer: Optional[Processes] = None, is_stopped: bool = False) -> None:
         self.is_stopped = is_stopped
         self._running: set[subprocess.Popen[bytes]] = set()
-        self._lock, self._outer = threading.Lock(), outer
+        # A signal may come while the main thread holds it.
+        self._lock, self._outer = threading.RLock(), outer
 
-    def add(self, process: subprocess.Popen[bytes]) -> None:
-        """Adds a process, and kills it if all were stopped before."""
+    def start(self, request: Request, source: IO[bytes], said: IO[bytes]) -> subprocess.Popen[bytes]:
+        """A new process, which is killed if all were stopped before."""
+        program = find_program()
+        with self._lock:
+            try:
+                process = subprocess.Popen([program, *request.words], stdin=source, stdout=subprocess.PIPE, stderr=said)
+            except OSError as fault:
+                if fault.errno in _NOT_FOUND:
+                    raise ProgramNotFoundError(f"{program} cannot be run: {fault.strerror}") from None
+                raise
+            self._add(process)
+        return process
+
+    def _add(self, process: subprocess.Popen[bytes]) -> None:
         with self._lock:
             self._running.add(process)
             if self.is_stopped:
                 process.kill()
         if self._outer is not None:
-            self._outer.add(process)
+            self._outer._add(process)
 
     def remove(self, process: subprocess.Popen[bytes]) -> None:
         with self._lock:
@@ -42,11 +71,47 @@ class Processes:
             self._outer.remove(process)
 
     def stop(self) -> None:
-        """Kills all processes, those that are added later too."""
+        """Kills all processes, those that are started later too."""
         with self._lock:
             self.is_stopped = True
-            for process in self._running:
+            for process in list(self._running):
                 process.kill()
+
+
+_ALL: set[Processes] = set()
+os.register_at_fork(after_in_child=_ALL.clear)
+
+
+def stop_all() -> None:
+    """Kills all programs of this process of Python, and removes the files that it has begun."""
+    for processes in list(_ALL):
+        processes.stop()
+    remove_owned()
+
+
+_ENDING = Ending(stop_all)
+
+
+@functools.lru_cache(maxsize=None)
+def _stop_at_exit() -> None:
+    """Has everything stopped when Python exits, also runs whose iterators are still held.
+
+    Executors wait for their threads at an earlier time than that of `atexit`, so that this must come before."""
+    with suppress(RuntimeError):
+        getattr(threading, "_register_atexit", atexit.register)(stop_all)
+
+
+@contextmanager
+def new_processes(outer: Optional[Processes] = None) -> Iterator[Processes]:
+    """Processes of a block, which end with this process of Python, also if SIGTERM or SIGHUP ends it."""
+    processes = Processes(outer)
+    _stop_at_exit()
+    _ALL.add(processes)
+    try:
+        with _ENDING.caught():
+            yield processes
+    finally:
+        _ALL.discard(processes)
 
 
 class Setting(NamedTuple):
@@ -74,39 +139,30 @@ def set_to(new: Setting) -> Iterator[None]:
         _SETTING.reset(before)
 
 
-@contextmanager
-def output_of(words: Sequence[str], text: str) -> Iterator[IO[bytes]]:
-    """The output of the program for these words and this input, from a cache if it is there, or while it runs.
+def output_of(request: Request) -> Iterator[bytes]:
+    """The complete output of the program in blocks, from a cache if it is there, or while the program runs.
 
-    At the end of the block `ProgramError` is raised if the program ended with an error. If the block raises or is left early,
-    the program is killed. With a cache the program has ended before the block begins."""
+    After the last block, these are raised: `RejectionError`, in place of the output, if the program rejects the input;
+    `ProgramError` if it ended with another error; `IncompleteOutputError`, whatever its exit status is, if the output has
+    not as many lines as the input gives. If the iterator is closed early, the program is killed. With a cache the program
+    has ended before the first block."""
     now = setting()
-    if now is not None and now.cache is not None:
-        with now.cache.output_of(words, text) as output:
-            yield output
-        return
-    with started(words, text, subprocess.PIPE) as process:
-        assert process.stdout is not None
-        yield process.stdout
+    return run(request) if now is None or now.cache is None else now.cache.output_of(request)
 
 
-@contextmanager
-def started(words: Sequence[str], text: str, output: int) -> Iterator[subprocess.Popen[bytes]]:
-    """A process of the program that writes to `output`, a file descriptor or `subprocess.PIPE`.
-
-    It has ended after the block: killed if the block raised; then `ProgramError` is raised if its exit status is not 0."""
-    now = setting()
-    processes = Processes() if now is None else now.processes
-    with tempfile.TemporaryFile() as source, tempfile.TemporaryFile() as said:
-        source.write(text.encode())
+def run(request: Request) -> Generator[bytes, None, int]:
+    """The same output, from no cache. The value at the end is the exit status, which is 0 unless it is an explanation."""
+    need_exit_statuses()
+    with _processes_now() as processes, tempfile.TemporaryFile() as source, tempfile.TemporaryFile() as said:
+        source.write(request.content())
         source.seek(0)
-        with subprocess.Popen([find_program(), *words], stdin=source, stdout=output, stderr=said) as process:
-            processes.add(process)
+        length = Length(request)
+        with processes.start(request, source, said) as process:
+            assert process.stdout is not None
             try:
-                yield process
-                if process.stdout is not None:
-                    process.stdout.close()
-                process.wait()
+                rejection = yield from _blocks(process.stdout, request, length)
+                process.stdout.close()
+                wait_for(process)
             except BaseException:
                 # Also if the caller is interrupted or wants no more: the program does not go on without a reader.
                 process.kill()
@@ -114,6 +170,33 @@ def started(words: Sequence[str], text: str, output: int) -> Iterator[subprocess
             finally:
                 process.wait()
                 processes.remove(process)
-        if process.returncode != 0:
+        if rejection:
+            raise RejectionError(process.returncode, rejection.decode(errors="replace"))
+        if process.returncode not in ((0, 1) if request.is_explanation() else (0,)):
             said.seek(0)
-            raise ProgramError(process.returncode, said.read().decode(errors="replace"))
+            raise ProgramError(process.returncode, said.read(_LONGEST_MESSAGE).decode(errors="replace"))
+        length.end()
+        return process.returncode
+
+
+@contextmanager
+def _processes_now() -> Iterator[Processes]:
+    """The processes of the task that runs now, or of one call."""
+    now = setting()
+    if now is not None:
+        yield now.processes
+        return
+    with new_processes() as processes:
+        yield processes
+
+
+def _blocks(output: IO[bytes], request: Request, length: Length) -> Generator[bytes, None, bytes]:
+    """The blocks of an output; if it is a rejection there are none, and its text is returned."""
+    block = output.read(max(map(len, _REJECTIONS)))
+    if block.startswith(_REJECTIONS) and not request.is_explanation():
+        return block + output.read(_LONGEST_MESSAGE)
+    while block:
+        length.add(block)
+        yield block
+        block = output.read1(_BLOCK)  # type: ignore[attr-defined]
+    return b""

@@ -2,90 +2,217 @@
 from __future__ import annotations
 
 import json
+import os
+import re
 import zipfile
+import zlib
 from collections import namedtuple
+from fractions import Fraction
+from numbers import Integral, Rational, Real
 from pathlib import Path
-from collections.abc import Sequence
-from typing import TYPE_CHECKING, Any, NamedTuple, Union
+from collections.abc import Iterator, Mapping, Sequence
+from typing import TYPE_CHECKING, Any, NamedTuple, NoReturn, Union
 
-from .._errors import StudyFileError
-from .._version import __version__
-from .._runs.location import find_program, sha256_of_program
-from .._runs.many import results as results_of
-from .._runs.calls import ask
+from .._errors import ParameterError, StudyFileError
 from .._results.tables import Point, Table, Window
-from .._inputs.jobs import Job
+from .._runs.cache import program_identity
+from .._runs.calls import ask
+from .._runs.many import results as results_of
+from .._runs.ownership import new_path, owned
+from .._runs.parts import joined, kind_of, requests_of
 from .._inputs.sweeps import Sweep
+from .._version import __version__
 
 if TYPE_CHECKING:
     import pandas
 
+_FORMAT = "trlab study 1"
+_MOST_BYTES = 4 * 1024 * 1024
+"""The maximum size of an input, which is also that of trlab."""
+_FILE = re.compile(r"inputs/[0-9]{6}(?:~[0-9]{4})?\.(?:job|sweep)")
+_WORD = re.compile("[a-zA-Z0-9=-]+")
+_FIXED = (1980, 1, 1, 0, 0, 0)
+_DAMAGED = (zipfile.BadZipFile, zlib.error, EOFError, LookupError, NotImplementedError, OSError, RecursionError, RuntimeError, ValueError)
 
-class _Stored(NamedTuple):
-    """The texts of one choice, and the words with which the program reads each of them."""
+
+class StudyInput(NamedTuple):
+    """The input of a choice: the texts that the program reads with these `words`, one or, for some sweeps, several."""
 
     words: tuple[str, ...]
     texts: tuple[str, ...]
     is_sweep: bool
 
     def table(self) -> Table[Any]:
-        kind: Any = Point if self.words[0] == "sweep" else Window
-        rows = [row for text in self.texts for row in Table.read(kind, ask(self.words, text))]
-        # The only window of each point of a sweep from a state that no sweep file can say.
-        return Table(Point, [Point(*row[1:8]) if kind is Window else row for row in rows]) if self.is_sweep else Table(kind, rows)
+        """Run the input: one row per point of a sweep, or per window of a series."""
+        kind = kind_of(self.words)
+        return joined(Point if self.is_sweep else Window, [Table.read(kind, ask(self.words, text)) for text in self.texts])
 
 
 class Study:
-    """A study that was read: `run()` gives the same frame as `Grid.run`, to the last bit. `inputs` are by choice."""
+    """A study that `read_study` read. `names` are those of the parameters and `inputs` the inputs of each choice, a named tuple
+    of their values; `version` and `program`, its SHA-256, say what wrote the study."""
 
-    def __init__(self, about: dict[str, Any], inputs: dict[Any, _Stored]) -> None:
-        self.about, self.inputs, self.names = about, inputs, tuple(about["parameters"])
-        self._runs = dict(zip(inputs, (choice["run"] for choice in about["choices"])))
+    def __init__(self, about: Mapping[str, Any], inputs: Mapping[Any, StudyInput]) -> None:
+        self.version: str = about["trlab"]
+        self.program: str = about["program"]
+        self.names: tuple[str, ...] = tuple(about["parameters"])
+        self.inputs: dict[Any, StudyInput] = dict(inputs)
+        self._roads = dict(zip(inputs, (choice["roads"] for choice in about["choices"])))
+
+    def __repr__(self) -> str:
+        return f"<study of {len(self.inputs)} inputs by {', '.join(self.names)}>"
+
+    def results(self, **options: Any) -> Iterator[tuple[Any, Table[Any]]]:
+        """Yield each choice and its table, with the options of `trlab.results`. This needs no package."""
+        if options.get("call") is not None:
+            raise ParameterError("a study says itself what is measured: leave out `call`")
+        return results_of(self.inputs, **{**options, "call": StudyInput.table})
 
     def run(self, **options: Any) -> pandas.DataFrame:
-        """The frame of the study, with the options of `trlab.results`."""
-        from .._analysis import frames as _frames
+        """Run the study, with the options of `trlab.results`. The frame is that of `Grid.run`, to the last bit."""
+        from .._analysis.frames import tidy
 
-        found = dict(results_of(self.inputs, call=_Stored.table, **options))
-        frame = _frames.tidy({place: found[place] for place in self.inputs}, self.names, self._runs, options.get("errors") == "keep")
-        frame.attrs["trlab"] = {name: self.about[name] for name in ("trlab", "program", "parameters")}
+        found = dict(self.results(**options))
+        frame = tidy({place: found[place] for place in self.inputs}, self.names, self._roads, options.get("errors") == "keep")
+        frame.attrs["trlab"] = {"trlab": __version__, "program": program_identity()[1], "parameters": list(self.names)}
         return frame
 
 
 def save(grid: Any, path: Union[str, Path], words: Sequence[str]) -> None:
     """See `Grid.save`."""
-    choices, texts = [], {}
-    for number, (place, text) in enumerate(grid.inputs.items()):
-        parts: list[Union[Job, Sweep]] = [text]
-        how = list(words)
-        if isinstance(text, Sweep):
-            parts, how = (list(text.jobs()), ["series", "--every", str(text.measure), "--from", str(text.warm)]) if text.is_of_jobs() \
-                else (list(text.parts()), ["sweep"])
-        kind = "sweep" if how[0] == "sweep" else "job"
-        names = [f"inputs/{number:06}_{part:04}.{kind}" for part in range(len(parts))]
-        texts.update({name: part.text() for name, part in zip(names, parts)})
-        choices.append({"values": list(place), "run": grid._runs[place], "words": how, "inputs": names, "is_sweep": isinstance(text, Sweep)})
-    about = {"trlab study": 1, "trlab": __version__, "program": sha256_of_program(find_program()), "parameters": list(grid.names), "choices": choices}
-    texts["study.json"] = json.dumps(about, indent=1) + "\n"
-    with zipfile.ZipFile(path, "w", zipfile.ZIP_DEFLATED) as file:
-        for name, text in sorted(texts.items()):
-            file.writestr(zipfile.ZipInfo(name, (1980, 1, 1, 0, 0, 0)), text, zipfile.ZIP_DEFLATED)
+    choices: list[dict[str, Any]] = []
+    texts: dict[str, str] = {}
+    for number, (place, given) in enumerate(grid.inputs.items()):
+        is_sweep = isinstance(given, Sweep)
+        requests = requests_of(given, ["sweep"] if is_sweep else list(words))
+        if requests[0].words[0] == "run":
+            raise ParameterError('a study has tables, so its words begin with "series"')
+        ending = "sweep" if requests[0].words[0] == "sweep" else "job"
+        parts = [f"~{part:04}" for part in range(len(requests))] if len(requests) > 1 else [""]
+        names = [f"inputs/{number:06}{part}.{ending}" for part in parts]
+        texts.update(zip(names, (request.text for request in requests)))
+        choices.append({
+            "values": [_written(value) for value in place], "roads": grid._runs[place], "words": list(requests[0].words), "files": names,
+            "is_sweep": is_sweep,
+        })
+    version, sha256 = program_identity()
+    about = {"format": _FORMAT, "trlab": __version__, "program_version": version, "program": sha256, "parameters": list(grid.names),
+             "choices": choices}
+    _write(Path(path).expanduser(), {**texts, "study.json": json.dumps(about, indent=1) + "\n"})
+
+
+def _written(value: Any) -> Any:
+    """A value of a parameter in JSON, from which the same value is read."""
+    if isinstance(value, str):
+        return str(value)
+    if isinstance(value, Integral):
+        return int(value)
+    if isinstance(value, Rational):
+        return {"fraction": f"{value.numerator}/{value.denominator}"}
+    if isinstance(value, Real):
+        return float(value)
+    raise ParameterError(f"a study file cannot have the value {value!r}: give it a name")
+
+
+def _write(path: Path, texts: Mapping[str, str]) -> None:
+    """Writes a zip archive, always with the same bytes for the same texts: nothing is compressed, since libraries differ."""
+    with owned(new_path(path.parent, "study")) as new:
+        with zipfile.ZipFile(new, "x") as file:
+            for name, text in sorted(texts.items()):
+                member = zipfile.ZipInfo(name, _FIXED)
+                member.create_system, member.external_attr = 3, 0o644 << 16
+                file.writestr(member, text.encode("utf-8"))
+        os.replace(new, path)
 
 
 def read_study(path: Union[str, Path], any_program: bool = False) -> Study:
-    """Read a file that `Grid.save` wrote. Raises `StudyFileError` if it is of another program, whose results may differ, unless
-    `any_program`."""
+    """Read a file that `Grid.save` wrote. Raises `StudyFileError` if the file is damaged, incomplete or something else, or if it
+    is of another program than yours, whose results may differ: `any_program=True` reads it all the same."""
+    place = Path(path).expanduser()
+    if place.exists() and not place.is_file():
+        raise StudyFileError(f"{place} is not a file")
     try:
-        with zipfile.ZipFile(path) as file:
-            about = json.loads(file.read("study.json"))
-            choice: Any = namedtuple("Choice", about["parameters"])  # type: ignore[misc]
-            inputs = {
-                choice(*it["values"]): _Stored(tuple(it["words"]), tuple(file.read(name).decode() for name in it["inputs"]), it["is_sweep"])
-                for it in about["choices"]
-            }
-    except (zipfile.BadZipFile, KeyError, TypeError, json.JSONDecodeError) as fault:
-        raise StudyFileError(f"{path} is not a study of trlab: {fault!r}") from None
-    here = sha256_of_program(find_program())
-    if about["program"] != here and not any_program:
-        raise StudyFileError(f"{path} was made with trlab {about['trlab']}, program {about['program'][:8]}, and this is {here[:8]}: say any_program=True")
+        with open(place, "rb") as content, zipfile.ZipFile(content) as file:
+            study = _study_in(file, os.fstat(content.fileno()).st_size)
+    except FileNotFoundError:
+        raise
+    except StudyFileError as fault:
+        raise StudyFileError(f"{place} is not a study of trlab, or damaged: {fault}") from None
+    except _DAMAGED as fault:
+        raise StudyFileError(f"{place} is not a study of trlab, or damaged: {type(fault).__name__}: {fault}") from None
+    version, here = program_identity()
+    if study.program != here and not any_program:
+        raise StudyFileError(
+            f"{place} was made with trlab {study.version}, program {study.program[:12]}, and yours is {version}, program {here[:12]}: "
+            "install that version, or say any_program=True"
+        )
+    return study
+
+
+def _study_in(file: zipfile.ZipFile, size: int) -> Study:
+    """The study in an archive of so many bytes. Raises `StudyFileError`, or other errors if it is damaged."""
+    members = file.infolist()
+    names = [member.filename for member in members]
+    _need(sum(member.file_size for member in members) <= size, "its members are longer than the file")
+    _need(all(member.compress_type == zipfile.ZIP_STORED for member in members), "it is compressed")
+    _need(len(set(names)) == len(names), "it has two members of one name")
+    about = json.loads(file.read("study.json"), parse_constant=_no_number)
+    _need(isinstance(about, dict), "study.json is not an object")
+    _need(about.get("format") == _FORMAT, f"its format is not `{_FORMAT}`: it may be of another version")
+    _check_about(about)
+    listed = [name for choice in about["choices"] for name in choice["files"]]
+    _need(sorted([*listed, "study.json"]) == sorted(names), "its members are not those that study.json lists")
+    _need(all(_FILE.fullmatch(name) for name in listed), "an input has another name")
+    _need(all(file.getinfo(name).file_size <= _MOST_BYTES for name in listed), f"an input has more than {_MOST_BYTES} bytes")
+    make: Any = namedtuple("Choice", about["parameters"])  # type: ignore[misc]
+    inputs = {
+        make(*map(_read_value, choice["values"])): StudyInput(
+            tuple(choice["words"]), tuple(file.read(name).decode("utf-8") for name in choice["files"]), choice["is_sweep"]
+        )
+        for choice in about["choices"]
+    }
+    _need(len(inputs) == len(about["choices"]), "two choices have the same values")
     return Study(about, inputs)
+
+
+def _check_about(about: Mapping[str, Any]) -> None:
+    """Raises `StudyFileError` if study.json has not the members that `save` writes."""
+    _need(isinstance(about.get("trlab"), str) and isinstance(about.get("program_version"), str), "it has no version")
+    _need(re.fullmatch("[0-9a-f]{64}", str(about.get("program"))) is not None, "it has no SHA-256 of the program")
+    _need(_is_list(about.get("parameters"), str), "it has no parameters")
+    _need(_is_list(about.get("choices"), dict) and about["choices"], "it has no choices")
+    for choice in about["choices"]:
+        words, roads = choice.get("words"), choice.get("roads")
+        _need(isinstance(choice.get("values"), list) and len(choice["values"]) == len(about["parameters"]), "a choice has other parameters")
+        _need(_is_list(words, str) and words[:1] in (["series"], ["sweep"]) and all(map(_WORD.fullmatch, words)), "a choice has other words")
+        _need(_is_list(choice.get("files"), str) and choice["files"], "a choice has no inputs")
+        _need(isinstance(choice.get("is_sweep"), bool) and (choice["is_sweep"] or words[0] == "series"), "a choice has another kind")
+        _need(
+            isinstance(roads, dict) and re.fullmatch("[0-9a-f]{64}", str(roads.get("key"))) is not None
+            and _is_list(roads.get("ensembles"), str) and _is_list(roads.get("cars"), int) and type(roads.get("cells")) is int
+            and 0 < len(roads["cars"]) == len(roads["ensembles"]), "a choice has no roads"
+        )
+
+
+def _is_list(value: object, kind: type) -> bool:
+    """Whether a value of JSON is a list of this kind. True and False are no whole numbers."""
+    return isinstance(value, list) and all(type(item) is kind for item in value)
+
+
+def _read_value(value: Any) -> Union[str, int, float, Fraction]:
+    """The value of a parameter."""
+    if isinstance(value, dict):
+        _need(list(value) == ["fraction"] and isinstance(value["fraction"], str), "a parameter has no value")
+        return Fraction(value["fraction"])
+    _need(type(value) in (str, int, float), "a parameter has no value")
+    found: Union[str, int, float] = value
+    return found
+
+
+def _no_number(name: str) -> NoReturn:
+    raise StudyFileError(f"study.json has the number {name}")
+
+
+def _need(condition: object, fault: str) -> None:
+    if not condition:
+        raise StudyFileError(fault)

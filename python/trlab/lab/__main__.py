@@ -11,7 +11,7 @@ import zlib
 from pathlib import Path
 from typing import Optional
 
-from .._errors import ProgramError, RejectedInputError
+from .._errors import TrlabError
 from .export import exported
 from .server import MAX_BYTES, Lab
 
@@ -26,14 +26,16 @@ def main(words: Optional[list[str]] = None) -> None:
     parser.add_argument("--no-browser", action="store_true", help="print the address, but do not open the browser")
     parser.add_argument("--export", metavar="FILE", help="write FILE, which plays the run of the job on standard input")
     options = parser.parse_args(words)
+    # It may be ignored since before Python started, and then exit statuses of trlab are lost.
+    signal.signal(signal.SIGCHLD, signal.SIG_DFL)
     try:
         if options.export:
             if options.job:
                 parser.error("--export reads the job from standard input: trlab-lab --export FILE < JOB")
-            Path(options.export).write_text(exported(sys.stdin.read()), encoding="utf-8")
+            Path(options.export).write_text(exported(sys.stdin.buffer.read().decode("utf-8", "surrogateescape")), encoding="utf-8")
         else:
             _serve(options.port, fragment(options.job) if options.job else "", options.no_browser)
-    except (ProgramError, OSError, RejectedInputError, ValueError, OverflowError) as error:
+    except (TrlabError, OSError, ValueError, OverflowError) as error:
         sys.exit(f"trlab-lab: {error}")
 
 
@@ -51,7 +53,7 @@ def fragment(job: str) -> str:
 def _serve(port: int, opened: str, no_browser: bool) -> None:
     if not 0 <= port <= 65535:
         raise ValueError(f"the port must be between 0 and 65535, not {port}")
-    for ending in signal.SIGTERM, signal.SIGHUP:
+    for ending in signal.SIGTERM, signal.SIGHUP, signal.SIGQUIT:
         signal.signal(ending, lambda *_: sys.exit())
     try:
         lab = Lab(port)

@@ -75,7 +75,7 @@ def _page(lines: Iterator[str], limit: int, title: str) -> str:
     job = {"length": len(lanes[0]), "lanes": len(lanes), "limit": limit, "steps": steps}
     rings = "two rings" if len(lanes) == 2 else "a ring"
     lead = f"{cars} {'car' if cars == 1 else 'cars'} on {rings} of {len(lanes[0])} cells, at most {limit} cells per step"
-    script, style = _script(), (HERE / "page.css").read_text()
+    script, style = _script(), (HERE / "page.css").read_text("utf-8")
     packed = base64.b64encode(gzip.compress("".join(output).encode(), 9, mtime=0)).decode()
     return _PAGE.format(
         title=escape(title or lead), lead=escape(title or lead) + ("" if title else "."), style=style, script=script,
@@ -85,13 +85,13 @@ def _page(lines: Iterator[str], limit: int, title: str) -> str:
 
 def _script() -> str:
     """The scripts as one: without `import` lines and the word `export`."""
-    texts = [(HERE / f"{name}.js").read_text() for name in SCRIPTS]
+    texts = [(HERE / f"{name}.js").read_text("utf-8") for name in SCRIPTS]
     return re.sub(r"^export ", "", re.sub(r"^import .*;\n", "", "\n".join(texts), flags=re.M), flags=re.M)
 
 
 def _parts() -> str:
     """The parts of the page that play a run."""
-    page = (HERE / "page.html").read_text()
+    page = (HERE / "page.html").read_text("utf-8")
     forms = r'<figure class="ring">.*?</figure>', r'<section class="transport".*?</section>', r'<section class="time".*?role="status"></p>'
     return "\n".join(found[0] for form in forms if (found := re.search(form, page, re.S)))
 

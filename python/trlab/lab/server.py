@@ -17,6 +17,7 @@ from pathlib import Path
 from typing import Any, Optional
 
 from .._runs.location import find_program
+from .._runs.signals import need_exit_statuses, wait_for
 from . import jobs
 
 HERE = Path(__file__).resolve().parent
@@ -56,7 +57,7 @@ def examples() -> dict[str, str]:
     packed = HERE / "examples"
     folder = packed if packed.is_dir() else HERE.parents[2] / "examples"
     files = sorted(path for path in folder.glob("*") if path.suffix in {".job", ".sweep", ".rule"})
-    return {path.name: path.read_text() for path in files}
+    return {path.name: path.read_text("utf-8") for path in files}
 
 
 class Lab(ThreadingHTTPServer):
@@ -65,6 +66,7 @@ class Lab(ThreadingHTTPServer):
     daemon_threads = True
 
     def __init__(self, port: int = 0) -> None:
+        need_exit_statuses()
         self.program = find_program()
         super().__init__(("127.0.0.1", port), Page)
         self.token = secrets.token_urlsafe(24)
@@ -95,6 +97,11 @@ class Lab(ThreadingHTTPServer):
                 return child
         finally:
             os.close(source)
+
+    def status(self, child: subprocess.Popen[bytes]) -> int:
+        """The exit status of a process, which has closed its output. Raises `ExitStatusError` if it is lost."""
+        wait_for(child)
+        return child.wait()
 
     def end(self, child: subprocess.Popen[bytes]) -> None:
         """End a process, if it still runs."""
@@ -186,7 +193,7 @@ class Page(BaseHTTPRequestHandler):
         try:
             child = self.server.start(RUNS.get(name) or QUESTIONS[name], text)
             try:
-                is_whole = self.stream(child, self.skipped()) and child.wait() in (0, 1)
+                is_whole = self.stream(child, self.skipped()) and self.server.status(child) in (0, 1)
                 # Without the last chunk the page knows that the output is cut.
                 self.close_connection = not is_whole
                 if is_whole:

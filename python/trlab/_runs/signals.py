@@ -1,0 +1,82 @@
+"""Signals: one without which exit statuses are lost, and those that end this process and its programs with it."""
+from __future__ import annotations
+
+import os
+import signal
+import subprocess
+import threading
+from contextlib import contextmanager
+from collections.abc import Callable, Iterator
+from types import FrameType
+from typing import Optional
+
+from .._errors import ExitStatusError
+
+_ENDING = (signal.SIGTERM, signal.SIGHUP)
+
+
+def need_exit_statuses() -> None:
+    """Raises `ExitStatusError` if SIGCHLD is ignored: Linux then forgets how a program ended, and Python calls it success."""
+    if signal.getsignal(signal.SIGCHLD) == signal.SIG_IGN:
+        raise ExitStatusError(
+            "SIGCHLD is ignored, possibly since before Python started, so that nobody could notice a failed run: "
+            "call signal.signal(signal.SIGCHLD, signal.SIG_DFL) first"
+        )
+
+
+def wait_for(process: subprocess.Popen[bytes]) -> None:
+    """Waits until a process has ended, and leaves its exit status to it. Raises `ExitStatusError` if the status is lost."""
+    try:
+        os.waitid(os.P_PID, process.pid, os.WEXITED | os.WNOWAIT)
+    except ChildProcessError:
+        # `Popen.kill` in another thread asks for the status first.
+        if process.returncode is not None:
+            return
+        raise ExitStatusError(
+            "the exit status of trlab is lost, because something else in this process waits for all child processes: "
+            "run trlab in another process"
+        ) from None
+
+
+class Ending:
+    """Has SIGTERM and SIGHUP call a function before they end this process, as long as somebody needs it.
+
+    Only signals that have their default action are caught, and only if the main thread asks for it, because Python runs
+    their handlers in that thread."""
+
+    def __init__(self, stop: Callable[[], object]) -> None:
+        self._stop, self._users = stop, 0
+        os.register_at_fork(after_in_child=self._forget)
+
+    @contextmanager
+    def caught(self) -> Iterator[None]:
+        """During the block the signals are caught."""
+        is_user = threading.current_thread() is threading.main_thread()
+        if is_user:
+            self._users += 1
+            self._replace(signal.SIG_DFL, self._end)
+        try:
+            yield
+        finally:
+            # A generator may end in another thread than it began in: then the handlers stay, which changes nothing.
+            if is_user and threading.current_thread() is threading.main_thread():
+                self._users -= 1
+                if self._users == 0:
+                    self._replace(self._end, signal.SIG_DFL)
+
+    def _replace(self, old: object, new: object) -> None:
+        for number in _ENDING:
+            if signal.getsignal(number) == old:
+                signal.signal(number, new)  # type: ignore[arg-type]
+
+    def _end(self, number: int, _: Optional[FrameType]) -> None:
+        self._stop()
+        signal.signal(number, signal.SIG_DFL)
+        os.kill(os.getpid(), number)
+        # The first process of a container does not die by its own signals.
+        os._exit(128 + number)
+
+    def _forget(self) -> None:
+        """A new process of the system has nothing to stop."""
+        self._users = 0
+        self._replace(self._end, signal.SIG_DFL)
