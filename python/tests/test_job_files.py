@@ -100,7 +100,7 @@ class Rejected(unittest.TestCase):
 def explain_as(command, text):
     from trlab._runs.calls import explained
 
-    return explained(text, command).rstrip("\n")
+    return explained(text, command).stdout.rstrip("\n")
 
 
 class Controls(unittest.TestCase):

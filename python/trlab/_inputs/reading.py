@@ -34,9 +34,9 @@ def content_of(path: Union[str, os.PathLike[str]], kind: str) -> str:
 
 def need_accepted(command: str, text: str) -> None:
     """Raises `RejectedInputError` if the program rejects this input for a command, `run` or `sweep`."""
-    report = json.loads(explained(text, "--json", command))
-    if report["error"] is not None:
-        raise RejectedInputError(explained(text, command).rstrip("\n"), report)
+    report = explained(text, "--json", command)
+    if report.returncode != 0:
+        raise RejectedInputError(explained(text, command).stdout.rstrip("\n"), json.loads(report.stdout))
 
 
 def need_same(read: Input, text: str) -> Input:
