@@ -6,7 +6,9 @@ from dataclasses import replace
 from unittest import mock
 
 from tests.by_pictures import windows
-from trlab import Job, Nasch, Own, Snapshot, Rickert, SlowToStart, Sweep, Table, Window, continuing, jammed, random_cells
+from trlab import Job, Nasch, Own, Snapshot, Rickert, SlowToStart, Sweep, Table, Window, jammed, random_cells
+from trlab._inputs import long_jobs
+from trlab._inputs.words import Asked
 from trlab._runs.calls import ask_by_line
 
 HALF = Own("motion\nget r0, gap\ndiv r0, r0, 2\nget r1, limit\nmin r0, r0, r1\ngo r0\n")
@@ -82,15 +84,20 @@ class LongRuns(unittest.TestCase):
     def test_every_nth_picture(self):
         with short_inputs(20):
             snapshots = TWO.run()
-            for every, first in (1, 0), (1, 20), (7, 0), (7, 3), (20, 20), (3, 41), (60, 50), (1, 51):
-                self.assertEqual(list(continuing.snapshots(TWO, every, first, [])), snapshots[first::every])
+            for every, first in (1, 0), (1, 20), (7, 0), (7, 3), (20, 20), (3, 41), (60, 50):
+                self.assertEqual(list(long_jobs.snapshots(TWO, Asked(every, first, 1))), snapshots[first::every])
                 self.assertEqual(TWO.run(every=every, first=first), snapshots[first::every])
 
     def test_other_pictures_are_not_asked_for(self):
         asked = []
-        with short_inputs(20), mock.patch.object(continuing, "ask_by_line", lambda words, text: asked.append(words) or ask_by_line(words, text)):
+
+        def ask(words, text):
+            asked.append(words)
+            return ask_by_line(words, text)
+
+        with short_inputs(20), mock.patch("trlab._inputs.long_jobs.ask_by_line", ask), mock.patch("trlab._inputs.jobs.ask_by_line", ask):
             self.assertEqual([it.step for it in TWO.snapshots(every=25, first=10)], [10, 35])
-            TWO.series(every=40)
+            TWO.series(every=40, first=10)
         self.assertEqual({(*words,) for words in asked if words[0] == "run"}, {("run", "--every", "5"), ("run", "--from", "20")})
 
     def test_rules_take_over_at_their_steps(self):
@@ -105,7 +112,7 @@ class LongRuns(unittest.TestCase):
         for job in ONE, TWO:
             with short_inputs(20):
                 snapshots = job.run()
-                for every, first in (1, 0), (5, 0), (7, 3), (10, 20), (25, 0), (6, 25), (40, 10), (3, 41), (51, 0), (5, 60):
+                for every, first in (1, 0), (5, 0), (7, 1), (10, 20), (25, 0), (5, 25), (40, 10), (3, 41), (47, 3), (50, 0):
                     told = job.series(every=every, first=first, workers=2)
                     with self.subTest(every=every, first=first):
                         self.assertEqual(told, list(windows(snapshots, every, first)))
@@ -125,14 +132,14 @@ class LongRuns(unittest.TestCase):
 
     def test_numbers_of_windows_are_judged(self):
         job = replace(ONE, steps=500001)
-        self.assertRaisesRegex(ValueError, "every must be at least 1, not 0", job.series, every=0)
+        self.assertRaisesRegex(ValueError, "every must be between 1 and 500001, not 0", job.series, every=0)
         self.assertRaisesRegex(TypeError, "first must be a whole number", job.series, first=1.5)
 
     def test_beyond_the_greatest_input(self):
-        job = Job(limit=1, length=3, cars=1, rule=Nasch(0.5), steps=500020, at={499990: Nasch(0), 500010: Nasch(1)})
+        job = Job(limit=1, length=3, cars=1, rule=Nasch(0.5), steps=500015, at={499990: Nasch(0), 500010: Nasch(1)})
         before, seam, after = job.series(every=10, first=499985)
         self.assertEqual([it.step for it in (before, seam, after)], [499995, 500005, 500015])
-        self.assertEqual((seam.distance, seam.stopped, seam.flow), (10, 0, 333333))
+        self.assertEqual((seam.distance, seam.stopped, seam.flow_millionths), (10, 0, 333333))
         self.assertEqual((after.distance, after.stopped, after.cars, after.steps), (5, 5, 1, 10))
         self.assertTrue(5 <= before.distance <= 10)
 

@@ -155,7 +155,7 @@ class Files(Serving):
         job = Job(limit=5, lanes=2, length=50, cars=20, start=random_cells(7), rule=Rickert(0.25, "1/3"), steps=9, key=7)
         self.assertEqual(self.file("job", road).read().decode(), job.text())
         sweep = self.file("sweep", {**road, "rule": rule, "warm": 3, "measure": 4}).read().decode()
-        self.assertIn("\nlength 50\nlanes 2\nrule rickert 536870912 715827883\nwarm 3\nmeasure 4\ncars 2\ncars 4\n", sweep)
+        self.assertIn("\nlength 50\nlanes 2\nrule rickert 536870912 715827883\nwarm 3\nmeasure 4\ncars 1\ncars 4\n", sweep)
         self.assertEqual(ask(["explain", "sweep"], sweep).splitlines()[0], "This is a valid sweep: `trlab sweep` runs it.")
 
     def test_errors(self):

@@ -75,7 +75,7 @@ class InitialStates(unittest.TestCase):
         self.assertNotEqual(replace(SWEEP, start=random_cells(1)), replace(SWEEP, start=random_cells(2)))
 
     def test_runners_are_one_or_more(self):
-        self.assertRaisesRegex(ValueError, "runners must be at least 1, not 0", replace(SWEEP, start=jammed).sweep, runners=0)
+        self.assertRaisesRegex(ValueError, "runners must be between 1 and 16, not 0", replace(SWEEP, start=jammed).sweep, runners=0)
 
     def test_the_first_job_that_is_rejected(self):
         with self.assertRaises(RejectedInputError) as caught:
@@ -90,14 +90,15 @@ class Roads(unittest.TestCase):
 
     def test_a_list_has_a_road_for_each_point(self):
         self.rejects(ROAD, r"for one road write `\[road\]`")
-        self.rejects([], "for one road write")
-        self.rejects([ROAD, [0]], "road 1 of `start` has 1 x 1 cells, and the sweep has 1 x 5")
+        self.rejects([], "at least one point")
+        self.rejects([ROAD, [5]], "road 1 of `start` has 1 x 1 cells, and the sweep has 1 x 5")
         self.rejects([[ROAD, ROAD]], "road 0 of `start` has 2 x 5 cells, and the sweep has 1 x 5")
-        self.rejects([ROAD, ["0"]], "road 1 of `start`: a road is a list of speeds")
+        self.rejects([ROAD, [0.5]], "road 1 of `start`: a road is a list of speeds")
+        self.rejects([ROAD, ["0"]], "road 1 of `start` has 1 x 1 cells, and the sweep has 1 x 5")
         self.rejects([5 * [6]], "road 0 of `start`: a car has the speed 6, and the limit is 5")
         self.rejects([ROAD], "leave `cars` and `densities` out", cars=[2])
-        self.rejects("even", "a road is a list of speeds")
-        self.assertRaisesRegex(ValueError, "has 1 x 2 cells, and the sweep has 2 x 2", replace, PAIRS, start=[[0, 0], [0, 0]])
+        self.rejects("even", "for one road write")
+        self.assertRaisesRegex(ValueError, "has 1 x 2 cells, and the sweep has 2 x 2", replace, PAIRS, start=[[0, None], [0, None]])
 
     @needs("numpy")
     def test_roads_of_numpy(self):
@@ -146,8 +147,8 @@ class Means(unittest.TestCase):
     def test_points_are_independent_and_have_the_exact_mean(self):
         # The stationary flow of three cars on eight cells, from all transition probabilities of this ring.
         exact, shape = 387 / 1568, {"limit": 1, "length": 8, "rule": Nasch(0.25), "warm": 50, "measure": 200}
-        for start in random_cells(1), jam, moving:
-            flows = [point.passing for point in Sweep(**shape, cars=200 * [3], start=start).sweep(runners=2)]
+        for start in random_cells(1), jammed, moving:
+            flows = [point.flow for point in Sweep(**shape, cars=200 * [3], start=start).sweep(runners=2)]
             self.assertLess(abs(fmean(flows) - exact), 3 * stdev(flows) / 200**0.5)
             # Neighbours in the table have nothing to do with each other: their correlation is within 3 / sqrt(200).
             pairs = [(one - exact) * (other - exact) for one, other in zip(flows, flows[1:])]

@@ -51,8 +51,8 @@ class Starts(unittest.TestCase):
         self.assertEqual(self.road(moving), ["5..5..5..5.."])
 
     def test_a_jam_is_one_block(self):
-        self.assertEqual(self.road(jam), ["0000........"])
-        self.assertEqual(self.road(jam, cars=5, length=4, lanes=2), ["000.", "00.."])
+        self.assertEqual(self.road(jammed), ["0000........"])
+        self.assertEqual(self.road(jammed, cars=5, length=4, lanes=2), ["000.", "00.."])
 
     def test_random_places_go_by_their_seed(self):
         self.assertEqual(self.road(random_cells(1)), self.road(random_cells(1)))
@@ -63,7 +63,9 @@ class Starts(unittest.TestCase):
     def test_speeds_are_a_road(self):
         job = Job(limit=35, start=[0, None, 35, None, 10], rule=Nasch(0), steps=0)
         self.assertIn("\nlane 0.z.a\n", job.text())
+        self.assertEqual((job.length, job.lanes, job.road()), (5, 1, [[0, None, 35, None, 10]]))
         two = Job(limit=5, start=[[0, -1], [None, 5]], rule=Nasch(0), steps=0)
+        self.assertEqual((two.length, two.lanes, two.cells(), two.count()), (2, 2, 4, 2))
         self.assertIn("\nlane 0.\nlane .5\n", two.text())
 
     def test_a_road_says_its_cars_itself(self):
@@ -85,7 +87,7 @@ class Texts(unittest.TestCase):
 
     def test_programs_of_ones_own(self):
         motion, change = "motion\nnum r0, 0 ; stand\ngo r0\n", "stay"
-        job = Job(limit=1, start=[[0], [0]], rule=Own(motion, change), steps=2, at={1: Own("code 54")})
+        job = Job(limit=1, start=["0", "0"], rule=Own(motion, change), steps=2, at={1: Own("code 54")})
         self.assertEqual(
             job.text(),
             lines("road 1", NO_KEY, "limit 1", "lane 0", "lane 0", "rule own")
@@ -105,10 +107,3 @@ class Texts(unittest.TestCase):
         for more in {}, {"cars": [1], "densities": [0.1]}:
             self.assertRaises(ValueError, Sweep, limit=5, length=10, rule=Nasch(0), warm=0, measure=1, **more)
 
-    def test_a_start_on_one_lane_is_told(self):
-        sweep = Sweep(limit=5, length=10, lanes=2, rule=Nasch(0), warm=0, measure=1, cars=[5])
-        self.assertWarns(UserWarning, sweep.text)
-        self.assertWarns(UserWarning, Job(limit=5, length=10, lanes=2, cars=5, rule=Nasch(0), steps=0).text)
-        with warnings.catch_warnings():
-            warnings.simplefilter("error")
-            Sweep(limit=5, length=10, lanes=2, rule=Nasch(0), warm=0, measure=1, cars=[0, 1, 4, 20]).text()

@@ -15,7 +15,7 @@ from unittest import mock
 
 import trlab
 from tests.test_arrays import needs
-from trlab import Job, Nasch, Own, Snapshot, Snapshots, Point, RejectedInputError, Rickert, SlowToStart, Sweep, Table, Window
+from trlab import Job, Nasch, Own, Snapshot, Snapshots, Point, RejectedInputError, RenamedError, Rickert, SlowToStart, Sweep, Table, Window
 from trlab import ProgramError, InitialState, check, explain, find_program, jammed, random_cells, version
 from trlab._runs.calls import ask
 
@@ -96,12 +96,12 @@ class Construction(unittest.TestCase):
             for value in values:
                 self.rejects(ValueError, name, Job, **{**job, name: value})
         for name in "limit", "length", "steps", "cars":
-            self.rejects(TypeError, re.escape(f"{name} must be a whole number, not 1.0"), Job, **{**job, name: 1.0})
+            self.rejects(TypeError, f"{name} must be a whole number, .*, not 1.0", Job, **{**job, name: 1.0})
         sweep = dict(limit=5, length=10, rule=Nasch(0), warm=0, measure=1, cars=[1])
         for name, value in dict(warm=-1, measure=0, cars=[11], length=100001, limit=36, lanes=3, key="7").items():
             self.rejects(ValueError, name, Sweep, **{**sweep, name: value})
         for name in "limit", "length", "warm", "measure":
-            self.rejects(TypeError, re.escape(f"{name} must be a whole number, not 1000.0"), Sweep, **{**sweep, name: 1e3})
+            self.rejects(TypeError, f"{name} must be a whole number, .*, not 1000.0", Sweep, **{**sweep, name: 1e3})
         self.rejects(ValueError, "at least one point", Sweep, **{**sweep, "cars": []})
         for values in 20, "20":
             self.rejects(TypeError, "cars must be a list with a number for each point", Sweep, **{**sweep, "cars": values})
@@ -121,20 +121,27 @@ class Construction(unittest.TestCase):
 
     def test_what_is_no_number(self):
         for chance in "a quarter", "1/0", float("nan"), float("inf"):
-            self.rejects(ValueError, re.escape(f"a probability must be a number between 0 and 1, not {chance!r}"), Nasch, chance)
-            self.rejects(ValueError, "a density .* must be a number between 0 and 1", replace, JOB, density=chance)
-        self.rejects(TypeError, "a probability must be a number between 0 and 1, not None", Nasch, None)
-        self.rejects(TypeError, "a key is a whole number or 64 hexadecimal digits, and not 1.0", replace, JOB, key=1.0)
+            self.rejects(ValueError, re.escape(f"brake must be a number between 0 and 1, not {chance!r}"), Nasch, chance)
+            self.rejects(ValueError, "density must be a number between 0 and 1", replace, JOB, density=chance)
+        self.rejects(TypeError, "brake must be a number between 0 and 1, not None", Nasch, None)
+        self.rejects(TypeError, "key must be a whole number or 64 hexadecimal digits, not 1.0", replace, JOB, key=1.0)
 
     def test_cars_or_a_density(self):
         for more in {}, {"cars": 1, "density": 0.1}:
             self.assertRaises(ValueError, Job, limit=5, length=10, rule=Nasch(0), steps=1, **more)
 
+    def test_old_names_say_the_new_ones(self):
+        for name, new in ("pictures", "snapshots"), ("wait", "time_until"):
+            self.rejects(RenamedError, f"a job has no `{name}` .* use `{new}", getattr, JOB, name)
+        self.assertFalse(hasattr(JOB, "nothing"))
+
     def test_a_road_has_one_lane_or_two(self):
         job = dict(limit=5, rule=Nasch(0), steps=1)
-        for road in [[[[0]]]], [[0], [0], [0]], ["0"], [0.5], [True, False], [], [[0], []], "0", 7:
+        for road in [[[[0]]]], [[0], [0], [0]], ["0", "0", "0"], [0.5], [True, False], [-2], [], [[], []], "", 7, None, {0: 5}, b"0":
             self.rejects(ValueError, "a road is a list of speeds", Job, **job, start=road)
-        self.rejects(ValueError, "the lanes have 2 and 1 cells", Job, **job, start=[[0, 0], [0]])
+        for road in [[0, 0], [0]], [[0], []], ["0.", "0"]:
+            self.rejects(ValueError, "the lanes have [12] and [01] cells", Job, **job, start=road)
+        self.rejects(ValueError, "1 to 100000 cells, not 100001", Job, **job, start=100001 * ".")
 
     def test_no_car_is_faster_than_the_limit(self):
         job = dict(limit=5, rule=Nasch(0), steps=1)
@@ -144,19 +151,19 @@ class Construction(unittest.TestCase):
         self.rejects(ValueError, "the speed 6, and the limit is 5", replace, SWEEP, start=random_cells(1, speed=6))
 
     def test_a_start_is_one_of_those_that_are_known(self):
-        self.rejects(ValueError, "one of even, jam, random, not 'everywhere'", InitialState, placement="everywhere")
-        self.rejects(TypeError, "seed must be a whole number, not None", InitialState, placement="random")
+        self.rejects(ValueError, "one of even, jammed, random, not 'everywhere'", InitialState, placement="everywhere")
+        self.rejects(TypeError, "seed must be a whole number, .*, not None", InitialState, placement="random")
         for seed in -1, 2**256:
-            self.rejects(ValueError, "seed must be between 0", random, seed=seed)
+            self.rejects(ValueError, "seed must be between 0", random_cells, seed=seed)
         self.rejects(ValueError, "a seed is for random cells only", InitialState, placement="jammed", seed=1)
-        self.rejects(TypeError, "speed must be a whole number", random, seed=1, speed=0.5)
-        self.rejects(ValueError, "speed must be between 0 and 35, not 36", random, seed=1, speed=36)
+        self.rejects(TypeError, "speed must be a whole number", random_cells, seed=1, speed=0.5)
+        self.rejects(ValueError, "speed must be between 0 and 35, not 36", random_cells, seed=1, speed=36)
 
     def test_later_rules_have_steps_of_the_run(self):
         job = dict(limit=5, length=10, cars=1, rule=Nasch(0), steps=9)
         self.rejects(ValueError, "must be below `steps`, which is 9, not 9", Job, **job, at={9: Nasch(1)})
         self.rejects(ValueError, "a step of `at` must be at least 0, not -1", Job, **job, at={-1: Nasch(1)})
-        self.rejects(TypeError, "a step of `at` must be a whole number, not 1.5", Job, **job, at={1.5: Nasch(1)})
+        self.rejects(TypeError, "a step of `at` must be a whole number, at least 0, not 1.5", Job, **job, at={1.5: Nasch(1)})
         self.rejects(TypeError, "not 'nasch'", Job, **job, at={1: "nasch"})
         self.rejects(TypeError, "a rule is Nasch, SlowToStart, Rickert or Own, not 0.25", Job, **{**job, "rule": 0.25})
         self.rejects(TypeError, "a rule is Nasch, SlowToStart, Rickert or Own, not None", replace, SWEEP, rule=None)
@@ -184,7 +191,7 @@ class Construction(unittest.TestCase):
 
     def test_programs_between_triple_quotes(self):
         self.assertEqual(check("\n" + STOP), check(STOP))
-        self.assertEqual(Own("\n" + STOP + "\n").lines(), Own(STOP).lines())
+        self.assertEqual(Own("\n\n" + STOP).lines(), Own(STOP[:-1]).lines())
 
     @needs("numpy")
     def test_numbers_of_numpy(self):

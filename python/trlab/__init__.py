@@ -17,7 +17,7 @@ from importlib import import_module as _import_module
 
 from ._errors import (
     EstimateError, ExitStatusError, FrameError, IncompleteOutputError, MissingLibraryError, OutputFormatError, ParameterError, ProgramError,
-    ProgramNotFoundError, RejectedInputError, RenamedError, ResultFilesError, StudyFileError, TrlabError,
+    ProgramNotFoundError, RejectedInputError, RenamedError, ResultFilesError, StudyFileError, TrlabError, TrlabWarning,
 )
 from ._inputs.jobs import Duration, Job
 from ._inputs.numbers import Density, Key, Probability
@@ -50,7 +50,7 @@ __all__ = [
     "InitialState", "Jam", "Job", "Key", "MissingLibraryError", "Nasch", "OutputFormatError", "Own", "ParameterError", "Point",
     "Probability", "ProgramError", "ProgramNotFoundError", "RejectedInputError", "RenamedError", "ResultFilesError", "Rickert",
     "Rule", "SlowToStart", "Snapshot", "Snapshots", "StudyFileError", "Sweep", "Table", "Trajectories", "Trip", "TrlabError",
-    "Window", "__version__", "check", "even", "explain", "find_program", "jammed", "key_for", "moving", "random_cells",
+    "TrlabWarning", "Window", "__version__", "check", "even", "explain", "find_program", "jammed", "key_for", "moving", "random_cells",
     "read_study", "read_tables", "results", "run_all", "version", "write_inputs",
 ]
 

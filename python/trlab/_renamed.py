@@ -26,6 +26,9 @@ IN_PACKAGE = {
 }
 """Names of the package."""
 
+IN_JOB = {"pictures": "`snapshots()`", "wait": "`time_until(condition)`"}
+"""Attributes of `Job`."""
+
 IN_ROW = {"passing": "`flow`, in cars per step; the whole number of the file is `flow_millionths`"}
 """Attributes of rows."""
 

@@ -1,18 +1,27 @@
 """Jobs: a road, a rule and a number of steps, and their results."""
 from __future__ import annotations
 
-from dataclasses import dataclass, field
-from collections.abc import Callable, Iterator, Mapping, Sequence
-from typing import TYPE_CHECKING, NamedTuple, Optional, Union, cast
+import os
+from contextlib import closing, nullcontext
+from dataclasses import dataclass, field, replace
+from collections.abc import Callable, Generator, Iterator, Mapping, Sequence
+from typing import TYPE_CHECKING, Any, NamedTuple, Optional, Union, cast
 
-from . import long_jobs as continuing
+from .._errors import IncompleteOutputError, ParameterError
+from .._renamed import IN_JOB, renamed
 from .._runs.calls import ask, ask_by_line, ask_for_bytes
+from .._runs.processes import set_to, setting
 from .._results.snapshots import Snapshot, Snapshots, snapshots_in
 from .._results.tables import Table, Window
+from . import long_jobs, reading
 from .rules import Rule, Schedule, need_rule
-from .states import Lane, Road, InitialState, cars_on, even, lanes_of, lane_text
-from .numbers import MAX_CELLS, MAX_SPEED, MAX_STEPS, Density, Key, cars_at, key_digits, whole
-from .words import input_text, option, shown
+from .states import InitialState, even, tell_lanes
+from .roads import Road, cars_on, lanes_of, speeds_of
+from .numbers import (
+    MAX_ALL_STEPS, MAX_CELLS, MAX_SPEED, MAX_STEPS, Density, Key, cars_at, checked_key, derived_key, key_digits, share, shown,
+    store, whole,
+)
+from .words import Asked, input_text
 
 if TYPE_CHECKING:
     import pandas
@@ -23,12 +32,16 @@ class Job:
     """A road, a rule and a number of steps.
 
     The road has `lanes` lanes of `length` cells (at most 100,000). `cars` cars in total, or the number nearest to
-    `density`, are placed in the initial state `start`. Or leave out these four and let `start` be the road: a list of
-    speeds by cell (cells per step; None or -1 for an empty cell), or two such lists.
+    `density`, are placed in the initial state `start`. Or leave out these four and let `start` be the road: a list or an array of
+    speeds by cell (cells per step; None, NaN or -1 for an empty cell), or two of them; or the characters of a file, for example
+    `"0..3."` or the `lanes` of a snapshot. A road of only 0 and 1 is an error, because it may be meant as the number of cars by cell.
 
     `limit` is the maximum speed in cells per step, 1 to 35. `at` maps steps to the rules that take over then. A job
-    of more than 500,000 steps runs as several inputs, each of which continues the previous input. If the program
-    rejects the job, `RejectedInputError` is raised when it runs."""
+    of more than 500,000 steps runs as several inputs, each of which continues the previous input.
+
+    Whole numbers may be of any integer type, also numpy's, and are stored as `int`; a road is stored as the characters of its
+    lanes, with its `length` and `lanes`. Raises `ParameterError` if a parameter is wrong. If the program rejects the job,
+    `RejectedInputError` is raised when it runs."""
 
     limit: int
     rule: Rule
@@ -42,48 +55,75 @@ class Job:
     at: Mapping[int, Rule] = field(default_factory=dict)
 
     def __post_init__(self) -> None:
-        whole("limit", self.limit, 1, MAX_SPEED)
-        whole("steps", self.steps, 0)
-        whole("lanes", self.lanes, 1, 2)
-        key_digits(self.key)
-        need_rule(self.rule)
-        object.__setattr__(self, "at", Schedule(self.at, self.steps))
-        if isinstance(self.start, InitialState):
-            self.start.judge(self.limit)
-            if self.length is None:
-                raise ValueError("a job needs the length of its lanes, or a road as `start`")
-            cells = whole("length", self.length, 1, MAX_CELLS) * self.lanes
-            _count(self.cars, self.density, cells)
-        elif not (self.length is None and self.lanes == 1 and self.cars is None and self.density is None):
-            raise ValueError("a road as `start` has its own length, lanes and cars: leave them out")
-        else:
-            object.__setattr__(self, "start", lanes_of(self.start, self.limit))
-
-    def road(self) -> list[Lane]:
-        """The lanes at the start: speeds by cell, None for an empty cell."""
+        store(self, limit=whole("limit", self.limit, 1, MAX_SPEED), steps=whole("steps", self.steps, 0, MAX_ALL_STEPS))
+        store(self, lanes=whole("lanes", self.lanes, 1, 2), key=checked_key(self.key), rule=need_rule(self.rule))
+        store(self, at=Schedule(self.at, self.steps))
+        if self.length is not None:
+            store(self, length=whole("length", self.length, 1, MAX_CELLS))
         if not isinstance(self.start, InitialState):
-            return list(cast(Sequence[Lane], self.start))
-        length = cast(int, self.length)
-        cars = _count(self.cars, self.density, length * self.lanes)
-        return self.start.on_lanes(cars, length, self.lanes, self.limit)
+            self._store_road()
+            return
+        self.start.judge(self.limit)
+        if self.length is None:
+            raise ParameterError("a job needs the length of its lanes, or a road as `start`")
+        if (self.cars is None) == (self.density is None):
+            raise ParameterError("a job needs either `cars` or `density`")
+        if self.cars is not None:
+            store(self, cars=whole("cars", self.cars, 0, self.cells()))
+        else:
+            store(self, density=share("density", cast(Density, self.density)))
+        tell_lanes(self.start, [self.count()], self.length, self.lanes)
+
+    def _store_road(self) -> None:
+        road = lanes_of(self.start, self.limit)
+        if self.cars is not None or self.density is not None:
+            raise ParameterError("a road as `start` has its own cars: leave `cars` and `density` out")
+        if self.length not in (None, len(road[0])) or self.lanes > len(road):
+            raise ParameterError(f"a road as `start` has its own length and lanes, here {len(road)} x {len(road[0])} cells: leave "
+                                 "`length` and `lanes` out")
+        store(self, start=road, length=len(road[0]), lanes=len(road))
+
+    @classmethod
+    def read(cls, path: Union[str, os.PathLike[str]]) -> Job:
+        """Read a job file: a job with the same `.text()`, to the last byte. Its road is that of the file, and its probabilities are
+        fractions. Raises `RejectedInputError` with the explanation if the program rejects the file, and `ParameterError` if the
+        file is not UTF-8 or does not end with a line feed."""
+        return cls.from_text(reading.content_of(path, "Job"))
+
+    @classmethod
+    def from_text(cls, text: str) -> Job:
+        """The job of a text that `.text()` returned, or of the content of a job file. Raises the errors of `read`."""
+        reading.need_accepted("run", text)
+        return reading.need_same(cls(**reading.job_of(text)), text)
+
+    def road(self) -> list[list[Optional[int]]]:
+        """The lanes at the start: speeds by cell, None for an empty cell."""
+        return [speeds_of(lane) for lane in self._lanes()]
+
+    def _lanes(self) -> Sequence[str]:
+        """The lanes at the start, as in the file."""
+        if isinstance(self.start, InitialState):
+            return self.start.on_lanes(self.count(), cast(int, self.length), self.lanes, self.limit)
+        return cast(Sequence[str], self.start)
 
     def cells(self) -> int:
         """The cells of all lanes."""
-        return cast(int, self.length) * self.lanes if self.length is not None else sum(map(len, self.road()))
+        return cast(int, self.length) * self.lanes
 
     def count(self) -> int:
         """The number of cars."""
-        return _count(self.cars, self.density, self.cells()) if isinstance(self.start, InitialState) else cars_on(self.road())
+        if not isinstance(self.start, InitialState):
+            return cars_on(cast(Sequence[str], self.start))
+        return self.cars if self.cars is not None else cars_at(cast(Density, self.density), self.cells())
 
     def text(self) -> str:
-        """The job file. Raises `ValueError` for more than 500,000 steps."""
+        """The job file. Raises `ParameterError` for more than 500,000 steps."""
         if self.steps > MAX_STEPS:
-            raise ValueError(
+            raise ParameterError(
                 f"a job file has at most {MAX_STEPS} steps, and this job has {self.steps}: "
                 "`run`, `snapshots` and `series` run it as several"
             )
-        lines = ["road 1", f"key {key_digits(self.key)}", f"limit {self.limit}"]
-        lines += [f"lane {lane_text(lane)}" for lane in self.road()]
+        lines = ["road 1", f"key {key_digits(self.key)}", f"limit {self.limit}", *(f"lane {lane}" for lane in self._lanes())]
         lines += [*self.rule.lines(), f"steps {self.steps}"]
         for step, rule in self.at.items():
             first, *others = rule.lines()
@@ -91,53 +131,69 @@ class Job:
         return input_text(lines)
 
     def run(self, workers: int = 1, every: int = 1, first: int = 0) -> Snapshots:
-        """The snapshots of step 0 and after each step, or only of the steps `first`, `first + every` and so on. Other
+        """The snapshots of step 0 and after each step, or only of the steps `first`, `first + every` and so on, up to `steps`. Other
         snapshots are never made, so a long run fits in memory:
 
-            job.run(every=100, first=5000).space_time()
+            job.run(every=100, first=5000)
 
-        `workers` is the number of threads, 1 to 16; results do not depend on it."""
+        `first` is at most `steps`, so that there is a snapshot. `workers` is the number of threads, 1 to 16; results do not depend
+        on it. Raises `ParameterError` before anything runs."""
+        asked = Asked.snapshots(self.steps, every, first, workers)
         if self.steps > MAX_STEPS:
-            return Snapshots(self.snapshots(workers, every, first))
-        return Snapshots.read(ask_for_bytes(["run", *shown(every, first, workers)], self.text()))
+            return Snapshots(long_jobs.snapshots(self, asked))
+        return Snapshots.read(ask_for_bytes(["run", *asked.words()], self.text()))
 
     def snapshots(self, workers: int = 1, every: int = 1, first: int = 0) -> Iterator[Snapshot]:
         """Iterate over the snapshots of `run` while the program runs, keeping only one."""
+        asked = Asked.snapshots(self.steps, every, first, workers)
         if self.steps > MAX_STEPS:
-            return continuing.snapshots(self, every, first, option("workers", workers, 1))
-        return snapshots_in(ask_by_line(["run", *shown(every, first, workers)], self.text()))
+            return long_jobs.snapshots(self, asked)
+        return snapshots_in(ask_by_line(["run", *asked.words()], self.text()))
 
     def series(self, every: int = 1, first: int = 0, workers: int = 1) -> Table[Window]:
-        """The counts of each window of `every` steps, from step `first` on, as `trlab series` writes them. A job of more
+        """The counts of each window of `every` steps, from step `first` on, as `trlab series` writes them. The windows fill the run:
+        `steps - first` must be a positive multiple of `every`, otherwise `ParameterError` names numbers that fit. A job of more
         than 500,000 steps takes about twice as long per step."""
+        asked = Asked.windows(self.steps, every, first, workers)
         if self.steps > MAX_STEPS:
-            return continuing.series(self, every, first, option("workers", workers, 1))
-        return Table.read(Window, ask(["series", *shown(every, first, workers)], self.text()))
+            return Table(Window, long_jobs.windows(self, asked))
+        return Table.read(Window, ask(["series", *asked.words()], self.text()))
 
-    def time_until(self, until: Callable[[Window], bool], every: int = 1, first: int = 0) -> Duration:
-        """Run until `until(window)` holds for a window of `every` steps after step `first`, and no longer. The result has
-        the step at the end of that window, or of the run if it never held, for `trlab.lifetime`:
+    def time_until(self, condition: Callable[[Window], bool], every: int = 1, first: int = 0) -> Duration:
+        """The number of steps from step `first` to the end of the first window of `every` steps for which `condition(window)` is
+        true, for `trlab.lifetime`. The program stops there. If the condition never holds, the time is that of the whole run,
+        `steps - first`, and is not `observed`:
 
-            job.time_until(lambda window: window.stopped > 0, every=10)"""
+            job.time_until(lambda window: window.stopped > 0, every=10)
+
+        `every` is the resolution of the time. Windows are those of `series`, and must fill the run. `condition` returns True or
+        False; anything else raises `ParameterError`. The output is cut off, so it is never kept in a cache of `trlab.results`."""
+        if not callable(condition):
+            raise ParameterError(f"`condition` must be a function of a window, not {shown(condition)}")
+        asked = Asked.windows(self.steps, every, first, 1)
+        last = asked.first
+        with _without_cache(), closing(self._windows(asked)) as windows:
+            for window in windows:
+                last = window.step
+                if _is_true(condition(window)):
+                    return Duration(last - asked.first, True)
+        if last != self.steps:
+            raise IncompleteOutputError(f"the series ended after {last} of {self.steps} steps")
+        return Duration(last - asked.first, False)
+
+    def _windows(self, asked: Asked) -> Generator[Window, None, None]:
+        """Iterate over the windows while the program runs."""
         if self.steps > MAX_STEPS:
-            raise ValueError(f"`time_until` is for jobs of at most {MAX_STEPS} steps")
-        lines = ask_by_line(["series", *shown(every, first, 1)], self.text())
-        heading, step = next(lines), first
-        for line in lines:
-            (window,) = Table.read(Window, heading + line)
-            step = window.step
-            if until(window):
-                return Duration(step - first, True)
-        return Duration(step - first, False)
+            yield from long_jobs.windows(self, asked)
+        else:
+            yield from long_jobs.windows_in(ask_by_line(["series", *asked.words()], self.text()))
 
     def detectors(self, cells: Sequence[int], every: int, first: int = 0) -> pandas.DataFrame:
         """Detector tables of the run, window by window: see `trlab.detectors`. Snapshots are not kept."""
         from .._analysis.detectors import detectors
 
-        whole("every", every, 1)
-        if (self.steps - first) % every or self.steps <= first:
-            raise ValueError(f"the {self.steps - first} steps from `first` on are not whole windows of {every} steps")
-        return detectors(self.snapshots(first=first), cells, every)
+        asked = Asked.windows(self.steps, every, first, 1)
+        return detectors(self.snapshots(first=asked.first), cells, asked.every)
 
     def continued(self, snapshot: Snapshot, key: Optional[Key] = None, steps: Optional[int] = None) -> Job:
         """A job that continues from `snapshot`, the last snapshot of this job or any other, for `steps` steps, by default
@@ -147,7 +203,26 @@ class Job:
         own key would draw the random numbers of its first steps again.
 
             longer = job.continued(job.run()[-1], steps=1000).run()"""
-        return continuing.continued(self, snapshot, key, steps)
+        if not isinstance(snapshot, Snapshot):
+            raise ParameterError(f"a job is continued from a snapshot, for example `job.run()[-1]`, not from {shown(snapshot)}")
+        done = whole("the step of the snapshot", snapshot.step, 0, self.steps)
+        going = self.steps if steps is None else whole("steps", steps, 0, MAX_ALL_STEPS)
+        return replace(
+            self, start=tuple(snapshot.lanes), length=None, lanes=1, cars=None, density=None, rule=self._rule_at(done), steps=going,
+            at={step - done: rule for step, rule in self.at.items() if done < step < done + going},
+            key=derived_key("continued", self.key, done) if key is None else key,
+        )
+
+    if not TYPE_CHECKING:
+
+        def __getattr__(self, name: str) -> Any:
+            renamed("a job", name, IN_JOB)
+            raise AttributeError(f"a job has no attribute {name!r}")
+
+    def _rule_at(self, step: int) -> Rule:
+        """The rule that is in force at a step."""
+        reached = [first for first in self.at if first <= step]
+        return self.at[max(reached)] if reached else self.rule
 
 
 class Duration(NamedTuple):
@@ -158,7 +233,15 @@ class Duration(NamedTuple):
     observed: bool
 
 
-def _count(cars: Optional[int], density: Optional[Density], cells: int) -> int:
-    if (cars is None) == (density is None):
-        raise ValueError("a job needs either `cars` or `density`")
-    return whole("cars", cars, 0, cells) if cars is not None else cars_at(cast(Density, density), cells)
+def _without_cache() -> Any:
+    """Calls of the program in this block run at once, and their outputs are not kept: one that is left early is not whole."""
+    now = setting()
+    return nullcontext() if now is None else set_to(now._replace(cache=None))
+
+
+def _is_true(found: Any) -> bool:
+    """The answer of a condition. Raises `ParameterError` if it is not a truth value of Python or numpy."""
+    kind = getattr(getattr(found, "dtype", None), "kind", None)
+    if not isinstance(found, bool) and not (kind == "b" and found.shape == ()):
+        raise ParameterError(f"`condition` must return True or False, not {shown(found)}")
+    return bool(found)

@@ -1,15 +1,21 @@
-"""Probabilities, keys and densities as you write them, and their numbers in input files."""
+"""Numbers as you write them, checked and stored as Python's own; and the numbers of input files."""
 from __future__ import annotations
 
 import hashlib
+import math
 import operator
 import re
+from decimal import Decimal
+from enum import Enum
 from fractions import Fraction
-from numbers import Rational
-from typing import Optional, SupportsFloat, Union
+from numbers import Integral, Rational
+from typing import Any, Optional, SupportsFloat, Union
+
+from .._errors import ParameterError
 
 Probability = Union[SupportsFloat, str]
-"""A probability, 0 to 1: `0.25`, `"1/4"`, `"0.25"`, a `Fraction` or a number of numpy."""
+"""A probability, 0 to 1: `0.25`, `"1/4"`, `"0.25"`, a `Fraction`, a `Decimal` or a number of numpy. It is stored as an
+`int`, a `float` or a `Fraction`."""
 
 Density = Probability
 """Cars per cell, 0 to 1, written like a probability."""
@@ -22,58 +28,125 @@ there, and the number is decimal."""
 ALWAYS = 2**31
 """The number in input files for the probability 1."""
 
-MAX_CELLS, MAX_SPEED, MAX_STEPS, MAX_CARS, MAX_POINTS = 100000, 35, 500000, 200000, 200
-"""The greatest length of a lane in cells, maximum speed in cells per step, number of steps, number of cars and number of
-points of one input."""
+MAX_CELLS, MAX_SPEED, MAX_STEPS, MAX_POINTS = 100000, 35, 500000, 200
+"""The greatest length of a lane in cells, maximum speed in cells per step, number of steps and number of points of one
+input."""
+
+MAX_ALL_STEPS = 10**15
+"""The greatest number of steps of a job, whose inputs have at most `MAX_STEPS`; it would take months."""
 
 MAX_KEY = 2**256 - 1
 """The greatest key, and the greatest seed of random cells."""
 
+MAX_THREADS = 16
+"""The greatest number of workers and of runners."""
 
-def whole(name: str, number: int, least: int, most: Optional[int] = None) -> int:
-    """A whole number in its range; raises `TypeError` or `ValueError` with its name if it is not."""
-    try:
-        value = operator.index(number)
-    except TypeError:
-        raise TypeError(f"{name} must be a whole number, not {number!r}") from None
+# Longer numbers, and greater exponents, would take minutes to be turned into a fraction.
+_WRITTEN = re.compile(r"\s*[-+]?(?:\d+/\d+|(?:\d+\.?\d*|\.\d+)(?:e[-+]?\d{1,3})?)\s*", re.ASCII | re.IGNORECASE)
+_LONGEST = 4000
+
+
+def whole(name: str, number: object, least: int, most: Optional[int] = None) -> int:
+    """A whole number in its range, as Python's `int`. Raises `ParameterError` with its name if it is anything else: floats,
+    booleans and members of an enumeration are not whole numbers."""
+    value = _index(number)
+    if value is None:
+        allowed = f"at least {least}" if most is None else f"from {least} to {most}"
+        raise ParameterError(f"{name} must be a whole number, {allowed}, not {shown(number)}")
     if most is None and value < least:
-        raise ValueError(f"{name} must be at least {least}, not {value}")
+        raise ParameterError(f"{name} must be at least {least}, not {shown(value)}")
     if most is not None and not least <= value <= most:
-        raise ValueError(f"{name} must be between {least} and {most}, not {value}")
+        raise ParameterError(f"{name} must be between {least} and {most}, not {shown(value)}")
     return value
 
 
-def _share(name: str, number: Probability) -> Fraction:
-    """A number from 0 to 1 as a fraction, also if it comes from numpy; raises `ValueError` with its name if it is not."""
+def share(name: str, number: Probability) -> Union[int, float, Fraction]:
+    """A number from 0 to 1, as Python's own. Raises `ParameterError` with its name if it is anything else. A string and a
+    `Decimal` are stored as the fraction that they say."""
+    found = _real(number)
+    if found is None:
+        raise ParameterError(f"{name} must be a number between 0 and 1, not {shown(number)}")
+    if not 0 <= found <= 1:
+        raise ParameterError(f"{name} must be between 0 and 1, not {shown(number)}")
+    return found
+
+
+def _index(number: Any) -> Optional[int]:
+    """A whole number of any type as Python's own; None if it is not one."""
+    if _is_no_number(number):
+        return None
     try:
-        exact = Fraction(number if isinstance(number, (str, Rational)) else float(number))
-    except (ValueError, ZeroDivisionError, OverflowError):
-        raise ValueError(f"{name} must be a number between 0 and 1, not {number!r}") from None
+        return int.__int__(operator.index(number))
     except TypeError:
-        raise TypeError(f"{name} must be a number between 0 and 1, not {number!r}") from None
-    if not 0 <= exact <= 1:
-        raise ValueError(f"{name} must be between 0 and 1, not {number}")
-    return exact
+        return None
+
+
+def _real(number: Any) -> Union[None, int, float, Fraction]:
+    """A finite number of any type as Python's own; None if it is not one."""
+    if isinstance(number, (str, Decimal)) and not isinstance(number, Enum):
+        return _fraction(str.__str__(number) if isinstance(number, str) else str(number))
+    if _is_no_number(number):
+        return None
+    if isinstance(number, Integral):
+        return _index(number)
+    if isinstance(number, Rational):
+        return Fraction(int(number.numerator), int(number.denominator))
+    try:
+        # Bytes can be passed to `float` too, but are not numbers.
+        value = float(number) if hasattr(type(number), "__float__") else math.nan
+    except (TypeError, ValueError, OverflowError):
+        return None
+    return value if math.isfinite(value) else None
+
+
+def _fraction(written: str) -> Optional[Fraction]:
+    if len(written) > _LONGEST or not _WRITTEN.fullmatch(written):
+        return None
+    try:
+        return Fraction(written)
+    except ZeroDivisionError:
+        return None
+
+
+def _is_no_number(number: Any) -> bool:
+    """Whether this would pass for a number, although it is a truth value, a member of an enumeration, or an array."""
+    kind = getattr(getattr(number, "dtype", None), "kind", "i")
+    return isinstance(number, (bool, Enum)) or kind not in ("i", "u", "f") or getattr(number, "shape", ()) != ()
+
+
+def shown(value: object) -> str:
+    """A value in a message, cut to a readable length."""
+    try:
+        text = repr(value)
+    except Exception:
+        # A number of too many digits, or an object that fails; its type says enough.
+        text = f"a value of type {type(value).__name__}"
+    return text if len(text) <= 80 else f"{text[:77]}..."
 
 
 def parts(chance: Probability) -> int:
     """A probability times 2**31, to the nearest whole number."""
-    return round(_share("a probability", chance) * ALWAYS)
+    return round(Fraction(share("a probability", chance)) * ALWAYS)
 
 
-def key_digits(key: Key) -> str:
-    """A key as 64 hexadecimal digits."""
-    if isinstance(key, str):
+def checked_key(key: object) -> Key:
+    """A key as it is stored: Python's `int` or `str`. Raises `ParameterError` if it is not a key."""
+    if isinstance(key, str) and not isinstance(key, Enum):
         if not re.fullmatch("[0-9a-fA-F]{64}", key):
-            raise ValueError(f"a key is a number or 64 hexadecimal digits, and not {key!r}")
-        return key
-    try:
-        number = operator.index(key)
-    except TypeError:
-        raise TypeError(f"a key is a whole number or 64 hexadecimal digits, and not {key!r}") from None
+            raise ParameterError(f"key must be a number or 64 hexadecimal digits, not {shown(key)}")
+        return str.__str__(key)
+    number = _index(key)
+    if number is None:
+        raise ParameterError(f"key must be a whole number or 64 hexadecimal digits, not {shown(key)}")
     if not 0 <= number <= MAX_KEY:
-        raise ValueError(f"a key is a number from 0 to 2**256 - 1, and not {key}")
-    return f"{number:064x}"
+        raise ParameterError(f"key must be from 0 to 2**256 - 1, not {shown(number)}")
+    return number
+
+
+def key_digits(key: object) -> str:
+    """A key as 64 hexadecimal digits."""
+    checked = checked_key(key)
+    return checked if isinstance(checked, str) else f"{checked:064x}"
 
 
 def derived_key(purpose: str, key: Key, number: int) -> str:
@@ -86,4 +159,10 @@ def derived_key(purpose: str, key: Key, number: int) -> str:
 
 def cars_at(density: Density, cells: int) -> int:
     """The number of cars on `cells` cells that is nearest to a density."""
-    return round(_share("a density (cars per cell)", density) * cells)
+    return round(Fraction(share("density", density)) * cells)
+
+
+def store(owner: object, **values: object) -> None:
+    """Stores checked values in a frozen dataclass while it is made."""
+    for name, value in values.items():
+        object.__setattr__(owner, name, value)

@@ -21,6 +21,7 @@ def check(program: str) -> AcceptedProgram:
     return AcceptedProgram(int(first.split(" ")[-1]), written)
 
 
-def explain(text: Union[str, Job, Sweep]) -> str:
-    """The output of `trlab explain`: the error in an input and how to fix it, or the work of a valid input."""
-    return explained(text if isinstance(text, str) else text.text()).stdout.rstrip("\n")
+def explain(input: Union[str, Job, Sweep]) -> str:
+    """The output of `trlab explain`: the error in an input and how to fix it, or the work of a valid input. `input` is a job, a
+    sweep, or the text of a job, a sweep or a driver program."""
+    return explained(input if isinstance(input, str) else input.text()).stdout.rstrip("\n")

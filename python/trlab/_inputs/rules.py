@@ -2,10 +2,12 @@
 from __future__ import annotations
 
 from dataclasses import dataclass
+from enum import Enum
 from collections.abc import Iterator, Mapping
 from typing import Optional, Union
 
-from .numbers import Probability, parts, whole
+from .._errors import ParameterError
+from .numbers import Probability, parts, share, shown, store, whole
 
 
 @dataclass(frozen=True)
@@ -15,7 +17,7 @@ class Nasch:
     brake: Probability
 
     def __post_init__(self) -> None:
-        parts(self.brake)
+        store(self, brake=share("brake", self.brake))
 
     def lines(self) -> list[str]:
         return [f"rule nasch {parts(self.brake)}"]
@@ -30,7 +32,7 @@ class SlowToStart:
     stopped: Probability
 
     def __post_init__(self) -> None:
-        parts(self.brake), parts(self.stopped)
+        store(self, brake=share("brake", self.brake), stopped=share("stopped", self.stopped))
 
     def lines(self) -> list[str]:
         return [f"rule vdr {parts(self.brake)} {parts(self.stopped)}"]
@@ -45,7 +47,7 @@ class Rickert:
     change: Probability
 
     def __post_init__(self) -> None:
-        parts(self.brake), parts(self.change)
+        store(self, brake=share("brake", self.brake), change=share("change", self.change))
 
     def lines(self) -> list[str]:
         return [f"rule rickert {parts(self.brake)} {parts(self.change)}"]
@@ -60,9 +62,9 @@ class Own:
     change: Optional[str] = None
 
     def __post_init__(self) -> None:
-        _judge("motion", self.motion)
+        store(self, motion=_judged("motion", self.motion))
         if self.change is not None:
-            _judge("change", self.change)
+            store(self, change=_judged("change", self.change))
 
     def lines(self) -> list[str]:
         changes = [] if self.change is None else _part("change", self.change)
@@ -77,13 +79,16 @@ class Schedule(Mapping[int, Rule]):
     because nobody can change it."""
 
     def __init__(self, rules: Mapping[int, Rule], steps: int) -> None:
-        """Raises `TypeError` or `ValueError` if a step is not a whole number from 0 to less than `steps`."""
-        for step, rule in rules.items():
-            whole("a step of `at`", step, 0)
+        """Raises `ParameterError` if a step is not a whole number from 0 to less than `steps`."""
+        if not isinstance(rules, Mapping):
+            raise ParameterError(f"`at` must be a dict of rules by their first step, not {shown(rules)}")
+        found = [(whole("a step of `at`", step, 0), need_rule(rule)) for step, rule in rules.items()]
+        for step, _ in found:
             if step >= steps:
-                raise ValueError(f"a step of `at` must be below `steps`, which is {steps}, not {step}")
-            need_rule(rule)
-        self._rules: dict[int, Rule] = {int(step): rules[step] for step in sorted(rules)}
+                raise ParameterError(f"a step of `at` must be below `steps`, which is {steps}, not {shown(step)}")
+        self._rules: dict[int, Rule] = dict(sorted(found, key=lambda it: it[0]))
+        if len(self._rules) < len(found):
+            raise ParameterError("two rules of `at` have the same step")
 
     def __getitem__(self, step: int) -> Rule:
         return self._rules[step]
@@ -101,34 +106,40 @@ class Schedule(Mapping[int, Rule]):
         return repr(self._rules)
 
 
-def need_rule(rule: object) -> None:
-    """Raises `TypeError` if this is not a rule."""
+def need_rule(rule: object) -> Rule:
+    """The rule; raises `ParameterError` if this is not one."""
     if not isinstance(rule, (Nasch, SlowToStart, Rickert, Own)):
-        raise TypeError(f"a rule is Nasch, SlowToStart, Rickert or Own, not {rule!r}")
+        raise ParameterError(f"a rule is Nasch, SlowToStart, Rickert or Own, not {shown(rule)}")
+    return rule
 
 
-def _judge(kind: str, program: object) -> None:
-    """Raises `TypeError` or `ValueError` if this cannot be the text of a program of this kind. Whether it is a safe
-    program is the verifier's to say: see `check`."""
-    if not isinstance(program, str):
-        raise TypeError(f"a {kind} program is a text, not {program!r}")
+def _judged(kind: str, program: object) -> str:
+    """The program as Python's own string; raises `ParameterError` if this cannot be the text of a program of this kind.
+    Whether it is a safe program is the verifier's to say: see `check`."""
+    if not isinstance(program, str) or isinstance(program, Enum):
+        raise ParameterError(f"a {kind} program is a text, not {shown(program)}")
     lines = program.strip("\n").split("\n")
     other = "change" if kind == "motion" else "motion"
+    try:
+        program.encode()
+    except UnicodeEncodeError:
+        raise ParameterError(f"the {kind} program has a character that UTF-8 does not have") from None
     if not program.strip():
-        raise ValueError(f"the {kind} program is empty")
+        raise ParameterError(f"the {kind} program is empty")
     if lines[0] == other:
-        raise ValueError(f"this is a {other} program, and a {kind} program is needed")
+        raise ParameterError(f"this is a {other} program, and a {kind} program is needed")
     if lines[0].startswith("code ") and len(lines) > 1:
-        raise ValueError("a program that is given as `code X` is one line")
+        raise ParameterError("a program that is given as `code X` is one line")
     if "end" in lines:
-        raise ValueError(f"the {kind} program has a line `end`: leave it out")
+        raise ParameterError(f"the {kind} program has a line `end`: leave it out")
+    return str.__str__(program)
 
 
 def _part(kind: str, program: str) -> list[str]:
-    """The lines of a program in a text. Its first line may be left out, and `end` is not one of them. Empty lines at the
-    start and at the end do not count, so that a program may be written between triple quotes."""
-    lines = program.strip("\n").split("\n")
+    """The lines of a program in a file. Its first line may be left out, and `end` is not one of them. Empty lines at the
+    start do not count, so that a program may be written between triple quotes."""
+    lines = program.lstrip("\n").removesuffix("\n").split("\n")
     if lines[0].startswith("code "):
-        return lines
+        return lines[:1]
     first = [] if lines[0] == kind else [kind]
     return [*first, *lines, "end"]

@@ -5,21 +5,22 @@ cell 2 on lane 0 and so on."""
 from __future__ import annotations
 
 import random as _random
+import sys
 import warnings
+from contextlib import contextmanager
+from contextvars import ContextVar
 from dataclasses import dataclass, replace
-from numbers import Integral
-from collections.abc import Iterable, Sequence
-from typing import Optional, Union, cast
+from math import gcd
+from types import FrameType
+from collections.abc import Iterable, Iterator
+from typing import Optional
 
-from .numbers import MAX_KEY, MAX_SPEED, derived_key, whole
-
-SPEEDS = "0123456789abcdefghijklmnopqrstuvwxyz"
-"""The characters of speeds in snapshots, 0 to 35 cells per step."""
-
-Lane = Sequence[Optional[int]]
-"""The speed of the car in each cell, in cells per step; None or -1 for an empty cell."""
+from .._errors import ParameterError, TrlabWarning
+from .numbers import MAX_KEY, MAX_SPEED, derived_key, shown, store, whole
+from .roads import SPEEDS as SPEEDS
 
 PLACEMENTS = ("even", "jammed", "random")
+
 
 @dataclass(frozen=True)
 class InitialState:
@@ -31,38 +32,36 @@ class InitialState:
     seed: Optional[int] = None
 
     def __post_init__(self) -> None:
-        if self.placement not in PLACEMENTS:
-            raise ValueError(f"a placement is one of {', '.join(PLACEMENTS)}, not {self.placement!r}")
+        if not isinstance(self.placement, str) or self.placement not in PLACEMENTS:
+            raise ParameterError(f"a placement is one of {', '.join(PLACEMENTS)}, not {shown(self.placement)}")
+        store(self, placement=next(name for name in PLACEMENTS if name == self.placement))
         if self.speed is not None:
-            whole("speed", self.speed, 0, MAX_SPEED)
+            store(self, speed=whole("speed", self.speed, 0, MAX_SPEED))
         if self.placement == "random":
-            object.__setattr__(self, "seed", whole("seed", cast(int, self.seed), 0, MAX_KEY))
+            store(self, seed=whole("seed", self.seed, 0, MAX_KEY))
         elif self.seed is not None:
-            raise ValueError(f"a seed is for random cells only, not for {self.placement!r}")
+            raise ParameterError(f"a seed is for random cells only, not for {self.placement!r}")
 
     def judge(self, limit: int) -> None:
-        # Raises `ValueError` if the cars are faster than the limit.
+        # Raises `ParameterError` if the cars are faster than the limit.
         if self.speed is not None and self.speed > limit:
-            raise ValueError(f"all cars start with the speed {self.speed}, and the limit is {limit} cells per step")
+            raise ParameterError(f"all cars start with the speed {self.speed}, and the limit is {limit} cells per step")
 
-    def taken(self, cars: int, cells: int) -> list[int]:
+    def taken(self, cars: int, cells: int) -> Iterable[int]:
         # The cells of `cars` cars on `cells` cells, which are counted across the lanes.
         if self.placement == "random":
             numbers = _random.Random(self.seed)
             order = sorted((numbers.random(), cell) for cell in range(cells))
             return [cell for _, cell in order[:cars]]
-        return list(range(cars)) if self.placement == "jammed" else [car * cells // cars for car in range(cars)]
+        return range(cars) if self.placement == "jammed" else [car * cells // cars for car in range(cars)]
 
-    def on_lanes(self, cars: int, length: int, lanes: int, limit: int) -> list[Lane]:
-        # The lanes of a road with `cars` cars in total. Raises `ValueError` if they do not fit.
-        if not 0 <= cars <= length * lanes:
-            raise ValueError(f"{cars} cars do not fit on {length * lanes} cells")
-        road: list[list[Optional[int]]] = [[None] * length for _ in range(lanes)]
+    def on_lanes(self, cars: int, length: int, lanes: int, limit: int) -> tuple[str, ...]:
+        # The lanes of a road with `cars` cars in total, as in a file.
+        road = [["."] * length for _ in range(lanes)]
+        sign = SPEEDS[limit if self.speed is None else self.speed]
         for cell in self.taken(cars, length * lanes):
-            road[cell % lanes][cell // lanes] = limit if self.speed is None else self.speed
-        if lanes == 2 and cars > 1 and all(speed is None for speed in road[1]):
-            warnings.warn(f"all {cars} cars start on lane 0")
-        return list(road)
+            road[cell % lanes][cell // lanes] = sign
+        return tuple("".join(lane) for lane in road)
 
     def of_point(self, number: int) -> InitialState:
         # The initial state of a point of a sweep, from 0 on: random cells are drawn for each point.
@@ -73,10 +72,11 @@ class InitialState:
 
 
 even = InitialState("even")
-"""Evenly spaced and stopped, the default. On two lanes all cars are on lane 0 if their number divides the lane length."""
+"""Evenly spaced and stopped, the default. On two lanes the cars of lane 0 and of lane 1 may differ in number, for example if their
+number divides the lane length: then all of them are on lane 0. Inputs of this kind give a `TrlabWarning` with the numbers."""
 
 moving = InitialState("even", None)
-"""Evenly spaced, at the maximum speed."""
+"""Evenly spaced, at the maximum speed, on the same cells as with `even`."""
 
 jammed = InitialState("jammed")
 """Stopped in one block, on the first cells of the road."""
@@ -84,73 +84,63 @@ jammed = InitialState("jammed")
 
 def random_cells(seed: int, speed: Optional[int] = 0) -> InitialState:
     """Uniformly random cells, the same in every version of Python. `seed`, 0 to 2**256 - 1, is independent of `key`.
-    `speed` is the initial speed of all cars in cells per step; None means the maximum speed. Import `random_cells` by name:
-    `from trlab import *` leaves it and `map` out."""
+    `speed` is the initial speed of all cars in cells per step; None means the maximum speed."""
     return InitialState("random", speed, seed)
 
 
-Road = Union[Lane, Sequence[Lane]]
-"""A road as its user writes it: a lane, or two lanes."""
+def surplus(cars: int, length: int) -> int:
+    """How many more cars are on lane 0 than on lane 1, if `cars` cars are evenly spaced on two lanes of `length` cells.
+
+    The cells of the cars repeat `gcd(cars, 2 * length)` times. If such a period has an even number of cells, one more of
+    its cells with a car is on lane 0 than on lane 1; if it is odd, every second period begins on lane 1."""
+    periods = gcd(cars, 2 * length)
+    return periods if cars and 2 * length // periods % 2 == 0 else 0
 
 
-def lanes_of(road: object, limit: int = MAX_SPEED) -> tuple[Lane, ...]:
-    """A road that is given as the speeds of one lane, or as those of two, with None for each empty cell.
-
-    Raises `ValueError` if it is anything else, or if a car is faster than `limit`."""
-    cells = _items(road)
-    lanes = [cells] if all(_is_cell(cell) for cell in cells) else [_items(lane) for lane in cells]
-    if not (1 <= len(lanes) <= 2 and all(lane and all(_is_cell(cell) for cell in lane) for lane in lanes)):
-        raise ValueError(_NO_ROAD)
-    if len({len(lane) for lane in lanes}) == 2:
-        raise ValueError(f"the lanes have {len(lanes[0])} and {len(lanes[1])} cells, and must have the same number")
-    return tuple(tuple(_speed(cast(Optional[int], cell), limit) for cell in lane) for lane in lanes)
+def halved(cars: int, length: int) -> list[int]:
+    """The numbers of cars next to this one, below and above it, of which evenly spaced on two lanes at most one more car is on
+    lane 0."""
+    below = next(count for count in range(cars, -1, -1) if surplus(count, length) <= 1)
+    above = next((count for count in range(cars, 2 * length + 1) if surplus(count, length) <= 1), below)
+    return sorted({below, above})
 
 
-def roads_of(roads: object, length: int, lanes: int, limit: int) -> tuple[tuple[Lane, ...], ...]:
-    """A list of roads of one shape. Raises `ValueError`, with the number of the road, if one is something else."""
-    found = _items(roads)
-    if all(_is_cell(road) for road in found):
-        raise ValueError("`start` of a sweep is a list of roads, one for each point: for one road write `[road]`")
-    return tuple(_road_of(number, road, length, lanes, limit) for number, road in enumerate(found))
+_IS_TOLD: ContextVar[bool] = ContextVar("trlab_lanes_are_told", default=False)
 
 
-def _road_of(number: int, road: object, length: int, lanes: int, limit: int) -> tuple[Lane, ...]:
+@contextmanager
+def lanes_are_told() -> Iterator[None]:
+    """Inputs that are made in this block give no warning about their lanes: the input that they are made from gave it."""
+    before = _IS_TOLD.set(True)
     try:
-        read = lanes_of(road, limit)
-    except ValueError as error:
-        raise ValueError(f"road {number} of `start`: {error}") from None
-    if (len(read), len(read[0])) != (lanes, length):
-        shape = f"{len(read)} x {len(read[0])}"
-        raise ValueError(f"road {number} of `start` has {shape} cells, and the sweep has {lanes} x {length}")
-    return read
+        yield
+    finally:
+        _IS_TOLD.reset(before)
 
 
-def cars_on(road: Sequence[Lane]) -> int:
-    """The number of cars on a road that `lanes_of` has read."""
-    return sum(speed is not None for lane in road for speed in lane)
+def tell_lanes(start: object, counts: Iterable[int], length: int, lanes: int) -> None:
+    """Warns if evenly spaced cars are not halved between two lanes."""
+    if lanes != 2 or not isinstance(start, InitialState) or start.placement != "even" or _IS_TOLD.get():
+        return
+    uneven = [cars for cars in dict.fromkeys(counts) if surplus(cars, length) > 1]
+    if not uneven:
+        return
+    cars, more = uneven[0], surplus(uneven[0], length)
+    others = f" (and so for {len(uneven) - 1} other numbers of cars)" if len(uneven) > 1 else ""
+    warnings.warn(
+        f"evenly spaced, {cars} cars on two lanes of {length} cells are {(cars + more) // 2} cars on lane 0 and "
+        f"{(cars - more) // 2} on lane 1{others}: use `start=random_cells(seed)`, or "
+        f"{' or '.join(map(str, halved(cars, length)))} cars",
+        TrlabWarning,
+        stacklevel=_level_of_user(),
+    )
 
 
-_NO_ROAD = "a road is a list of speeds, with None for an empty cell, or two such lists"
-
-
-def _items(road: object) -> list[object]:
-    if isinstance(road, str) or not isinstance(road, Iterable):
-        raise ValueError(_NO_ROAD)
-    return list(road)
-
-
-def _is_cell(cell: object) -> bool:
-    return cell is None or isinstance(cell, Integral) and not isinstance(cell, bool)
-
-
-def _speed(cell: Optional[int], limit: int) -> Optional[int]:
-    if cell is None or cell < 0:
-        return None
-    if cell > limit:
-        raise ValueError(f"a car has the speed {cell}, and the limit is {limit} cells per step")
-    return int(cell)
-
-
-def lane_text(lane: Lane) -> str:
-    """A lane in the characters of a text."""
-    return "".join("." if speed is None or speed < 0 else SPEEDS[speed] for speed in lane)
+def _level_of_user() -> int:
+    """The `stacklevel` for a warning of the caller that points to the line outside of this package, also through
+    `dataclasses.replace`."""
+    frame: Optional[FrameType] = sys._getframe(1)
+    level = 0
+    while frame is not None and frame.f_globals.get("__name__", "").split(".")[0] in ("trlab", "dataclasses"):
+        frame, level = frame.f_back, level + 1
+    return level + 1 if frame is not None else 1

@@ -1,18 +1,23 @@
 """Sweeps: roads of equal shape with the same rule, one for each number of cars."""
 from __future__ import annotations
 
-import warnings
-from dataclasses import dataclass
-from collections.abc import Iterable, Sequence
+import os
+from dataclasses import dataclass, replace
+from collections.abc import Iterable, Iterator, Mapping, Sequence, Set
 from typing import Any, Optional, Union, cast
 
-from . import sweep_parts as sweeping
+from .._errors import ParameterError
 from .._runs.calls import ask
 from .._results.tables import Point, Table
-from .rules import Rule, need_rule
-from .states import Lane, Road, InitialState, cars_on, even, roads_of
+from . import reading
 from .jobs import Job
-from .numbers import MAX_CARS, MAX_CELLS, MAX_SPEED, Density, Key, cars_at, key_digits, whole
+from .numbers import (
+    MAX_ALL_STEPS, MAX_CELLS, MAX_POINTS, MAX_SPEED, MAX_STEPS, MAX_THREADS, Density, Key, cars_at, checked_key, derived_key, key_digits,
+    share, shown, store, whole,
+)
+from .roads import Road, cars_on, roads_of
+from .rules import Rule, need_rule
+from .states import InitialState, even, lanes_are_told, tell_lanes
 from .words import input_text, option
 
 
@@ -37,7 +42,9 @@ class Sweep:
     STUDIES.md). If the third digit matters, sweep from `random_cells` states too and choose a `warm` for which they agree.
 
     An even sweep of at most 200 points and 500,000 steps in total is a single input, `.text()`; a larger sweep runs as
-    its `.parts()`. From any other state, or if `warm + measure` is above 500,000, every point is a job of `.jobs()`."""
+    its `.parts()`. From any other state, or if `warm + measure` is above 500,000, every point is a job of `.jobs()`.
+
+    Numbers are checked and stored as in a `Job`. Raises `ParameterError` if a parameter is wrong."""
 
     limit: int
     rule: Rule
@@ -51,71 +58,131 @@ class Sweep:
     start: Union[InitialState, Sequence[Road]] = even
 
     def __post_init__(self) -> None:
-        whole("limit", self.limit, 1, MAX_SPEED)
-        whole("length", self.length, 1, MAX_CELLS)
-        whole("lanes", self.lanes, 1, 2)
-        whole("warm", self.warm, 0)
-        whole("measure", self.measure, 1)
-        key_digits(self.key)
-        need_rule(self.rule)
-        for name in "cars", "densities":
-            object.__setattr__(self, name, _listed(name, getattr(self, name)))
-        if isinstance(self.start, InitialState):
+        store(self, limit=whole("limit", self.limit, 1, MAX_SPEED), length=whole("length", self.length, 1, MAX_CELLS))
+        store(self, lanes=whole("lanes", self.lanes, 1, 2), key=checked_key(self.key), rule=need_rule(self.rule))
+        store(self, warm=whole("warm", self.warm, 0, MAX_ALL_STEPS // 2), measure=whole("measure", self.measure, 1, MAX_ALL_STEPS // 2))
+        if self.cars is not None:
+            store(self, cars=tuple(whole("cars", cars, 0, self.cells()) for cars in _listed("cars", self.cars)))
+        if self.densities is not None:
+            store(self, densities=tuple(share("a density of `densities`", it) for it in _listed("densities", self.densities)))
+        if not isinstance(self.start, InitialState):
+            if not (self.cars is None and self.densities is None):
+                raise ParameterError("roads as `start` have their own cars: leave `cars` and `densities` out")
+            store(self, start=roads_of(self.start, self.length, self.lanes, self.limit))
+        else:
             self.start.judge(self.limit)
             if (self.cars is None) == (self.densities is None):
-                raise ValueError("a sweep needs either `cars` or `densities`")
-        elif not (self.cars is None and self.densities is None):
-            raise ValueError("roads as `start` have their own cars: leave `cars` and `densities` out")
-        else:
-            object.__setattr__(self, "start", roads_of(self.start, self.length, self.lanes, self.limit))
+                raise ParameterError("a sweep needs either `cars` or `densities`")
         if not self.counts():
-            raise ValueError("a sweep needs at least one point")
+            raise ParameterError("a sweep needs at least one point")
+        tell_lanes(self.start, self.counts(), self.length, self.lanes)
+
+    @classmethod
+    def read(cls, path: Union[str, os.PathLike[str]]) -> Sweep:
+        """Read a sweep file: a sweep with the same `.text()`, to the last byte. Its probabilities are fractions. Raises
+        `RejectedInputError` with the explanation if the program rejects the file, and `ParameterError` if the file is not UTF-8
+        or does not end with a line feed."""
+        return cls.from_text(reading.content_of(path, "Sweep"))
+
+    @classmethod
+    def from_text(cls, text: str) -> Sweep:
+        """The sweep of a text that `.text()` returned, or of the content of a sweep file. Raises the errors of `read`."""
+        reading.need_accepted("sweep", text)
+        return reading.need_same(cls(**reading.sweep_of(text)), text)
+
+    def cells(self) -> int:
+        """The cells of all lanes of a road."""
+        return self.length * self.lanes
 
     def counts(self) -> list[int]:
         """The number of cars of each point."""
         if not isinstance(self.start, InitialState):
-            return [cars_on(cast(Sequence[Lane], road)) for road in self.start]
-        cells = self.length * self.lanes
+            return [cars_on(road) for road in cast(Sequence[Sequence[str]], self.start)]
         if self.cars is not None:
-            return [whole("cars", count, 0, min(cells, MAX_CARS)) for count in self.cars]
-        return [cars_at(density, cells) for density in cast(Sequence[Density], self.densities)]
+            return list(self.cars)
+        return [cars_at(density, self.cells()) for density in cast(Sequence[Density], self.densities)]
+
+    def is_of_jobs(self) -> bool:
+        """Whether no sweep file can say the points, so that each of them is a job of `.jobs()`."""
+        return self.start != even or self.warm + self.measure > MAX_STEPS
 
     def text(self) -> str:
-        """The sweep file. Raises `ValueError` if the sweep is not a single input."""
-        sweeping.need_one_input(self)
-        counts = self.counts()
-        for cars in counts:
-            if self.lanes == 2 and cars > 1 and self.length % cars == 0:
-                warnings.warn(f"all {cars} cars start on lane 0: their number divides the lane length")
+        """The sweep file. Raises `ParameterError` if the sweep is not a single input, and says which method to use."""
+        self._need_one_input()
         lines = ["sweep 1", f"key {key_digits(self.key)}", f"limit {self.limit}", f"length {self.length}"]
         lines += [f"lanes {self.lanes}", *self.rule.lines(), f"warm {self.warm}", f"measure {self.measure}"]
-        return input_text(lines + [f"cars {cars}" for cars in counts])
+        return input_text(lines + [f"cars {cars}" for cars in self.counts()])
+
+    def _need_one_input(self) -> None:
+        steps, count = self.warm + self.measure, len(self.counts())
+        if self.start != even:
+            raise ParameterError("a sweep file begins with evenly spaced cars, and this sweep has another start: use `jobs()`")
+        if steps > MAX_STEPS:
+            raise ParameterError(f"a point of a sweep file has at most {MAX_STEPS} steps, and this has {steps}: use `jobs()`")
+        if count > self._points_of_input():
+            raise ParameterError(
+                f"a sweep file has at most {MAX_POINTS} points and {MAX_STEPS} steps of all points together, "
+                f"and this sweep has {count} points of {steps} steps: use `parts()`"
+            )
+
+    def _points_of_input(self) -> int:
+        """How many points of this sweep one input can have."""
+        return min(MAX_POINTS, MAX_STEPS // (self.warm + self.measure))
 
     def parts(self) -> list[Sweep]:
         """This sweep, split into the largest sweeps that fit into one input. The first has this sweep's key. Part n,
         from 1 on, has the key derived from `trlab part KEY n`, because point i of an input draws the random numbers of
-        road i. Raises `ValueError` if the points are jobs."""
-        return sweeping.parts(self)
+        road i. Raises `ParameterError` if the points are jobs."""
+        if self.is_of_jobs():
+            raise ParameterError("the points of this sweep are jobs: use `jobs()`")
+        counts, size = self.counts(), self._points_of_input()
+        cut = [counts[first : first + size] for first in range(0, len(counts), size)]
+        keys = [self.key, *(derived_key("part", self.key, number) for number in range(1, len(cut)))]
+        with lanes_are_told():
+            return [replace(self, cars=part, densities=None, key=key) for part, key in zip(cut, keys)]
 
     def jobs(self) -> list[Job]:
         """One job per point, of `warm + measure` steps: its `series(every=measure, first=warm)` is the point's row.
         Point i, from 0 on, has the key derived from `trlab point KEY i`. The seed of `random_cells(seed)` is derived from
         `trlab seed SEED i`, read as a hexadecimal number. Jobs of an even sweep draw other random numbers than its
         `.text()`."""
-        return sweeping.jobs(self)
+        with lanes_are_told():
+            return [
+                Job(limit=self.limit, rule=self.rule, steps=self.warm + self.measure, key=derived_key("point", self.key, number), **state)
+                for number, state in enumerate(self._initial_states())
+            ]
+
+    def _initial_states(self) -> Iterator[dict[str, Any]]:
+        """What a job says of the road of each point."""
+        if not isinstance(self.start, InitialState):
+            yield from ({"start": road} for road in self.start)
+            return
+        for number, cars in enumerate(self.counts()):
+            yield {"length": self.length, "lanes": self.lanes, "cars": cars, "start": self.start.of_point(number)}
 
     def sweep(self, runners: int = 1, workers: int = 1) -> Table[Point]:
-        """The table, one row per point, in order. `runners` points, 1 to 16, run at a time, which does not change the
-        table."""
-        if sweeping.is_of_jobs(self):
-            return sweeping.table_of_jobs(self, runners, workers)
+        """The table, one row per point, in order. `runners` points, 1 to 16, run at a time, each with `workers` threads, 1 to 16,
+        which does not change the table."""
+        runners, workers = whole("runners", runners, 1, MAX_THREADS), whole("workers", workers, 1, MAX_THREADS)
+        if self.is_of_jobs():
+            return self._table_of_jobs(runners, workers)
         options = option("runners", runners, 1) + option("workers", workers, 1)
         tables = [Table.read(Point, ask(["sweep", *options], part.text())) for part in self.parts()]
         return Table(Point, [point for table in tables for point in table])
 
+    def _table_of_jobs(self, runners: int, workers: int) -> Table[Point]:
+        # Runs know jobs and sweeps, so that they are imported when they are needed.
+        from .._runs.many import run_all
 
-def _listed(name: str, values: object) -> Optional[tuple[Any, ...]]:
-    """The values of the points, as a tuple; raises `TypeError` if they are not a list."""
-    if values is not None and (isinstance(values, str) or not isinstance(values, Iterable)):
-        raise TypeError(f"{name} must be a list with a number for each point, not {values!r}")
-    return None if values is None else tuple(values)
+        def point(job: Job) -> Point:
+            (window,) = job.series(every=self.measure, first=self.warm, workers=workers)
+            return Point(*window[1 : 1 + len(Point._fields)])
+
+        return Table(Point, run_all(self.jobs(), point, at_once=runners))
+
+
+def _listed(name: str, values: object) -> list[Any]:
+    """The values of the points; raises `ParameterError` if they are not a list."""
+    if isinstance(values, (str, bytes, bytearray, Mapping, Set)) or not isinstance(values, Iterable) or getattr(values, "shape", None) == ():
+        raise ParameterError(f"{name} must be a list with a number for each point, not {shown(values)}")
+    return list(values)

@@ -2,14 +2,18 @@
 from __future__ import annotations
 
 import json
-import warnings
-from typing import Any
+import re
+from collections.abc import Callable
+from typing import Any, Optional
 
+from .._errors import ParameterError
+from .._inputs.reading import job_of, sweep_of
+from .._inputs.roads import cars_on
 from .._inputs.rules import Nasch, Own, Rickert, Rule, SlowToStart
-from .._inputs.states import SPEEDS, even, jammed, random_cells
+from .._inputs.states import InitialState, even, halved, jammed, lanes_are_told, random_cells
 from .._inputs.jobs import Job
 from .._inputs.sweeps import Sweep
-from .._inputs.numbers import ALWAYS, parts
+from .._inputs.numbers import ALWAYS, checked_key, key_digits, parts, whole
 
 Controls = dict[str, Any]
 DENSITIES = [k / 50 if k <= 16 else 0.32 + (k - 16) * 0.045 for k in range(1, 31)]
@@ -18,61 +22,86 @@ DENSITIES = [k / 50 if k <= 16 else 0.32 + (k - 16) * 0.045 for k in range(1, 31
 
 def job_file(controls: Controls) -> str:
     """The job file: `rules` in their order, each with the step `at` which it takes over, and a road by its `start`."""
-    rules = {rule["at"]: _rule(rule, controls["lanes"]) for rule in controls["rules"]}
-    start: Any = {"even": even, "jam": jammed}.get(controls["start"]) or random_cells(int(controls["key"]))
-    shape = {name: controls[name] for name in ("length", "lanes", "cars")}
+    first, *later = controls["rules"]
+    whole("the first step of the first rule", first["at"], 0, 0)
+    at = [(whole("the first step of a rule", rule["at"], 0), _rule(rule, controls["lanes"])) for rule in later]
+    if len(dict(at)) < len(at):
+        raise ParameterError("two rules take over at the same step")
     if controls["start"] == "file":
-        start, shape = [[None if sign == "." else SPEEDS.index(sign) for sign in lane] for lane in controls["road"]], {}
-        start = start[0] if len(start) == 1 else start
-    job = Job(
-        limit=controls["limit"], rule=rules.pop(0), steps=controls["steps"], key=int(controls["key"]), at=rules, start=start, **shape
-    )
-    with warnings.catch_warnings():
-        warnings.simplefilter("ignore")
-        return job.text()
+        road: Controls = {"start": controls["road"]}
+    else:
+        road = {name: controls[name] for name in ("length", "lanes", "cars")}
+        road["start"] = _initial_state(controls["start"], _key(controls))
+    with lanes_are_told():
+        # The page shows where the cars are.
+        return Job(
+            limit=controls["limit"], rule=_rule(first, controls["lanes"]), steps=controls["steps"], key=_key(controls), at=dict(at), **road
+        ).text()
 
 
 def sweep_file(controls: Controls) -> str:
-    """The sweep file of the road for a `rule`, with its `warm` and `measure` steps."""
-    cells = controls["length"] * controls["lanes"]
+    """The sweep file of the road for a `rule`, with its `warm` and `measure` steps. On two lanes the numbers of cars are those
+    near the densities that an even initial state halves between the lanes."""
     shape = {name: controls[name] for name in ("limit", "length", "lanes", "warm", "measure")}
-    rule, counts = _rule(controls["rule"], controls["lanes"]), {round(density * cells) for density in DENSITIES}
-    with warnings.catch_warnings():
-        warnings.simplefilter("ignore")
-        return Sweep(rule=rule, cars=sorted(counts), key=int(controls["key"]), **shape).text()
+    length, lanes = whole("length", shape["length"], 1), whole("lanes", shape["lanes"], 1, 2)
+    counts = {round(density * length * lanes) for density in DENSITIES}
+    if lanes == 2:
+        counts = {min(halved(cars, length), key=lambda near: abs(near - cars)) for cars in counts}
+    return Sweep(rule=_rule(controls["rule"], lanes), cars=sorted(counts), key=_key(controls), **shape).text()
+
+
+def _key(controls: Controls) -> int:
+    """The key, which is a string of decimal digits, because numbers of JavaScript are too small for it."""
+    key = controls["key"]
+    if not isinstance(key, str) or not re.fullmatch("[0-9]{1,78}", key):
+        raise ParameterError(f"the key must have 1 to 78 decimal digits, not {key!r:.80}")
+    return int(checked_key(int(key)))
+
+
+def _initial_state(name: object, seed: int) -> InitialState:
+    if name == "random":
+        return random_cells(seed)
+    if name not in ("even", "jam"):
+        raise ParameterError(f"the initial state is even, random, jam or file, not {name!r:.80}")
+    return even if name == "even" else jammed
 
 
 def _rule(rule: Controls, lanes: int) -> Rule:
-    p, q = rule["p"], rule["q"]
     if rule["model"] == "own":
-        return Own(rule["motion"], rule["change"] if lanes == 2 and rule["change"].strip() else None)
-    return Nasch(p) if rule["model"] == "nasch" else {"vdr": SlowToStart, "rickert": Rickert}[rule["model"]](p, q)
+        change: Optional[str] = rule["change"]
+        return Own(rule["motion"], change if lanes == 2 and change and change.strip() else None)
+    if rule["model"] == "nasch":
+        return Nasch(rule["p"])
+    if rule["model"] == "vdr":
+        return SlowToStart(rule["p"], rule["q"])
+    if rule["model"] == "rickert":
+        return Rickert(rule["p"], rule["q"])
+    raise ParameterError(f"the rule is nasch, vdr, rickert or own, not {rule['model']!r:.80}")
 
 
 def controls_of(text: str) -> Controls:
     """The controls for a job file or a sweep file that trlab accepts; those that the file does not have are left out."""
-    lines, place = text.rstrip("\n").split("\n"), 1
-    found: Controls = {"start": "even", "road": None, "rules": []}
-    while place < len(lines):
-        word, *values = lines[place].split(" ")
-        place += 1
-        if word == "key":
-            found["key"] = str(int(values[0], 16))
-        elif word == "lane":
-            found["road"] = [*(found["road"] or []), values[0]]
-        elif word in ("limit", "length", "lanes", "steps"):
-            found[word] = int(values[0])
-        elif word in ("rule", "at"):
-            step, (model, *numbers) = (int(values[0]), values[2:]) if word == "at" else (0, values)
-            before = found["rules"][-1] if found["rules"] else {"p": 0.25, "q": 0.5, "motion": "", "change": ""}
-            rule = {**before, "at": step, "model": model, **dict(zip("pq", map(_decimal, numbers)))}
-            if model == "own":
-                rule["motion"], rule["change"], place = _programs(lines, place)
-            found["rules"].append(rule)
-    if road := found["road"]:
-        cars = sum(len(lane) - lane.count(".") for lane in road)
-        found.update(start="file", lanes=len(road), length=len(road[0]), cars=cars)
+    read = sweep_of(text) if text.startswith("sweep ") else job_of(text)
+    found: Controls = {"start": "even", "road": None, "rules": [], "key": str(int(key_digits(read["key"]), 16))}
+    found.update((name, read[name]) for name in ("limit", "length", "lanes", "steps") if name in read)
+    before: Controls = {"p": 0.25, "q": 0.5, "motion": "", "change": ""}
+    for step, rule in [(0, read["rule"]), *read.get("at", {}).items()]:
+        before = {**before, "at": step, **_controls_of_rule(rule)}
+        found["rules"].append(before)
+    if road := read.get("start"):
+        found.update(start="file", road=road, lanes=len(road), length=len(road[0]), cars=cars_on(road))
     return found
+
+
+def _controls_of_rule(rule: Rule) -> Controls:
+    if isinstance(rule, Own):
+        return {"model": "own", "motion": _lines(rule.motion), "change": _lines(rule.change or "")}
+    model, *numbers = rule.lines()[0].split(" ")[1:]
+    return {"model": model, **dict(zip("pq", map(_decimal, numbers)))}
+
+
+def _lines(program: str) -> str:
+    return program + "\n" if program.startswith("code ") else program
 
 
 def _decimal(number: str) -> float:
@@ -81,17 +110,11 @@ def _decimal(number: str) -> float:
     return next(it for digits in range(12) if parts(it := round(exact, digits)) == int(number))
 
 
-def _programs(lines: list[str], place: int) -> tuple[str, str, int]:
-    """The motion program and the change program from a line on, and the line after them."""
-    found = ["", ""]
-    for part in range(2):
-        if part and not (place < len(lines) and (lines[place] == "change" or lines[place].startswith("code "))):
-            break
-        is_code = lines[place].startswith("code ")
-        end = place + 1 if is_code else lines.index("end", place)
-        found[part] = "".join(line + "\n" for line in lines[place:end])
-        place = end if is_code else end + 1
-    return found[0], found[1], place
+def _no_number(written: str) -> None:
+    raise ParameterError(f"{written} is not a number")
+
+
+_WRITERS: dict[str, Callable[[Controls], str]] = {"file/job": job_file, "file/sweep": sweep_file}
 
 
 def answer(name: str, text: bytes) -> bytes:
@@ -99,6 +122,7 @@ def answer(name: str, text: bytes) -> bytes:
     try:
         if name == "controls":
             return json.dumps(controls_of(text.decode())).encode()
-        return {"file/job": job_file, "file/sweep": sweep_file}[name](json.loads(text)).encode()
+        # NaN and infinities are not JSON, but Python would read them.
+        return _WRITERS[name](json.loads(text, parse_constant=_no_number)).encode()
     except (LookupError, TypeError, AttributeError, ArithmeticError, RecursionError) as error:
         raise ValueError(f"{type(error).__name__}: {error}") from None

@@ -1,0 +1,78 @@
+"""Evenly spaced cars on two lanes: an input that does not halve them says how many are on each lane."""
+import unittest
+import warnings
+from dataclasses import replace
+
+from trlab import Job, Nasch, Sweep, TrlabWarning, even, jammed, moving, random_cells
+from trlab._inputs.states import halved, surplus
+
+JOB = dict(limit=5, length=1000, lanes=2, rule=Nasch(0), steps=1)
+SWEEP = dict(limit=5, length=1000, lanes=2, rule=Nasch(0), warm=1, measure=1)
+
+
+def cars_by_lane(job):
+    return [len(lane) - lane.count(".") for lane in job.run()[0].lanes]
+
+
+def warnings_of(make):
+    with warnings.catch_warnings(record=True) as found:
+        warnings.simplefilter("always")
+        make()
+    assert all(it.category is TrlabWarning and it.filename == __file__ for it in found)
+    return [str(it.message) for it in found]
+
+
+class Lanes(unittest.TestCase):
+    def test_the_formula_is_that_of_the_roads(self):
+        for length in range(1, 31):
+            for cars in range(2 * length + 1):
+                with warnings.catch_warnings():
+                    warnings.simplefilter("ignore")
+                    lanes = Job(limit=5, length=length, lanes=2, cars=cars, rule=Nasch(0), steps=0).road()
+                first, second = (sum(cell is not None for cell in lane) for lane in lanes)
+                self.assertEqual(surplus(cars, length), first - second)
+                self.assertTrue(all(0 <= it <= 2 * length and surplus(it, length) <= 1 for it in halved(cars, length)))
+                self.assertEqual(halved(cars, length) == [cars], surplus(cars, length) <= 1)
+
+    def test_every_kind_of_input_tells_it(self):
+        for cars, told in (300, "200 cars on lane 0 and 100 on lane 1: "), (100, "100 cars on lane 0 and 0 on lane 1: "), (2, "2 cars on lane 0 and 0"):
+            with warnings.catch_warnings():
+                warnings.simplefilter("ignore")
+                first, second = cars_by_lane(Job(**JOB, cars=cars))
+            for start in even, moving:
+                for make in lambda: Job(**JOB, cars=cars, start=start), lambda: Job(**JOB, density=cars / 2000, start=start), \
+                        lambda: Sweep(**SWEEP, cars=[cars], start=start), lambda: Sweep(**SWEEP, densities=[cars / 2000], start=start), \
+                        lambda: replace(Job(**JOB, cars=1, start=start), cars=cars):
+                    (message,) = warnings_of(make)
+                    self.assertIn(f"evenly spaced, {cars} cars on two lanes of 1000 cells are {told}", message)
+                    self.assertIn(f"{first} cars on lane 0 and {second} on lane 1", message)
+                    for near in halved(cars, 1000):
+                        self.assertEqual(warnings_of(lambda: Job(**JOB, cars=near, start=start)), [])
+
+    def test_it_is_told_once(self):
+        def study():
+            for start in even, moving:
+                sweep = Sweep(**SWEEP, cars=[300, 299, 100, 100], start=start)
+                sweep.jobs(), sweep.counts(), sweep.sweep(), sweep.jobs()[0].text(), sweep.is_of_jobs() or sweep.parts()[0].text()
+
+        messages = warnings_of(study)
+        self.assertEqual(len(messages), 2)
+        self.assertIn("100 on lane 1 (and so for 1 other numbers of cars)", messages[0])
+
+    def test_a_file_tells_it_too(self):
+        with warnings.catch_warnings():
+            warnings.simplefilter("ignore")
+            text = Sweep(**SWEEP, cars=[300]).text()
+        (message,) = warnings_of(lambda: Sweep.from_text(text))
+        self.assertIn("200 cars on lane 0", message)
+
+    def test_other_states_have_nothing_to_tell(self):
+        for cars in 300, 100:
+            for start in jammed, random_cells(1):
+                self.assertEqual(warnings_of(lambda: (Job(**JOB, cars=cars, start=start), Sweep(**SWEEP, cars=[cars], start=start))), [])
+            self.assertEqual(warnings_of(lambda: Job(**{**JOB, "lanes": 1}, cars=cars)), [])
+        self.assertEqual(warnings_of(lambda: replace(Job(**JOB, cars=301), cars=0)), [])
+
+
+if __name__ == "__main__":
+    unittest.main()
