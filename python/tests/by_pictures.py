@@ -2,7 +2,8 @@
 
 It knows nothing of rules. Cars that changed lanes are found in two consecutive snapshots: a car at
 speed v has come from v cells behind, on the lane where it is now."""
-from typing import Iterable, Iterator, List, NamedTuple, Sequence, Set
+from collections.abc import Iterable, Iterator, Sequence
+from typing import NamedTuple
 
 from trlab import Snapshot, Window
 from trlab._inputs.states import SPEEDS
@@ -50,7 +51,7 @@ def window(snapshots: Sequence[Snapshot]) -> Window:
         distance=distance,
         stopped=stopped0 + stopped1,
         changes=sum(changes(*pair) for pair in zip(snapshots, behind)),
-        flow=distance * 1000000 // (cells * steps),
+        flow_millionths=distance * 1000000 // (cells * steps),
         cars0=cars0,
         distance0=distance0,
         stopped0=stopped0,

@@ -76,7 +76,7 @@ class Found(unittest.TestCase):
         self.assertTrue(early.drift().is_drifting and early.drift().z > 0)
         self.assertTrue(early.drift("stopped_share").is_drifting and early.drift("stopped_share").z < 0)
         self.assertFalse(late.drift().is_drifting)
-        self.assertAlmostEqual(late.drift("speed").p, late.drift("passing").p)
+        self.assertAlmostEqual(late.drift("speed").p, late.drift("flow").p)
 
 
 class Rejected(unittest.TestCase):
