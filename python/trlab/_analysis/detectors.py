@@ -6,13 +6,14 @@ Edie, Discussion of traffic stream measurements and definitions, Proc. 2nd Int. 
 from __future__ import annotations
 
 import math
+from collections import defaultdict
 from collections.abc import Iterable, Iterator, Sequence
-from typing import Any, NamedTuple
+from typing import Any, Optional
 
-from .libraries import numpy, pandas
+from .libraries import pandas
 from .._errors import ParameterError, SnapshotsError
 from .._inputs.numbers import MAX_SPEED, whole
-from .._results.following import Array, Cars, follow
+from .._inputs.states import SPEEDS
 from .._results.snapshots import Snapshot
 
 
@@ -20,7 +21,6 @@ def passings(snapshots: Iterable[Snapshot], cells: Sequence[int]) -> pandas.Data
     """One row for each car that passes the end of one of the `cells`, by time, cell and lane:
 
     - `step` in which it passes, `cell` and `lane` of the detector;
-    - `car`: its number, as in `trlab.follow`, so that a car is known again at the next detector;
     - `speed` in this step, in cells per step, 1 to 35;
     - `time_headway`: the steps since the car before it passed the same end, at least 1; NaN for the first car.
 
@@ -31,11 +31,10 @@ def passings(snapshots: Iterable[Snapshot], cells: Sequence[int]) -> pandas.Data
 
     `snapshots` are those of consecutive steps, for example `job.snapshots(first=1000)`; the first only says where the cars
     begin. Raises `SnapshotsError` if they are not, and `ParameterError` for cells that the road does not have."""
-    found = [numpy.array([]).reshape(0, 5)]
-    for seen in _seen(snapshots, cells):
-        rows = len(seen.detector)
-        found.append(numpy.stack([numpy.full(rows, seen.step), seen.cells[seen.detector], seen.lane, seen.car, seen.speed], axis=1))
-    frame = pandas.DataFrame(numpy.concatenate(found), columns=["step", "cell", "lane", "car", "speed"], dtype="int64")
+    rows = [
+        (step, cell, lane, speed) for step, seen in _seen(snapshots, cells) for cell, lane, _, speed in seen if speed
+    ]
+    frame = pandas.DataFrame(rows, columns=["step", "cell", "lane", "speed"], dtype="int64")
     frame = frame.sort_values(["step", "cell", "lane"], ignore_index=True)
     frame["time_headway"] = frame.groupby(["cell", "lane"])["step"].diff()
     return frame
@@ -62,91 +61,107 @@ def detectors(snapshots: Iterable[Snapshot], cells: Sequence[int], every: int) -
     `ParameterError` if they are not whole windows, or for cells that the road does not have."""
     whole("every", every, 1)
     rows: list[tuple[Any, ...]] = []
-    steps, window = 0, None
-    for steps, seen in enumerate(_seen(snapshots, cells), 1):
-        if window is None:
-            window = _Window(len(seen.cells), seen.lanes)
-        window.add(seen)
+    counts: dict[tuple[int, int], _Detector] = defaultdict(_Detector)
+    steps = 0
+    for steps, (step, seen) in enumerate(_seen(snapshots, cells), 1):
+        for cell, lane, is_taken, speed in seen:
+            counts[cell, lane].add(step, is_taken, speed)
         if steps % every == 0:
-            for (number, lane), values in window.rows(every):
-                rows.append((seen.cells[number], lane, seen.step, *values))
-            window.clear()
+            for place, detector in counts.items():
+                rows.append((*place, step, *detector.values(every)))
+                detector.clear()
     if steps % every or not steps:
         raise ParameterError(f"{steps} steps are not whole windows of {every} steps: choose `every`, `first` or `steps` to match")
     names = ["cell", "lane", "step", "count", "flow", "time_mean_speed", "harmonic_mean_speed", "occupancy", "mean_time_headway"]
     return pandas.DataFrame(rows, columns=names).set_index(names[:3]).sort_index()
 
 
-class _Seen(NamedTuple):
-    """What the detectors see in a step: the number of the detector, lane, car and speed of each car that passes it, and for
-    each car in a watched cell the number of its detector and its lane."""
+class _Detector:
+    """The counts of one detector on one lane in a window, and the step in which the last car passed it."""
 
-    step: int
-    lanes: int
-    cells: Array
-    detector: Array
-    lane: Array
-    car: Array
-    speed: Array
-    taken: tuple[Array, Array]
-
-
-def _seen(snapshots: Iterable[Snapshot], cells: Sequence[int]) -> Iterator[_Seen]:
-    """What detectors at these cells see, step by step from the second snapshot on."""
-    followed = follow(snapshots)
-    begun = next(followed, None)
-    if begun is None:
-        raise SnapshotsError("there are no snapshots")
-    watched = numpy.array([whole("a cell", cell, 0, begun.length - 1) for cell in cells], dtype=numpy.int64)
-    if len(set(watched.tolist())) < len(watched) or not len(watched):
-        raise ParameterError("`cells` must be different cells, at least one")
-    number_of = numpy.full(begun.length, -1)
-    number_of[watched] = numpy.arange(len(watched))
-    for cars in followed:
-        car, end = _passed_ends(cars)
-        is_seen = number_of[end] >= 0
-        car, detector = car[is_seen], number_of[end[is_seen]]
-        here = number_of[cars.cell]
-        taken = here[here >= 0], cars.lane[here >= 0]
-        yield _Seen(cars.step, cars.lanes, watched, detector, cars.lane[car], car, cars.speed[car], taken)
-
-
-def _passed_ends(cars: Cars) -> tuple[Array, Array]:
-    """Pairs of a car and a cell whose end it passed: x - v to x - 1 for a car at cell x that drove v cells."""
-    car = numpy.repeat(numpy.arange(len(cars)), cars.speed)
-    place = numpy.arange(len(car)) - numpy.repeat(numpy.cumsum(cars.speed) - cars.speed, cars.speed)
-    return car, (cars.cell[car] - cars.speed[car] + place) % cars.length
-
-
-class _Window:
-    """Counts of a window, by detector and lane."""
-
-    def __init__(self, detectors: int, lanes: int) -> None:
-        self.last = numpy.full((detectors, lanes), -1)
+    def __init__(self) -> None:
+        self.last: Optional[int] = None
         self.clear()
 
     def clear(self) -> None:
-        """Begin the next window. The step of the last car stays, for the headway of the next one."""
-        shape = self.last.shape
-        self.speeds = numpy.zeros((*shape, MAX_SPEED + 1), dtype=numpy.int64)
-        self.taken, self.headways, self.successors = (numpy.zeros(shape, dtype=numpy.int64) for _ in range(3))
+        """Begin the next window. The last car stays, for the time headway of the next one."""
+        self.speeds, self.taken, self.headways, self.successors = (MAX_SPEED + 1) * [0], 0, 0, 0
 
-    def add(self, seen: _Seen) -> None:
-        """Count a step. At most one car passes each detector, so no place is twice in an index."""
-        at = seen.detector, seen.lane
-        self.speeds[(*at, seen.speed)] += 1
-        self.taken[seen.taken] += 1
-        has_last = self.last[at] >= 0
-        self.headways[at] += numpy.where(has_last, seen.step - self.last[at], 0)
-        self.successors[at] += has_last
-        self.last[at] = seen.step
+    def add(self, step: int, is_taken: bool, speed: int) -> None:
+        """Count a step, in which a car at this speed passes; none does if it is 0."""
+        self.taken += is_taken
+        if speed:
+            self.speeds[speed] += 1
+            if self.last is not None:
+                self.headways += step - self.last
+                self.successors += 1
+            self.last = step
 
-    def rows(self, steps: int) -> Iterator[tuple[tuple[int, ...], tuple[Any, ...]]]:
-        """The values of each detector and lane."""
-        speeds = numpy.arange(1, MAX_SPEED + 1)
-        for place in numpy.ndindex(self.last.shape):
-            passed = self.speeds[place][1:]
-            count, successors = int(passed.sum()), int(self.successors[place])
-            means = (int(passed @ speeds) / count, count / float(passed @ (1 / speeds))) if count else (math.nan, math.nan)
-            headway = int(self.headways[place]) / successors if successors else math.nan
-            yield place, (count, count / steps, *means, int(self.taken[place]) / steps, headway)
+    def values(self, steps: int) -> tuple[Any, ...]:
+        """The values of a window of so many steps."""
+        count, passed = sum(self.speeds), [*enumerate(self.speeds)][1:]
+        mean, harmonic = math.nan, math.nan
+        if count:
+            mean = sum(speed * cars for speed, cars in passed) / count
+            harmonic = count / sum(cars / speed for speed, cars in passed)
+        headway = self.headways / self.successors if self.successors else math.nan
+        return count, count / steps, mean, harmonic, self.taken / steps, headway
+
+
+class _Road:
+    """A road with detectors at the ends of these cells."""
+
+    def __init__(self, snapshot: Snapshot, cells: Sequence[int]) -> None:
+        self.sizes, self.cars, self.step = [len(lane) for lane in snapshot.lanes], _cars_on(snapshot), snapshot.step
+        self.cells = [whole("a cell", cell, 0, self.sizes[0] - 1) for cell in cells]
+        if len(set(self.cells)) < len(self.cells) or not self.cells:
+            raise ParameterError("`cells` must be different cells, at least one")
+
+    def need_next(self, snapshot: Snapshot) -> None:
+        """Raises `SnapshotsError` if this cannot be the next snapshot."""
+        if snapshot.step != self.step + 1:
+            raise SnapshotsError(
+                f"step {snapshot.step} follows step {self.step}, and detectors need every step: leave `every` at 1, and do not put "
+                "parts of a run together"
+            )
+        if [len(lane) for lane in snapshot.lanes] != self.sizes or _cars_on(snapshot) != self.cars:
+            raise SnapshotsError(f"the road of step {snapshot.step} has another size or number of cars than the one before it")
+        self.step = snapshot.step
+
+
+def _cars_on(snapshot: Snapshot) -> int:
+    return sum(len(lane) - lane.count(".") for lane in snapshot.lanes)
+
+
+def _seen(snapshots: Iterable[Snapshot], cells: Sequence[int]) -> Iterator[tuple[int, list[tuple[int, int, bool, int]]]]:
+    """Step by step from the second snapshot on, what each detector sees: its cell and lane, whether a car is in the cell
+    after the step, and the speed of the car that passed the end of the cell, or 0."""
+    road: Optional[_Road] = None
+    for snapshot in snapshots:
+        if road is None:
+            road = _Road(snapshot, cells)
+            continue
+        road.need_next(snapshot)
+        yield snapshot.step, [
+            (cell, number, lane[cell] != ".", _passing(lane, cell))
+            for cell in road.cells for number, lane in enumerate(snapshot.lanes)
+        ]
+    if road is None:
+        raise SnapshotsError("there are no snapshots")
+
+
+def _passing(lane: str, cell: int) -> int:
+    """The speed of the car that passed the end of a cell in the step before this snapshot, or 0.
+
+    It is the next car ahead, if it drove more cells than there are empty ones between it and the end of the cell. The car
+    ahead of that one drove at most its gap, and so did not come from behind this cell."""
+    near = lane[cell + 1:cell + 1 + MAX_SPEED]
+    if len(near) < MAX_SPEED:
+        near += lane[:min(cell + 1, MAX_SPEED - len(near))]
+    cars = near.lstrip(".")
+    if not cars:
+        return 0
+    speed = SPEEDS.find(cars[0])
+    if speed < 0:
+        raise SnapshotsError(f"a cell has a character that is neither a speed nor a dot: {cars[0]!r}")
+    return speed if speed > len(near) - len(cars) else 0

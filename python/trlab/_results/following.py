@@ -3,7 +3,7 @@ from __future__ import annotations
 
 from collections.abc import Iterable, Iterator
 from dataclasses import dataclass
-from typing import Any
+from typing import Any, Optional
 
 from .._errors import SnapshotsError
 from .._inputs.numbers import whole
@@ -83,7 +83,7 @@ def follow(snapshots: Iterable[Snapshot]) -> Iterator[Cars]:
     from its own lane, because a car changes lanes only if its side cell is empty. Raises `SnapshotsError` if steps are
     missing, if the cars of a snapshot do not come from those of the one before it, or if a car drove further than its
     gap."""
-    cars = None
+    cars: Optional[Cars] = None
     for snapshot in snapshots:
         cars = _first(snapshot) if cars is None else _next(cars, snapshot)
         yield cars
@@ -117,7 +117,8 @@ def _next(before: Cars, snapshot: Snapshot) -> Cars:
     of_car = numpy.full(len(before), -1)
     if len(car) == len(before) and (car >= 0).all():
         of_car[car] = numpy.arange(len(car))
-    if len(car) != len(before) or (of_car < 0).any() or _is_too_fast(lane, cell, speed, length):
+    on_lane_0 = int(numpy.searchsorted(place, length))
+    if len(car) != len(before) or (of_car < 0).any() or _is_too_fast(cell, speed, on_lane_0, length):
         raise SnapshotsError(
             f"the cars of step {snapshot.step} do not come from those of step {before.step}: these are not snapshots of one run"
         )
@@ -133,14 +134,13 @@ def _cars_on(snapshot: Snapshot, lanes: int, length: int) -> tuple[Array, Array]
     return place, speeds[place].astype(numpy.int64)
 
 
-def _is_too_fast(lane: Array, cell: Array, speed: Array, length: int) -> bool:
+def _is_too_fast(cell: Array, speed: Array, on_lane_0: int, length: int) -> bool:
     """Whether a car drove further than its gap, so that it is not behind the cell where the car ahead of it was before the
     motion. Cars are in the order of their lanes and cells."""
     came_from = cell - speed
-    is_ahead_on_lane = lane[1:] == lane[:-1]
-    if ((came_from[1:] <= cell[:-1]) & is_ahead_on_lane).any():
-        return True
-    first = numpy.flatnonzero(numpy.diff(lane, prepend=-1))  # the first car of each lane, which is ahead of the last one
-    last = numpy.append(first[1:], len(lane)) - 1
-    return bool((came_from[first] + length <= cell[last[:len(first)]]).any())
-
+    for on_lane in slice(0, on_lane_0), slice(on_lane_0, None):
+        now, then = cell[on_lane], came_from[on_lane]
+        # The first car of a lane is ahead of the last one.
+        if len(now) and (now[-1] >= then[0] + length or (now[:-1] >= then[1:]).any()):
+            return True
+    return False

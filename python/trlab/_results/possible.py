@@ -30,7 +30,7 @@ _OF_LANES = (
     "its window begins before step 0",
 )
 _OF_PAIR = (
-    "its window begins before the end of the window before it",
+    "its window must follow the window before it, and have as many steps",
     "it has other cars or cells than the window before it, and a run keeps both",
 )
 
@@ -62,7 +62,7 @@ def _window(row: Sequence[Any]) -> tuple[Any, ...]:
 
 def _pair(before: Sequence[Any], row: Sequence[Any]) -> tuple[Any, ...]:
     """Which sentences of `_OF_PAIR` hold, if one row of a series does not follow the other."""
-    return row[0] - row[3] < before[0], (row[1] != before[1]) | (row[2] != before[2])
+    return (row[0] - row[3] != before[0]) | (row[3] != before[3]), (row[1] != before[1]) | (row[2] != before[2])
 
 
 _FAST = 2**42

@@ -131,7 +131,7 @@ class Table(ResultList[Row]):
 
     def _repr_html_(self) -> str:
         """The first rows, for notebooks, with the columns of Python."""
-        lines = [self.kind._fields, *self[:SHOWN]]
+        lines: list[tuple[object, ...]] = [self.kind._fields, *self[:SHOWN]]
         rows = "".join("<tr>" + "".join(f"<td>{cell}</td>" for cell in line) + "</tr>" for line in lines)
         return f"<table>{rows}</table><p>{escape(repr(self))}</p>"
 
@@ -143,13 +143,13 @@ class Table(ResultList[Row]):
     def read(cls, kind: type[Row], text: Union[str, bytes]) -> Table[Row]:
         """Read the output of `trlab sweep` (`kind` is `Point`) or `trlab series` (`Window`). Raises `OutputFormatError` with
         the line if it is anything else, is cut off, or has a row that cannot be: for example no cells, more cars than
-        cells, a distance that these cars cannot drive, another flow than that of the counts, or windows that overlap."""
+        cells, a distance that these cars cannot drive, another flow than that of the counts, or a missing window."""
         plain = text if isinstance(text, str) else text.decode("latin-1")
         return cls(kind, read_rows(kind, plain.replace("\r\n", "\n") if "\r" in plain else plain))
 
     def text(self) -> str:
-        """The table as the program writes it, for a file that any program of trlab reads, and `Table.read`. There the
-        column `flow` is in millionths; for a table of other programs write `table.to_pandas().to_csv()`."""
+        """The table as the program writes it, which `Table.read` reads if it is that of one sweep or series. There the column
+        `flow` is in millionths; for a file of other programs write `table.to_pandas().to_csv()`."""
         return heading_of(self.kind) + "".join(",".join(map(str, row)) + "\n" for row in self)
 
     def to_numpy(self) -> numpy.ndarray[Any, Any]:

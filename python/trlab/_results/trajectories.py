@@ -74,7 +74,7 @@ class Trajectories(OnRoad):
 
     def changes(self) -> Array:
         """The number of cars that changed lanes in each step after row 0, as the column `changes` of a series counts them."""
-        return (self.lane[1:] != self.lane[:-1]).sum(axis=1)
+        return numpy.asarray((self.lane[1:] != self.lane[:-1]).sum(axis=1))
 
     def change_rate(self) -> float:
         """Lane changes per car and step, 0 to 1: the changes in all steps after row 0, divided by cars and steps. NaN without
