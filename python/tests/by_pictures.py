@@ -2,7 +2,8 @@
 
 It knows nothing of rules. Cars that changed lanes are found in two consecutive snapshots: a car at
 speed v has come from v cells behind, on the lane where it is now."""
-from typing import Iterable, Iterator, List, NamedTuple, Sequence, Set
+from collections.abc import Iterable, Iterator, Sequence
+from typing import NamedTuple
 
 from trlab import Snapshot, Window
 from trlab._inputs.states import SPEEDS

@@ -17,14 +17,14 @@ SWEEP = Sweep(limit=5, length=10, rule=Nasch(0), warm=10, measure=10, cars=[0, 1
 class Arrays(unittest.TestCase):
     @needs("numpy")
     def test_pictures(self):
-        array = JOB.run().to_numpy()
+        array = JOB.run().speeds("int16", empty=-1)
         self.assertEqual(array.tolist(), [[[11, -1, 0], [-1, -1, 1]], [[-1, 1, 0], [-1, 2, -1]]])
         self.assertEqual(replace(JOB, start=array[0]).text(), JOB.text())
         self.assertEqual(replace(JOB, start=array[0, 0]).run()[0].lanes, ("b.0",))
 
     @needs("numpy")
     def test_tables(self):
-        self.assertEqual(SWEEP.sweep().to_numpy()["flow"].tolist(), [0, 500000, 0])
+        self.assertEqual(SWEEP.sweep().to_numpy()["flow_millionths"].tolist(), [0, 500000, 0])
 
 
 class Frames(unittest.TestCase):
@@ -36,4 +36,4 @@ class Frames(unittest.TestCase):
 
     @needs("pandas")
     def test_tables(self):
-        self.assertEqual(SWEEP.sweep().to_pandas()["stopped"].tolist(), [0, 0, 100])
+        self.assertEqual(SWEEP.sweep().to_pandas()["flow"].tolist(), [0, 0.5, 0])

@@ -1,9 +1,10 @@
 """The test for drift: its false alarms on noise, what it finds, and the distribution of Student that it uses."""
 import random
 import unittest
+from dataclasses import replace
 from statistics import fmean
 
-from trlab import Drift, Job, Nasch, Point, Sweep, Table, Window, jammed
+from trlab import Drift, EstimateError, Job, Nasch, ParameterError, Point, RenamedError, Sweep, Table, Window, jammed
 from trlab._results.drift import drift_of, tails_of_t
 
 
@@ -76,19 +77,43 @@ class Found(unittest.TestCase):
         self.assertTrue(early.drift().is_drifting and early.drift().z > 0)
         self.assertTrue(early.drift("stopped_share").is_drifting and early.drift("stopped_share").z < 0)
         self.assertFalse(late.drift().is_drifting)
-        self.assertAlmostEqual(late.drift("speed").p, late.drift("passing").p)
+        self.assertAlmostEqual(late.drift("speed").p, late.drift("flow").p)
 
 
 class Rejected(unittest.TestCase):
+    def setUp(self):
+        self.job = Job(limit=5, length=20, cars=4, rule=Nasch("1/4"), steps=160)
+
     def test_too_few_windows(self):
         job = Job(limit=5, length=10, cars=2, rule=Nasch(0), steps=39)
-        self.assertRaisesRegex(ValueError, "at least 40 windows, and this series has 39: ", job.series().drift)
-        self.assertRaisesRegex(ValueError, "this series has 0", Table(Window).drift)
+        self.assertRaisesRegex(EstimateError, "at least 40 windows, and this series has 39: ", job.series().drift)
+        self.assertRaisesRegex(EstimateError, "this series has 0", Table(Window).drift)
 
     def test_no_series(self):
         table = Sweep(limit=5, length=10, rule=Nasch(0), warm=1, measure=1, cars=40 * [1]).sweep()
-        self.assertRaisesRegex(ValueError, "only a series can drift", table.drift)
-        self.assertRaisesRegex(ValueError, "only a series can drift", Table(Point).drift)
+        self.assertRaisesRegex(EstimateError, "only a series can drift", table.drift)
+        self.assertRaisesRegex(EstimateError, "only a series can drift", Table(Point).drift)
+
+    def test_windows_that_are_not_one_run(self):
+        table, other = self.job.series(every=2), replace(self.job, cars=5).series(every=2)
+        later = replace(self.job, key=1).series(every=4, first=80)
+        for wrong in table[::2] + table[1::2], table[:20] + table[21:], table + table, table[::-1], table[:60] + other[60:], \
+                table[:40] + later, table[:40] + table[40:41] + table[40:]:
+            self.assertRaisesRegex(EstimateError, "does not follow that of step [0-9]+: ", wrong.drift)
+        self.assertEqual(table[20:].copy().drift(), self.job.series(every=2, first=40).drift())
+
+    def test_columns_that_cannot_drift(self):
+        table = self.job.series()
+        for column in "step", "steps", "cars", "cells", "density", "flow_millionths", "kind", "_asdict", "count":
+            self.assertRaisesRegex(ParameterError, f"^`column` must be one of flow, speed, .*, not '{column}'", table.drift, column)
+        self.assertRaisesRegex(RenamedError, "flow", table.drift, "passing")
+        for column in "distance", "stopped", "changes", "change_rate", "cars0", "distance0", "stopped0", "cars1", "distance1", "stopped1":
+            self.assertIsInstance(table.drift(column), Drift)
+
+    def test_without_cars_there_is_no_speed(self):
+        empty = replace(self.job, cars=0).series()
+        self.assertRaisesRegex(ParameterError, "without cars there is no speed", empty.drift, "speed")
+        self.assertEqual(empty.drift(), Drift(0, 1))
 
 
 class Student(unittest.TestCase):

@@ -5,12 +5,14 @@ import unittest
 
 from tests.test_arrays import needs
 from tests.test_runs import stand_in
-from trlab import Job, Nasch, Snapshot, Snapshots, Point, Rickert, Sweep, Table, Window, random_cells
+from trlab import Job, Nasch, OutputFormatError, Snapshot, Snapshots, SnapshotsError, Point, Rickert, Sweep, Table, Window
+from trlab import random_cells
 from trlab._results.written import snapshots_in
 
 ONE = Job(limit=12, length=30, cars=9, start=random_cells(3, None), rule=Nasch("1/4"), steps=120)
 TWO = Job(limit=5, length=20, lanes=2, cars=15, start=random_cells(4), rule=Rickert("1/4", 1), steps=12)
-POINTS = ",".join(Point._fields) + "\n1,10,1,5,0,0,500000\n2,10,1,3,1,0,300000\n"
+HEADING = "cars,cells,steps,distance,stopped,changes,flow\n"
+POINTS = HEADING + "1,10,1,5,0,0,500000\n2,10,1,3,1,0,300000\n"
 RUN = "step 9\n0.1\nstep 10\n0.0\n"
 
 
@@ -24,8 +26,8 @@ class Tables(unittest.TestCase):
         self.assertEqual((self.table, self.table[-1], list(self.table)), (self.rows, self.rows[1], self.rows))
         self.assertEqual((self.rows, [*reversed(self.table)]), (self.table, self.rows[::-1]))
         self.assertEqual((self.table.index(self.rows[1]), self.rows[0] in self.table), (1, True))
-        self.assertEqual((self.table.csv(), Table.read(Point, POINTS.encode())), (POINTS, self.table))
-        self.assertEqual(Table.read(Point, POINTS.partition("\n")[0] + "\n"), [])
+        self.assertEqual((self.table.text(), Table.read(Point, POINTS.encode())), (POINTS, self.table))
+        self.assertEqual(Table.read(Point, HEADING), [])
         self.assertNotEqual(self.table, self.rows[:1])
         self.assertNotEqual(self.table, tuple(self.rows))
         self.assertRaises(IndexError, self.table.__getitem__, 2)
@@ -40,7 +42,7 @@ class Tables(unittest.TestCase):
         self.table.insert(0, new)
         self.table += self.rows[:1]
         self.assertEqual(self.table, [new, self.rows[1], self.rows[0]])
-        self.assertEqual(Table.read(Point, self.table.csv()), self.table)
+        self.assertEqual(Table.read(Point, self.table.text()), self.table)
         self.assertEqual((same, [new] + same), (self.rows, [new, *self.rows]))
         copy = self.table.copy()
         copy.clear()
@@ -68,7 +70,7 @@ class Tables(unittest.TestCase):
     def test_more_than_a_block(self):
         many = POINTS + 20000 * POINTS.partition("\n")[2]
         table = Table.read(Point, many.replace("\n", "\r\n"))
-        self.assertEqual((table, table.csv()), (20001 * self.rows, many))
+        self.assertEqual((table, table.text()), (20001 * self.rows, many))
         self.assertRaisesRegex(ValueError, "line 40004 of the table is not a row", Table.read, Point, many + "1,2\n")
         self.assertRaisesRegex(ValueError, "line 40004 of the table is cut off: '1,2'", Table.read, Point, many + "1,2")
 
@@ -80,19 +82,20 @@ class Tables(unittest.TestCase):
         table.to_numpy()["cars"] += 1
         table.append(self.rows[0])
         self.assertEqual(table.to_numpy()["cars"].tolist(), [1, 2, 1])
-        for empty in Table(Window), Table.read(Point, POINTS.partition("\n")[0] + "\n"):
+        for empty in Table(Window), Table.read(Point, HEADING):
             self.assertEqual(empty.to_numpy().shape, (0,))
-        self.assertRaises(OverflowError, Table.read(Point, POINTS.replace("500000", "9" * 19)).to_numpy)
 
     @needs("pandas")
     def test_frames(self):
+        import numpy
+
         sweep = Sweep(limit=5, length=20, rule=Nasch("1/4"), warm=5, measure=9, cars=[0, 1, 7, 20]).sweep()
         for table in sweep, Table(Point, list(sweep)), ONE.series(every=7), Table(Point):
             frame = table.to_pandas()
-            self.assertEqual([*frame.columns], [*table.kind._fields, "density", "speed", "stopped_share"])
-            for name in "density", "speed", "stopped_share", "cars", "distance":
-                self.assertEqual(frame[name].tolist(), [getattr(row, name) for row in table])
-            self.assertEqual(frame["flow"].tolist(), [row.passing for row in table])
+            counts = [name for name in table.kind._fields if name != "flow_millionths"]
+            self.assertEqual([*frame.columns], [*counts, "density", "flow", "speed", "stopped_share", "change_rate"])
+            for name in frame.columns:
+                numpy.testing.assert_array_equal(frame[name], [getattr(row, name) for row in table])
 
 
 class Runs(unittest.TestCase):
@@ -131,9 +134,18 @@ class Runs(unittest.TestCase):
             "step 1\n0.1\nstep 2\n0.1\n0.1\n": "not the heading of a snapshot of a run: '0.1'",
             "step 1\n0.1\nstep 2\nstep 3\n0.1\n": "a lane of step 2 is not .*: 'step 3'",
             "step 1\n0.1\n\nstep 2\n0.1\n": "a lane of step 1 is not .*: ''",
+            "step 1\n0.1\n0.1\n0.1\n": "the first snapshot of the run has 3 lanes",
         }.items():
             self.assertRaisesRegex(ValueError, wrong, Snapshots.read, text)
             self.assertRaisesRegex(ValueError, wrong, list, snapshots_in(text.splitlines(True)))
+
+    def test_cells_that_no_run_has(self):
+        for wrong in "?", "A", "\xe9", " ", "-":
+            for place in RUN.index(".") + 0, len(RUN) - 3:
+                text = RUN[:place] + wrong + RUN[place + 1:]
+                line = RUN[:place].count("\n") + 1
+                with self.assertRaisesRegex(OutputFormatError, f"line {line} of the run has a character that is neither|not as long"):
+                    Snapshots.read(text)
 
     def test_a_run_that_is_cut_off(self):
         whole = TWO.run().text()
@@ -155,19 +167,48 @@ class Runs(unittest.TestCase):
 
     @needs("numpy")
     def test_arrays(self):
+        import numpy
+
         for job in ONE, TWO:
             snapshots = job.run()
             made = Snapshots([*snapshots])
             wanted = [[[-1 if v is None else v for v in lane] for lane in it.speeds()] for it in snapshots]
-            for array in snapshots.to_numpy(), made.to_numpy():
-                self.assertEqual((array.tolist(), array.dtype, array.flags.writeable), (wanted, "int8", True))
-            self.assertEqual(snapshots[2:99:3].to_numpy().tolist(), wanted[2:99:3])
-        self.assertEqual(Snapshots().to_numpy().shape, (0, 0, 0))
+            for of in snapshots, made:
+                array = of.speeds("int16", empty=-1)
+                self.assertEqual((array.tolist(), array.dtype, array.flags.writeable), (wanted, "int16", True))
+                self.assertEqual((of.speeds().dtype, of.occupied().dtype), ("float64", "bool"))
+                numpy.testing.assert_array_equal(of.speeds(), numpy.where(array < 0, numpy.nan, array))
+                numpy.testing.assert_array_equal(of.occupied(), array >= 0)
+            self.assertEqual(snapshots[2:99:3].speeds(int, empty=-9).tolist(), [
+                [[-9 if v < 0 else v for v in lane] for lane in road] for road in wanted[2:99:3]
+            ])
+        self.assertEqual((Snapshots().speeds().shape, Snapshots().occupied().shape), ((0, 0, 0), (0, 0, 0)))
         long = Job(limit=5, length=1000, cars=100, rule=Nasch("1/4"), steps=700).run()
-        self.assertEqual(long.to_numpy().tolist(), Snapshots([*long]).to_numpy().tolist())
+        numpy.testing.assert_array_equal(long.speeds(), Snapshots([*long]).speeds())
         for wrong in "?", "A", "\xe9", "\n":
-            for snapshots in Snapshots.read(RUN[:-3] + wrong + "0\n"), Snapshots([Snapshot(0, (wrong,))]):
-                self.assertRaisesRegex(ValueError, "neither a speed nor a dot", snapshots.to_numpy)
+            self.assertRaisesRegex(OutputFormatError, "neither a speed nor a dot", Snapshots([Snapshot(0, (wrong,))]).speeds)
+        self.assertRaisesRegex(SnapshotsError, "step 2 has another size", (Snapshots.read(RUN) + [Snapshot(2, ("0",))]).speeds)
+
+    @needs("numpy")
+    def test_arithmetic_with_speeds_does_not_overflow(self):
+        import numpy
+
+        snapshots = Job(limit=35, length=400, cars=10, start=random_cells(1, None), rule=Nasch("1/4"), steps=99).run()
+        wanted = [v for it in snapshots for lane in it.speeds() for v in lane if v is not None]
+        self.assertEqual(max(wanted), 35)
+        for dtype, empty in ("float64", None), ("float32", None), ("int16", -1), ("int32", -2), ("int64", -1), (int, -1):
+            speeds, on = snapshots.speeds(dtype, empty=empty), snapshots.occupied()
+            v = speeds[on]
+            self.assertAlmostEqual(float((v * v).mean()), sum(it * it for it in wanted) / len(wanted), places=3)
+            self.assertEqual((float((v * 27).max()), float((v - v[0]).min())), (27 * 35, min(wanted) - wanted[0]))
+        self.assertTrue(numpy.isnan(snapshots.speeds().mean()))
+        self.assertAlmostEqual(numpy.nanmean(snapshots.speeds()), sum(wanted) / len(wanted))
+        for dtype, empty in (
+            ("int8", -1), ("uint8", 255), ("uint16", -1), ("float16", None), (bool, -1), (complex, None), (object, -1), ("U1", -1),
+            ("int64", None), ("int64", 0), ("int64", 35), ("int16", -32769), ("int64", True), ("float64", -1),
+        ):
+            with self.subTest(dtype=dtype, empty=empty):
+                self.assertRaises((ValueError, TypeError), snapshots.speeds, dtype, empty=empty)
 
     @needs("pandas")
     def test_frames(self):

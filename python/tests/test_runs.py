@@ -37,8 +37,8 @@ class Sweeps(unittest.TestCase):
         sweep = Sweep(limit=5, length=1000, rule=Nasch(0.25), warm=200, measure=400, cars=cars)
         self.assertEqual(sweep.text(), example("fundamental_diagram.sweep"))
         table = sweep.sweep(runners=2)
-        self.assertEqual(table.csv(), example("fundamental_diagram.csv"))
-        self.assertEqual(table, Table.read(Point, table.csv()))
+        self.assertEqual(table.text(), example("fundamental_diagram.csv"))
+        self.assertEqual(table, Table.read(Point, table.text()))
 
     def test_what_a_point_tells(self):
         point = Point(cars=4, cells=20, steps=10, distance=60, stopped=8, changes=0, flow_millionths=300000)

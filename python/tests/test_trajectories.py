@@ -1,15 +1,15 @@
 """Trajectories: beside laws of the model, tables of `trlab series`, and slower counts from the characters of snapshots."""
 import math
-import sys
 import unittest
 from dataclasses import replace
-from unittest import mock
 
 from tests.by_pictures import windows
 from tests.test_arrays import needs
-from tests.test_runs import HALF
-from trlab import Job, Nasch, Own, Snapshot, Snapshots, Rickert, SlowToStart, jammed, random_cells
+from trlab import Job, Nasch, Own, ParameterError, Snapshot, Snapshots, SnapshotsError, Rickert, SlowToStart, jammed, random_cells
 from trlab._inputs.states import SPEEDS
+import trlab
+
+HALF = "motion\nget r0, gap\ndiv r0, r0, 2\nget r1, limit\nmin r0, r0, r1\ngo r0\n"
 
 ONE_LANE = [
     Job(limit=5, length=40, cars=15, start=random_cells(1), rule=Nasch(0.25), steps=60, key=7),
@@ -97,8 +97,17 @@ def trips(snapshots, start, end):
                 yield car, snapshots[0].step + row, later[0] - row
 
 
-class Base:
-    """The tests, on lists and on arrays."""
+def passed(paths, cell, lane=0):
+    """The cars that pass the end of a cell of a lane in each step after the first row."""
+    length = paths.length
+    return [
+        sum(1 for x, on, v in zip(cells, lanes, speeds) if (x - 1 - cell) % length < v and on == lane)
+        for cells, lanes, speeds in list(zip(paths.cell.tolist(), paths.lane.tolist(), paths.speed.tolist()))[1:]
+    ]
+
+
+@needs("numpy")
+class Paths(unittest.TestCase):
 
     def test_two_cars(self):
         job = Job(limit=5, start=[0, None, 0] + 7 * [None], rule=Nasch(0), steps=4)
@@ -106,8 +115,8 @@ class Base:
         self.assertEqual([list(row) for row in paths.cell], [[0, 2], [1, 3], [2, 5], [4, 8], [7, 2]])
         self.assertEqual([list(row) for row in paths.distance], [[0, 2], [1, 3], [2, 5], [4, 8], [7, 12]])
         self.assertEqual([list(row) for row in paths.speed], [[0, 0], [1, 1], [1, 2], [2, 3], [3, 4]])
-        self.assertEqual([list(row) for row in paths.headways()], [[1, 7], [1, 7], [2, 6], [3, 5], [4, 4]])
-        self.assertEqual((paths.detector(4), paths.detector(9)), ([0, 1, 0, 1], [0, 0, 0, 1]))
+        self.assertEqual([list(row) for row in paths.gaps()], [[1, 7], [1, 7], [2, 6], [3, 5], [4, 4]])
+        self.assertEqual((passed(paths, 4), passed(paths, 9)), ([0, 1, 0, 1], [0, 0, 0, 1]))
         self.assertEqual(paths.travel_times(1, 3), [(0, 2, 1)])
         self.assertEqual(paths.jams(), [(0, 1, 1, 1, True), (0, 1, 1, 1, True)])
         self.assertEqual((repr(paths), len(paths), paths.cars), ("<trajectories of 2 cars, steps 0 to 4>", 5, 2))
@@ -143,7 +152,7 @@ class Base:
     def test_gaps_follow(self):
         for job in ONE_LANE[:5]:
             paths = job.run().trajectories()
-            gaps, leaders = paths.headways(), paths.ahead()
+            gaps, leaders = paths.gaps(), paths.ahead()
             for row in range(1, len(paths)):
                 for car, leader in enumerate(leaders[row]):
                     before, speed = gaps[row - 1][car], paths.speed[row]
@@ -153,7 +162,7 @@ class Base:
         for job in TWO_LANES:
             snapshots = job.run()
             paths = snapshots.trajectories()
-            for row, gaps in enumerate(paths.headways()):
+            for row, gaps in enumerate(paths.gaps()):
                 for lane, cell, gap in zip(paths.lane[row], paths.cell[row], gaps):
                     road = snapshots[row].lanes[lane]
                     ahead = road[cell + 1:] + road[:cell + 1]
@@ -174,7 +183,7 @@ class Base:
         for job in ONE_LANE[:4] + TWO_LANES:
             paths = job.run().trajectories()
             for lane in range(job.lanes):
-                counts = [paths.detector(cell, lane) for cell in range(job.length)]
+                counts = [passed(paths, cell, lane) for cell in range(job.length)]
                 self.assertLessEqual({number for row in counts for number in row}, {0, 1})
                 found = [sum(step) for step in zip(*counts)]
                 self.assertEqual(found, [row[8 + 3 * lane + 1] for row in job.series()])
@@ -189,7 +198,7 @@ class Base:
                         sum(cell in between and on == lane for cell, on in zip(cells, lanes))
                         for cells, lanes in zip(paths.cell, paths.lane)
                     ]
-                    steps = zip(cars, cars[1:], paths.detector(first, lane), paths.detector(second, lane))
+                    steps = zip(cars, cars[1:], passed(paths, first, lane), passed(paths, second, lane))
                     for before, after, came, left in steps:
                         self.assertEqual(after + left, before + came)
 
@@ -226,8 +235,8 @@ class Base:
     def test_travel_times_agree_with_detectors_on_two_lanes(self):
         for job in TWO_LANES:
             paths = job.run().trajectories()
-            begun = [sum(both) for both in zip(*(paths.detector(4, lane) for lane in range(2)))]
-            ended = [sum(both) for both in zip(*(paths.detector(9, lane) for lane in range(2)))]
+            begun = [sum(both) for both in zip(*(passed(paths, 4, lane) for lane in range(2)))]
+            ended = [sum(both) for both in zip(*(passed(paths, 9, lane) for lane in range(2)))]
             found = paths.travel_times(4, 9)
             for row in range(1, len(paths)):
                 self.assertLessEqual(sum(trip.start == row for trip in found), begun[row - 1])
@@ -255,60 +264,171 @@ class Base:
     def test_numbers_out_of_range(self):
         paths = ONE_LANE[0].run().trajectories()
         for call in (
-            lambda: paths.detector(40), lambda: paths.detector(-1), lambda: paths.detector(0, 1), lambda: paths.ahead(-1),
+            lambda: paths.time_headways(40), lambda: paths.time_headways(-1), lambda: paths.time_headways(0, 1), lambda: paths.ahead(-1),
             lambda: paths.travel_times(0, 40), lambda: paths.speed_correlation(0, 61), lambda: paths.speed_correlation(0, -1),
+            lambda: paths.speed_correlation(-1), lambda: paths.time_headways(1.5),
         ):
-            self.assertRaises(ValueError, call)
+            self.assertRaises((ValueError, TypeError), call)
 
     def test_other_pictures_are_rejected(self):
         snapshots = ONE_LANE[0].run()
-        with self.assertRaisesRegex(ValueError, "step 3 follows step 1: "):
-            Snapshots([*snapshots[:2], snapshots[3]]).trajectories()
+        for wrong in Snapshots([*snapshots[:2], snapshots[3]]), snapshots[:2] + snapshots[3:], snapshots[1::2], snapshots[::-1]:
+            with self.assertRaisesRegex(SnapshotsError, "step [0-9]+ follows step [0-9]+, and "):
+                wrong.trajectories()
         for wrong, said in (
             (Snapshots(), "no snapshots"),
             (Snapshots([Snapshot(0, ("0..",)), Snapshot(1, ("0...",))]), "step 1 has another size"),
+            (Snapshots([Snapshot(0, ("0..",)), Snapshot(1, ("0..", "..."))]), "step 1 has another size"),
+            (Snapshots([Snapshot(0, ("0..", "...", "..."))]), "step 0 has 3 lanes"),
+            (Snapshots([Snapshot(0, ("0..", ".."))]), "step 0 has another size"),
             (Snapshots([Snapshot(0, ("0..",)), Snapshot(1, ("0.0",))]), "the cars of step 1 do not come"),
             (Snapshots([Snapshot(0, ("0..",)), Snapshot(1, ("...",))]), "the cars of step 1 do not come"),
+            (Snapshots([Snapshot(0, ("...",)), Snapshot(1, ("0..",))]), "the cars of step 1 do not come"),
             (Snapshots([Snapshot(7, ("0..",)), Snapshot(8, (".1.",)), Snapshot(9, ("..0",))]), "the cars of step 9 do not"),
             (Snapshots([Snapshot(0, ("0.0",)), Snapshot(1, (".12",))]), "the cars of step 1 do not come"),
             (Snapshots([Snapshot(0, ("0..", "...")), Snapshot(1, ("..0", "..."))]), "the cars of step 1 do not come"),
             (Snapshots([Snapshot(0, ("0.0", "...")), Snapshot(1, (".1.", ".1."))]), "the cars of step 1 do not come"),
         ):
-            with self.assertRaisesRegex(ValueError, said):
+            with self.assertRaisesRegex(SnapshotsError, said):
                 wrong.trajectories()
 
+    def test_cars_that_drive_further_than_their_gaps_are_rejected(self):
+        for before, after in (
+            ("0.", "2."),  # round the ring to its own cell
+            ("0..", ".4."),
+            ("0.0..", "1...4"),  # over the car ahead
+            ("00...", ".11.."),  # into the cell of the car ahead
+            (".0..0", "11..."),
+        ):
+            snapshots = Snapshots([Snapshot(0, (before, 5 * ".")), Snapshot(1, (after, 5 * "."))])
+            for wrong in snapshots, Snapshots([Snapshot(it.step, it.lanes[:1]) for it in snapshots]):
+                with self.assertRaisesRegex(SnapshotsError, "do not come from|another size"):
+                    wrong.trajectories()
+        good = Snapshots([Snapshot(0, ("0..",)), Snapshot(1, ("..2",)), Snapshot(2, (".2.",))])
+        self.assertEqual(good.trajectories().distance.tolist(), [[0], [2], [4]])
+
     def test_a_car_that_changes_lanes(self):
-        snapshots = Snapshots([Snapshot(0, ("1...", "0.0.")), Snapshot(1, ("..2.", ".1.1")), Snapshot(2, ("1...", "2.1."))])
+        snapshots = Snapshots([Snapshot(0, ("1...", "0.0.")), Snapshot(1, ("..2.", ".1.1")), Snapshot(2, ("1...", "20.."))])
         paths = snapshots.trajectories()
         self.assertEqual([list(row) for row in paths.lane], [[0, 1, 1], [0, 1, 1], [1, 1, 0]])
-        self.assertEqual([list(row) for row in paths.cell], [[0, 0, 2], [2, 1, 3], [0, 2, 0]])
+        self.assertEqual([list(row) for row in paths.cell], [[0, 0, 2], [2, 1, 3], [0, 1, 0]])
+        self.assertEqual((paths.changes().tolist(), paths.change_rate()), ([0, 2], 2 / 6))
+
+    def test_space_headways_are_one_more_than_gaps(self):
+        for job in ONE_LANE[:6]:
+            paths = job.run().trajectories()
+            self.assertTrue((paths.space_headways() == paths.gaps() + 1).all())
+            # On one lane they add up to the ring, so that their mean is 1 / density.
+            self.assertEqual({*paths.space_headways().sum(axis=1).tolist()}, {job.length})
+
+    def test_time_headways_are_the_steps_between_cars(self):
+        found = 0
+        for job in ONE_LANE[:5] + TWO_LANES:
+            paths = job.run().trajectories()
+            for lane in range(job.lanes):
+                for cell in 0, 4, job.length - 1:
+                    steps = [step for step, count in enumerate(passed(paths, cell, lane)) if count]
+                    headways = paths.time_headways(cell, lane).tolist()
+                    self.assertEqual(headways, [after - before for before, after in zip(steps, steps[1:])])
+                    found += len(headways)
+        self.assertGreater(found, 200)
+
+    def test_changes_are_those_of_the_series(self):
+        for job in ONE_LANE[:3] + TWO_LANES:
+            paths = job.run().trajectories()
+            self.assertEqual(paths.changes().tolist(), [row.changes for row in job.series()])
+            (window,) = job.series(every=job.steps)
+            self.assertEqual(paths.change_rate(), window.change_rate)
+        self.assertGreater(window.changes + TWO_LANES[0].run().trajectories().changes().sum(), 0)
+        for nothing in ONE_LANE[6].run(), ONE_LANE[0].run()[:1]:
+            self.assertTrue(math.isnan(nothing.trajectories().change_rate()))
+
+    def test_old_names(self):
+        paths = ONE_LANE[0].run().trajectories()
+        for name, new in ("headways", "gaps.*space_headways.*time_headways"), ("detector", "trlab.detectors"):
+            with self.assertRaisesRegex(trlab.RenamedError, new):
+                getattr(paths, name)
+        self.assertRaises(AttributeError, getattr, paths, "head")
+
+    def test_types(self):
+        snapshots = replace(ONE_LANE[0], steps=200).run()
+        wide = snapshots.trajectories()
+        for name in "lane", "cell", "distance", "speed":
+            self.assertEqual((getattr(wide, name).shape, getattr(wide, name).dtype.name), ((201, 15), "int64"))
+        narrow = snapshots.trajectories(dtype="int16")
+        for name in "lane", "cell", "distance", "speed":
+            self.assertEqual(getattr(narrow, name).dtype.name, "int16")
+            self.assertEqual(getattr(narrow, name).tolist(), getattr(wide, name).tolist())
+        self.assertEqual((narrow.jams(), narrow.travel_times(3, 2)), (wide.jams(), wide.travel_times(3, 2)))
+        self.assertEqual((narrow.speed_correlation(1, 2), narrow.gaps().dtype.name), (wide.speed_correlation(1, 2), "int64"))
+        self.assertEqual((narrow.gaps().tolist(), narrow.time_headways(7).tolist()), (wide.gaps().tolist(), wide.time_headways(7).tolist()))
+        for small in "int8", "uint64", float, bool:
+            self.assertRaises(ParameterError, snapshots.trajectories, dtype=small)
 
 
-class ByLists(Base, unittest.TestCase):
-    def setUp(self):
-        without = mock.patch.dict(sys.modules, numpy=None)
-        without.start()
-        self.addCleanup(without.stop)
-
-    def test_kind(self):
-        self.assertIsInstance(ONE_LANE[0].run().trajectories().headways(), list)
+def followed_by_dictionaries(snapshots):
+    """The rows of lanes, cells, distances and speeds, from one dictionary of cells for each step."""
+    places, rows = {}, []
+    for snapshot in snapshots:
+        on = {(lane, cell): speed for lane in range(len(snapshot.lanes)) for cell, speed in speeds_at(snapshot, lane).items()}
+        if not rows:
+            places = {place: car for car, place in enumerate(sorted(on))}
+            row = {car: (*place, place[1], on[place]) for place, car in places.items()}
+        else:
+            length, others, now, row = len(snapshot.lanes[0]), len(snapshot.lanes) - 1, {}, {}
+            for (lane, cell), speed in on.items():
+                came = (cell - speed) % length
+                car = places[lane, came] if (lane, came) in places else places[others - lane, came]
+                now[lane, cell], row[car] = car, (lane, cell, rows[-1][car][2] + speed, speed)
+            places = now
+        rows.append([row[car] for car in sorted(row)])
+    return rows
 
 
 @needs("numpy")
-class ByArrays(Base, unittest.TestCase):
-    def test_kind(self):
-        paths = ONE_LANE[0].run().trajectories()
-        for grid in paths.lane, paths.cell, paths.distance, paths.speed, paths.headways(), paths.ahead():
-            self.assertEqual((grid.shape, grid.dtype.name), ((61, 15), "int32"))
-
-    def test_jams_are_those_of_lists(self):
+class Followed(unittest.TestCase):
+    def test_step_by_step_as_all_together(self):
         for job in ONE_LANE + TWO_LANES:
-            snapshots = replace(job, steps=4 * job.steps).run()
-            with mock.patch.dict(sys.modules, numpy=None):
-                expected = snapshots.trajectories().jams()
-            self.assertEqual(snapshots.trajectories().jams(), expected)
+            paths = job.run(first=2).trajectories()
+            for row, cars in enumerate(trlab.follow(job.snapshots(first=2))):
+                self.assertEqual((cars.step, len(cars), cars.lanes, cars.length), (row + 2, paths.cars, paths.lanes, paths.length))
+                for name in "lane", "cell", "distance", "speed":
+                    self.assertEqual(getattr(cars, name).tolist(), getattr(paths, name)[row].tolist())
+                self.assertEqual(cars.gaps().tolist(), paths.gaps()[row].tolist())
+                self.assertEqual(cars.space_headways().tolist(), paths.space_headways()[row].tolist())
+                self.assertEqual(cars.ahead(2).tolist(), paths.ahead(2)[row].tolist())
+            self.assertEqual(row, len(paths) - 1)
+
+    def test_cars_of_random_roads(self):
+        from hypothesis import given, settings, strategies as some
+
+        @settings(max_examples=60, deadline=None, database=None, derandomize=True)
+        @given(some.integers(1, 2), some.integers(1, 40), some.floats(0, 1), some.integers(1, 35), some.integers(0, 99), some.booleans())
+        def agree(lanes, length, density, limit, key, is_at_full_speed):
+            rule = Rickert("1/4", "3/4") if lanes == 2 else Nasch("1/4")
+            start = random_cells(key, None if is_at_full_speed else 0)
+            snapshots = Job(limit=limit, length=length, lanes=lanes, density=density, start=start, rule=rule, steps=12, key=key).run()
+            rows = followed_by_dictionaries(snapshots)
+            for wanted, cars in zip(rows, trlab.follow(iter(snapshots))):
+                self.assertEqual([*zip(*(it.tolist() for it in (cars.lane, cars.cell, cars.distance, cars.speed)))], wanted)
+            self.assertEqual(len([*trlab.follow(snapshots)]), 13)
+
+        agree()
+
+    def test_one_step_is_kept(self):
+        taken = []
+
+        def snapshots():
+            for snapshot in ONE_LANE[0].snapshots():
+                taken.append(snapshot.step)
+                yield snapshot
+
+        cars = trlab.follow(snapshots())
+        self.assertEqual(([next(cars).step, next(cars).step], taken), ([0, 1], [0, 1]))
+        self.assertEqual([*trlab.follow([])], [])
 
 
+@needs("numpy")
 class Windows(unittest.TestCase):
     def test_stopped_time_is_that_of_the_pictures(self):
         # The size of all jams together is what the slow count has as stopped cars.

@@ -16,8 +16,9 @@ matplotlib: `pip install "trlab[analysis]"`. `TRLAB` may name the program (see `
 from importlib import import_module as _import_module
 
 from ._errors import (
-    EstimateError, ExitStatusError, FrameError, IncompleteOutputError, MissingLibraryError, OutputFormatError, ParameterError, ProgramError,
-    ProgramNotFoundError, RejectedInputError, RenamedError, ResultFilesError, StudyFileError, TrlabError, TrlabWarning,
+    EstimateError, ExitStatusError, FrameError, IncompleteOutputError, MissingLibraryError, OutputFormatError, ParameterError,
+    ProgramError, ProgramNotFoundError, RejectedInputError, RenamedError, ResultFilesError, SnapshotsError, StudyFileError,
+    TrlabError, TrlabWarning,
 )
 from ._inputs.jobs import Duration, Job
 from ._inputs.numbers import Density, Key, Probability
@@ -29,7 +30,6 @@ from ._renamed import IN_PACKAGE as _IN_PACKAGE, renamed as _renamed
 from ._results.drift import Drift
 from ._results.snapshots import Snapshot, Snapshots
 from ._results.tables import Point, Table, Window
-from ._results.trajectories import Jam, Trajectories, Trip
 from ._runs.calls import version
 from ._runs.cluster import read_tables, write_inputs
 from ._runs.location import find_program
@@ -38,33 +38,37 @@ from ._studies.grid import Grid, key_for
 from ._studies.study_file import read_study
 from ._version import __version__
 
-_ANALYSIS = {
-    "frames": ["UNITS", "means", "per_run", "to_si"],
-    "estimates": ["Blocking", "Lifetime", "Peak", "blocking", "lifetime", "peak", "survival"],
-    "detectors": ["detectors", "passings"],
-    "plots": ["plot_means", "plot_space_time"],
+_WITH_LIBRARIES = {
+    "_results.following": ["Cars", "follow"],
+    "_results.jams": ["Jam"],
+    "_results.trajectories": ["Trajectories", "Trip"],
+    "_analysis.frames": ["UNITS", "means", "per_run", "to_si"],
+    "_analysis.estimates": ["Blocking", "Lifetime", "Peak", "blocking", "lifetime", "peak", "survival"],
+    "_analysis.detectors": ["detectors", "passings"],
+    "_analysis.plots": ["plot_means", "plot_space_time"],
 }
 
 __all__ = [
-    "AcceptedProgram", "Density", "Drift", "Duration", "EstimateError", "ExitStatusError", "FrameError", "Grid", "IncompleteOutputError",
-    "InitialState", "Jam", "Job", "Key", "MissingLibraryError", "Nasch", "OutputFormatError", "Own", "ParameterError", "Point",
-    "Probability", "ProgramError", "ProgramNotFoundError", "RejectedInputError", "RenamedError", "ResultFilesError", "Rickert",
-    "Rule", "SlowToStart", "Snapshot", "Snapshots", "StudyFileError", "Sweep", "Table", "Trajectories", "Trip", "TrlabError",
-    "TrlabWarning", "Window", "__version__", "check", "even", "explain", "find_program", "jammed", "key_for", "moving", "random_cells",
+    "AcceptedProgram", "Density", "Drift", "Duration", "EstimateError", "ExitStatusError", "FrameError", "Grid",
+    "IncompleteOutputError", "InitialState", "Job", "Key", "MissingLibraryError", "Nasch", "OutputFormatError", "Own",
+    "ParameterError", "Point", "Probability", "ProgramError", "ProgramNotFoundError", "RejectedInputError", "RenamedError",
+    "ResultFilesError", "Rickert", "Rule", "SlowToStart", "Snapshot", "Snapshots", "SnapshotsError", "StudyFileError", "Sweep",
+    "Table", "TrlabError", "TrlabWarning", "Window", "__version__", "check", "even", "explain", "find_program", "jammed", "key_for",
+    "moving", "random_cells",
     "read_study", "read_tables", "results", "run_all", "version", "write_inputs",
 ]
 
 
 def __getattr__(name: str) -> object:
-    """A name of the analysis, which is imported when it is first used. Raises `RenamedError` for an old name."""
+    """A name that needs a library, which is imported when it is first used. Raises `RenamedError` for an old name."""
     _renamed("trlab", name, _IN_PACKAGE)
-    for module, names in _ANALYSIS.items():
+    for module, names in _WITH_LIBRARIES.items():
         if name in names:
-            found: object = getattr(_import_module(f"trlab._analysis.{module}"), name)
+            found: object = getattr(_import_module(f"trlab.{module}"), name)
             globals()[name] = found
             return found
     raise AttributeError(f"module 'trlab' has no attribute {name!r}")
 
 
 def __dir__() -> "list[str]":
-    return sorted({*globals(), *(name for names in _ANALYSIS.values() for name in names)})
+    return sorted({*globals(), *(name for names in _WITH_LIBRARIES.values() for name in names)})

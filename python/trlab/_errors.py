@@ -94,6 +94,11 @@ class OutputFormatError(TrlabError, ValueError):
     """A text that is not an output of `trlab run`, `series` or `sweep`. The message names the line."""
 
 
+class SnapshotsError(TrlabError, ValueError):
+    """Snapshots that cannot give the requested result: they are not of consecutive steps, or not of one run. The message
+    says which, and what to do."""
+
+
 class ResultFilesError(TrlabError, ValueError):
     """Files of results that are missing, cut off, damaged or of other inputs. The message names each."""
 

@@ -32,11 +32,24 @@ IN_JOB = {"pictures": "`snapshots()`", "wait": "`time_until(condition)`"}
 IN_ROW = {"passing": "`flow`, in cars per step; the whole number of the file is `flow_millionths`"}
 """Attributes of rows."""
 
+IN_TABLE = {
+    "csv": "`text()` for the file as the program writes it, where `flow` is in millionths, or `to_pandas().to_csv()`",
+    "plot": "`to_pandas().plot(x=\"density\", y=\"flow\")`, or `trlab.plot_means` with error bars",
+}
+"""Attributes of `Table`."""
+
 IN_SNAPSHOTS = {
     "to_numpy": "`speeds()`: floats, NaN for an empty cell (`to_numpy()` gave int8, -1 for an empty cell)",
     "space_time": "`trlab.plot_space_time(snapshots)`",
 }
 """Attributes of `Snapshots`."""
+
+IN_TRAJECTORIES = {
+    "headways": "`gaps()` for the empty cells ahead, which `headways()` gave; `space_headways()`, which are one more; or "
+    "`time_headways(cell)`, in steps",
+    "detector": "`trlab.detectors(snapshots, cells, every)` for counts, flows and speeds, or `trlab.passings(snapshots, cells)`",
+}
+"""Attributes of `Trajectories`."""
 
 
 def renamed(owner: str, name: str, names: Mapping[str, str]) -> None:

@@ -1,89 +1,167 @@
-"""Detectors on the road, as traffic engineers know them, from snapshots one at a time: nothing is kept of a long run."""
+"""Detectors on the road, as traffic engineers know them, from snapshots one at a time: nothing is kept of a long run.
+
+Definitions: J. G. Wardrop, Some theoretical aspects of road traffic research, Proc. Inst. Civ. Eng. 1, 325-362 (1952); L. C.
+Edie, Discussion of traffic stream measurements and definitions, Proc. 2nd Int. Symp. on the Theory of Traffic Flow,
+139-154 (1963)."""
 from __future__ import annotations
 
 import math
+from collections import defaultdict
 from collections.abc import Iterable, Iterator, Sequence
-from typing import Any
+from typing import Any, Optional
 
-from .libraries import numpy, pandas
-from .._results.snapshots import Snapshot
-from .._inputs.states import SPEEDS
+from .libraries import pandas
+from .._errors import ParameterError, SnapshotsError
 from .._inputs.numbers import MAX_SPEED, whole
-
-_SPEED = {sign: speed for speed, sign in enumerate(SPEEDS)}
+from .._inputs.states import SPEEDS
+from .._results.snapshots import Snapshot
 
 
 def passings(snapshots: Iterable[Snapshot], cells: Sequence[int]) -> pandas.DataFrame:
-    """One row for each car that passes the end of a cell: `cell`, `lane`, `step`, `speed`, and `time_headway`, the steps since
-    the car before it (NaN for the first). Needs the snapshots of consecutive steps; the first one only says where they
-    begin."""
-    rows = [row for step, here in _observed(snapshots, cells) for row in
-            ((cell, lane, step, speed) for (cell, lane), (_, speeds) in here.items() for speed in speeds)]
-    found = pandas.DataFrame(rows, columns=["cell", "lane", "step", "speed"], dtype="int64")
-    found["time_headway"] = found.groupby(["cell", "lane"])["step"].diff()
-    return found
+    """One row for each car that passes the end of one of the `cells`, by time, cell and lane:
+
+    - `step` in which it passes, `cell` and `lane` of the detector;
+    - `speed` in this step, in cells per step, 1 to 35;
+    - `time_headway`: the steps since the car before it passed the same end, at least 1; NaN for the first car.
+
+    A step is a lane change and then a motion: a car that is at cell x of a lane after the step, and drove v cells in it,
+    passed the ends of the cells x - v to x - 1 of this lane (on a ring). So a car that changes lanes passes on its new lane,
+    a stopped car passes nothing, and at most one car passes the end of a cell of a lane in a step, because a car drives at
+    most its gap.
+
+    `snapshots` are those of consecutive steps, for example `job.snapshots(first=1000)`; the first only says where the cars
+    begin. Raises `SnapshotsError` if they are not, and `ParameterError` for cells that the road does not have."""
+    rows = [
+        (step, cell, lane, speed) for step, seen in _seen(snapshots, cells) for cell, lane, _, speed in seen if speed
+    ]
+    frame = pandas.DataFrame(rows, columns=["step", "cell", "lane", "speed"], dtype="int64")
+    frame = frame.sort_values(["step", "cell", "lane"], ignore_index=True)
+    frame["time_headway"] = frame.groupby(["cell", "lane"])["step"].diff()
+    return frame
 
 
 def detectors(snapshots: Iterable[Snapshot], cells: Sequence[int], every: int) -> pandas.DataFrame:
-    """A row for each cell, lane and window of `every` steps, named by its last step:
+    """What detectors (loops) at the ends of the `cells` count in each window of `every` steps: a row for each `cell`, `lane` and
+    `step`, which is the last step of the window, as in `Job.series`. With n cars that pass in the window at the speeds v
+    (see `trlab.passings`):
 
-    - `count`: the cars that passed the end of the cell; `flow` = count / every, in cars per step;
-    - `time_mean_speed`: the arithmetic mean of their speeds v; `harmonic_mean_speed`: count / sum(1 / v). NaN without cars.
-      A stopped car passes nothing, so flow / harmonic_mean_speed is too low a density in jams: use `occupancy`;
-    - `occupancy`: the share of the steps after which a car is in the cell. In the mean it is the local density;
-    - `time_headway`: the mean number of steps since the car before, NaN if no car has one.
+    - `count` = n, in cars;
+    - `flow` = n / every, in cars per step and lane;
+    - `time_mean_speed` = sum(v) / n, in cells per step: the arithmetic mean of the speeds at a point (Wardrop 1952);
+    - `harmonic_mean_speed` = n / sum(1 / v), in cells per step: it estimates the space-mean speed, which is never above the
+      time-mean speed (Wardrop 1952). A stopped car passes nothing and does not enter, so in jams both are too high, and
+      flow / speed is too low a density;
+    - `occupancy`, 0 to 1: the share of the steps after which a car is in the cell. It is Edie's (1963) density in cars per
+      cell of the region of one cell and `every` steps, if a car is in the cell for whole steps, and counts stopped cars;
+    - `mean_time_headway`, in steps: the mean of the `time_headway` of these n cars; the car before may have passed before
+      the window.
 
-    Raises `ValueError` unless the snapshots are of consecutive steps and whole windows."""
+    Speeds are NaN if n is 0, and the headway if no car has one. The means of several windows or lanes follow from `count`,
+    not from averaging speeds. Raises `SnapshotsError` unless the snapshots are those of consecutive steps of one run, and
+    `ParameterError` if they are not whole windows, or for cells that the road does not have."""
     whole("every", every, 1)
-    sums: dict[tuple[int, int], list[float]] = {}
-    last: dict[tuple[int, int], int] = {}
     rows: list[tuple[Any, ...]] = []
+    counts: dict[tuple[int, int], _Detector] = defaultdict(_Detector)
     steps = 0
-    for step, here in _observed(snapshots, cells):
-        steps += 1
-        for place, (is_taken, speeds) in here.items():
-            sum_of = sums.setdefault(place, [0, 0, 0.0, 0, 0, 0])
-            sum_of[3] += is_taken
-            for speed in speeds:
-                sum_of[0] += 1
-                sum_of[1] += speed
-                sum_of[2] += 1 / speed
-                if place in last:
-                    sum_of[4] += step - last[place]
-                    sum_of[5] += 1
-                last[place] = step
+    for steps, (step, seen) in enumerate(_seen(snapshots, cells), 1):
+        for cell, lane, is_taken, speed in seen:
+            counts[cell, lane].add(step, is_taken, speed)
         if steps % every == 0:
-            for place, (count, speed, inverse, taken, headways, of) in sums.items():
-                means = (speed / count, count / inverse) if count else (math.nan, math.nan)
-                rows.append((*place, step, count, count / every, *means, taken / every, headways / of if of else math.nan))
-            sums.clear()
+            for place, detector in counts.items():
+                rows.append((*place, step, *detector.values(every)))
+                detector.clear()
     if steps % every or not steps:
-        raise ValueError(f"{steps} steps are not whole windows of {every} steps: choose `every`, `first` or `steps` to match")
-    names = "cell lane step count flow time_mean_speed harmonic_mean_speed occupancy time_headway".split()
+        raise ParameterError(f"{steps} steps are not whole windows of {every} steps: choose `every`, `first` or `steps` to match")
+    names = ["cell", "lane", "step", "count", "flow", "time_mean_speed", "harmonic_mean_speed", "occupancy", "mean_time_headway"]
     return pandas.DataFrame(rows, columns=names).set_index(names[:3]).sort_index()
 
 
-def _observed(
-    snapshots: Iterable[Snapshot], cells: Sequence[int]
-) -> Iterator[tuple[int, dict[tuple[int, int], tuple[bool, list[int]]]]]:
-    """Step by step, whether each watched cell is taken, and the speeds of the cars that passed its end, first one first.
+class _Detector:
+    """The counts of one detector on one lane in a window, and the step in which the last car passed it."""
 
-    A car passed if it is now i cells behind the end of the cell, and drove more than i cells."""
-    before = None
+    def __init__(self) -> None:
+        self.last: Optional[int] = None
+        self.clear()
+
+    def clear(self) -> None:
+        """Begin the next window. The last car stays, for the time headway of the next one."""
+        self.speeds, self.taken, self.headways, self.successors = (MAX_SPEED + 1) * [0], 0, 0, 0
+
+    def add(self, step: int, is_taken: bool, speed: int) -> None:
+        """Count a step, in which a car at this speed passes; none does if it is 0."""
+        self.taken += is_taken
+        if speed:
+            self.speeds[speed] += 1
+            if self.last is not None:
+                self.headways += step - self.last
+                self.successors += 1
+            self.last = step
+
+    def values(self, steps: int) -> tuple[Any, ...]:
+        """The values of a window of so many steps."""
+        count, passed = sum(self.speeds), [*enumerate(self.speeds)][1:]
+        mean, harmonic = math.nan, math.nan
+        if count:
+            mean = sum(speed * cars for speed, cars in passed) / count
+            harmonic = count / sum(cars / speed for speed, cars in passed)
+        headway = self.headways / self.successors if self.successors else math.nan
+        return count, count / steps, mean, harmonic, self.taken / steps, headway
+
+
+class _Road:
+    """A road with detectors at the ends of these cells."""
+
+    def __init__(self, snapshot: Snapshot, cells: Sequence[int]) -> None:
+        self.sizes, self.cars, self.step = [len(lane) for lane in snapshot.lanes], _cars_on(snapshot), snapshot.step
+        self.cells = [whole("a cell", cell, 0, self.sizes[0] - 1) for cell in cells]
+        if len(set(self.cells)) < len(self.cells) or not self.cells:
+            raise ParameterError("`cells` must be different cells, at least one")
+
+    def need_next(self, snapshot: Snapshot) -> None:
+        """Raises `SnapshotsError` if this cannot be the next snapshot."""
+        if snapshot.step != self.step + 1:
+            raise SnapshotsError(
+                f"step {snapshot.step} follows step {self.step}, and detectors need every step: leave `every` at 1, and do not put "
+                "parts of a run together"
+            )
+        if [len(lane) for lane in snapshot.lanes] != self.sizes or _cars_on(snapshot) != self.cars:
+            raise SnapshotsError(f"the road of step {snapshot.step} has another size or number of cars than the one before it")
+        self.step = snapshot.step
+
+
+def _cars_on(snapshot: Snapshot) -> int:
+    return sum(len(lane) - lane.count(".") for lane in snapshot.lanes)
+
+
+def _seen(snapshots: Iterable[Snapshot], cells: Sequence[int]) -> Iterator[tuple[int, list[tuple[int, int, bool, int]]]]:
+    """Step by step from the second snapshot on, what each detector sees: its cell and lane, whether a car is in the cell
+    after the step, and the speed of the car that passed the end of the cell, or 0."""
+    road: Optional[_Road] = None
     for snapshot in snapshots:
-        length = len(snapshot.lanes[0])
-        if before is None:
-            watched = [whole("a cell", cell, 0, length - 1) for cell in cells]
-            if len(set(watched)) < len(watched) or not watched:
-                raise ValueError("`cells` must be different cells, at least one")
-        elif snapshot.step != before + 1:
-            raise ValueError(f"step {snapshot.step} follows step {before}: detectors need the snapshot of every step")
-        else:
-            found = {}
-            for number, lane in enumerate(snapshot.lanes):
-                for cell in watched:
-                    near = (lane[cell + 1:] + lane[:cell + 1])[:MAX_SPEED] if cell + 1 + MAX_SPEED > length else lane[cell + 1:cell + 1 + MAX_SPEED]
-                    speeds = [_SPEED[sign] for place, sign in enumerate(near) if sign != "." and _SPEED[sign] > place]
-                    found[cell, number] = lane[cell] != ".", speeds[::-1]
-            yield snapshot.step, found
-        before = snapshot.step
+        if road is None:
+            road = _Road(snapshot, cells)
+            continue
+        road.need_next(snapshot)
+        yield snapshot.step, [
+            (cell, number, lane[cell] != ".", _passing(lane, cell))
+            for cell in road.cells for number, lane in enumerate(snapshot.lanes)
+        ]
+    if road is None:
+        raise SnapshotsError("there are no snapshots")
+
+
+def _passing(lane: str, cell: int) -> int:
+    """The speed of the car that passed the end of a cell in the step before this snapshot, or 0.
+
+    It is the next car ahead, if it drove more cells than there are empty ones between it and the end of the cell. The car
+    ahead of that one drove at most its gap, and so did not come from behind this cell."""
+    near = lane[cell + 1:cell + 1 + MAX_SPEED]
+    if len(near) < MAX_SPEED:
+        near += lane[:min(cell + 1, MAX_SPEED - len(near))]
+    cars = near.lstrip(".")
+    if not cars:
+        return 0
+    speed = SPEEDS.find(cars[0])
+    if speed < 0:
+        raise SnapshotsError(f"a cell has a character that is neither a speed nor a dot: {cars[0]!r}")
+    return speed if speed > len(near) - len(cars) else 0

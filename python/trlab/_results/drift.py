@@ -1,27 +1,14 @@
-"""Does a series still drift? The test of Schruben, Singh and Tierney (1983), with the standard library only.
-
-L. W. Schruben, H. Singh and L. Tierney, Optimal tests for initialization bias in simulation output, Operations Research
-31, 1167-1178 (1983). The test statistic of a series of n values, with S(k) the sum of its first k deviations from the mean, is
-
-    z = -sqrt(45) / (n^1.5 sigma) * sum over k from 1 to n of (1 - k / n) S(k)
-
-It gives most weight to the beginning. For a long stationary series it has the standard normal distribution, if sigma^2 / n
-is the variance of the mean. Here sigma is estimated from the last half of the series, which the initial state affects
-least, with the means of 20 batches of consecutive windows. So `p` follows Student's distribution with 19 degrees of freedom.
-
-The batches must be nearly independent: a batch, which is 1/40 of the series, must be longer than the time after which the
-flow forgets a fluctuation. Otherwise the test reports drifts that do not exist. A small `p` means that the initial state
-still matters: leave out more steps (`first`). A large `p` does not prove that nothing drifts, because the test misses a
-drift much smaller than the noise. Then test several series with different keys: if none drifts, the sum of their `z`,
-divided by the square root of their number, has nearly the standard normal distribution."""
+"""Does a series still drift? The test of Schruben, Singh and Tierney (1983), with the standard library only."""
 from __future__ import annotations
 
 from itertools import accumulate
-from math import atan, cos, exp, inf, lgamma, pi, sqrt
+from math import atan, cos, exp, inf, isfinite, lgamma, pi, sqrt
 from statistics import fmean, variance
 from collections.abc import Sequence
 from typing import NamedTuple
 
+from .._errors import EstimateError, ParameterError
+from .._renamed import IN_ROW, renamed
 from .tables import Row, Table, Window
 
 BATCHES = 20
@@ -31,9 +18,32 @@ FEWEST = 2 * BATCHES
 """The minimum number of windows of a series."""
 
 
+COLUMNS = (
+    "flow", "speed", "stopped_share", "change_rate", "distance", "stopped", "changes",
+    "cars0", "distance0", "stopped0", "cars1", "distance1", "stopped1",
+)
+"""The columns of a series that may change from window to window."""
+
+
 class Drift(NamedTuple):
-    """The result of `Table.drift`. `z` is positive if the series rises; `p`, 0 to 1, is the probability that a
-    stationary series has a `z` at least as far from 0."""
+    """The result of `Table.drift`: whether the initial state still matters.
+
+    `z` is positive if the series rises. `p`, 0 to 1, is the probability that a stationary series has a `z` at least as far
+    from 0. With S(k) the sum of the first k deviations from the mean of n values,
+
+        z = -sqrt(45) / (n**1.5 * sigma) * (sum over k from 1 to n of (1 - k / n) * S(k))
+
+    (L. W. Schruben, H. Singh and L. Tierney, Optimal tests for initialization bias in simulation output, Operations Research
+    31, 1167-1178, 1983). z gives most weight to the beginning of the series. For a long stationary series it has the standard
+    normal distribution, if sigma**2 / n is the variance of the mean. Here sigma is estimated from the last half of the series,
+    which the initial state affects least, with the means of 20 batches of consecutive windows. So `p` follows Student's
+    distribution with 19 degrees of freedom.
+
+    The batches must be nearly independent: a batch, which is 1/40 of the series, must be longer than the time after which
+    the flow forgets a fluctuation. Otherwise the test reports drifts that do not exist. If `p` is small, leave out more
+    steps (`first`). A large `p` does not prove that nothing drifts, because the test misses a drift much smaller than the
+    noise. You should then test several series with different keys: if none drifts, the sum of their `z`, divided by the
+    square root of their number, has nearly the standard normal distribution."""
 
     z: float
     p: float
@@ -46,16 +56,29 @@ class Drift(NamedTuple):
 
 def drift_of_series(table: Table[Row], column: str) -> Drift:
     """See `Table.drift`."""
+    renamed("a row", column, IN_ROW)
+    if column not in COLUMNS:
+        raise ParameterError(f"`column` must be one of {', '.join(COLUMNS)}, not {column!r}")
     if table.kind is not Window:
-        raise ValueError("only a series can drift, and this is the table of a sweep")
-    return drift_of([getattr(window, column) for window in table])
+        raise EstimateError("only a series can drift, and this is the table of a sweep")
+    windows = [row for row in table if isinstance(row, Window)]
+    for before, after in zip(windows, windows[1:]):
+        if after.step != before.step + after.steps or after[1:4] != before[1:4]:
+            raise EstimateError(
+                f"the window of step {after.step} does not follow that of step {before.step}: the test needs the consecutive "
+                "windows of one run, all equally long"
+            )
+    values = [getattr(window, column) for window in windows]
+    if not all(map(isfinite, values)):
+        raise ParameterError(f"without cars there is no {column}: test the flow")
+    return drift_of(values)
 
 
 def drift_of(values: Sequence[float]) -> Drift:
-    """The test for the values of a series, in their order. Raises `ValueError` if they are fewer than 40."""
+    """The test for the values of a series, in their order. Raises `EstimateError` if they are fewer than 40."""
     count = len(values)
     if count < FEWEST:
-        raise ValueError(
+        raise EstimateError(
             f"the test for drift needs at least {FEWEST} windows, and this series has {count}: "
             "take fewer steps per window (`every`) or more steps"
         )

@@ -1,122 +1,146 @@
-"""Follows cars from snapshot to snapshot: with numpy, and without.
-
-A car at speed v came from the cell v behind it, of its own lane or of the other one. If both of these cells were taken,
-it came from its own lane, because a lane change needs an empty cell next to the car."""
+"""Cars that are followed from snapshot to snapshot, one step at a time."""
 from __future__ import annotations
 
-from itertools import islice
-from typing import TYPE_CHECKING, Any
+from collections.abc import Iterable, Iterator
+from dataclasses import dataclass
+from typing import Any, Optional
 
-from .._inputs.states import SPEEDS
-from .trajectories import Trajectories
+from .._errors import SnapshotsError
+from .._inputs.numbers import whole
+from .arrays import numpy
+from .snapshots import Snapshot
+from .written import speeds_in
 
-if TYPE_CHECKING:
-    import numpy
-
-    from .snapshots import Snapshot, Snapshots
-
-SPEED = {sign: speed for speed, sign in enumerate(SPEEDS)}
-
-
-def trajectories_of(snapshots: Snapshots) -> Trajectories:
-    """The trajectories of the cars in these snapshots; raises `ValueError` if they are not consecutive snapshots of one
-    run."""
-    _check_steps(snapshots)
-    try:
-        import numpy  # noqa: F401
-    except ImportError:
-        grids = _followed(snapshots)
-    else:
-        grids = _followed_by_numpy(snapshots)
-    return Trajectories(snapshots[0].step, len(snapshots[0].lanes[0]), len(snapshots[0].lanes), *grids)
+Array = numpy.ndarray[Any, Any]
 
 
-def _check_steps(snapshots: Snapshots) -> None:
-    if not snapshots:
-        raise ValueError("there are no snapshots")
-    sizes = [len(lane) for lane in snapshots[0].lanes]
-    for before, after in zip(snapshots, islice(snapshots, 1, None)):
-        if after.step != before.step + 1:
-            raise ValueError(f"step {after.step} follows step {before.step}: trajectories need the snapshot of every step")
-        if [len(lane) for lane in after.lanes] != sizes:
-            raise ValueError(f"the road of step {after.step} has another size")
+class OnRoad:
+    """Cars on a road of `lanes` lanes of `length` cells. The last axis of each array is the car."""
+
+    length: int
+    lanes: int
+    lane: Array
+    cell: Array
+
+    def ahead(self, places: int = 1) -> Array:
+        """The number of the car `places` places ahead on the same lane, which is a ring: of n cars, n places ahead is the car
+        itself. On one lane nobody overtakes, so it is the same in all steps."""
+        whole("places", places, 0)
+        lane, cell = self.lane.astype(numpy.int64), self.cell.astype(numpy.int64)
+        cars = cell.shape[-1]
+        ring = numpy.argsort(lane * self.length + cell, axis=-1)  # the cars of each step, lane by lane and by cell
+        on, place = numpy.take_along_axis(lane, ring, axis=-1), numpy.arange(cars)
+        on_lane_0 = (on == 0).sum(axis=-1, keepdims=True)
+        first, count = numpy.where(on == 0, 0, on_lane_0), numpy.where(on == 0, on_lane_0, cars - on_lane_0)
+        found = numpy.empty_like(cell)
+        leaders = numpy.take_along_axis(ring, first + (place - first + places) % count, axis=-1)
+        numpy.put_along_axis(found, ring, leaders, axis=-1)
+        return found
+
+    def gaps(self) -> Array:
+        """The gap of each car: the empty cells up to the next car ahead on its lane, (x' - x - 1) mod `length` for the cells
+        x and x' of both, 0 to `length` - 1. A car alone on its lane has all other cells."""
+        cell = self.cell.astype(numpy.int64)
+        return (numpy.take_along_axis(cell, self.ahead(), axis=-1) - cell - 1) % self.length
+
+    def space_headways(self) -> Array:
+        """The space headway of each car: the cells from it to the next car ahead on its lane, 1 to `length`. It is the gap
+        plus 1, so that its mean over the cars of a lane is 1 / density."""
+        return self.gaps() + 1
 
 
-def _not_one_run(step: int) -> ValueError:
-    return ValueError(f"the cars of step {step} do not come from those of step {step - 1}: these are not snapshots of one run")
+@dataclass(frozen=True, eq=False, repr=False)
+class Cars(OnRoad):
+    """All cars after a step, in arrays of 64-bit integers, one number for each car. Cars keep their numbers from step to
+    step; they are numbered from 0 by lane and cell in the first snapshot.
+
+    `lane` is 0 or 1, and `cell` 0 to `length` - 1. `speed` is the number of cells that the car drove in this step (in the
+    first snapshot: the number that is there). `distance` is the cell in the first snapshot plus all speeds since, so
+    that it is not wrapped round the ring."""
+
+    step: int
+    length: int
+    lanes: int
+    lane: Array
+    cell: Array
+    distance: Array
+    speed: Array
+
+    def __len__(self) -> int:
+        return len(self.cell)
+
+    def __repr__(self) -> str:
+        return f"<{len(self)} cars, step {self.step}>"
 
 
-def _followed(snapshots: Snapshots) -> tuple[list[list[int]], ...]:
-    """The rows of lanes, cells, distances and speeds."""
-    length, others = len(snapshots[0].lanes[0]), len(snapshots[0].lanes) - 1
-    places = {(lane, cell): car for car, (lane, cell, _) in enumerate(_cars(snapshots[0]))}
-    cars = len(places)
-    rows: list[tuple[list[int], ...]] = []
+def follow(snapshots: Iterable[Snapshot]) -> Iterator[Cars]:
+    """Iterate over the cars in consecutive snapshots of one run, and keep only one step, for runs of any length:
+
+        for cars in trlab.follow(job.snapshots(first=1000)):
+            total += cars.speed.sum()
+
+    A car at speed v came from the cell v behind it, of its own lane or of the other one. If both cells were taken, it came
+    from its own lane, because a car changes lanes only if its side cell is empty. Raises `SnapshotsError` if steps are
+    missing, if the cars of a snapshot do not come from those of the one before it, or if a car drove further than its
+    gap."""
+    cars: Optional[Cars] = None
     for snapshot in snapshots:
-        row = tuple([0] * cars for _ in range(4))
-        found: dict[tuple[int, int], int] = {}
-        for lane, cell, speed in _cars(snapshot):
-            came = (cell - speed) % length if rows else cell
-            car = places.get((lane, came), places.get((others - lane, came), -1))
-            if car >= 0:
-                found[lane, cell] = car
-                row[0][car], row[1][car], row[3][car] = lane, cell, speed
-                row[2][car] = rows[-1][2][car] + speed if rows else cell
-        if sorted(found.values()) != list(range(cars)) or len(found) != len(_cars(snapshot)):
-            raise _not_one_run(snapshot.step)
-        places = found
-        rows.append(row)
-    return tuple(list(column) for column in zip(*rows))
+        cars = _first(snapshot) if cars is None else _next(cars, snapshot)
+        yield cars
 
 
-def _cars(snapshot: Snapshot) -> list[tuple[int, int, int]]:
-    """Lane, cell and speed of each car."""
-    return [
-        (lane, cell, SPEED[sign]) for lane, cells in enumerate(snapshot.lanes) for cell, sign in enumerate(cells) if sign != "."
-    ]
+def _first(snapshot: Snapshot) -> Cars:
+    lanes, length = len(snapshot.lanes), len(snapshot.lanes[0]) if snapshot.lanes else 0
+    if not 1 <= lanes <= 2 or not length:
+        raise SnapshotsError(f"the road of step {snapshot.step} has {lanes} lanes of {length} cells: a road has one or two")
+    place, speed = _cars_on(snapshot, lanes, length)
+    lane, cell = numpy.divmod(place, length)
+    return Cars(snapshot.step, length, lanes, lane, cell, cell.copy(), speed)
 
 
-def _followed_by_numpy(snapshots: Snapshots) -> tuple[Any, ...]:
-    """The same as arrays."""
-    import numpy
+def _next(before: Cars, snapshot: Snapshot) -> Cars:
+    """The cars of the next snapshot, by their numbers."""
+    length, lanes = before.length, before.lanes
+    if snapshot.step != before.step + 1:
+        raise SnapshotsError(
+            f"step {snapshot.step} follows step {before.step}, and cars can only be followed through every step: leave "
+            "`every` at 1, and do not put parts of a run together"
+        )
+    place, speed = _cars_on(snapshot, lanes, length)
+    car_at = numpy.full(lanes * length, -1)
+    car_at[before.lane * length + before.cell] = numpy.arange(len(before))
+    lane, cell = numpy.divmod(place, length)
+    came_from = (cell - speed) % length
+    car = car_at[lane * length + came_from]
+    if lanes == 2:
+        car = numpy.where(car >= 0, car, car_at[(1 - lane) * length + came_from])
+    of_car = numpy.full(len(before), -1)
+    if len(car) == len(before) and (car >= 0).all():
+        of_car[car] = numpy.arange(len(car))
+    on_lane_0 = int(numpy.searchsorted(place, length))
+    if len(car) != len(before) or (of_car < 0).any() or _is_too_fast(cell, speed, on_lane_0, length):
+        raise SnapshotsError(
+            f"the cars of step {snapshot.step} do not come from those of step {before.step}: these are not snapshots of one run"
+        )
+    return Cars(snapshot.step, length, lanes, lane[of_car], cell[of_car], before.distance + speed[of_car], speed[of_car])
 
-    road = snapshots.speeds("int32", empty=-1)
-    steps, lanes, length = road.shape
-    taken = (road >= 0).reshape(steps, lanes * length)
-    counts = taken.sum(axis=1)
-    if (counts != counts[0]).any():
-        raise _not_one_run(snapshots[int(numpy.argmax(counts != counts[0]))].step)
-    cells = numpy.nonzero(taken)[1].reshape(steps, counts[0]).astype(numpy.int32)
-    speeds = numpy.take_along_axis(road.reshape(steps, -1), cells, axis=1)
-    order = _order(taken, cells, speeds, length, lanes, snapshots[0].step)
-    lane, cell = numpy.divmod(numpy.take_along_axis(cells, order, axis=1), length)
-    speed = numpy.take_along_axis(speeds, order, axis=1)
-    distance = numpy.cumsum(numpy.concatenate([cell[:1], speed[1:]]), axis=0, dtype=numpy.int32)
-    return lane, cell, distance, speed
+
+def _cars_on(snapshot: Snapshot, lanes: int, length: int) -> tuple[Array, Array]:
+    """The places of the cars, counted lane by lane, and their speeds."""
+    if [len(lane) for lane in snapshot.lanes] != lanes * [length]:
+        raise SnapshotsError(f"the road of step {snapshot.step} has another size")
+    speeds = speeds_in("".join(snapshot.lanes))
+    place = numpy.flatnonzero(speeds >= 0)
+    return place, speeds[place].astype(numpy.int64)
 
 
-def _order(
-    taken: numpy.ndarray[Any, Any], cells: numpy.ndarray[Any, Any], speeds: numpy.ndarray[Any, Any],
-    length: int, lanes: int, first: int,
-) -> numpy.ndarray[Any, Any]:
-    """By step and car, the car's place among the taken cells of that step, counted lane by lane.
-
-    `taken` says by step and cell which cells are taken; `cells` and `speeds` are those of the cars by step and place."""
-    import numpy
-
-    lane, cell = numpy.divmod(cells[1:], length)
-    own = lane * length + (cell - speeds[1:]) % length
-    side = (lanes - 1 - lane) * length + own % length
-    rows = numpy.arange(len(taken) - 1)[:, None]
-    came = numpy.where(taken[rows, own], own, side)
-    # The place before the step of the car that is at each place after it.
-    before = (numpy.cumsum(taken, axis=1, dtype=numpy.int32) - 1)[rows, came]
-    is_good = taken[rows, came].all(axis=1) & (numpy.sort(before, axis=1) == numpy.arange(cells.shape[1])).all(axis=1)
-    if not is_good.all():
-        raise _not_one_run(first + 1 + int(numpy.argmin(is_good)))
-    after = numpy.argsort(before, axis=1, kind="stable")
-    order = numpy.empty_like(cells)
-    order[0] = numpy.arange(cells.shape[1])
-    for step, place in enumerate(after):
-        order[step + 1] = place[order[step]]
-    return order
+def _is_too_fast(cell: Array, speed: Array, on_lane_0: int, length: int) -> bool:
+    """Whether a car drove further than its gap, so that it is not behind the cell where the car ahead of it was before the
+    motion. Cars are in the order of their lanes and cells."""
+    came_from = cell - speed
+    for on_lane in slice(0, on_lane_0), slice(on_lane_0, None):
+        now, then = cell[on_lane], came_from[on_lane]
+        # The first car of a lane is ahead of the last one.
+        if len(now) and (now[-1] >= then[0] + length or (now[:-1] >= then[1:]).any()):
+            return True
+    return False

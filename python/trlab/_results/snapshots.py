@@ -1,9 +1,12 @@
 """The snapshots of a run."""
 from __future__ import annotations
 
+from html import escape
 from collections.abc import Iterable, Sequence
 from typing import TYPE_CHECKING, Any, Optional, Union
 
+from .._errors import ParameterError, SnapshotsError
+from .._inputs.numbers import whole
 from .._renamed import IN_SNAPSHOTS, renamed
 from .lists import ResultList
 from .written import Snapshot as Snapshot, WrittenSnapshots, snapshots_in as snapshots_in, read_snapshots, speeds_in
@@ -13,6 +16,9 @@ if TYPE_CHECKING:
     import pandas
 
     from .trajectories import Trajectories
+
+SHOWN, SHOWN_CELLS = 20, 100
+"""The most snapshots, and the most cells of each, that a notebook shows."""
 
 
 class Snapshots(ResultList[Snapshot]):
@@ -30,9 +36,14 @@ class Snapshots(ResultList[Snapshot]):
         lanes = self[0].lanes
         return f"<{len(self)} snapshots of {len(lanes)} x {len(lanes[0])} cells, steps {self[0].step} to {self[-1].step}>"
 
+    def _repr_html_(self) -> str:
+        """The first snapshots as characters, for notebooks."""
+        lines = [f"{shot.step:>7} " + "\n        ".join(lane[:SHOWN_CELLS] for lane in shot.lanes) for shot in self[:SHOWN]]
+        return f"<pre>{escape(chr(10).join([*lines, repr(self)]))}</pre>"
+
     @classmethod
     def read(cls, text: Union[str, bytes]) -> Snapshots:
-        """Read the output of `trlab run`. Raises `ValueError` with the line if it is anything else, or cut off."""
+        """Read the output of `trlab run`. Raises `OutputFormatError` with the line if it is anything else, or cut off."""
         plain = text.encode() if isinstance(text, str) else text
         return cls(read_snapshots(plain.replace(b"\r\n", b"\n") if b"\r" in plain else plain))
 
@@ -41,21 +52,28 @@ class Snapshots(ResultList[Snapshot]):
         return "".join(f"step {it.step}\n" + "".join(lane + "\n" for lane in it.lanes) for it in self)
 
     def speeds(self, dtype: Any = float, empty: Optional[int] = None) -> numpy.ndarray[Any, Any]:
-        """An array by snapshot, lane and cell: the speed in cells per step, NaN for an empty cell, so that a mean over
-        empty cells cannot pass for a speed (use `numpy.nanmean`). Whole numbers, for example `dtype="int8"`, need the
-        number of an empty cell: `empty=-1`. Arithmetic with small types is yours to check."""
-        import numpy
+        """An array by snapshot, lane and cell: the speed of the car in cells per step, 0 to 35, or NaN for an empty cell, so
+        that a mean over empty cells cannot pass for a mean speed: use `numpy.nanmean`. The snapshot of step 0 has the speeds
+        of the initial state, which no car drove: leave it out of means (`job.run(first=1)`).
+
+        `dtype` may be a type of floats from float32 on, or of signed whole numbers from int16 on, in which `v * v` does not
+        overflow. Whole numbers need a negative number for empty cells: `speeds("int16", empty=-1)`. Raises `ParameterError`
+        for any other type or number, and `SnapshotsError` if the roads have different sizes."""
+        from .arrays import numpy
 
         kind = numpy.dtype(dtype)
+        if (kind.kind, kind.itemsize) == ("f", 2) or kind.kind not in "fi" or kind.itemsize < 2:
+            raise ParameterError(f"speeds need float32, float64 or a signed whole number from int16 on, not {kind}")
         if (kind.kind == "f") != (empty is None):
-            raise ValueError("floats have NaN for empty cells; for whole numbers give `empty`, for example empty=-1")
-        small = self._signed()
-        found = small.astype(kind)
-        found[small < 0] = numpy.nan if empty is None else empty
+            raise ParameterError("floats have NaN for an empty cell; whole numbers need `empty`, for example empty=-1")
+        number = numpy.nan if empty is None else whole("empty", empty, numpy.iinfo(kind).min, -1)
+        signed = self._signed()
+        found = signed.astype(kind)
+        found[signed < 0] = number
         return found
 
     def occupied(self) -> numpy.ndarray[Any, Any]:
-        """An array by snapshot, lane and cell: whether a car is there."""
+        """An array of bools by snapshot, lane and cell: whether a car is there. Its mean is the density."""
         return self._signed() >= 0
 
     def __getattr__(self, name: str) -> Any:
@@ -63,16 +81,20 @@ class Snapshots(ResultList[Snapshot]):
         raise AttributeError(f"Snapshots have no attribute {name!r}")
 
     def _signed(self) -> numpy.ndarray[Any, Any]:
+        # Speeds in 8 bits, and -1 for an empty cell.
         if isinstance(self._held, WrittenSnapshots):
             return self._held.speeds()
-        lanes = self[0].lanes if self else ()
+        lanes = [len(lane) for lane in self[0].lanes] if self else []
+        for snapshot in self:
+            if [len(lane) for lane in snapshot.lanes] != lanes or len(set(lanes)) != 1:
+                raise SnapshotsError(f"the road of step {snapshot.step} has another size")
         speeds = speeds_in("".join(lane for snapshot in self for lane in snapshot.lanes))
-        return speeds.reshape(len(self), len(lanes), len(lanes[0]) if lanes else 0)
+        return speeds.reshape(len(self), len(lanes), lanes[0] if lanes else 0)
 
     def to_pandas(self) -> pandas.DataFrame:
-        """A frame with one row per car and snapshot: `step`, `lane`, `cell` and `speed`."""
-        import numpy
-        import pandas
+        """A frame with one row per car and snapshot: `step`, `lane` (0 or 1), `cell` (from 0) and `speed` in cells per step, as
+        64-bit integers. Rows of different snapshots do not belong to the same cars: see `trajectories`."""
+        from .._analysis.libraries import numpy, pandas
 
         # The step, the number and the length of each lane of all snapshots.
         lanes = [(snapshot.step, number, len(lane)) for snapshot in self for number, lane in enumerate(snapshot.lanes)]
@@ -89,15 +111,19 @@ class Snapshots(ResultList[Snapshot]):
 
     def html(self, limit: Optional[int] = None, title: str = "") -> str:
         """A web page that plays these snapshots: one file, without server and network. Colours range from speed 0 to
-        `limit`, by default the highest speed. Raises `ValueError` if the snapshots do not begin at step 0 or are
-        longer than 256 MiB."""
+        `limit`, by default the highest speed. Raises `SnapshotsError` unless the snapshots are those of all steps from 0 on,
+        and `ValueError` if they are longer than 256 MiB."""
         from ..lab.export import page_of
 
+        for step, snapshot in enumerate(self):
+            if snapshot.step != step:
+                raise SnapshotsError(f"a page plays the snapshots of all steps from 0 on, and that of step {step} is missing")
         return page_of(self, limit, title)
 
-    def trajectories(self) -> Trajectories:
-        """The trajectory of every car. Raises `ValueError` unless the snapshots are from consecutive steps of one
-        run (or of a part, such as `job.run()[1000:]`)."""
-        from .following import trajectories_of
+    def trajectories(self, dtype: Any = "int64") -> Trajectories:
+        """The trajectory of every car. `dtype` is the type of the arrays, for example "int32", which takes half the memory;
+        `trlab.follow` needs the memory of one step. Raises `SnapshotsError` unless the snapshots are of consecutive steps of
+        one run (or a part of them, such as `job.run()[1000:]`), and `ParameterError` if the type is too small."""
+        from .trajectories import trajectories_of
 
-        return trajectories_of(self)
+        return trajectories_of(self, dtype)

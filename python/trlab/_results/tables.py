@@ -1,13 +1,15 @@
 """Tables: rows of counts, as lists of named tuples."""
 from __future__ import annotations
 
+from html import escape
 from itertools import chain
+from math import nan
 from collections.abc import Iterable, Sequence
 from typing import TYPE_CHECKING, Any, NamedTuple, TypeVar, Union
 
-from .._renamed import IN_ROW, renamed
+from .._renamed import IN_ROW, IN_TABLE, renamed
 from .lists import ResultList
-from .written import WrittenRows
+from .written_rows import WrittenRows, heading_of, read_rows
 
 if TYPE_CHECKING:
     import numpy
@@ -16,12 +18,8 @@ if TYPE_CHECKING:
     from .drift import Drift
 
 
-HEADINGS = {"flow_millionths": "flow"}
-"""The names of columns in files, if they differ from those in Python."""
-
-
 class _Counted:
-    """The numbers of cars in a row of any table. Counts are for all lanes together."""
+    """What follows from the counts of any row. All counts are for all lanes together."""
 
     __slots__ = ()
     cars: int
@@ -30,36 +28,37 @@ class _Counted:
     distance: int
     stopped: int
     changes: int
-    _fields: tuple[str, ...]
 
     @property
     def density(self) -> float:
-        """Cars per cell."""
+        """Cars per cell: cars / cells."""
         return self.cars / self.cells
 
     @property
     def flow(self) -> float:
-        """Cars per step past one cell of one lane: distance / (cells * steps)."""
+        """Cars per step and lane: distance / (cells * steps). It is the mean over all cells of the cars that pass the end
+        of the cell in a step, and equals density * speed (Edie 1963)."""
         return self.distance / (self.cells * self.steps)
 
     @property
     def speed(self) -> float:
-        """The mean speed in cells per step, 0 without cars."""
-        return self.distance / (self.cars * self.steps) if self.cars else 0.0
+        """The space-mean speed in cells per step: distance / (cars * steps), the mean over all cars, also stopped ones, and
+        all steps. NaN without cars."""
+        return self.distance / (self.cars * self.steps) if self.cars else nan
 
     @property
     def stopped_share(self) -> float:
-        """The share of stopped cars, 0 to 1, or 0 without cars."""
-        return self.stopped / (self.cars * self.steps) if self.cars else 0.0
+        """The share of stopped cars, 0 to 1: stopped / (cars * steps). NaN without cars."""
+        return self.stopped / (self.cars * self.steps) if self.cars else nan
 
     @property
     def change_rate(self) -> float:
-        """Lane changes per car and step, or 0 without cars."""
-        return self.changes / (self.cars * self.steps) if self.cars else 0.0
+        """Lane changes per car and step, 0 to 1: changes / (cars * steps). NaN without cars."""
+        return self.changes / (self.cars * self.steps) if self.cars else nan
 
     def __getattr__(self, name: str) -> Any:
         renamed("a row", name, IN_ROW)
-        raise AttributeError(f"a row has no {name!r}: its columns are {', '.join(self._fields)}")
+        raise AttributeError(f"a row has no {name!r}: its columns are {', '.join(getattr(type(self), '_fields'))}")
 
 
 class _PointColumns(NamedTuple):
@@ -73,8 +72,13 @@ class _PointColumns(NamedTuple):
 
 
 class Point(_PointColumns, _Counted):
-    """A row of a sweep: the counts on one road during the measured steps. `distance` is in cells; `stopped` and
-    `changes` count over cars and steps; `flow_millionths` is the flow of the file, rounded down."""
+    """A row of a sweep: the counts on one road during the `steps` measured steps.
+
+    - `cars` on the road, and its `cells`, of all lanes together;
+    - `distance`: the sum of the new speeds of all cars in all steps, in cells;
+    - `stopped`: how often a car had the speed 0 after a step, in car-steps;
+    - `changes`: how often a car changed lanes;
+    - `flow_millionths`: the flow of the file, distance * 1000000 / (cells * steps), rounded down. The exact one is `flow`."""
 
     __slots__ = ()
 
@@ -97,19 +101,23 @@ class _WindowColumns(NamedTuple):
 
 
 class Window(_WindowColumns, _Counted):
-    """A row of a series: the counts of the `steps` steps that end with the snapshot of `step`, with the units and
-    properties of a `Point`. `cars0`, `distance0` and `stopped0` are sums over the snapshots after these steps: the
-    cars on lane 0, their speeds, and the stopped cars. The last three are for lane 1."""
+    """A row of a series: the counts of the `steps` steps that end with the snapshot of `step`, with the columns and
+    properties of a `Point`. For lane 0, `cars0` counts its cars after each of these steps, in car-steps (unlike `cars`),
+    `distance0` adds up their speeds, in cells, and `stopped0` counts those that are stopped, in car-steps. The last three
+    columns are for lane 1. So cars0 + cars1 = cars * steps."""
 
     __slots__ = ()
 
 
 Row = TypeVar("Row", Point, Window)
 
+SHOWN = 10
+"""The most rows that a notebook shows of a table."""
+
 
 class Table(ResultList[Row]):
-    """The rows of a table, as a list. A table that was read keeps the text: `to_numpy()` and `to_pandas()` are fast, and
-    rows are made when first needed."""
+    """The rows of a table, as a list. A table that was read keeps its numbers as an array of 64-bit integers: `to_numpy()`
+    and `to_pandas()` are fast, and rows are made when needed."""
 
     def __init__(self, kind: type[Row], rows: Iterable[Row] = ()) -> None:
         self.kind: type[Row] = kind
@@ -121,27 +129,35 @@ class Table(ResultList[Row]):
     def __repr__(self) -> str:
         return f"<table of {len(self)} {self.kind.__name__}s>"
 
+    def _repr_html_(self) -> str:
+        """The first rows, for notebooks, with the columns of Python."""
+        lines: list[tuple[object, ...]] = [self.kind._fields, *self[:SHOWN]]
+        rows = "".join("<tr>" + "".join(f"<td>{cell}</td>" for cell in line) + "</tr>" for line in lines)
+        return f"<table>{rows}</table><p>{escape(repr(self))}</p>"
+
+    def __getattr__(self, name: str) -> Any:
+        renamed("`Table`", name, IN_TABLE)
+        raise AttributeError(f"a table has no attribute {name!r}")
+
     @classmethod
     def read(cls, kind: type[Row], text: Union[str, bytes]) -> Table[Row]:
-        """Read the output of `trlab sweep` (`kind` is `Point`) or `trlab series` (`Window`). Raises `ValueError` with
-        the line if it is anything else, or cut off."""
-        plain = text if isinstance(text, str) else text.decode()
-        return cls(kind, WrittenRows(kind, plain.replace("\r\n", "\n") if "\r" in plain else plain))
+        """Read the output of `trlab sweep` (`kind` is `Point`) or `trlab series` (`Window`). Raises `OutputFormatError` with
+        the line if it is anything else, is cut off, or has a row that cannot be: for example no cells, more cars than
+        cells, a distance that these cars cannot drive, another flow than that of the counts, or a missing window."""
+        plain = text if isinstance(text, str) else text.decode("latin-1")
+        return cls(kind, read_rows(kind, plain.replace("\r\n", "\n") if "\r" in plain else plain))
 
-    def csv(self) -> str:
-        """The table as the program writes it."""
-        if isinstance(self._held, WrittenRows):
-            return self._held.text
-        lines = [",".join(HEADINGS.get(name, name) for name in self.kind._fields)]
-        lines += [",".join(map(str, row)) for row in self]
-        return "".join(line + "\n" for line in lines)
+    def text(self) -> str:
+        """The table as the program writes it, which `Table.read` reads if it is that of one sweep or series. There the column
+        `flow` is in millionths; for a file of other programs write `table.to_pandas().to_csv()`."""
+        return heading_of(self.kind) + "".join(",".join(map(str, row)) + "\n" for row in self)
 
     def to_numpy(self) -> numpy.ndarray[Any, Any]:
-        """An array of records of whole numbers: `table.to_numpy()["flow"]` is a column."""
-        import numpy
+        """An array of records of 64-bit integers with the columns of the rows: `table.to_numpy()["distance"]`."""
+        from .arrays import numpy
 
         if isinstance(self._held, WrittenRows):
-            numbers = self._held.numbers()
+            numbers = numpy.array(self._held.numbers, dtype=numpy.int64)
         else:
             count = len(self) * len(self.kind._fields)
             numbers = numpy.fromiter(chain.from_iterable(self), dtype=numpy.int64, count=count)
@@ -149,15 +165,16 @@ class Table(ResultList[Row]):
 
     def to_pandas(self) -> pandas.DataFrame:
         """A frame of the exact counts, with `density`, `flow`, `speed`, `stopped_share` and `change_rate` (see
-        `trlab.UNITS`). A speed without cars is NaN."""
+        `trlab.UNITS`). Without cars the last three are NaN."""
         from .._analysis.frames import frame_of_table
 
         return frame_of_table(self)
 
     def drift(self, column: str = "flow") -> Drift:
-        """Whether a series still drifts: the test of Schruben, Singh and Tierney (1983), see `help(trlab.drift)`.
-        `column` is `flow`, `speed`, `stopped_share` or any column. Raises `ValueError` for a sweep, or
-        fewer than 40 windows."""
+        """Whether a series still drifts: the test of Schruben, Singh and Tierney (1983), see `trlab.Drift`. `column` is
+        `flow`, `speed`, `stopped_share`, `change_rate`, or a count that changes from window to window. Raises
+        `EstimateError` unless the table has the consecutive windows of one run, at least 40 and equally long, and
+        `ParameterError` for a column without such a value."""
         from .drift import drift_of_series
 
         return drift_of_series(self, column)

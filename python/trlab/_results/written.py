@@ -1,12 +1,13 @@
-"""Results as the program writes them: checked, and kept as text until rows or snapshots are needed."""
+"""Snapshots as the program writes them: checked, and kept as text until they are needed."""
 from __future__ import annotations
 
 import re
-from functools import cached_property, partial
+from functools import partial
 from itertools import chain, islice
 from collections.abc import Iterable, Iterator, Sequence
 from typing import TYPE_CHECKING, Any, NamedTuple, Optional
 
+from .._errors import OutputFormatError
 from .._inputs.states import SPEEDS
 
 if TYPE_CHECKING:
@@ -19,76 +20,13 @@ BLOCK = 1 << 18
 
 LINE_FEED = 10
 
+CELLS = f".{SPEEDS}".encode()
+"""The characters of cells."""
+
+_NO_CELL = "a character that is neither a speed nor a dot"
+
 # The speed of each character as a signed byte: -1 for an empty cell, -2 for a character that no cell has.
 NUMBERS = bytes(255 if chr(sign) == "." else SPEEDS.find(chr(sign)) % 255 for sign in range(256))
-
-
-class WrittenRows(Sequence[Any]):
-    """The rows of a table as text. They are made when the first of them is needed, and then kept with the text.
-
-    `kind` is a named tuple of whole numbers. Raises `ValueError` if the text has another heading, a line that is not a
-    row, or a last line without an end."""
-
-    def __init__(self, kind: Any, text: str) -> None:
-        self.kind, self.columns, self.text, self._length = kind, len(kind._fields), text, 0
-        heading = ",".join(kind._fields).replace("flow_millionths", "flow") + "\n"
-        if not text.startswith(heading):
-            wrong = "the table is cut off in" if heading.startswith(text) else f"this is not the heading of {kind.__name__}s:"
-            raise ValueError(f"{wrong} {_shown(text.split(chr(10), 1)[0])}")
-        for block in self._blocks():
-            rows = block.count(b"\n")
-            # The characters that separate the numbers of these rows, and all the numbers after a comma each.
-            separators, numbers = block.translate(None, b"0123456789"), b"," + block.replace(b"\n", b",")
-            if separators != (b"," * (self.columns - 1) + b"\n") * rows or b",," in numbers or not block.endswith(b"\n"):
-                raise ValueError(self._fault())
-            self._length += rows
-
-    def _blocks(self) -> Iterator[bytes]:
-        """The rows in blocks of whole lines."""
-        begin = self.text.index("\n") + 1
-        while begin < len(self.text):
-            end = self.text.rfind("\n", begin, begin + BLOCK) + 1 or len(self.text)
-            yield self.text[begin:end].encode()
-            begin = end
-
-    def _fault(self) -> str:
-        """Says which line is not a row."""
-        row = re.compile("[0-9]+(,[0-9]+){%d}" % (self.columns - 1))
-        lines = self.text.split("\n")
-        place = next(place for place, line in enumerate(lines) if place and not row.fullmatch(line) or place == len(lines) - 1)
-        wrong = f"is not a row of {self.kind.__name__}s" if place < len(lines) - 1 else "is cut off"
-        return f"line {place + 1} of the table {wrong}: {_shown(lines[place])}"
-
-    def __reduce__(self) -> Any:
-        return WrittenRows, (self.kind, self.text)
-
-    def __len__(self) -> int:
-        return self._length
-
-    def __iter__(self) -> Iterator[Any]:
-        return iter(self.rows)
-
-    def __getitem__(self, place: Any) -> Any:
-        return self.rows[place]
-
-    @cached_property
-    def rows(self) -> list[Any]:
-        make = self.kind._make
-        return [make(map(int, line.split(b","))) for block in self._blocks() for line in block.split(b"\n")[:-1]]
-
-    def numbers(self) -> Array:
-        """The numbers of all rows, one after the other."""
-        import numpy
-
-        found, filled = numpy.empty(len(self) * self.columns, dtype=numpy.int64), 0
-        for block in self._blocks():
-            count = block.count(b"\n") * self.columns
-            numbers = block.replace(b"\n", b",")
-            found[filled:filled + count] = numpy.fromstring(numbers, dtype=numpy.int64, count=count, sep=",")
-            filled += count
-        if (found == numpy.iinfo(numpy.int64).max).any():
-            raise OverflowError("a number of the table needs more than 64 bits")
-        return found
 
 
 class Snapshot(NamedTuple):
@@ -141,8 +79,8 @@ class WrittenSnapshots(Sequence[Snapshot]):
         return (self.text[at:at + size] for at in places)
 
     def speeds(self) -> Array:
-        """The speed by snapshot, lane and cell, and -1 for an empty cell; raises `ValueError` if a cell is neither."""
-        import numpy
+        """The speed by snapshot, lane and cell, and -1 for an empty cell; raises `OutputFormatError` if a cell is neither."""
+        from .arrays import numpy
 
         found = numpy.empty((len(self), self.lanes, self.length), dtype=numpy.int8)
         at_once = BLOCK // (self.lanes * (self.length + 1)) + 1
@@ -154,23 +92,30 @@ class WrittenSnapshots(Sequence[Snapshot]):
 
 
 def speeds_in(signs: str) -> Array:
-    """The speed of each character, and -1 for an empty cell; raises `ValueError` if it is neither."""
-    import numpy
+    """The speed of each character, and -1 for an empty cell; raises `OutputFormatError` if it is neither."""
+    from .arrays import numpy
 
     return checked_speeds(numpy.frombuffer(bytearray(signs.encode().translate(NUMBERS)), dtype=numpy.int8))
 
 
 def checked_speeds(speeds: Array) -> Array:
-    """The same speeds; raises `ValueError` if one is not that of a cell."""
+    """The same speeds; raises `OutputFormatError` if one is not that of a cell."""
     if speeds.min(initial=0) < -1:
-        raise ValueError("a cell has a character that is neither a speed nor a dot")
+        raise OutputFormatError(f"a cell has {_NO_CELL}")
     return speeds
 
 
 def read_snapshots(text: bytes) -> Sequence[Snapshot]:
-    """The snapshots in the output of a run; raises `ValueError` if it is not one, or cut off."""
-    found = _regular(text)
-    return list(snapshots_in(text.decode().splitlines(True))) if found is None else found
+    """The snapshots in the output of a run; raises `OutputFormatError` if it is not one, or cut off."""
+    found: Optional[Sequence[Snapshot]] = _regular(text)
+    if found is None:
+        # An error of its own is better than one of decoding.
+        found = list(snapshots_in(text.decode("latin-1").splitlines(True)))
+    if text.translate(None, CELLS + b" \n") or text.count(b" ") != len(found):
+        lines = text.decode("latin-1").split("\n")
+        wrong = next(line for line in lines if not HEADING.match(line.encode() + b"\n") and line.strip(CELLS.decode()))
+        raise OutputFormatError(f"line {lines.index(wrong) + 1} of the run has {_NO_CELL}: {_shown(wrong)}")
+    return found
 
 
 def _regular(text: bytes) -> Optional[WrittenSnapshots]:
@@ -182,7 +127,7 @@ def _regular(text: bytes) -> Optional[WrittenSnapshots]:
     road = text[first.end():second.start() if second else len(text)]
     lanes, length = road.count(b"\n"), road.find(b"\n")
     every = int(second[1]) - int(first[1]) if second else 1
-    if length < 1 or every < 1 or len(road) != lanes * (length + 1):
+    if not 1 <= lanes <= 2 or length < 1 or every < 1 or len(road) != lanes * (length + 1):
         return None
     begin, step = 0, int(first[1])
     places: list[int] = []
@@ -216,7 +161,7 @@ def _has_line_feeds(text: bytes, places: range) -> bool:
 def snapshots_in(lines: Iterable[str]) -> Iterator[Snapshot]:
     """The snapshots in the output of a run, one by one.
 
-    Raises `ValueError` if a line is not one of a snapshot, or if the output is cut off: all snapshots have the same number
+    Raises `OutputFormatError` if a line is not one of a snapshot, or if the output is cut off: all snapshots have the same number
     of lanes and cells."""
     lines = iter(lines)
     # The lines up to the second heading, which shows how many lanes there are.
@@ -226,6 +171,8 @@ def snapshots_in(lines: Iterable[str]) -> Iterator[Snapshot]:
         if line.startswith("step "):
             break
     count = sum(not line.startswith("step ") for line in begun) or 1
+    if count > 2 and begun[3].endswith("\n"):
+        raise OutputFormatError(f"the first snapshot of the run has {count} lanes, and a road has one or two")
     length = max(1, "".join(begun[1:2]).find("\n"))
     make: Any = partial(tuple.__new__, Snapshot)
     # Missing lanes of the last snapshot are empty.
@@ -241,11 +188,11 @@ def snapshots_in(lines: Iterable[str]) -> Iterator[Snapshot]:
         if not (is_road and heading.startswith("step ") and step.isdecimal()):
             # The end of the output may say why it is cut off.
             next(lines, "")
-            raise ValueError(_picture_fault(heading, [*group[1:]], length))
+            raise OutputFormatError(_snapshot_fault(heading, [*group[1:]], length))
         yield make((int(step), road))
 
 
-def _picture_fault(heading: str, lanes: list[str], length: int) -> str:
+def _snapshot_fault(heading: str, lanes: list[str], length: int) -> str:
     """The reason why these lines are not a snapshot with lanes of this length."""
     if heading.endswith("\n") and not HEADING.fullmatch(heading.encode()):
         return f"this is not the heading of a snapshot of a run: {_shown(heading)}"

@@ -1,0 +1,183 @@
+"""Detectors: beside trajectories, and beside a count that moves each car cell by cell."""
+import importlib.util
+import math
+import os
+import subprocess
+import sys
+import unittest
+from fractions import Fraction
+from pathlib import Path
+
+import trlab
+from tests.test_arrays import needs
+from trlab import Job, Nasch, ParameterError, Rickert, Snapshot, Snapshots, SnapshotsError, random_cells
+
+if importlib.util.find_spec("hypothesis"):
+    from hypothesis import given, settings, strategies as some
+
+    ROADS = given(
+        lanes=some.integers(1, 2), length=some.integers(1, 45), density=some.floats(0, 1), limit=some.integers(1, 35),
+        key=some.integers(0, 999), first=some.integers(0, 3), is_fast=some.booleans(),
+    )
+    EXAMPLES = settings(max_examples=60, deadline=None, database=None, derandomize=True)
+else:
+    ROADS = EXAMPLES = unittest.skip("hypothesis is not installed")
+
+
+def run(lanes, length, density, limit, key, first, is_fast, steps=24):
+    """The snapshots of a random road."""
+    rule = Rickert("1/4", "3/4") if lanes == 2 else Nasch("1/4")
+    start = random_cells(key, None if is_fast else 0)
+    job = Job(limit=limit, length=length, lanes=lanes, density=density, start=start, rule=rule, steps=first + steps, key=key)
+    return job.run(first=first)
+
+
+def cell_by_cell(snapshots):
+    """The step, cell, lane and speed of each car that passes the end of a cell, from the way of each car in each step."""
+    for snapshot in snapshots[1:]:
+        length = len(snapshot.lanes[0])
+        for lane, cells in enumerate(snapshot.speeds()):
+            for cell, speed in enumerate(cells):
+                for _ in range(speed or 0):
+                    cell = (cell - 1) % length
+                    yield snapshot.step, cell, lane, speed
+
+
+def mean(values):
+    return sum(map(Fraction, values)) / len(values) if values else math.nan
+
+
+@needs("pandas")
+class Detectors(unittest.TestCase):
+    @EXAMPLES
+    @ROADS
+    def test_passings_are_those_of_each_car(self, **road):
+        snapshots, cells = run(**road), [*range(road["length"])]
+        found = trlab.passings(iter(snapshots), cells)
+        wanted = sorted(cell_by_cell(snapshots))
+        self.assertEqual([*found[["step", "cell", "lane", "speed"]].itertuples(index=False, name=None)], wanted)
+        self.assertEqual(len({row[:3] for row in wanted}), len(wanted))  # at most one car in a step
+        before = {}
+        for step, cell, lane, _, headway in found.itertuples(index=False):
+            if (cell, lane) in before:
+                self.assertEqual(headway, step - before[cell, lane])
+            else:
+                self.assertTrue(math.isnan(headway))
+            before[cell, lane] = step
+
+    @EXAMPLES
+    @ROADS
+    def test_windows_are_sums_over_passings(self, **road):
+        snapshots = run(**road)
+        cells = [*{0, road["length"] // 2, road["length"] - 1}]
+        passed, first = [*cell_by_cell(snapshots)], snapshots[0].step
+        for every in 1, 6, 24:
+            found = trlab.detectors(iter(snapshots), cells, every)
+            self.assertEqual((len(found), found.index.names), (len(cells) * road["lanes"] * 24 // every, ["cell", "lane", "step"]))
+            for (cell, lane, end), row in found.iterrows():
+                before = [step for step, *place, _ in passed if place == [cell, lane] and step <= end]
+                speeds = [speed for step, *place, speed in passed if place == [cell, lane] and end - every < step <= end]
+                headways = [after - then for then, after in zip(before, before[1:]) if after > end - every]
+                steps = snapshots[end - every - first + 1:end - first + 1]
+                wanted = {
+                    "count": len(speeds), "flow": Fraction(len(speeds), every), "time_mean_speed": mean(speeds),
+                    "harmonic_mean_speed": 1 / mean([Fraction(1, speed) for speed in speeds]), "mean_time_headway": mean(headways),
+                    "occupancy": mean([it.lanes[lane][cell] != "." for it in steps]),
+                }
+                self.assertEqual(sorted(wanted), sorted(found.columns))
+                for name, value in wanted.items():
+                    is_same = math.isnan(row[name]) if math.isnan(value) else abs(float(value) - row[name]) < 1e-12
+                    self.assertTrue(is_same, (name, cell, lane, end, value, row[name]))
+                self.assertFalse(row.harmonic_mean_speed > row.time_mean_speed + 1e-12)
+
+    @EXAMPLES
+    @ROADS
+    def test_headways_are_those_of_trajectories(self, **road):
+        snapshots = run(**road)
+        paths, passed = snapshots.trajectories(), trlab.passings(snapshots, [*range(road["length"])])
+        for cell in range(road["length"]):
+            for lane in range(road["lanes"]):
+                here = passed[(passed.cell == cell) & (passed.lane == lane)]
+                self.assertEqual(paths.time_headways(cell, lane).tolist(), here.time_headway[1:].tolist())
+
+    def test_all_cells_together_count_the_distance_and_the_cars(self):
+        job = Job(limit=5, length=60, lanes=2, density=0.3, rule=Rickert("1/4", 1), start=random_cells(1), steps=90, key=2)
+        found = job.detectors(range(60), every=30, first=30)
+        for window in job.series(every=30, first=30):
+            here = found.xs(window.step, level="step")
+            self.assertEqual(here["count"].sum(), window.distance)
+            self.assertAlmostEqual(here["flow"].mean(), window.flow)
+            self.assertAlmostEqual(here["occupancy"].mean(), window.density)
+            self.assertEqual(here.xs(1, level="lane")["count"].sum(), window.distance1)
+        self.assertEqual(sorted({*found.index.get_level_values("step")}), [60, 90])
+
+    def test_a_road_without_cars(self):
+        (row,) = Job(limit=5, length=9, cars=0, rule=Nasch(0), steps=4).detectors([3], every=4).itertuples(index=False)
+        self.assertEqual((row.count, row.flow, row.occupancy), (0, 0, 0))
+        self.assertTrue(all(map(math.isnan, (row.time_mean_speed, row.harmonic_mean_speed, row.mean_time_headway))))
+        self.assertEqual(trlab.passings(Job(limit=5, length=9, cars=0, rule=Nasch(0), steps=4).run(), [3]).dtypes["step"], "int64")
+
+    def test_one_snapshot_is_kept(self):
+        job, taken = Job(limit=5, length=9, cars=3, rule=Nasch(0), steps=400), []
+
+        def snapshots():
+            for snapshot in job.snapshots():
+                taken.append(snapshot)
+                del taken[:-1]
+                yield snapshot
+
+        self.assertEqual(len(trlab.detectors(snapshots(), [0], every=100)), 4)
+
+    def test_what_is_refused(self):
+        snapshots = Job(limit=5, length=20, cars=5, rule=Nasch("1/4"), steps=30).run()
+        for cells in [20], [-1], [], [1, 1], [1.5], ["1"]:
+            self.assertRaises((ValueError, TypeError), trlab.detectors, snapshots, cells, 10)
+            self.assertRaises((ValueError, TypeError), trlab.passings, snapshots, cells)
+        for every in 0, -1, 7, 31, 1.5:
+            self.assertRaises((ValueError, TypeError), trlab.detectors, snapshots, [0], every)
+        with self.assertRaisesRegex(ParameterError, "30 steps are not whole windows of 7 steps"):
+            trlab.detectors(snapshots, [0], 7)
+        other = Job(limit=5, length=20, cars=6, rule=Nasch("1/4"), steps=30).run()
+        longer = Job(limit=5, length=21, cars=5, rule=Nasch("1/4"), steps=30).run()
+        for wrong, said in (
+            (snapshots[:10] + snapshots[20:], "step 20 follows step 9"), (snapshots[::2], "step 2 follows step 0"),
+            (snapshots[:5] + other[5:], "step 5 has another size or number"), (snapshots[:5] + longer[5:], "step 5 has another size"),
+            (Snapshots(), "no snapshots"), (Snapshots([Snapshot(0, (".0",)), Snapshot(1, (".?",))]), "neither a speed nor a dot"),
+        ):
+            for call in lambda: trlab.detectors(wrong, [0], 1), lambda: trlab.passings(wrong, [0]):
+                with self.assertRaisesRegex(SnapshotsError, said):
+                    call()
+
+
+WITHOUT_LIBRARIES = """
+import sys
+sys.modules.update(numpy=None, pandas=None)
+import trlab
+from trlab import Job, MissingLibraryError, Nasch
+
+job = Job(limit=5, length=9, cars=2, rule=Nasch(0), steps=40)
+snapshots, table = job.run(), job.series()
+for call in (
+    snapshots.trajectories, snapshots.speeds, snapshots.occupied, snapshots.to_pandas, table.to_numpy, table.to_pandas,
+    lambda: job.detectors([0], 40), lambda: trlab.follow, lambda: trlab.detectors, lambda: trlab.passings, lambda: trlab.Trajectories,
+):
+    try:
+        print("no error", call())
+    except MissingLibraryError as error:
+        print(error)
+print(table[-1].flow, table.drift().is_drifting, len(table.text()), "<html" in snapshots.html(), "41 snap" in snapshots._repr_html_())
+"""
+
+
+class MissingLibraries(unittest.TestCase):
+    def test_each_call_says_how_to_install_them(self):
+        told = subprocess.run([sys.executable, "-c", WITHOUT_LIBRARIES], capture_output=True, text=True, env=ENVIRONMENT, check=True)
+        *errors, others = told.stdout.splitlines()
+        self.assertEqual(len(errors), 11)
+        for error in errors:
+            self.assertRegex(error, r'^.* needs? numpy: pip install "trlab\[analysis\]"$')
+        self.assertEqual(others, f"{7 / 9} True {len(JOB.series().text())} True True")
+
+
+JOB = Job(limit=5, length=9, cars=2, rule=Nasch(0), steps=40)
+ENVIRONMENT = {**os.environ, "PYTHONPATH": str(Path(trlab.__file__).parents[1])}

@@ -1,0 +1,74 @@
+"""Jams: connected components of stopped cars in space and time."""
+from __future__ import annotations
+
+from typing import Any, NamedTuple
+
+from .arrays import numpy
+from .following import Array
+
+
+class Jam(NamedTuple):
+    """A jam: it exists for `lifetime` steps from step `first` on; `cars` is the number of different cars in it, and `size`
+    their stopped time in car-steps.
+
+    Two stopped cars (speed 0) belong to one jam if they are in neighbouring cells of a lane after the same step, or are the
+    same car after consecutive steps. If `is_cut`, the jam is in the first or last snapshot, so that its lifetime, cars and
+    size are lower bounds: the lifetime is censored (see `trlab.lifetime`)."""
+
+    first: int
+    lifetime: int
+    cars: int
+    size: int
+    is_cut: bool
+
+
+def jams_of(first: int, speed: Array, ahead: Array, gap: Array) -> list[Jam]:
+    """The jams by first step and car; the arrays are indexed `[step, car]`, and `ahead` is the car ahead of each.
+
+    A stop is the time of one car from its first stopped step to its last one. Stops that touch form a jam."""
+    stopped = (speed == 0).T
+    begins, ends = stopped.copy(), stopped.copy()
+    begins[:, 1:] &= ~stopped[:, :-1]
+    ends[:, :-1] &= ~stopped[:, 1:]
+    (car, begin), end = numpy.nonzero(begins), numpy.nonzero(ends)[1]
+    if not len(car):
+        return []
+    jam = _joined(len(car), *_touching(stopped, begins, ahead, gap))
+    by_jam = numpy.lexsort((car, begin, jam))
+    car, begin, end, jam = car[by_jam], begin[by_jam], end[by_jam], jam[by_jam]
+    heads = numpy.flatnonzero(numpy.diff(jam, prepend=-1))  # the first stop of each jam
+    lasts = numpy.maximum.reduceat(end, heads)
+    sizes = numpy.add.reduceat(end - begin + 1, heads)
+    order = numpy.lexsort((car[heads], begin[heads]))
+    columns = [column[order].tolist() for column in (begin[heads], lasts, _different(jam, car, heads), sizes)]
+    last_row = len(speed) - 1
+    return [
+        Jam(first + row, last - row + 1, cars, size, row == 0 or last == last_row) for row, last, cars, size in zip(*columns)
+    ]
+
+
+def _touching(stopped: Array, begins: Array, ahead: Array, gap: Array) -> tuple[Array, Array]:
+    """The pairs of stops that have cars in neighbouring cells in the same step. Stops are numbered car by car."""
+    row, car = numpy.nonzero(stopped.T & (gap == 0) & numpy.take_along_axis(stopped.T, ahead, axis=1))
+    stops = numpy.cumsum(begins).reshape(stopped.shape) - 1
+    return stops[car, row], stops[ahead[row, car], row]
+
+
+def _joined(count: int, one: Array, other: Array) -> Array:
+    """For each of the numbers below `count`, the smallest number to which pairs connect it."""
+    root = numpy.arange(count)
+    while len(one):
+        low, high = numpy.minimum(one, other), numpy.maximum(one, other)
+        numpy.minimum.at(root, high, low)
+        while (root[root] != root).any():
+            root = root[root]
+        one, other = root[low], root[high]
+        one, other = one[one != other], other[one != other]
+    return root
+
+
+def _different(jam: Array, car: Array, heads: Array) -> Any:
+    """The number of different cars in each jam."""
+    order = numpy.lexsort((car, jam))
+    is_new = (numpy.diff(jam[order], prepend=-1) != 0) | (numpy.diff(car[order], prepend=-1) != 0)
+    return numpy.add.reduceat(is_new.astype(numpy.int64), heads)

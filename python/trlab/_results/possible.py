@@ -1,0 +1,99 @@
+"""Which rows of a table can be: counts that contradict each other are no result of the program.
+
+The rules are expressions that hold for whole numbers and, row by row, for columns of numpy."""
+from __future__ import annotations
+
+import sys
+from array import array
+from collections.abc import Callable, Sequence
+from typing import Any, Optional
+
+from .._inputs.numbers import MAX_CELLS, MAX_SPEED
+
+_MILLION = 1000000
+
+_OF_POINT = (
+    f"a road has 1 to {2 * MAX_CELLS} cells",
+    "at least 1 step is counted",
+    "it has more cars than cells",
+    "it has more stopped cars than cars x steps",
+    f"a car that is not stopped drives 1 to {MAX_SPEED} cells per step",
+    "no car drives further than its gap, so distance is at most (cells - cars) x steps",
+    "a car changes lanes at most once per step, and only on a road of two lanes",
+    "flow must be distance x 1000000 / (cells x steps), rounded down",
+)
+_OF_LANES = (
+    "the cars of both lanes must add up to cars x steps",
+    "the distances of both lanes must add up to distance",
+    "the stopped cars of both lanes must add up to stopped",
+    f"on each lane a car that is not stopped drives 1 to {MAX_SPEED} cells per step",
+    "its window begins before step 0",
+)
+_OF_PAIR = (
+    "its window must follow the window before it, and have as many steps",
+    "it has other cars or cells than the window before it, and a run keeps both",
+)
+
+
+def _point(row: Sequence[Any]) -> tuple[Any, ...]:
+    """Which sentences of `_OF_POINT` hold, if this is not a row of a sweep."""
+    cars, cells, steps, distance, stopped, changes, flow = row
+    places, car_steps, millionths = cells * steps, cars * steps, _MILLION * distance
+    moving = car_steps - stopped
+    return (
+        (cells < 1) | (cells > 2 * MAX_CELLS), steps < 1, cars > cells, moving < 0,
+        (distance < moving) | (distance > MAX_SPEED * moving), distance > places - car_steps,
+        (changes > car_steps) | (changes > 0) & (cells % 2 > 0),
+        (flow > _MILLION) | (places * flow > millionths) | (places * (flow + 1) <= millionths),
+    )
+
+
+def _window(row: Sequence[Any]) -> tuple[Any, ...]:
+    """Which sentences of `_OF_POINT` and `_OF_LANES` hold, if this is not a row of a series."""
+    step, cars, _, steps, distance, stopped, _, _, cars0, distance0, stopped0, cars1, distance1, stopped1 = row
+    moving0, moving1 = cars0 - stopped0, cars1 - stopped1
+    return _point(row[1:8]) + (
+        cars0 + cars1 != cars * steps, distance0 + distance1 != distance, stopped0 + stopped1 != stopped,
+        (distance0 < moving0) | (distance0 > MAX_SPEED * moving0) | (moving0 < 0)
+        | (distance1 < moving1) | (distance1 > MAX_SPEED * moving1) | (moving1 < 0),
+        step < steps,
+    )
+
+
+def _pair(before: Sequence[Any], row: Sequence[Any]) -> tuple[Any, ...]:
+    """Which sentences of `_OF_PAIR` hold, if one row of a series does not follow the other."""
+    return (row[0] - row[3] != before[0]) | (row[3] != before[3]), (row[1] != before[1]) | (row[2] != before[2])
+
+
+_FAST = 2**42
+"""Below this number, and this many places, no product of the rules leaves 64 bits unless another rule is broken."""
+
+
+def first_fault(numbers: array[int], columns: int) -> Optional[tuple[int, str]]:
+    """The number of the first row that cannot be, from 0, and its contradiction; None if all rows can be. Tables of 14
+    columns are series. If the program has imported numpy, it accepts good tables ten times as fast."""
+    rules, sentences = (_window, _OF_POINT + _OF_LANES) if columns == 14 else (_point, _OF_POINT)
+    if _are_possible(numbers, columns, rules):
+        return None
+    before: Optional[tuple[int, ...]] = None
+    for place, row in enumerate(zip(*[iter(numbers)] * columns)):
+        faults = rules(row)
+        if any(faults):
+            return place, sentences[faults.index(True)]
+        if columns == 14 and before is not None and any(_pair(before, row)):
+            return place, _OF_PAIR[_pair(before, row).index(True)]
+        before = row
+    return None
+
+
+def _are_possible(numbers: array[int], columns: int, rules: Callable[[Sequence[Any]], tuple[Any, ...]]) -> bool:
+    """Whether numpy is there and finds no contradiction in any row."""
+    numpy = sys.modules.get("numpy")
+    if numpy is None or not numbers:
+        return False
+    rows = numpy.frombuffer(numbers, dtype=numpy.int64).reshape(-1, columns).T
+    cells, steps = (rows[2], rows[3]) if columns == 14 else (rows[1], rows[2])
+    if rows.max() >= _FAST or int(cells.max()) * int(steps.max()) >= _FAST:
+        return False
+    faults = rules(rows) + (_pair(rows[:, :-1], rows[:, 1:]) if columns == 14 else ())
+    return not any(fault.any() for fault in faults)

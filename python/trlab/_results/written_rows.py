@@ -1,0 +1,111 @@
+"""The rows of a table, read from the text that the program wrote, and checked."""
+from __future__ import annotations
+
+import json
+import re
+import sys
+from array import array
+from collections.abc import Iterator, Sequence
+from typing import Any
+
+from .._errors import OutputFormatError
+from .possible import first_fault
+
+BLOCK = 1 << 18
+DIGITS = b"0123456789"
+AS_ZEROS = bytes(DIGITS[0] if sign in DIGITS else sign for sign in range(256))
+MOST_DIGITS = 18
+"""Numbers of so many digits are below 2**63. The program writes at most 13."""
+
+HEADINGS = {"flow_millionths": "flow"}
+"""The names of columns in files, if they differ from those in Python."""
+
+
+class WrittenRows(Sequence[Any]):
+    """The rows of a table that was read. Each is made when it is asked for. `numbers` are those of all rows, one after the
+    other; `kind` is a named tuple of whole numbers."""
+
+    def __init__(self, kind: Any, numbers: array[int]) -> None:
+        self.kind, self.numbers, self.columns = kind, numbers, len(kind._fields)
+
+    def __len__(self) -> int:
+        return len(self.numbers) // self.columns
+
+    def __iter__(self) -> Iterator[Any]:
+        return map(self.kind._make, self.tuples())
+
+    def tuples(self) -> Iterator[tuple[int, ...]]:
+        """The rows as plain tuples."""
+        return zip(*[iter(self.numbers)] * self.columns)
+
+    def __getitem__(self, place: Any) -> Any:
+        chosen = range(len(self))[place]
+        if isinstance(chosen, range):
+            return [self[row] for row in chosen]
+        return self.kind._make(self.numbers[self.columns * chosen:self.columns * (chosen + 1)])
+
+
+def heading_of(kind: Any) -> str:
+    """The first line of a table of these rows in a file."""
+    return ",".join(HEADINGS.get(name, name) for name in kind._fields) + "\n"
+
+
+def read_rows(kind: Any, text: str) -> WrittenRows:
+    """The rows in the text of a table. Raises `OutputFormatError`, with the line, if the text has another heading, a line that
+    is not a row, a last line without an end, or a row that cannot be (see `possible`)."""
+    heading = heading_of(kind)
+    if not text.startswith(heading):
+        wrong = "the table is cut off in" if heading.startswith(text) else f"this is not the heading of {kind.__name__}s:"
+        raise OutputFormatError(f"{wrong} {_shown(text.split(chr(10), 1)[0])}")
+    found = WrittenRows(kind, array("q"))
+    for block in _blocks(text, len(heading)):
+        if not _is_of_rows(block, found.columns):
+            raise OutputFormatError(_fault(text, kind))
+        found.numbers.extend(_numbers(block[:-1].replace(b"\n", b",")))
+    fault = first_fault(found.numbers, found.columns)
+    if fault is not None:
+        line = text.split("\n")[fault[0] + 1]
+        raise OutputFormatError(f"line {fault[0] + 2} of the table cannot be: {_shown(line)}: {fault[1]}")
+    return found
+
+
+def _blocks(text: str, begin: int) -> Iterator[bytes]:
+    """The rows in blocks of whole lines."""
+    while begin < len(text):
+        end = text.rfind("\n", begin, begin + BLOCK) + 1 or text.find("\n", begin) + 1 or len(text)
+        yield text[begin:end].encode("ascii", "replace")
+        begin = end
+
+
+def _is_of_rows(block: bytes, columns: int) -> bool:
+    """Whether each line of the block has so many numbers, without leading zeros and too many digits."""
+    rows = (b"," * (columns - 1) + b"\n") * block.count(b"\n")
+    # All numbers between two commas each.
+    numbers = b"," + block.replace(b"\n", b",").replace(b",", b",,")
+    return (
+        block.endswith(b"\n") and block.translate(None, DIGITS) == rows and b",,," not in numbers
+        and numbers.count(b",0") == numbers.count(b",0,") and DIGITS[:1] * (MOST_DIGITS + 1) not in block.translate(AS_ZEROS)
+    )
+
+
+def _numbers(block: bytes) -> array[int]:
+    """The numbers between commas."""
+    numpy = sys.modules.get("numpy")
+    if numpy is None:
+        return array("q", json.loads(b"[" + block + b"]"))
+    return array("q", numpy.fromstring(block, dtype=numpy.int64, sep=",").tobytes())
+
+
+def _fault(text: str, kind: Any) -> str:
+    """Says which line is not a row."""
+    number = "(?:0|[1-9][0-9]{0,%d})" % (MOST_DIGITS - 1)
+    row = re.compile(number + f"(?:,{number}){{{len(kind._fields) - 1}}}")
+    lines = text.split("\n")
+    place = next(place for place, line in enumerate(lines) if place and not row.fullmatch(line) or place == len(lines) - 1)
+    wrong = f"is not a row of {kind.__name__}s" if place < len(lines) - 1 else "is cut off"
+    return f"line {place + 1} of the table {wrong}: {_shown(lines[place])}"
+
+
+def _shown(line: str) -> str:
+    """A line in a message, cut to a readable length."""
+    return repr(line.rstrip("\n")[:80])
