@@ -20,16 +20,13 @@ from xml.etree import ElementTree
 from tests.processes import calls, logging_program
 from trlab import Nasch, Point, Sweep, random_cells
 
-for package in "numpy", "pandas", "matplotlib":
-    if not importlib.util.find_spec(package):
-        raise unittest.SkipTest(f"{package} is not installed")
-
 TOP = Path(__file__).resolve().parents[2]
 STUDIES = TOP / "studies"
 NAMES = "1992", "1996", "1998", "exact", "triangle"
+MISSING = [package for package in ("numpy", "pandas", "matplotlib") if not importlib.util.find_spec(package)]
 sys.path.append(str(TOP))
-
-from studies import random_starts, study as shared  # noqa: E402
+if not MISSING:
+    from studies import random_starts, study as shared
 
 
 def script(name):
@@ -59,7 +56,7 @@ class Drawn(NamedTuple):
 @lru_cache(maxsize=None)
 def drawn(name):
     with tempfile.TemporaryDirectory() as folder:
-        copytree(STUDIES, Path(folder) / "studies", ignore=ignore_patterns("*.svg"))
+        copytree(STUDIES, Path(folder) / "studies", ignore=ignore_patterns("*.svg", "cache"))
         words = [sys.executable, "-B", "-m", f"studies.{name}.reproduce", "--draw"]
         environment = {**os.environ, "PYTHONPATH": str(TOP / "python"), "PYTHONIOENCODING": "utf-8"}
         printed = subprocess.run(words, cwd=folder, env=environment, check=True, stdout=subprocess.PIPE, encoding="utf-8").stdout
@@ -79,6 +76,7 @@ def rows(file):
     return {name: [row for _, row in group] for name, group in itertools.groupby(lines, lambda line: line[0])}
 
 
+@unittest.skipIf(MISSING, f"{', '.join(MISSING)} not installed")
 class Studies(unittest.TestCase):
     def test_inputs_are_those_of_the_scripts(self):
         for name in NAMES:
@@ -115,8 +113,11 @@ class Studies(unittest.TestCase):
         }
         for file, (asked, form) in full.items():
             tables = shared.read_tables(STUDIES / "1992" / file, Point)
-            found = shared.means(shared.frame_of({name: asked[name] for name in tables}, tables), "density")
+            frame = shared.frame_of({name: asked[name] for name in tables}, tables)
+            found = shared.means(frame, "density")
             self.assertEqual(set(found.n), {80})
+            if file == "full_table.csv":
+                self.assertIn(module.maximum("even, 1,600,000 steps", frame), page)
             for density, its in found.iterrows():
                 with self.subTest(file=file, density=density):
                     self.assertIn(form.format(density, its.flow, its.flow_sem), page)

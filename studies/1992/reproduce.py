@@ -8,7 +8,7 @@ import trlab
 from trlab import Nasch, Point, Sweep
 
 from ..random_starts import from_random, last_steps
-from ..study import Study, difference, largest, means, signed
+from ..study import Study, difference, means, signed
 
 LENGTH, BRAKE, WARM, MEASURE = 10000, "1/2", 10000, 20000
 DENSITIES = [0.02, 0.04, 0.06, 0.07, 0.075, 0.08, 0.0825, 0.085, 0.0875, 0.09, 0.095, 0.1, 0.11, 0.12, 0.15]
@@ -45,7 +45,15 @@ def print_rows(even, at_random):
     for density in even.index:
         flows = [f"{its.flow[density]:.6f} ± {its.flow_sem[density]:.6f}" for its in (even, at_random)]
         print(f"| {density} |", " | ".join(flows), f"| {signed(z[density])} |")
-    print(f"maximum flow: even {largest(even)}, random {largest(at_random)}")
+
+
+def maximum(name, frame):
+    """A row of the page: the largest mean, and the peak of the curve through the means near it."""
+    found = means(frame, "density")
+    density = found.flow.idxmax()
+    peak = trlab.peak(frame.set_index(["density", "input"]), over="input", within=0.02)
+    return (f"| {name} | {found.flow[density]:.5f} ± {found.flow_sem[density]:.5f} | {density} "
+            f"| {peak.y:.5f} ± {peak.y_sem:.5f} | {peak.x:.4f} ± {peak.x_sem:.4f} |")
 
 
 def draw(study, short, found):
@@ -71,6 +79,8 @@ def main():
     short = study.frame("dots.csv", Point, dots(), Sweep.sweep)
     at_random = study.frame("random.csv", Point, random_inputs(study.is_full), last_steps(MEASURE))
     print_rows(means(even, "density"), means(at_random, "density"))
+    for name, frame in ("even", even), ("random", at_random):
+        print(maximum(f"{name}, {len(frame) // len(DENSITIES) * MEASURE:,} steps", frame))
     draw(study, short, means(at_random, "density"))
 
 
