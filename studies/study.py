@@ -1,35 +1,26 @@
-"""What the studies share: their texts and tables as files, runs side by side, means and errors."""
+"""What the studies share: inputs and tables as files, runs side by side, frames of their results, means and figures."""
 from __future__ import annotations
 
 import argparse
 import csv
 import shutil
-import statistics
+from collections.abc import Callable, Iterable, Mapping, Sequence
+from hashlib import sha256
 from pathlib import Path
-from typing import Callable, Dict, Iterable, List, Mapping, NamedTuple, Sequence, Type, TypeVar, Union
+from typing import Any, NamedTuple, TypeVar, Union
+
+import matplotlib.pyplot as plt
+import numpy
+import pandas
 
 import trlab
-from trlab import Job, Point, Sweep, Window
-from trlab.figure import Figure
+from trlab import Grid, Job, Point, Sweep, Table, Window
 
-Text = TypeVar("Text", Job, Sweep)
+Input = TypeVar("Input", Job, Sweep)
 Row = TypeVar("Row", Point, Window)
 Result = TypeVar("Result")
 
-
-class Mean(NamedTuple):
-    """A mean of independent repetitions, and its standard error."""
-
-    value: float
-    error: float
-
-    @classmethod
-    def of(cls, values: Sequence[float]) -> Mean:
-        spread = statistics.stdev(values) if len(values) > 1 else 0.0
-        return cls(statistics.fmean(values), spread / len(values) ** 0.5)
-
-    def __str__(self) -> str:
-        return f"{self.value:.5f} +- {self.error:.5f}"
+plt.style.use(Path(__file__).with_name("figures.mplstyle"))
 
 
 class Study(NamedTuple):
@@ -48,49 +39,54 @@ class Study(NamedTuple):
         here = Path(script).resolve().parent
         return cls(here / "full" if asked.full else here, asked.full, asked.draw)
 
-    def table(
-        self, file: str, kind: type[Row], texts: Mapping[str, Text], call: Callable[[Text], Iterable[Row]]
-    ) -> dict[str, list[Row]]:
-        """The rows of a table by the names of their texts: as a file has them, or after all texts were run.
+    def frame(
+        self, file: str, kind: type[Row], inputs: Mapping[str, Input], call: Callable[[Input], Iterable[Row]]
+    ) -> pandas.DataFrame:
+        """A frame of the rows of a table: as its file has them, or after all inputs were run. See `frame_of`.
 
         A run that was stopped or killed continues where it stopped when it is started again."""
         if not self.is_drawn_only:
-            self.write_inputs(texts)
-            tables = self.results(texts, call)
-            rows = [[name, *row] for name in texts for row in tables[name]]
-            write_rows(self.folder / file, ["text", *kind._fields], rows)
-        found: dict[str, list[Row]] = {}
-        for name, *numbers in read_rows(self.folder / file):
-            found.setdefault(name, []).append(kind(*(int(number) for number in numbers)))
-        return found
+            self.write_inputs(inputs)
+            tables = self.results(inputs, call)
+            rows = [[name, *row] for name in inputs for row in tables[name]]
+            write_rows(self.folder / file, ["text", *Table(kind).csv().strip().split(",")], rows)
+        return frame_of(inputs, read_tables(self.folder / file, kind))
 
-    def results(self, texts: Mapping[str, Text], call: Callable[[Text], Result]) -> dict[str, Result]:
-        """The results of a call by the names of the texts.
+    def results(self, inputs: Mapping[str, Input], call: Callable[[Input], Result]) -> dict[str, Result]:
+        """The results of a call by the names of the inputs.
 
-        What the program writes is kept in `outputs.parts` until the study is complete (`draw`). The name of each part is
-        the digest of the call of the program, the text and the program, so that a changed study never gets an old part."""
-        return dict(trlab.results(texts, call=call, cache=self.parts, progress=True))
+        The program's outputs are kept in `outputs.parts` until the study is complete (`save`). The name of each is the
+        digest of the call of the program, the input and the program, so that a changed study never gets an old output."""
+        return dict(trlab.results(inputs, call=call, cache=self.parts, progress=True))
 
     @property
     def parts(self) -> Path:
         return self.folder / "outputs.parts"
 
-    def write_inputs(self, texts: Mapping[str, Union[Job, Sweep]]) -> None:
-        """Writes texts beside the tables, a sweep of several inputs as NAME.sweep, NAME_1.sweep and so on; of jobs that
-        differ in their key alone those of key 1."""
+    def write_inputs(self, inputs: Mapping[str, Union[Job, Sweep]]) -> None:
+        """Writes inputs beside the tables, a sweep of several as NAME.sweep, NAME_1.sweep and so on; of jobs that differ
+        in their key only those of key 1."""
         place = self.folder / "texts"
         place.mkdir(parents=True, exist_ok=True)
-        for name, text in texts.items():
-            if isinstance(text, Sweep):
-                for number, part in enumerate(text.parts()):
+        for name, asked in inputs.items():
+            if isinstance(asked, Sweep):
+                for number, part in enumerate(asked.parts()):
                     (place / (f"{name}_{number}.sweep" if number else f"{name}.sweep")).write_text(part.text())
-            elif text.key == 1:
-                (place / f"{name}.job").write_text(text.text())
+            elif asked.key == 1:
+                (place / f"{name}.job").write_text(asked.text())
 
-    def draw(self, figure: Figure, name: str = "figure.svg") -> None:
-        """Draws a figure from the finished tables. The parts that they were made of are no longer needed."""
-        (self.folder / name).write_text(figure.svg())
+    def save(self, axes: Any, name: str = "figure.svg") -> None:
+        """Saves the figure of these axes, with the digest of the tables that it shows, and without date and version, so that
+        the same tables give the same bytes. The outputs that the tables were made of are no longer needed."""
+        about = {"Date": None, "Creator": None, "Source": f"tables {digest_of_tables(self.folder)}"}
+        axes.figure.savefig(self.folder / name, metadata=about)
+        plt.close(axes.figure)
         shutil.rmtree(self.parts, ignore_errors=True)
+
+
+def digest_of_tables(folder: Path) -> str:
+    """The SHA-256 of all tables of a study, by rising names."""
+    return sha256(b"".join(file.read_bytes() for file in sorted(folder.glob("*.csv")))).hexdigest()
 
 
 def write_rows(file: Path, heading: Sequence[str], rows: Iterable[Sequence[object]]) -> None:
@@ -108,3 +104,41 @@ def read_rows(file: Path) -> list[list[str]]:
     """The lines of a table, without its heading."""
     with open(file, newline="") as lines:
         return list(csv.reader(lines))[1:]
+
+
+def read_tables(file: Path, kind: type[Row]) -> dict[str, Table[Row]]:
+    """The tables in a file, by the names of their inputs."""
+    found: dict[str, list[Row]] = {}
+    for name, *numbers in read_rows(file):
+        found.setdefault(name, []).append(kind(*(int(number) for number in numbers)))
+    return {name: Table(kind, rows) for name, rows in found.items()}
+
+
+def frame_of(inputs: Mapping[str, Input], tables: Mapping[str, Table[Any]]) -> pandas.DataFrame:
+    """The frame of `Grid.run` for such inputs and their tables: a row for each road, with the name of its `input`."""
+    grid = Grid(lambda input, key: input, input=inputs)
+    return grid.frame_of(dict(zip(grid.inputs, (tables[name] for name in inputs)))).reset_index()
+
+
+def means(frame: pandas.DataFrame, *parameters: str, of: Sequence[str] = ("flow",)) -> pandas.DataFrame:
+    """The means over all roads with the same parameters, and their standard errors, by rising parameters."""
+    return trlab.means(frame.set_index([*parameters, "input"]), over=["input", "road"], of=of).sort_index()
+
+
+def difference(ones: pandas.DataFrame, others: pandas.DataFrame, of: str = "flow") -> pandas.DataFrame:
+    """By how much the means of independent runs are above others: `value`, its standard error `sem`, and `z` = value / sem,
+    which is NaN if both are exact."""
+    value = ones[of] - others[of]
+    sem = numpy.hypot(ones[f"{of}_sem"], others[f"{of}_sem"])
+    return pandas.DataFrame({"value": value, "sem": sem, "z": value / sem.where(sem > 0)})
+
+
+def signed(z: float) -> str:
+    """A number of standard errors as pages show it; nothing if there is none."""
+    return "" if numpy.isnan(z) else f"{z:+.1f}"
+
+
+def largest(found: pandas.DataFrame, digits: str = "", of: str = "flow") -> str:
+    """The largest of means by density, with its standard error and density."""
+    density = found[of].idxmax()
+    return f"{found[of][density]:.5f} +- {found[f'{of}_sem'][density]:.5f} at density {density:{digits}}"

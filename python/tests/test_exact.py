@@ -5,15 +5,15 @@ from fractions import Fraction
 from itertools import product
 from pathlib import Path
 
-sys.path.insert(1, str(Path(__file__).resolve().parents[2] / "studies"))
+sys.path.append(str(Path(__file__).resolve().parents[2]))
 
-from exact.chain import by_elimination, by_iteration, chain, expected_distance, first_state, stationary
-from exact.closed import flow_of_long_ring, flow_of_ring
-from exact.models import NagelSchreckenberg, Rickert, VelocityDependent
-from exact.ring import next_states
-from exact.rings import RINGS, WALKS
-from exact.sums import Sums
-from exact.transitions import counted, groups, judged
+from studies.exact.chain import by_elimination, by_iteration, chain, expected_distance, first_state, stationary
+from studies.exact.closed import flow_of_long_ring, flow_of_ring
+from studies.exact.models import NagelSchreckenberg, Rickert, VelocityDependent
+from studies.exact.ring import next_states
+from studies.exact.rings import RINGS, WALKS
+from studies.exact.sums import Sums
+from studies.exact.transitions import counted, groups, judged
 
 QUARTER, HALF = Fraction(1, 4), Fraction(1, 2)
 NAMED = {ring.name: ring for ring in (*RINGS, *WALKS)}

@@ -1,8 +1,10 @@
-"""The studies: their texts are those that their scripts make, and their tables and figures are what comes of them."""
+"""The studies: their inputs are those that their scripts make, and their tables and pages are what comes of them."""
 import contextlib
+import importlib
 import importlib.util
 import io
 import itertools
+import os
 import subprocess
 import sys
 import tempfile
@@ -10,84 +12,92 @@ import unittest
 from dataclasses import replace
 from functools import lru_cache
 from pathlib import Path
-from shutil import copytree, which
-from typing import Dict, List, NamedTuple, Set
+from shutil import copytree, ignore_patterns, which
+from typing import NamedTuple
 from unittest import mock
+from xml.etree import ElementTree
 
 from tests.processes import calls, logging_program
 from trlab import Nasch, Point, Sweep, random_cells
-from trlab.figure import Axis, Figure
 
-STUDIES = Path(__file__).resolve().parents[2] / "studies"
+TOP = Path(__file__).resolve().parents[2]
+STUDIES = TOP / "studies"
+NAMES = "1992", "1996", "1998", "exact", "triangle"
+MISSING = [package for package in ("numpy", "pandas", "matplotlib") if not importlib.util.find_spec(package)]
+sys.path.append(str(TOP))
+if not MISSING:
+    from studies import random_starts, study as shared
 
 
-def script(name, top=STUDIES):
+def script(name):
     """The script of a study, as a module."""
-    path = top / name / "reproduce.py"
-    form = importlib.util.spec_from_file_location(f"study_{name}", path)
-    module = importlib.util.module_from_spec(form)
-    form.loader.exec_module(module)
-    return module
+    return importlib.import_module(f"studies.{name}.reproduce")
 
 
-def texts(name):
-    """The texts of a study that stand in files of their own, by the names of these."""
+def inputs(name):
+    """The inputs of a study that are files of their own, by the names of these."""
     module = script(name)
     if name == "exact":
-        return module.texts(False)
+        return module.inputs(False)
     if name == "1998":
         jobs = {**module.branches(False), **module.lives(False)}
-        return {f"{text}.job": job for text, job in jobs.items() if job.key == 1}
-    sweeps = {**module.texts(False), **(module.dots() if name == "1992" else {})}
-    return {f"{text}.sweep": sweep for text, sweep in sweeps.items()}
+        return {f"{asked}.job": job for asked, job in jobs.items() if job.key == 1}
+    sweeps = {**module.inputs(False), **(module.dots() if name == "1992" else {})}
+    return {f"{asked}.sweep": sweep for asked, sweep in sweeps.items()}
 
 
 class Drawn(NamedTuple):
-    """Of a study that is drawn again from its tables: the names of the figures in its folder, the new figures by their
-    names, and the printed lines."""
+    """What a study draws and prints from its tables."""
 
-    names: set[str]
-    figures: dict[str, str]
-    printed: list[str]
+    figures: dict
+    printed: list
 
 
 @lru_cache(maxsize=None)
 def drawn(name):
     with tempfile.TemporaryDirectory() as folder:
-        copytree(STUDIES, folder, dirs_exist_ok=True)
-        names, out = {file.name for file in (Path(folder) / name).glob("*.svg")}, io.StringIO()
-        for file in (Path(folder) / name).glob("*.svg"):
-            file.unlink()
-        with mock.patch.object(sys, "argv", ["reproduce.py", "--draw"]), contextlib.redirect_stdout(out):
-            script(name, Path(folder)).main()
-        figures = {file.name: file.read_text() for file in (Path(folder) / name).glob("*.svg")}
-        return Drawn(names, figures, out.getvalue().splitlines())
+        copytree(STUDIES, Path(folder) / "studies", ignore=ignore_patterns("*.svg", "cache"))
+        words = [sys.executable, "-B", "-m", f"studies.{name}.reproduce", "--draw"]
+        environment = {**os.environ, "PYTHONPATH": str(TOP / "python"), "PYTHONIOENCODING": "utf-8"}
+        printed = subprocess.run(words, cwd=folder, env=environment, check=True, stdout=subprocess.PIPE, encoding="utf-8").stdout
+        figures = {file.name: file.read_text(encoding="utf-8") for file in (Path(folder) / "studies" / name).glob("*.svg")}
+        return Drawn(figures, printed.splitlines())
+
+
+def words_of(figure):
+    """The texts of a figure that have letters: titles and legends, not the marks of its axes."""
+    texts = ("".join(it.itertext()).strip() for it in ElementTree.fromstring(figure).iter("{http://www.w3.org/2000/svg}text"))
+    return sorted(text for text in texts if any(letter.isalpha() for letter in text))
 
 
 def rows(file):
-    """The lines of a table after its heading, by the names of their texts."""
+    """The lines of a table after its heading, by the names of their inputs."""
     lines = (line.split(",", 1) for line in file.read_text().splitlines()[1:])
     return {name: [row for _, row in group] for name, group in itertools.groupby(lines, lambda line: line[0])}
 
 
+@unittest.skipIf(MISSING, f"{', '.join(MISSING)} not installed")
 class Studies(unittest.TestCase):
-    def test_texts_are_those_of_the_scripts(self):
-        for name in "1992", "1996", "1998", "exact", "triangle":
+    def test_inputs_are_those_of_the_scripts(self):
+        for name in NAMES:
             with self.subTest(study=name):
                 there = {file.name: file.read_text() for file in (STUDIES / name / "texts").iterdir()}
-                self.assertEqual(there, {file: text.text() for file, text in texts(name).items()})
+                self.assertEqual(there, {file: asked.text() for file, asked in inputs(name).items()})
 
-    def test_figures_are_those_of_the_tables(self):
-        for name in "1992", "1996", "1998", "exact", "triangle":
-            with self.subTest(study=name):
-                found = drawn(name)
-                self.assertEqual(set(found.figures), found.names)
-                for file, figure in found.figures.items():
-                    self.assertEqual(figure, (STUDIES / name / file).read_text())
+    def test_figures_are_of_the_tables_and_scripts(self):
+        # How matplotlib draws a curve depends on its version, but not what it is of.
+        for name in NAMES:
+            figures = {file.name: file.read_text(encoding="utf-8") for file in (STUDIES / name).glob("*.svg")}
+            self.assertEqual(set(figures), set(drawn(name).figures))
+            for file, figure in figures.items():
+                with self.subTest(study=name, figure=file):
+                    self.assertIn(shared.digest_of_tables(STUDIES / name), figure)
+                    self.assertGreater(len(words_of(figure)), 3)
+                    self.assertEqual(words_of(figure), words_of(drawn(name).figures[file]))
 
     def test_pages_have_the_rows_that_their_scripts_print(self):
-        for name in "1992", "1996", "1998", "exact", "triangle":
-            page = (STUDIES / name / "README.md").read_text().splitlines()
+        for name in NAMES:
+            page = (STUDIES / name / "README.md").read_text(encoding="utf-8").splitlines()
             rows_printed = [line for line in drawn(name).printed if line.startswith(("| ", "- "))]
             self.assertGreater(len(rows_printed), 10)
             for line in rows_printed:
@@ -96,48 +106,57 @@ class Studies(unittest.TestCase):
 
     def test_the_page_of_1992_has_the_means_of_the_full_tables(self):
         module = script("1992")
-        from study import read_rows
-
-        page = (STUDIES / "1992" / "README.md").read_text()
-        for file, form in ("full_table.csv", "| {} | {:.6f} ± {:.6f} |"), ("full_random.csv", "| {1:.6f} ± {2:.6f} |"):
-            points = [Point(*map(int, row[1:])) for row in read_rows(STUDIES / "1992" / file)]
-            for density, flow in module.means({"full": points}).items():
+        page = (STUDIES / "1992" / "README.md").read_text(encoding="utf-8")
+        full = {
+            "full_table.csv": (module.inputs(True), "| {} | {:.6f} ± {:.6f} |"),
+            "full_random.csv": (module.random_inputs(True), "| {1:.6f} ± {2:.6f} |"),
+        }
+        for file, (asked, form) in full.items():
+            tables = shared.read_tables(STUDIES / "1992" / file, Point)
+            frame = shared.frame_of({name: asked[name] for name in tables}, tables)
+            found = shared.means(frame, "density")
+            self.assertEqual(set(found.n), {80})
+            if file == "full_table.csv":
+                self.assertIn(module.maximum("even, 1,600,000 steps", frame), page)
+            for density, its in found.iterrows():
                 with self.subTest(file=file, density=density):
-                    self.assertIn(form.format(density, flow.value, flow.error), page)
+                    self.assertIn(form.format(density, its.flow, its.flow_sem), page)
 
     def test_first_points_come_out_again(self):
         # A point is the same whatever points come after it.
         for name in "1992", "1996", "triangle":
             table = rows(STUDIES / name / "table.csv")
-            self.assertEqual(list(table), list(script(name).texts(False)))
-            for text, sweep in itertools.islice(script(name).texts(False).items(), 2):
+            self.assertEqual(list(table), list(script(name).inputs(False)))
+            for asked, sweep in itertools.islice(script(name).inputs(False).items(), 2):
                 first = replace(sweep, cars=sweep.counts()[:2], densities=None)
-                with self.subTest(study=name, text=text):
-                    self.assertEqual(Sweep.sweep(first).text().splitlines()[1:], table[text][:2])
+                with self.subTest(study=name, input=asked):
+                    self.assertEqual(Sweep.sweep(first).text().splitlines()[1:], table[asked][:2])
 
     def test_first_points_of_random_initial_states_come_out_again(self):
         for name in "1992", "1996", "triangle":
             module, table = script(name), rows(STUDIES / name / "random.csv")
-            from random_starts import last_steps
-
-            jobs = module.random_texts(False)
+            jobs = module.random_inputs(False)
             self.assertEqual(list(table), list(jobs))
-            for text, job in itertools.islice(jobs.items(), 2):
-                with self.subTest(study=name, text=text):
-                    (point,) = last_steps(module.MEASURE)(job)
-                    self.assertEqual([",".join(map(str, point))], table[text])
+            for asked, job in itertools.islice(jobs.items(), 2):
+                with self.subTest(study=name, input=asked):
+                    (point,) = random_starts.last_steps(module.MEASURE)(job)
+                    self.assertEqual([",".join(map(str, point))], table[asked])
 
     def test_random_initial_states_are_those_of_a_sweep(self):
-        from random_starts import by_sweep, from_random, last_steps
-
         sweep = Sweep(limit=5, length=30, rule=Nasch("1/4"), warm=10, measure=20, cars=[4, 4, 7], key=5)
-        points = {name: last_steps(20)(job) for name, job in from_random({"a_key5": sweep}).items()}
-        self.assertEqual(by_sweep(points), {"a_key5": replace(sweep, start=random_cells(5)).sweep()})
+        jobs = random_starts.from_random({"a_key5": sweep})
+        self.assertEqual({random_starts.sweep_of(name) for name in jobs}, {"a_key5"})
+        points = [point for job in jobs.values() for point in random_starts.last_steps(20)(job)]
+        self.assertEqual(points, list(replace(sweep, start=random_cells(5)).sweep()))
 
-    def test_what_was_cut_off_goes_on_where_it_stopped(self):
-        script("1992")
-        from study import Study
+    def test_a_table_of_other_inputs_is_refused(self):
+        module = script("1992")
+        tables = shared.read_tables(STUDIES / "1992" / "table.csv", Point)
+        denser = {name: replace(sweep, densities=[0.5] * 5) for name, sweep in module.inputs(False).items()}
+        with self.assertRaisesRegex(ValueError, "other roads"):
+            shared.frame_of(denser, tables)
 
+    def test_an_interrupted_study_continues(self):
         shape = {"limit": 5, "length": 10, "rule": Nasch(0), "warm": 0, "measure": 1}
         sweeps = {f"{cars}_cars": Sweep(**shape, cars=[cars]) for cars in (1, 2, 3)}
 
@@ -151,32 +170,37 @@ class Studies(unittest.TestCase):
 
         with tempfile.TemporaryDirectory() as folder, tempfile.TemporaryDirectory() as beside:
             with mock.patch.dict("os.environ", TRLAB=str(logging_program(beside))):
-                study = Study(Path(folder), is_full=False, is_drawn_only=False)
+                study = shared.Study(Path(folder), is_full=False, is_drawn_only=False)
                 with contextlib.redirect_stderr(io.StringIO()):
-                    self.assertRaises(OSError, study.table, "table.csv", Point, sweeps, is_cut_off)
+                    self.assertRaises(OSError, study.frame, "table.csv", Point, sweeps, is_cut_off)
                     done = len(list((Path(folder) / "outputs.parts").iterdir()))
                     for call, new_calls in (Sweep.sweep, 3 - done), (Sweep.sweep, 0), (other_call, 3):
                         before = calls(beside, "sweep")
-                        found = study.table("table.csv", Point, sweeps, call)
+                        found = study.frame("table.csv", Point, sweeps, call)
                         self.assertEqual(calls(beside, "sweep") - before, new_calls)
-            self.assertEqual([point.cars for points in found.values() for point in points], [1, 2, 3])
+            self.assertEqual(list(found.cars), [1, 2, 3])
             self.assertLessEqual(done, 2)
-            study.draw(Figure(Axis("a", 1.0), Axis("b", 1.0), []))
+            self.assertEqual((Path(folder) / "table.csv").read_text().splitlines()[0], "text," + found_heading())
+            study.save(shared.plt.subplots()[1])
             self.assertEqual({file.name for file in Path(folder).iterdir()}, {"table.csv", "texts", "figure.svg"})
 
     def test_parts_are_not_in_git(self):
-        top = STUDIES.parent
-        if not (top / ".git").exists() or not which("git"):
+        if not (TOP / ".git").exists() or not which("git"):
             self.skipTest("this is not a checkout")
         for path in "studies/1992/outputs.parts", "studies/1992/full/outputs.parts":
-            self.assertEqual(subprocess.run(["git", "check-ignore", "-q", path], cwd=top).returncode, 0)
+            self.assertEqual(subprocess.run(["git", "check-ignore", "-q", path], cwd=TOP).returncode, 0)
 
     def test_a_branch_comes_out_again(self):
         module, table = script("1998"), rows(STUDIES / "1998" / "table.csv")
         jobs = module.branches(False)
         self.assertEqual(list(table), list(jobs))
-        for text in "jam_0.03_key1", "moving_0.03_key2":
-            self.assertEqual(module.last_half(jobs[text]).text().splitlines()[1:], table[text])
+        for name in "jam_0.03_key1", "moving_0.03_key2":
+            self.assertEqual(module.last_half(jobs[name]).text().splitlines()[1:], table[name])
         lives = rows(STUDIES / "1998" / "lives.csv")
-        for text, job in itertools.islice(module.lives(False).items(), 3):
-            self.assertEqual([f"{job.length},{module.life(job)}"], lives[text])
+        for name, job in itertools.islice(module.lives(False).items(), 3):
+            self.assertEqual([f"{job.length},{module.life(job)}"], lives[name])
+
+
+def found_heading():
+    """The heading of tables of points in the repository."""
+    return (STUDIES / "1992" / "table.csv").read_text().splitlines()[0].removeprefix("text,")

@@ -1,28 +1,23 @@
-#!/usr/bin/env python3
 """The fundamental diagram of Nagel and Schreckenberg (1992): v_max = 5, p = 1/2, a ring of 10000 cells.
 
 About 13 minutes of CPU time, half of them for random initial states. --full measures 1,600,000 steps per density, in
 two hours or more of it."""
-import sys
-from pathlib import Path
+import matplotlib.pyplot as plt
 
-STUDIES = Path(__file__).resolve().parents[1]
-sys.path[1:1] = [str(STUDIES), str(STUDIES.parent / "python")]
+import trlab
+from trlab import Nasch, Point, Sweep
 
-from random_starts import bias, by_sweep, from_random, in_errors, last_steps  # noqa: E402
-from study import Mean, Study  # noqa: E402
-
-from trlab import Nasch, Point, Sweep  # noqa: E402
-from trlab.figure import Axis, Curve, Figure, Spot  # noqa: E402
+from ..random_starts import from_random, last_steps
+from ..study import Study, difference, means, signed
 
 LENGTH, BRAKE, WARM, MEASURE = 10000, "1/2", 10000, 20000
 DENSITIES = [0.02, 0.04, 0.06, 0.07, 0.075, 0.08, 0.0825, 0.085, 0.0875, 0.09, 0.095, 0.1, 0.11, 0.12, 0.15]
 DENSITIES += [0.2, 0.25, 0.3, 0.4, 0.5, 0.6, 0.7, 0.8, 0.9]
 # The maximum flow and its density, with their errors, as commonly quoted from the paper.
-PUBLISHED_DENSITY, PUBLISHED_FLOW = Mean(0.086, 0.002), Mean(0.318, 0.0005)
+PUBLISHED = {"x": 0.086, "xerr": 0.002, "y": 0.318, "yerr": 0.0005}
 
 
-def texts(is_full):
+def inputs(is_full):
     """A sweep for each density and key: each of its points is a repetition."""
     keys, points = (5, 16) if is_full else (1, 5)
     shape = {"limit": 5, "length": LENGTH, "rule": Nasch(BRAKE), "warm": WARM, "measure": MEASURE}
@@ -33,9 +28,9 @@ def texts(is_full):
     }
 
 
-def random_texts(is_full):
+def random_inputs(is_full):
     """The same from random initial states, a job for each repetition."""
-    return from_random(texts(is_full))
+    return from_random(inputs(is_full))
 
 
 def dots():
@@ -44,46 +39,49 @@ def dots():
     return {"dots": Sweep(**shape, densities=[0.005 * (place + 1) for place in range(100)], key=1)}
 
 
-def means(tables):
-    """The mean flow at each density over all repetitions, by rising density."""
-    flows = {}
-    for points in tables.values():
-        for point in points:
-            flows.setdefault(point.density, []).append(point.passing)
-    return {density: Mean.of(flows[density]) for density in sorted(flows)}
+def print_rows(even, at_random):
+    """A row of the page for each density: both means with their standard errors, and z of the difference."""
+    z = difference(even, at_random).z
+    for density in even.index:
+        flows = [f"{its.flow[density]:.6f} ± {its.flow_sem[density]:.6f}" for its in (even, at_random)]
+        print(f"| {density} |", " | ".join(flows), f"| {signed(z[density])} |")
 
 
-def row(density, even, at_random):
-    """A row of the page: both means with their standard errors, and the difference in standard errors."""
-    flows = " | ".join(f"{flow.value:.6f} ± {flow.error:.6f}" for flow in (even, at_random))
-    return f"| {density} | {flows} | {in_errors(bias(even, at_random))} |"
+def maximum(name, frame):
+    """A row of the page: the largest mean, and the peak of the curve through the means near it."""
+    found = means(frame, "density")
+    density = found.flow.idxmax()
+    peak = trlab.peak(frame.set_index(["density", "input"]), over="input", within=0.02)
+    return (f"| {name} | {found.flow[density]:.5f} ± {found.flow_sem[density]:.5f} | {density} "
+            f"| {peak.y:.5f} ± {peak.y_sem:.5f} | {peak.x:.4f} ± {peak.x_sem:.4f} |")
 
 
-def best(found):
-    """The maximum of the means, and its density."""
-    density = max(found, key=lambda it: found[it].value)
-    return f"{found[density]} at density {density}"
+def draw(study, short, found):
+    """The short measurements, the means, and the maximum flow of the paper."""
+    _, axes = plt.subplots()
+    axes.plot(short.density, short.flow, ".", markersize=3, label="100 steps each")
+    trlab.plot_means(found, ax=axes, linestyle="none", label="means ± standard error, random initial states")
+    axes.errorbar(**PUBLISHED, fmt="s", label="published maximum flow ± its error")
+    axes.set(xlim=(0, 0.92), ylim=(0, 0.36))
+    axes.legend()
+    top = axes.inset_axes([0.2, 0.09, 0.36, 0.36])
+    near = short[short.density.between(0.07, 0.11)]
+    top.plot(near.density, near.flow, ".", markersize=3)
+    trlab.plot_means(found.loc[0.07:0.11], ax=top, linestyle="none")
+    top.errorbar(**PUBLISHED, fmt="s")
+    top.set(xlim=(0.067, 0.113), xlabel="", ylabel="", title="around the maximum")
+    study.save(axes)
 
 
 def main():
     study = Study.by_words(__file__, __doc__)
-    even = means(study.table("table.csv", Point, texts(study.is_full), Sweep.sweep))
-    short = study.table("dots.csv", Point, dots(), Sweep.sweep)["dots"]
-    at_random = means(by_sweep(study.table("random.csv", Point, random_texts(study.is_full), last_steps(MEASURE))))
-    for density in even:
-        print(row(density, even[density], at_random[density]))
-    print(f"maximum flow: even {best(even)}, random {best(at_random)}")
-    study.draw(
-        Figure(
-            Axis("density (cars per cell)", 0.9),
-            Axis("flow (cars per step)", 0.4),
-            [
-                Curve("100 steps each", "dots", [Spot(it.density, it.passing) for it in short]),
-                Curve("means, random initial states", "points", [Spot(it, *at_random[it]) for it in at_random]),
-                Curve("published maximum flow", "points", [Spot(PUBLISHED_DENSITY.value, *PUBLISHED_FLOW)]),
-            ],
-        )
-    )
+    even = study.frame("table.csv", Point, inputs(study.is_full), Sweep.sweep)
+    short = study.frame("dots.csv", Point, dots(), Sweep.sweep)
+    at_random = study.frame("random.csv", Point, random_inputs(study.is_full), last_steps(MEASURE))
+    print_rows(means(even, "density"), means(at_random, "density"))
+    for name, frame in ("even", even), ("random", at_random):
+        print(maximum(f"{name}, {len(frame) // len(DENSITIES) * MEASURE:,} steps", frame))
+    draw(study, short, means(at_random, "density"))
 
 
 if __name__ == "__main__":

@@ -1,19 +1,15 @@
-#!/usr/bin/env python3
 """Two lanes and one lane, after Rickert, Nagel, Schreckenberg and Latour (1996): v_max = 5, p = 1/2.
 
 About five minutes of CPU time; --full takes ten repetitions, and changes lanes also with probability 1/2."""
-import sys
 from dataclasses import replace
-from pathlib import Path
 
-STUDIES = Path(__file__).resolve().parents[1]
-sys.path[1:1] = [str(STUDIES), str(STUDIES.parent / "python")]
+import matplotlib.pyplot as plt
 
-from random_starts import bias, by_sweep, from_random, in_errors, last_steps  # noqa: E402
-from study import Mean, Study  # noqa: E402
+import trlab
+from trlab import Nasch, Point, Rickert, Sweep
 
-from trlab import Nasch, Point, Rickert, Sweep  # noqa: E402
-from trlab.figure import Axis, Curve, Figure, Spot  # noqa: E402
+from ..random_starts import from_random, last_steps, sweep_of
+from ..study import Study, difference, largest, means, signed
 
 LENGTH, BRAKE = 5000, "1/2"  # cells of each of two lanes; the road of one lane has as many cells as both together
 WARM, MEASURE = 4000, 6000
@@ -28,7 +24,7 @@ def odd(density):
     return int(density * 2 * LENGTH) // 2 * 2 + 1
 
 
-def texts(is_full):
+def inputs(is_full):
     """A sweep for each kind of road and each density: each of its points is a repetition."""
     points = FULL_REPETITIONS if is_full else REPETITIONS
     kinds = {**LANES, **IN_FULL} if is_full else LANES
@@ -48,73 +44,73 @@ def texts(is_full):
     }
 
 
-def random_texts(is_full):
+def random_inputs(is_full):
     """The same from random initial states, a job for each repetition."""
     points = FULL_REPETITIONS if is_full else RANDOM_REPETITIONS
-    return from_random({name: replace(it, cars=points * it.cars[:1]) for name, it in texts(is_full).items()})
+    return from_random({name: replace(it, cars=points * it.cars[:1]) for name, it in inputs(is_full).items()})
 
 
-def by_density(tables, name, counted):
-    """The mean of a number that is counted for each point, by the density of the points."""
-    rows = [points for text, points in tables.items() if text.rpartition("_")[0] == name]
-    return {points[0].density: Mean.of([counted(point) for point in points]) for points in rows}
+def means_by_kind(frame, name_of_sweep=str):
+    """The mean flow and lane changes per car and step, by kind of road and density."""
+    kind = [name_of_sweep(name).rpartition("_")[0] for name in frame.input]
+    found = means(frame.assign(kind=kind), "kind", "density", of=["flow", "change_rate"])
+    return {name: found.loc[name] for name in dict.fromkeys(kind)}
 
 
-def changes_of_a_car(point):
-    """Lane changes per car and step."""
-    return point.changes / (point.cars * point.steps)
-
-
-def greatest(means):
-    """The maximum of the means, and its density."""
-    best = max(means, key=lambda density: means[density].value)
-    return f"{means[best]} at density {best:.4f}"
-
-
-def curve(name, means):
-    return Curve(name.replace("_", " "), "points", [Spot(density, *means[density]) for density in means])
-
-
-def all_means(tables):
-    """The flows and the lane changes per car and step: means by kind of road and density."""
-    kinds = list(dict.fromkeys(text.rpartition("_")[0] for text in tables))
-    flows = {name: by_density(tables, name, lambda point: point.passing) for name in kinds}
-    return flows, {name: by_density(tables, name, changes_of_a_car) for name in kinds[1:]}
-
-
-def print_means(flows, changes):
+def print_means(found):
     """A row of the page for each density."""
-    for name, means in flows.items():
-        print(f"{name}: maximum flow per lane {greatest(means)}")
-    for name, means in changes.items():
-        print(f"{name}: most changes per car and step {greatest(means)}")
-    for density in flows["one_lane"]:
-        one, two = (flows[name][density] for name in LANES)
-        gain = f"{100 * (two.value / one.value - 1):.1f} %"
-        shown = [f"{it.value:.5f} ± {it.error:.5f}" for it in (one, two, *(its[density] for its in changes.values()))]
-        print(f"| {density:.4f} | {shown[0]} | {shown[1]} | {gain} |", " | ".join(shown[2:]), "|")
+    on_two = list(found)[1:]
+    for name, its in found.items():
+        print(f"{name}: maximum flow per lane {largest(its, '.4f')}")
+    for name in on_two:
+        print(f"{name}: most changes per car and step {largest(found[name], '.4f', of='change_rate')}")
+    for density in found["one_lane"].index:
+        one, two = (shown(found[name], density) for name in LANES)
+        gain = 100 * (found["two_lanes"].flow[density] / found["one_lane"].flow[density] - 1)
+        changes = [shown(found[name], density, of="change_rate") for name in on_two]
+        print(f"| {density:.4f} | {one} | {two} | {gain:.1f} % |", " | ".join(changes), "|")
+
+
+def shown(found, density, of="flow"):
+    """The mean at a density with its standard error."""
+    return f"{found[of][density]:.5f} ± {found[f'{of}_sem'][density]:.5f}"
 
 
 def print_bias(even, at_random):
     """A row of the page for each density: the even means less the random ones, and the same in standard errors."""
-    for density in even["one_lane"]:
-        found = [bias(even[name][density], at_random[name][density]) for name in even]
-        cells = [f"{it.value:+.5f} ± {it.error:.5f} ({in_errors(it)})" for it in found]
-        print(f"| {density:.4f} |", " | ".join(cells), "|")
+    found = [difference(even[name], at_random[name]) for name in even]
+    found.append(difference(even["two_lanes"], at_random["two_lanes"], of="change_rate"))
+    for density in even["one_lane"].index:
+        cells = [[its[name][density] for name in ("value", "sem", "z")] for its in found]
+        print(f"| {density:.4f} |", " | ".join(f"{value:+.5f} ± {sem:.5f} ({signed(z)})" for value, sem, z in cells), "|")
+
+
+def draw(study, found):
+    """Flow per lane, and lane changes per car and step, against density."""
+    _, axes = plt.subplots()
+    for name, its in found.items():
+        trlab.plot_means(its, ax=axes, linestyle="none", label=name.replace("_", " "))
+    axes.set(xlim=(0, 0.42), ylim=(0, 0.4), title="means ± standard error, random initial states")
+    axes.legend()
+    study.save(axes, "flow.svg")
+    _, axes = plt.subplots()
+    for name, its in list(found.items())[1:]:
+        trlab.plot_means(its, y="change_rate", ax=axes, linestyle="none", color=f"C{list(found).index(name)}",
+                         label=name.replace("_", " "))
+    axes.set(xlim=(0, 0.42), ylim=(0, None), title="means ± standard error, random initial states")
+    axes.legend()
+    study.save(axes, "changes.svg")
 
 
 def main():
     study = Study.by_words(__file__, __doc__)
-    even, even_changes = all_means(study.table("table.csv", Point, texts(study.is_full), Sweep.sweep))
-    points = study.table("random.csv", Point, random_texts(study.is_full), last_steps(MEASURE))
-    flows, changes = all_means(by_sweep(points))
-    for its in (even, even_changes), (flows, changes):
-        print_means(*its)
-    print_bias({**even, "changes": even_changes["two_lanes"]}, {**flows, "changes": changes["two_lanes"]})
-    across = Axis("density (cars per cell)", 0.4)
-    flow, change = Axis("flow per lane (cars per step)", 0.4), Axis("lane changes per car and step", 0.004)
-    study.draw(Figure(across, flow, [curve(*it) for it in flows.items()]), "flow.svg")
-    study.draw(Figure(across, change, [curve(*it) for it in changes.items()]), "changes.svg")
+    even = means_by_kind(study.frame("table.csv", Point, inputs(study.is_full), Sweep.sweep))
+    points = study.frame("random.csv", Point, random_inputs(study.is_full), last_steps(MEASURE))
+    at_random = means_by_kind(points, sweep_of)
+    for found in even, at_random:
+        print_means(found)
+    print_bias(even, at_random)
+    draw(study, at_random)
 
 
 if __name__ == "__main__":

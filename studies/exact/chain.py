@@ -4,10 +4,11 @@ Grassmann, Taksar and Heyman (1985) eliminate the states one by one without a su
 many states are solved by iteration in floating point numbers."""
 from __future__ import annotations
 
+from collections.abc import Sequence
 from fractions import Fraction
-from typing import Any, Dict, List, NamedTuple, Sequence, Tuple, Union
+from typing import Any, NamedTuple, Union
 
-from exact.ring import EMPTY, State, steps
+from .ring import EMPTY, State, steps
 
 Number = Union[Fraction, float]
 Row = dict[int, Fraction]

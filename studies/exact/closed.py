@@ -3,9 +3,7 @@ from __future__ import annotations
 
 from math import exp, log, sqrt
 from random import Random
-from typing import List, Optional
-
-from trlab._inputs.states import Lane
+from typing import Optional
 
 
 def flow_of_long_ring(p: float, density: float) -> float:
@@ -33,7 +31,7 @@ def flow_of_ring(p: float, length: int, cars: int) -> float:
     return (1 - p) * sum(m * share for m, share in enumerate(weights(p, length, cars), 1)) / length
 
 
-def stationary_road(p: float, length: int, cars: int, numbers: Random) -> Lane:
+def stationary_road(p: float, length: int, cars: int, numbers: Random) -> list[Optional[int]]:
     """A road drawn from the stationary state, as `trlab` takes it.
 
     All cars are stopped: for v_max = 1 the speeds of the step before do not matter."""

@@ -1,14 +1,16 @@
 """The inputs of the study: sweeps and long runs of small rings, and sweeps of long rings."""
 from __future__ import annotations
 
+from collections.abc import Mapping
 from dataclasses import replace
 from random import Random
-from typing import Any, Dict, Mapping, Tuple, Union
+from typing import Any, Union
 
-from exact.closed import stationary_road
-from exact.rings import RINGS, WALKS
-from random_starts import jobs_of
 from trlab import Job, Nasch, Sweep
+
+from ..random_starts import jobs_of
+from .closed import stationary_road
+from .rings import RINGS, WALKS
 
 CHANCES = {"1_4": 0.25, "1_2": 0.5}
 """p of the long rings."""
@@ -68,7 +70,7 @@ def from_stationary(asked: Mapping[str, Sweep]) -> dict[str, Job]:
     return jobs_of(found)
 
 
-def texts(is_full: bool) -> dict[str, Union[Job, Sweep]]:
+def inputs(is_full: bool) -> dict[str, Union[Job, Sweep]]:
     """The inputs that are kept as files, by their names: of the small rings those of the first key."""
     long = {**long_rings(is_full), **early_rings(is_full)}
     asked: dict[str, Union[Job, Sweep]] = {f"{name}.sweep": sweep for name, sweep in long.items()}

@@ -6,7 +6,7 @@ from __future__ import annotations
 
 from dataclasses import dataclass
 from fractions import Fraction
-from typing import Dict, NamedTuple, Tuple
+from typing import NamedTuple
 
 Odds = dict[int, Fraction]
 """The probability of each new speed."""

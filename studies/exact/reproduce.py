@@ -1,27 +1,23 @@
-#!/usr/bin/env python3
 """Exact solutions beside trlab: small rings solved in fractions, and v_max = 1 on rings of any length.
 
 About two minutes of CPU time; --full takes more and longer runs and solves all small rings in fractions."""
-import sys
 from fractions import Fraction
-from pathlib import Path
 from statistics import NormalDist, fmean, stdev
 
-STUDIES = Path(__file__).resolve().parents[1]
-sys.path[1:1] = [str(STUDIES), str(STUDIES.parent / "python")]
+import matplotlib.pyplot as plt
+import numpy
 
-from exact.chain import MAX_STATES, Means, chain, first_state, stationary  # noqa: E402
-from exact.closed import flow_of_long_ring, flow_of_ring  # noqa: E402
-from exact.inputs import CHANCES, early_rings, from_stationary, long_rings, sweeps, texts, walks  # noqa: E402
-from exact.rings import RINGS, WALKS  # noqa: E402
-from exact.sums import Sums  # noqa: E402
-from exact.transitions import Verdict, counted, judged  # noqa: E402
-from random_starts import by_sweep, from_random, last_steps  # noqa: E402
-from study import Mean, Study, read_rows, write_rows  # noqa: E402
+import trlab
+from trlab import Point, Sweep
 
-import trlab  # noqa: E402
-from trlab import Point, Sweep  # noqa: E402
-from trlab.figure import Axis, Curve, Figure, Spot  # noqa: E402
+from ..random_starts import from_random, last_steps, sweep_of
+from ..study import Study, means, read_rows, write_rows
+from .chain import MAX_STATES, Means, chain, first_state, stationary
+from .closed import flow_of_long_ring, flow_of_ring
+from .inputs import CHANCES, early_rings, from_stationary, inputs, long_rings, sweeps, walks
+from .rings import RINGS, WALKS
+from .sums import Sums
+from .transitions import Verdict, counted, judged
 
 
 def solved(is_full):
@@ -44,8 +40,8 @@ def run_small_rings(study):
     """Writes the inputs of the study and the tables of the small rings."""
     place = study.folder / "texts"
     place.mkdir(parents=True, exist_ok=True)
-    for name, text in texts(study.is_full).items():
-        (place / name).write_text(text.text())
+    for name, asked in inputs(study.is_full).items():
+        (place / name).write_text(asked.text())
     write_rows(study.folder / "exact.csv", ["ring", "states", *Means._fields, "flow"], solved(study.is_full))
     asked = sweeps(study.is_full)
     sums = zip(asked, trlab.run_all(lambda sweep: Sums.of(sweep.sweep()), asked.values()))
@@ -56,35 +52,40 @@ def run_small_rings(study):
 
 
 def run_long_rings(study, asked, prefix=""):
-    """The points of long rings by initial state and sweep, after their tables were written."""
+    """The mean flow of long rings by initial state: frames by the name of the sweep. Writes their tables before."""
     call = last_steps(next(iter(asked.values())).measure)
-    return {
-        "stationary": by_sweep(study.table(f"{prefix}stationary.csv", Point, from_stationary(asked), call)),
-        "random": by_sweep(study.table(f"{prefix}random.csv", Point, from_random(asked), call)),
-        "even": study.table(f"{prefix}even.csv", Point, asked, Sweep.sweep),
+    points = {
+        "stationary": study.frame(f"{prefix}stationary.csv", Point, from_stationary(asked), call),
+        "random": study.frame(f"{prefix}random.csv", Point, from_random(asked), call),
+        "even": study.frame(f"{prefix}even.csv", Point, asked, Sweep.sweep),
     }
+    found = {}
+    for state, frame in points.items():
+        sweep = frame.input if state == "even" else frame.input.map(sweep_of)
+        found[state] = means(frame.assign(sweep=sweep), "sweep", "density").reset_index("density").loc[list(asked)]
+    return found
 
 
 def small_rings(folder):
     """Of each ring its states, exact means, exact flow if it is a fraction, and the sums of each key."""
     sums = [(name.rpartition("_key")[0], Sums(*map(int, row))) for name, *row in read_rows(folder / "table.csv")]
-    for ring, (name, states, *means, flow) in zip(RINGS, read_rows(folder / "exact.csv")):
-        yield ring, int(states), Means(*map(float, means)), flow, [row for text, row in sums if text == name]
+    for ring, (name, states, *numbers, flow) in zip(RINGS, read_rows(folder / "exact.csv")):
+        yield ring, int(states), Means(*map(float, numbers)), flow, [row for text, row in sums if text == name]
 
 
 def print_small_rings(folder):
     """A row of the page for each ring, with z of all its keys together. Returns z of the flow of each ring and key."""
     single = []
-    for ring, states, means, fraction, sums in small_rings(folder):
+    for ring, states, solution, fraction, sums in small_rings(folder):
         total = sums[0].together(sums[1:])
         distance, error = total.mean("distance")
         exact = f"{fraction} = " if 0 < len(fraction) < 20 else ""
-        cells = [ring.name, states, f"{exact}{ring.flow(means.distance):.7f}"]
+        cells = [ring.name, states, f"{exact}{ring.flow(solution.distance):.7f}"]
         cells.append(f"{ring.flow(distance):.7f} ± {ring.flow(error):.7f}")
-        found = [total.z(name, getattr(means, name)) for name in Means._fields]
+        found = [total.z(name, getattr(solution, name)) for name in Means._fields]
         cells += ["" if z is None else f"{z:+.1f}" for z in found]
         print("|", " | ".join(map(str, cells)), "|")
-        single += [row.z("distance", means.distance) for row in sums]
+        single += [row.z("distance", solution.distance) for row in sums]
     greatest = max(map(abs, single))
     print(f"- {len(single)} values of z: mean {fmean(single):+.2f}, standard deviation {stdev(single):.2f}, ", end="")
     print(f"maximum of the absolute values {greatest:.2f}.")
@@ -103,72 +104,73 @@ def print_walks(folder):
     return [it.share_below() for it in found.values()]
 
 
-def print_long_rings(tables):
+def exact_flow(name, sweep):
+    """The exact flow of a long ring, and that of an infinite one."""
+    p, (cars, *_) = CHANCES[name[2:5]], sweep.counts()
+    return flow_of_ring(p, sweep.length, cars), flow_of_long_ring(p, cars / sweep.length)
+
+
+def print_long_rings(asked, found):
     """A row for each long ring, with z from each initial state."""
-    for name, points in tables["even"].items():
-        p = CHANCES[name[2:5]]
-        exact = flow_of_ring(p, points[0].cells, points[0].cars)
-        cells = [name, f"{flow_of_long_ring(p, points[0].density):.6f}", f"{exact:.6f}"]
-        for its in tables.values():
-            mean = Mean.of([point.passing for point in its[name]])
-            cells.append(f"{mean.value:.6f} ± {mean.error:.6f} | {(mean.value - exact) / mean.error:+.1f}")
+    for name, sweep in asked.items():
+        exact, infinite = exact_flow(name, sweep)
+        cells = [name, f"{infinite:.6f}", f"{exact:.6f}"]
+        for its in found.values():
+            flow, sem = its.flow[name], its.flow_sem[name]
+            cells.append(f"{flow:.6f} ± {sem:.6f} | {(flow - exact) / sem:+.1f}")
         print("|", " | ".join(cells), "|")
 
 
-def print_early_rings(tables):
+def print_early_rings(asked, found):
     """A row for each ring: how far the flow is above the exact one, in millionths, from each initial state."""
-    for name, points in tables["even"].items():
-        p, density = CHANCES[name[2:5]], points[0].density
-        exact = flow_of_ring(p, points[0].cells, points[0].cars)
-        flows = {state: [1e6 * (point.passing - exact) for point in its[name]] for state, its in tables.items()}
-        above = {state: Mean.of(values) for state, values in flows.items()}
-        ratio, expected = above["random"].value / above["even"].value, 1 - 1 / (1 - 2 * flow_of_long_ring(p, density))
-        cells = [name, *(f"{it.value:+.0f} ± {it.error:.0f}" for it in above.values())]
+    for name, sweep in asked.items():
+        exact, infinite = exact_flow(name, sweep)
+        above = {state: 1e6 * (its.flow[name] - exact) for state, its in found.items()}
+        cells = [name, *(f"{above[state]:+.0f} ± {1e6 * its.flow_sem[name]:.0f}" for state, its in found.items())]
+        ratio, expected = above["random"] / above["even"], 1 - 1 / (1 - 2 * infinite)
         print("|", " | ".join(cells), f"| {ratio:.2f} | {expected:.2f} |")
-
-
-def shares(values):
-    """Each value against the share of greater ones."""
-    return [Spot(value, 1 - (place + 0.5) / len(values)) for place, value in enumerate(sorted(values))]
 
 
 def draw_shares(study, z, below):
     """Both tests: the share of results above each level against the share that is expected below it."""
     wide = 1.358 / len(z) ** 0.5  # Kolmogorov's bound for 95 %
-    band = [(0, 1), (wide, 1), (1, wide), (1, 0), (1 - wide, 0), (0, 1 - wide), (0, 1)]
-    axes = Axis("expected share of smaller results", 1.0), Axis("share of greater results", 1.0)
-    curves = [
-        Curve("as expected", "line", [Spot(0, 1), Spot(1, 0)]),
-        Curve(f"95 % band of {len(z)} results", "line", [Spot(*corner) for corner in band]),
-        Curve(f"z of {len(z)} flows", "points", shares([NormalDist().cdf(it) for it in z])),
-        Curve(f"chi-square of {len(below)} runs", "points", shares(below)),
-    ]
-    study.draw(Figure(*axes, curves))
+    band = [(0, 1), (wide, 1), (1, wide), (1, 0), (1 - wide, 0), (0, 1 - wide)]
+    _, axes = plt.subplots()
+    axes.fill(*zip(*band), color="0.9", label=f"95 % band of {len(z)} results")
+    axes.plot([0, 1], [1, 0], "-", color="0.3", linewidth=1, label="as expected")
+    results = {f"z of {len(z)} flows": [NormalDist().cdf(it) for it in z], f"chi-square of {len(below)} runs": below}
+    for name, values in results.items():
+        greater = 1 - (numpy.arange(len(values)) + 0.5) / len(values)
+        axes.plot(sorted(values), greater, "o", markersize=3, label=name)
+    axes.set(xlim=(0, 1), ylim=(0, 1), xlabel="expected share of smaller results", ylabel="share of greater results")
+    axes.legend()
+    study.save(axes)
 
 
-def draw_long_rings(study, tables):
+def draw_long_rings(study, found):
     """The known flow for v_max = 1, and the means of trlab from stationary initial states."""
-    known = [
-        Curve(f"known, p = {p}", "line", [Spot(k / 200, flow_of_long_ring(p, k / 200)) for k in range(201)])
-        for p in CHANCES.values()
-    ]
-    found = [(points[0].density, Mean.of([it.passing for it in points])) for points in tables["stationary"].values()]
-    spots = [Spot(density, *mean) for density, mean in found]
-    axes = Axis("density (cars per cell)", 1.0), Axis("flow (cars per step)", 0.3)
-    study.draw(Figure(*axes, [*known, Curve("trlab", "points", spots)]), "long_rings.svg")
+    _, axes = plt.subplots()
+    densities = numpy.linspace(0, 1, 201)
+    for number, (name, p) in enumerate(CHANCES.items()):
+        axes.plot(densities, [flow_of_long_ring(p, density) for density in densities], "-", label=f"known, p = {p}")
+        its = found[found.index.str.startswith(f"p_{name}")].set_index("density")
+        trlab.plot_means(its, ax=axes, linestyle="none", color=f"C{number}", label="trlab, means ± standard error")
+    axes.set(xlim=(0, 1), ylim=(0, 0.3))
+    axes.legend()
+    study.save(axes, "long_rings.svg")
 
 
 def main():
     study = Study.by_words(__file__, __doc__)
     if not study.is_drawn_only:
         run_small_rings(study)
-    tables = run_long_rings(study, long_rings(study.is_full))
-    early = run_long_rings(study, early_rings(study.is_full), "early_")
+    asked, early = long_rings(study.is_full), early_rings(study.is_full)
+    found, found_early = run_long_rings(study, asked), run_long_rings(study, early, "early_")
     z, below = print_small_rings(study.folder), print_walks(study.folder)
-    print_long_rings(tables)
-    print_early_rings(early)
+    print_long_rings(asked, found)
+    print_early_rings(early, found_early)
     draw_shares(study, z, below)
-    draw_long_rings(study, tables)
+    draw_long_rings(study, found["stationary"])
 
 
 if __name__ == "__main__":

@@ -4,12 +4,13 @@ A state is a tuple of lanes, and a lane is a string as in the papers' figures: `
 its speed."""
 from __future__ import annotations
 
+from collections.abc import Iterator
 from fractions import Fraction
 from functools import lru_cache
 from itertools import product
-from typing import Any, Dict, Iterator, List, NamedTuple, Tuple
+from typing import Any, NamedTuple
 
-from exact.models import Seen, Side
+from .models import Seen, Side
 
 State = tuple[str, ...]
 EMPTY = "."

@@ -4,11 +4,12 @@ from __future__ import annotations
 from fractions import Fraction
 from hashlib import sha256
 from pathlib import Path
-from typing import Any, Dict, NamedTuple
+from typing import Any, NamedTuple
 
-from exact.models import Careful, CarefulOnTwoLanes, NagelSchreckenberg, Rickert, VelocityDependent
 from trlab import Job, Nasch, Own, SlowToStart, Sweep
 from trlab import Rickert as RickertRule
+
+from .models import Careful, CarefulOnTwoLanes, NagelSchreckenberg, Rickert, VelocityDependent
 
 HERE = Path(__file__).parent
 QUARTER, HALF, THREE_QUARTERS = Fraction(1, 4), Fraction(1, 2), Fraction(3, 4)

@@ -1,7 +1,8 @@
 """Sums over the repetitions of a sweep, and how far their means are from exact ones."""
 from __future__ import annotations
 
-from typing import Iterable, NamedTuple, Optional, Sequence, Tuple
+from collections.abc import Iterable, Sequence
+from typing import NamedTuple, Optional
 
 from trlab import Point
 

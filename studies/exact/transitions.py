@@ -5,11 +5,12 @@ chi-square (Billingsley 1961)."""
 from __future__ import annotations
 
 from collections import Counter
+from collections.abc import Iterable, Mapping
 from fractions import Fraction
 from statistics import NormalDist
-from typing import Any, Dict, Iterable, List, Mapping, NamedTuple
+from typing import Any, NamedTuple
 
-from exact.ring import State, next_states
+from .ring import State, next_states
 
 LEAST_EXPECTED = 5
 """Next states that are expected less often than this are counted together."""

@@ -1,19 +1,15 @@
-#!/usr/bin/env python3
 """How the fundamental diagram leaves the exact triangle as p grows from 0: v_max = 5, 3000 cells.
 
 About four minutes of CPU time; --full takes rings of 30000 cells."""
-import sys
 from fractions import Fraction
-from pathlib import Path
 
-STUDIES = Path(__file__).resolve().parents[1]
-sys.path[1:1] = [str(STUDIES), str(STUDIES.parent / "python")]
+import matplotlib.pyplot as plt
 
-from random_starts import bias, by_sweep, from_random, in_errors, jobs_of, last_steps  # noqa: E402
-from study import Mean, Study  # noqa: E402
+import trlab
+from trlab import Nasch, Point, Sweep, even, random_cells
 
-from trlab import Nasch, Point, Sweep, even, random_cells  # noqa: E402
-from trlab.figure import Axis, Curve, Figure, Spot  # noqa: E402
+from ..random_starts import from_random, jobs_of, last_steps, sweep_of
+from ..study import Study, difference, means, signed
 
 LIMIT = 5
 # A multiple of 6, so that the top of the triangle, at density 1/6, is a whole number of cars.
@@ -25,7 +21,7 @@ SETTLING = {"1/1024": "1/10", "1/256": "1/15"}  # a density for each of these p
 SHOWN = ["1/30", "1/10", "3/20", "1/6", "1/5", "2/5", "4/5"]  # the densities of the page
 
 
-def texts(is_full):
+def inputs(is_full):
     """A sweep for each chance: each density, so many times."""
     length = 10 * LENGTH if is_full else LENGTH
     shape = {"limit": LIMIT, "length": length, "warm": WARM, "measure": MEASURE, "densities": REPETITIONS * DENSITIES}
@@ -35,9 +31,9 @@ def texts(is_full):
     }
 
 
-def random_texts(is_full):
+def random_inputs(is_full):
     """The same from random initial states, a job for each repetition."""
-    return from_random(texts(is_full))
+    return from_random(inputs(is_full))
 
 
 def settling():
@@ -63,58 +59,64 @@ def triangle(density):
     return min(LIMIT * density, 1 - density)
 
 
-def means(points):
-    """The mean flow at each density."""
-    flows = {}
-    for point in points:
-        flows.setdefault(point.density, []).append(point.passing)
-    return {density: Mean.of(flows[density]) for density in sorted(flows)}
-
-
 def below(density, flow):
-    """How far a flow is below the triangle, with its standard error in units of the last digit."""
-    return f"{round(triangle(density) - flow.value, 5) + 0:.5f}({round(flow.error * 100000)})"
+    """How far a mean flow is below the triangle, with its standard error in units of the last digit."""
+    return f"{round(triangle(density) - flow.flow, 5) + 0:.5f}({round(flow.flow_sem * 100000)})"
 
 
 def print_distances(from_even, at_random):
     """Two rows of the page for each p: the distances from both initial states."""
     for chance in CHANCES:
-        for name, flows in ("even", from_even[chance]), ("random", at_random[chance]):
-            shown = [density for density in flows if any(abs(density - float(Fraction(it))) < 1e-9 for it in SHOWN)]
-            print(f"| {chance} | {name} |", " | ".join(below(density, flows[density]) for density in shown), "|")
+        for name, found in ("even", from_even[chance]), ("random", at_random[chance]):
+            shown = [density for density in found.index if any(abs(density - float(Fraction(it))) < 1e-9 for it in SHOWN)]
+            print(f"| {chance} | {name} |", " | ".join(below(density, found.loc[density]) for density in shown), "|")
 
 
 def print_z(from_even, at_random):
     """A row of the page for each density: for each p, the even mean less the random one in standard errors."""
-    for density in from_even["0"]:
-        z = [in_errors(bias(from_even[chance][density], at_random[chance][density])) for chance in CHANCES[1:]]
-        print(f"| {density:.4f} |", " | ".join(z), "|")
+    z = [difference(from_even[chance], at_random[chance]).z for chance in CHANCES[1:]]
+    for density in from_even["0"].index:
+        print(f"| {density:.4f} |", " | ".join(signed(its[density]) for its in z), "|")
 
 
-def print_settling(points):
-    """A row of the page for each of these sweeps."""
-    for name, rows in points.items():
+def print_settling(frame):
+    """A row of the page for each sweep of `settling`."""
+    found = means(frame.assign(sweep=frame.input.map(sweep_of)), "sweep", "density").reset_index("density")
+    for name in settling():
         _, top, bottom, _, warm, start = name.split("_")
-        flow = Mean.of([point.passing for point in rows])
-        print(f"| {top}/{bottom} | {rows[0].density:.4f} | {warm} | {start} | {flow.value:.7f} ± {flow.error:.7f} |")
+        its = found.loc[name]
+        print(f"| {top}/{bottom} | {its.density:.4f} | {warm} | {start} | {its.flow:.7f} ± {its.flow_sem:.7f} |")
 
 
-def by_chance(tables):
+def means_by_chance(frame, name_of_sweep=str):
     """The mean flows for each p, by density."""
-    return {chance: means(points) for chance, points in zip(CHANCES, tables.values())}
+    chance = [name_of_sweep(name).removeprefix("brake_").replace("_", "/") for name in frame.input]
+    found = means(frame.assign(chance=chance), "chance", "density")
+    return {chance: found.loc[chance] for chance in CHANCES}
+
+
+def draw(study, found):
+    """The triangle, and the means below it."""
+    _, axes = plt.subplots()
+    corners = [0, 1 / (LIMIT + 1), 1]
+    axes.plot(corners, [triangle(density) for density in corners], "-", color="C6", linewidth=1, label="the triangle")
+    for number, (p, its) in enumerate(found.items()):
+        colour = "black" if number == 6 else f"C{number}"
+        trlab.plot_means(its, ax=axes, linestyle="none", capsize=0, color=colour, label=f"p = {p}")
+    axes.set(xlim=(0, 1), ylim=(0, 0.9), title="means ± standard error, random initial states")
+    axes.legend()
+    study.save(axes)
 
 
 def main():
     study = Study.by_words(__file__, __doc__)
-    from_even = by_chance(study.table("table.csv", Point, texts(study.is_full), Sweep.sweep))
-    at_random = by_chance(by_sweep(study.table("random.csv", Point, random_texts(study.is_full), last_steps(MEASURE))))
+    from_even = means_by_chance(study.frame("table.csv", Point, inputs(study.is_full), Sweep.sweep))
+    points = study.frame("random.csv", Point, random_inputs(study.is_full), last_steps(MEASURE))
+    at_random = means_by_chance(points, sweep_of)
     print_distances(from_even, at_random)
     print_z(from_even, at_random)
-    print_settling(by_sweep(study.table("settling.csv", Point, jobs_of(settling()), second_half)))
-    points = [Curve(f"p = {p}", "points", [Spot(it, *flows[it]) for it in flows]) for p, flows in at_random.items()]
-    corners = [Spot(density, triangle(density)) for density in (0, 1 / (LIMIT + 1), 1)]
-    density, flow = Axis("density (cars per cell)", 1.0), Axis("flow (cars per step)", 0.9)
-    study.draw(Figure(density, flow, [Curve("the triangle", "line", corners), *points]))
+    print_settling(study.frame("settling.csv", Point, jobs_of(settling()), second_half))
+    draw(study, at_random)
 
 
 if __name__ == "__main__":

@@ -1,0 +1,32 @@
+"""The fundamental diagram for five p, ten random initial states each, and the peak of each curve with its error."""
+from pathlib import Path
+
+import matplotlib.pyplot as plt
+import pandas
+
+import trlab
+from trlab import Grid, Nasch, Sweep, random_cells
+
+HERE = Path(__file__).parent
+plt.style.use(HERE.parent / "figures.mplstyle")
+DENSITIES = [0.02, 0.04, 0.06, 0.07, 0.075, 0.08, 0.085, 0.09, 0.095, 0.1, 0.105, 0.11, 0.115, 0.12, 0.125, 0.13, 0.135,
+             0.14, 0.145, 0.15, 0.155, 0.16, 0.165, 0.17, 0.18, 0.2, 0.3, 0.5, 0.7, 0.9]
+
+
+def make(p, seed, key):
+    return Sweep(limit=5, length=2000, rule=Nasch(p), warm=2000, measure=2000, densities=DENSITIES, key=key,
+                 start=random_cells(key))
+
+
+frame = Grid(make, p=[0.1, 0.2, 0.3, 0.4, 0.5], seed=range(10)).run(cache=HERE / "cache", progress=True)
+# At p = 0.2 free flow is almost a straight line up to the peak: there only points close to it are fitted.
+peaks = {p: trlab.peak(curve.droplevel("p"), over="seed", within=0.03 if p == 0.2 else 0.05)
+         for p, curve in frame.groupby(level="p")}
+peaks = pandas.DataFrame(peaks.values(), index=pandas.Index(peaks, name="p"))
+
+axes = trlab.plot_means(trlab.means(frame, over="seed"), hue="p", capsize=0)
+axes.errorbar(peaks.x, peaks.y, xerr=peaks.x_sem, yerr=peaks.y_sem, fmt="k+", label="peaks")
+axes.set(xlim=(0, 1), ylim=(0, 0.75), title="means ± standard error, 10 runs on 2000 cells")
+axes.legend()
+plt.savefig(HERE / "diagram.svg", metadata={"Date": None, "Creator": None})
+print(peaks[["x", "x_sem", "y", "y_sem", "points", "degree"]].round(4).to_string())
