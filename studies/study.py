@@ -49,7 +49,7 @@ class Study(NamedTuple):
             self.write_inputs(inputs)
             tables = self.results(inputs, call)
             rows = [[name, *row] for name in inputs for row in tables[name]]
-            write_rows(self.folder / file, ["text", *Table(kind).csv().strip().split(",")], rows)
+            write_rows(self.folder / file, ["text", *Table(kind).text().strip().split(",")], rows)
         return frame_of(inputs, read_tables(self.folder / file, kind))
 
     def results(self, inputs: Mapping[str, Input], call: Callable[[Input], Result]) -> dict[str, Result]:

@@ -19,6 +19,7 @@ import zlib
 from pathlib import Path
 from unittest import mock
 
+from tests.waiting import LIMIT, holds
 from trlab import Job, Nasch, Snapshot, Snapshots, RejectedInputError, Rickert, random_cells
 from trlab.lab import Lab, page_of, server
 from trlab.lab.__main__ import fragment, main
@@ -28,16 +29,6 @@ TOP = Path(__file__).resolve().parents[2]
 EXAMPLES = TOP / "examples"
 LONG = "road 1\nkey " + "0" * 64 + "\nlimit 5\nlane 0" + "." * 999 + "\nrule nasch 0\nsteps 500000\n"
 SILENT = "sweep 1\nkey " + "0" * 64 + "\nlimit 5\nlength 100000\nlanes 1\nrule nasch 0\nwarm 0\nmeasure 5000\n" + "cars 50000\n" * 100
-
-
-def within(seconds, holds):
-    """Whether a condition holds within some seconds."""
-    end = time.monotonic() + seconds
-    while not holds():
-        if time.monotonic() > end:
-            return False
-        time.sleep(0.01)
-    return True
 
 
 def children(process):
@@ -57,7 +48,7 @@ class Serving(unittest.TestCase):
     def ask(self, name="", body=None, method=None, token=None, origin=True, host=None):
         """The answer to a request, which has an Origin if it has a body."""
         netloc = f"127.0.0.1:{self.lab.server_port}"
-        talk = http.client.HTTPConnection(netloc, timeout=60)
+        talk = http.client.HTTPConnection(netloc, timeout=LIMIT)
         headers = {"Host": host or netloc}
         if origin is not True or body is not None:
             headers["Origin"] = f"http://{netloc}" if origin is True else origin
@@ -197,7 +188,7 @@ class Refusals(Serving):
     def test_long_inputs(self):
         self.assertEqual(json.loads(self.text("explain/check", b"a" * server.MAX_BYTES))["answer"], "fault line 1 cause 1")
         for length, status in ("4194305", 413), ("9" * 18, 413), ("9" * 30, 411), ("-1", 411), ("x", 411), (None, 411):
-            talk = http.client.HTTPConnection("127.0.0.1", self.lab.server_port, timeout=60)
+            talk = http.client.HTTPConnection("127.0.0.1", self.lab.server_port, timeout=LIMIT)
             talk.putrequest("POST", f"/{self.lab.token}/explain")  # the input itself is never sent
             talk.putheader("Origin", f"http://127.0.0.1:{self.lab.server_port}")
             if length:
@@ -215,36 +206,36 @@ class Processes(Serving):
         processors = len(os.sched_getaffinity(0))
         with mock.patch.object(server, "PATIENCE", 0.1):
             runs = [self.ask("run", LONG) for _ in range(processors)]
-            self.assertTrue(within(60, lambda: self.running() == processors))
+            self.assertTrue(holds(lambda: self.running() == processors))
             got = self.ask("run", LONG)
             self.assertEqual(got.status, 503)
             self.assertIn(b"Every processor is in use", got.read())
             self.assertEqual(self.ask("explain/run", LONG).status, 200)
             runs[0].leave()
-            self.assertTrue(within(60, lambda: self.running() == processors - 1))
+            self.assertTrue(holds(lambda: self.running() == processors - 1))
             self.assertEqual(self.ask("run", LONG).status, 200)
 
     def test_a_run_ends_with_its_page(self):
         for name, text in ("run", LONG), ("sweep", SILENT), ("series", LONG):
             got = self.ask(name, text)
-            self.assertTrue(within(60, lambda: self.running() == 1), name)
+            self.assertTrue(holds(lambda: self.running() == 1), name)
             [child] = self.lab.children
             if name != "sweep":  # which is silent for long
                 got.read(100)
             time.sleep(0.2)  # the output fills the sockets, and the server waits
             got.leave()
-            self.assertTrue(within(60, lambda: self.running() == 0), name)
+            self.assertTrue(holds(lambda: self.running() == 0), name)
             self.assertIsNotNone(child.returncode)
 
     def test_a_cut_run_is_not_a_whole_one(self):
         got = self.ask("run", LONG)
-        self.assertTrue(within(60, lambda: self.running() == 1))
+        self.assertTrue(holds(lambda: self.running() == 1))
         next(iter(self.lab.children)).kill()
         self.assertRaises(http.client.IncompleteRead, got.read)
 
     def test_closing_ends_every_run(self):
         runs = [self.ask("run", LONG), self.ask("sweep", SILENT)] if len(os.sched_getaffinity(0)) > 1 else [self.ask("run", LONG)]
-        self.assertTrue(within(60, lambda: self.running() == len(runs)))
+        self.assertTrue(holds(lambda: self.running() == len(runs)))
         processes = list(self.lab.children)
         self.lab.shutdown()
         self.lab.close()
@@ -270,22 +261,22 @@ class Command(unittest.TestCase):
             with tempfile.TemporaryDirectory() as folder, self.subTest(ending=ending.name):
                 running = self.start(folder=folder)
                 address = re.fullmatch(r"http://(127\.0\.0\.1:\d+)(/[\w-]{32}/)\n", running.stdout.readline())
-                talk = http.client.HTTPConnection(address[1], timeout=60)
+                talk = http.client.HTTPConnection(address[1], timeout=LIMIT)
                 talk.request("POST", address[2] + "run", LONG, {"Origin": f"http://{address[1]}"})
                 self.assertEqual(talk.getresponse().status, 200)
-                self.assertTrue(within(60, lambda: len(children(running.pid)) == 1))
+                self.assertTrue(holds(lambda: len(children(running.pid)) == 1))
                 [child] = children(running.pid)
                 running.send_signal(ending)
-                self.assertEqual(running.wait(60), 0)
+                self.assertEqual(running.wait(LIMIT), 0)
                 self.assertEqual(running.stderr.read(), "")
-                self.assertTrue(within(60, lambda: not Path(f"/proc/{child}").exists()))
+                self.assertTrue(holds(lambda: not Path(f"/proc/{child}").exists()))
                 self.assertEqual(os.listdir(folder), [])
                 talk.close()
 
     def test_a_port_in_use(self):
         with contextlib.closing(Lab()) as lab, tempfile.TemporaryDirectory() as folder:
             running = self.start("--port", str(lab.server_port), folder=folder)
-            self.assertEqual(running.wait(60), 1)
+            self.assertEqual(running.wait(LIMIT), 1)
             said = f"trlab-lab: cannot listen on port {lab.server_port}: Address already in use; choose another with --port\n"
             self.assertEqual(running.stderr.read(), said)
 

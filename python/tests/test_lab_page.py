@@ -5,7 +5,6 @@ import os
 import signal
 import tempfile
 import threading
-import time
 import unittest
 from pathlib import Path
 from urllib.parse import urlsplit
@@ -13,11 +12,12 @@ from xml.etree import ElementTree
 
 import trlab
 from tests.browsers import Keys, Window, missing
-from trlab import Job, Nasch, Rickert, SlowToStart
+from trlab import Job, Nasch, Rickert, SlowToStart, Snapshots
 from trlab.lab import Lab, server
 from trlab.lab.__main__ import fragment
 from trlab._runs.calls import ask
-from trlab._results.tables import Snapshots, Window as Row, Table, snapshots_in
+from trlab._results.tables import Window as Row, Table
+from trlab._results.written import snapshots_in
 
 SPEEDS = "0123456789abcdefghijklmnopqrstuvwxyz"
 KEY = "key " + "0" * 64
@@ -72,17 +72,21 @@ class Pages:
     def tearDown(self):
         self.assertEqual(self.page.errors(), [])
 
-    def hold(self, condition, seconds=60):
-        if not self.page.within(seconds, condition):
+    def hold(self, condition):
+        """Wait for a condition. The page reacts to a control only when the server has written the new job file."""
+        if not self.page.holds(condition):
             self.fail(self.page.js("return document.getElementById('fault')?.textContent") or "it does not become true")
 
+    def has(self, wanted, found):
+        """Wait until a call gives this value."""
+        if not self.page.holds(lambda: found() == wanted):
+            self.assertEqual(found(), wanted)
+
     def has_job(self, wanted):
-        """The page shows this job file, which the server may still be writing."""
-        if not self.page.within(20, lambda: self.page.job() == wanted):
-            self.assertEqual(self.page.job(), wanted)
+        self.has(wanted, self.page.job)
 
     def has_line(self, wanted):
-        if not self.page.within(20, lambda: wanted in self.page.job()):
+        if not self.page.holds(lambda: wanted in self.page.job()):
             self.assertIn(wanted, self.page.job())
 
     def pause(self):
@@ -115,7 +119,7 @@ class Pages:
             self.assertEqual((step, cells), (snapshot.step, "".join(snapshot.lanes)))
         rows = Table.read(Row, ask(["series"], self.page.job()))
         for (step, _, flow, speed, stopped), row in zip(shots[1:], rows):
-            self.assertEqual((step, flow, speed, stopped), (row.step, row.passing, row.speed, row.stopped_share))
+            self.assertEqual((step, flow, speed, stopped), (row.step, row.flow, row.speed, row.stopped_share))
 
     def test_every_dot_is_that_of_the_run(self):
         for lanes, length in (1, 100), (2, 80):
@@ -170,12 +174,12 @@ class Pages:
             return cars.map(it => [it.step, it.lane, it.cell])""")
         car = list(zip(trips.lane[0], trips.cell[0])).index(tuple(seen[0][1:]))
         self.assertEqual(seen, [[step, trips.lane[step][car], trips.cell[step][car]] for step in range(len(seen))])
-        self.assertEqual(self.page.js("return document.getElementById('follow').ariaPressed"), "true")
-        self.assertIn("You follow the car in lane", self.page.text("car"))
+        self.hold(lambda: self.page.js("return document.getElementById('follow').ariaPressed") == "true")
+        self.hold(lambda: "You follow the car in lane" in self.page.text("car"))
         self.page.keys(Keys.UP)
-        self.assertNotEqual(self.page.js("return lab.player.car.cell"), seen[-1][2])
+        self.hold(lambda: self.page.js("return lab.player.car.cell") != seen[-1][2])
         self.page.keys(Keys.ESCAPE)
-        self.assertIsNone(self.page.js("return lab.player.car"))
+        self.hold(lambda: self.page.js("return lab.player.car") is None)
 
     def test_a_click_follows_a_car(self):
         self.run_to(50)
@@ -213,9 +217,8 @@ class Pages:
         self.page.keys(" ")
         self.hold(lambda: self.page.step() > step + 3 and self.page.text("play") == "Pause")
         self.page.set("rate", 0, "input")
-        self.assertEqual(self.page.text("rateout"), "1")
-        self.page.click("again")
-        self.hold(lambda: self.page.step() < 3)
+        self.has("1", lambda: self.page.text("rateout"))
+        self.assertEqual(self.page.js("document.getElementById('again').click(); return lab.player.step"), 0)
 
     def test_the_end_of_a_run(self):
         self.page.set("stepcount", 40)
@@ -224,7 +227,7 @@ class Pages:
         self.assertEqual(self.page.js("return lab.marks.length"), 1)
         self.page.click("one")
         self.assertEqual(self.page.step(), 40)
-        self.page.set("rate", 20, "input")
+        self.page.set("rate", 0, "input")  # one step per second
         self.page.click("play")
         self.hold(lambda: self.page.step() < 40 and self.page.text("play") == "Pause")
         self.page.set("rate", 100, "input")
@@ -280,11 +283,11 @@ class Pages:
         page.set("model", "own")
         self.has_line("rule own\nmotion\n")
         self.has_line("\nchange\n")
-        self.hold(lambda: "AcceptedProgram" in page.text("motionverdict") and "AcceptedProgram" in page.text("changeverdict"))
+        self.hold(lambda: "Accepted" in page.text("motionverdict") and "Accepted" in page.text("changeverdict"))
         page.set("lanes", "1")
         self.hold(lambda: "\nchange\n" not in page.job())
         page.click("newkey")
-        self.assertNotEqual(page.value("key"), "1")
+        self.hold(lambda: page.value("key") != "1")
         self.has_line(f"key {int(page.value('key')):064x}\n")
 
     def agree(self):
@@ -293,11 +296,10 @@ class Pages:
         ask(["explain", "run"], text)
         lanes = [line[5:] for line in text.splitlines() if line.startswith("lane ")]
         cars = sum(len(lane) - lane.count(".") for lane in lanes)
-        shown = self.page.js("""return Object.fromEntries(['cars', 'length', 'limit', 'lanes'].map(name =>
-            [name, [...document.querySelectorAll(`[data-set=${name}]`)].map(it => +it.value)]))""")
+        shown = lambda: self.page.js("""return Object.fromEntries(['cars', 'length', 'limit', 'lanes'].map(name =>
+            [name, [...new Set([...document.querySelectorAll(`[data-set=${name}]`)].map(it => +it.value))]]))""")
         limit = int(text.split("\nlimit ")[1].split("\n")[0])
-        for name, value in ("cars", cars), ("length", len(lanes[0])), ("limit", limit), ("lanes", len(lanes)):
-            self.assertEqual(set(shown[name]), {value}, name)
+        self.has({"cars": [cars], "length": [len(lanes[0])], "limit": [limit], "lanes": [len(lanes)]}, shown)
 
     def test_the_sentence(self):
         self.page.select(".lead [data-set=cars]")
@@ -310,18 +312,20 @@ class Pages:
     def test_sliders(self):
         for _ in range(30):
             self.page.type("#density ~ [type=range]", Keys.RIGHT)
-        self.assertEqual(self.page.value("density"), "0.3")
+        self.has("0.3", lambda: self.page.value("density"))
         self.has_job(self.job_of(cars=300))
         self.hold(lambda: len(self.lab.children) <= 1 and not self.page.text("fault"))
 
     def test_every_slider(self):
         self.page.set("model", "vdr")
+        self.has_line("\nrule vdr ")
         for name in "p", "q", "density", "limit", "length", "cars":
             value = self.page.js("""const slider = document.querySelector(`#${arguments[0]} ~ [type=range]`);
                 slider.value = +slider.min + 0.4 * (slider.max - slider.min);
                 slider.dispatchEvent(new Event('input', {bubbles: true}));
                 return slider.value""", name)
-            self.assertEqual(float(self.page.value(name)), float(value), name)
+            self.has(float(value), lambda: float(self.page.value(name)))
+            self.hold(lambda: not self.page.js("return lab.isWriting"))
             self.agree()
 
     def test_the_enlarged_part_can_be_dragged(self):
@@ -377,11 +381,11 @@ class Pages:
                 if kind == "job":
                     self.hold(lambda: self.page.job() == text)
                 elif kind == "sweep":
-                    self.hold(lambda: self.page.js("return lab.table") == ask(["sweep"], text))
-                    self.assertEqual(self.page.js("return lab.marks.at(-1).points.length"), text.count("\ncars "))
+                    self.has(ask(["sweep"], text), lambda: self.page.js("return lab.table"))
+                    self.has(text.count("\ncars "), lambda: self.page.js("return lab.marks.at(-1).points.length"))
                 else:
                     self.hold(lambda: text in self.page.job())
-                self.hold(lambda: self.page.text("textverdict") == "AcceptedProgram." and self.page.step() >= 0)
+                self.hold(lambda: self.page.text("textverdict") == "Accepted." and self.page.step() >= 0)
                 self.assertEqual(self.page.text("fault"), "")
 
     def write(self, selector, text):
@@ -413,7 +417,7 @@ class Pages:
             return [box('#motion .code').top, box('#motion .words').top]""")
         self.assertAlmostEqual(high - low, 9 * 20 + 4, delta=3)  # the words are below line 9
         self.write("#motion .code", program)
-        self.hold(lambda: "AcceptedProgram" in self.page.text("motionverdict"))
+        self.hold(lambda: "Accepted" in self.page.text("motionverdict"))
         self.page.type("#motion .code", Keys.CONTROL, Keys.HOME)
         self.page.press(*[Keys.DOWN] * 4)
         self.hold(lambda: "Known before line 5: r0:" in self.page.text("motionfacts"))
@@ -422,7 +426,7 @@ class Pages:
         """Click on the change that the message in an editor proposes."""
         self.hold(lambda: self.page.js("return document.querySelector(`#${arguments[0]} .words button`) !== null", name))
         self.page.js("document.querySelector(`#${arguments[0]} .words button`).click()", name)
-        self.hold(lambda: "AcceptedProgram" in self.page.text(f"{name}verdict"))
+        self.hold(lambda: "Accepted" in self.page.text(f"{name}verdict"))
 
     def test_a_change_that_you_click(self):
         job = f"road 1\n{KEY}\nlimit 5\nlane 0.0.......\nrule nasch 0\nsteps 100\n"
@@ -439,7 +443,7 @@ class Pages:
     def test_a_change_of_a_program_that_you_click(self):
         self.page.set("model", "own")
         for wrong, fixed in ("gte r0, gap\ngo r0", "get r0, gap\ngo r0"), ("get r0, gap\njump 3\ngo r0", "get r0, gap\njump @3\ngo r0"):
-            self.hold(lambda: "AcceptedProgram" in self.page.text("motionverdict"))
+            self.hold(lambda: "Accepted" in self.page.text("motionverdict"))
             self.write("#motion .code", f"motion\nget r1, limit\n{wrong}".replace("go r0", "min r0, r0, r1\ngo r0"))
             self.hold(lambda: "Rejected" in self.page.text("motionverdict"))
             self.fix("motion")
@@ -473,13 +477,11 @@ class Pages:
     def test_a_sweep(self):
         self.page.click("sweep")
         self.hold(lambda: self.page.js("return lab.marks.at(-1)?.points.length") == 30)
-        self.assertTrue(self.page.js("return lab.table").startswith("cars,cells,steps,distance,stopped,changes,flow\n20,1000,300,"))
-        dots = self.page.js("return document.querySelectorAll('#diagram circle').length")
-        self.assertGreaterEqual(dots, 30)
+        self.hold(lambda: self.page.js("return lab.table").startswith("cars,cells,steps,distance,stopped,changes,flow\n20,1000,300,"))
+        self.hold(lambda: self.page.js("return document.querySelectorAll('#diagram circle').length") >= 30)
         self.page.click_at("diagram", 34 + 316 * 0.4, 120)
         self.hold(lambda: 390 <= int(self.page.value("cars")) <= 410)
-        self.page.click("clear")
-        self.assertEqual(self.page.js("return lab.marks.length"), 0)
+        self.assertEqual(self.page.js("document.getElementById('clear').click(); return lab.marks.length"), 0)
         self.page.set("warm", "20")
         self.page.set("measure", "0")
         self.page.click("sweep")
@@ -641,15 +643,15 @@ class Pages:
         self.page.js("document.getElementById('numbers').open = true")
         self.hold(lambda: self.page.js("return document.querySelectorAll('#rows tr').length") == 10)
         row = Table.read(Row, ask(["series"], self.page.job()))[self.page.step() - 1]
-        wanted = f"{row.step}{row.passing:.4f}{row.speed:.3f}{row.stopped_share:.3f}"
-        self.assertEqual(self.page.js("return document.querySelector('#rows tr').textContent"), wanted)
-        self.assertIn(f"Step {row.step}: flow", self.page.text("silent"))
+        wanted = f"{row.step}{row.flow:.4f}{row.speed:.3f}{row.stopped_share:.3f}"
+        self.has(wanted, lambda: self.page.js("return document.querySelector('#rows tr').textContent"))
+        self.hold(lambda: f"Step {row.step}: flow" in self.page.text("silent"))
 
     def test_a_narrow_page_without_motion(self):
         page = Window(self.browser, self.lab.address, 400, 800, calm=True)
         try:
-            self.assertTrue(page.within(60, lambda: page.js("return window.lab?.player.step >= 0")))
-            time.sleep(0.5)
+            self.assertTrue(page.holds(lambda: page.js("return window.lab?.player.step >= 0")))
+            page.later("await new Promise(go => setTimeout(go, 500))")  # it would move, if it did
             self.assertEqual((page.step(), page.text("play")), (0, "Play"))
             wide, inner = page.js("return [document.documentElement.scrollWidth, innerWidth]")
             self.assertLessEqual(wide, inner)
