@@ -34,15 +34,19 @@ from ._runs.calls import version
 from ._runs.cluster import read_tables, write_inputs
 from ._runs.location import find_program
 from ._runs.many import results, run_all
-from ._studies.grid import Grid, key_for
+from ._studies.grid import Grid
+from ._studies.keys import key_for
 from ._studies.study_file import read_study
 from ._version import __version__
 
 _ANALYSIS = {
-    "frames": ["UNITS", "means", "per_run", "to_si"],
-    "estimates": ["Blocking", "Lifetime", "Peak", "blocking", "lifetime", "peak", "survival"],
+    "blocking": ["Blocking", "blocking"],
     "detectors": ["detectors", "passings"],
+    "lifetimes": ["lifetime", "survival"],
+    "means": ["means", "per_run"],
+    "peak": ["Peak", "peak"],
     "plots": ["plot_means", "plot_space_time"],
+    "units": ["UNITS", "to_si"],
 }
 
 __all__ = [

@@ -1,8 +1,23 @@
 """The libraries of the analysis, or an error that says how to install them."""
+from __future__ import annotations
+
+from importlib import import_module
+from typing import Any
+
 from .._errors import MissingLibraryError
 
-try:
-    import numpy as numpy
-    import pandas as pandas
-except ModuleNotFoundError as missing:
-    raise MissingLibraryError(f'this needs {missing.name}: pip install "trlab[analysis]"') from None
+_INSTALL = "pip install numpy pandas matplotlib"
+
+
+def library(name: str) -> Any:
+    """A module by its name. Raises `MissingLibraryError`, with the command that installs it, if it is not there."""
+    try:
+        return import_module(name)
+    except ModuleNotFoundError as missing:
+        raise MissingLibraryError(f"this needs {missing.name}, which is not installed: {_INSTALL}") from None
+
+
+library("numpy"), library("pandas")
+
+import numpy as numpy  # noqa: E402 (after the check, so that a missing library is told kindly)
+import pandas as pandas  # noqa: E402
