@@ -5,10 +5,11 @@ import statistics
 from collections import namedtuple
 from fractions import Fraction
 
-from hypothesis import strategies as st
-
+from tests.libraries import hypothesis
 from trlab import Table, Window
 from trlab._analysis.frames import tidy
+
+st = hypothesis.strategies
 
 NAMES = ["p", "length", "site"]
 

@@ -2,15 +2,9 @@
 import math
 import unittest
 
-from tests.optional import need
-
-need("pandas")
-
-import numpy  # noqa: E402
-import pandas  # noqa: E402
-
-import trlab  # noqa: E402
-from trlab import EstimateError, FrameError, Grid, Job, Nasch, SlowToStart, moving, random_cells  # noqa: E402
+import trlab
+from tests.libraries import numpy, pandas
+from trlab import EstimateError, FrameError, Grid, Job, Nasch, SlowToStart, moving, random_cells
 
 
 def runs_of(rows, levels):
@@ -120,20 +114,20 @@ class Peaks(unittest.TestCase):
     def test_it_covers_a_parabola_also_with_shared_keys(self):
         for shared, runs in (0.0, 10), (0.002, 30):
             z = []
-            for _ in range(120):
+            for _ in range(80):
                 try:
                     found = trlab.peak(self.curve(self.parabola, runs=runs, shared=shared), over="seed")
                 except EstimateError:
                     continue
                 z.append(((found.y - 0.318) / found.y_sem, (found.x - 0.086) / found.x_sem))
-            self.assertGreater(len(z), 100)
+            self.assertGreater(len(z), 65)
             for its in numpy.array(z).T:
                 self.assertGreater((abs(its) < 2).mean(), 0.87)
                 self.assertLess(abs(its.mean()), 0.4)
                 self.assertLess(abs(its.std() - 1), 0.3)
 
     def test_it_is_less_than_the_highest_mean(self):
-        frames = [self.curve(self.parabola, runs=5, noise=0.004) for _ in range(60)]
+        frames = [self.curve(self.parabola, runs=5, noise=0.004) for _ in range(40)]
         highest = numpy.mean([trlab.means(frame, "seed").flow.max() for frame in frames])
         fitted = []
         for frame in frames:
@@ -183,35 +177,30 @@ class Peaks(unittest.TestCase):
 
 
 class Lifetimes(unittest.TestCase):
-    def lives(self, times, observed, **others):
-        return runs_of([{"seed": seed, "time": time, "observed": end, **others} for seed, (time, end) in enumerate(zip(times, observed))],
-                       ["seed", *others])
-
     def test_the_formula(self):
-        found = trlab.lifetime(self.lives([3, 5, 2, 10], [True, True, False, False]), over="seed")
-        self.assertEqual(found.iloc[0].to_dict(), {"n": 4, "observed": 2, "lifetime": 10.0, "lifetime_sem": 10 / math.sqrt(2)})
+        found = trlab.lifetime([3, 5, 2, 10], [True, True, False, False])
+        self.assertEqual(found, (10.0, 10 / math.sqrt(2), 2, 2))
 
     def test_half_may_be_cut_off(self):
         numbers, z = numpy.random.default_rng(1), []
-        for _ in range(150):
+        for _ in range(200):
             times = numbers.exponential(1000, size=60)
-            found = trlab.lifetime(self.lives(numpy.minimum(times, 700), times <= 700), over="seed").iloc[0]
-            z.append((found.lifetime - 1000) / found.lifetime_sem)
+            found = trlab.lifetime(numpy.minimum(times, 700), times <= 700)
+            z.append((found.mean - 1000) / found.sem)
         self.assertLess(abs(numpy.mean(z)), 0.3)
         self.assertGreater((abs(numpy.array(z)) < 2).mean(), 0.9)
 
     def test_survival_with_an_example_by_hand(self):
-        # At 2 one of 5 ends, at 3 one of 4 is cut off after one ended, at 5 one of 2 ends.
-        found = trlab.survival(self.lives([2, 3, 3, 5, 8], [True, True, False, True, False]), over="seed")
-        self.assertEqual(list(found.index), [0, 2, 3, 5, 8])
-        self.assertEqual(list(found.at_risk), [5, 5, 4, 2, 1])
+        # At 2 one of 5 lives ends, at 3 one of 4 ends and one is cut off, at 5 one of 2 ends.
+        found = trlab.survival([2, 3, 3, 5, 8], [True, True, False, True, False])
+        self.assertEqual((list(found.index), list(found.at_risk)), ([0, 2, 3, 5, 8], [5, 5, 4, 2, 1]))
         numpy.testing.assert_allclose(found.survival, [1, 4 / 5, 3 / 5, 3 / 10, 3 / 10])
         greenwood = numpy.cumsum([0, 1 / (5 * 4), 1 / (4 * 3), 1 / (2 * 1), 0])
         numpy.testing.assert_allclose(found.survival_sem, found.survival * numpy.sqrt(greenwood))
 
     def test_survival_without_cuts_is_the_share_of_longer_lives(self):
         times = numpy.random.default_rng(2).integers(1, 30, size=50)
-        found = trlab.survival(self.lives(times, [True] * 50), over="seed")
+        found = trlab.survival(times, [True] * 50)
         for time, row in found.iterrows():
             share = numpy.mean(times > time)
             self.assertAlmostEqual(row.survival, share)
@@ -221,39 +210,53 @@ class Lifetimes(unittest.TestCase):
 
     def test_survival_of_an_exponential_law(self):
         times = numpy.random.default_rng(3).exponential(100, size=2000)
-        found = trlab.survival(self.lives(numpy.minimum(times, 150), times < 150), over="seed")
+        found = trlab.survival(numpy.minimum(times, 150), times < 150)
         inside = abs(found.survival - numpy.exp(-found.index / 100)) < 3 * found.survival_sem + 0.01
         self.assertTrue(inside[found.index < 140].all())
 
-    def test_lives_that_tell_nothing(self):
+    def test_lives_that_say_nothing(self):
         for call in trlab.lifetime, trlab.survival:
-            for times in [0, 5], [-1, 5]:
-                self.assertRaisesRegex(EstimateError, "above 0", call, self.lives(times, [True, True]), "seed")
-            for times in [math.nan, 5], [math.inf, 5]:
-                self.assertRaisesRegex(FrameError, "`time`", call, self.lives(times, [True, True]), "seed")
-            self.assertRaisesRegex(EstimateError, "True or False", call, self.lives([1, 2], [1, 3]), "seed")
-            self.assertRaisesRegex(FrameError, "observed", call, self.lives([1, 2], [True, None]), "seed")
-            self.assertRaisesRegex(FrameError, "not numbers", call, self.lives([1, 2], ["yes", "no"]), "seed")
-            self.assertRaisesRegex(FrameError, "time_until", call, self.lives([1, 2], [True, True]).drop(columns="observed"), "seed")
-        self.assertRaisesRegex(EstimateError, "no life ended.*7 steps", trlab.lifetime, self.lives([3, 4], [False, False]), "seed")
-        with self.assertRaisesRegex(FrameError, "trlab.lifetime"):
-            trlab.means(self.lives([3, 4], [True, False]), "seed")
-        self.assertEqual(trlab.means(self.lives([3, 5], [True, True]), "seed").time[0], 4)
+            for words, times, observed in (
+                ("above 0", [0, 5], [True, True]),
+                ("above 0", [-1, 5], [True, True]),
+                ("not finite", [math.nan, 5], [True, True]),
+                ("not finite", [math.inf, 5], [True, True]),
+                ("`times` must be one list of numbers", ["3", 5], [True, True]),
+                ("True or False", [1, 2], [1, 3]),
+                ("`observed` has 1 values that are missing", [1, 2], [True, None]),
+                ("`observed` must be one list of numbers", [1, 2], ["yes", "no"]),
+                ("as many", [1, 2], [True]),
+                ("as many", [], []),
+                ("one list", numpy.ones((2, 2)), [True, True]),
+                ("must be a list", 5, True),
+            ):
+                with self.subTest(words, times=times), self.assertRaisesRegex(EstimateError, words):
+                    call(times, observed)
+        self.assertRaisesRegex(EstimateError, "no life ended in 7 steps", trlab.lifetime, [3, 4], [False, False])
+        self.assertEqual(list(trlab.survival([3, 4], [False, False]).survival), [1, 1, 1])
 
-    def test_by_density(self):
-        frame = pandas.concat([self.lives([3, 5], [True, False], density=0.1), self.lives([4, 4], [True, True], density=0.2)])
-        frame = frame.assign(key=[f"{number:064x}" for number in range(4)])
-        self.assertEqual(list(trlab.lifetime(frame, "seed").lifetime), [8, 4])
-        curves = trlab.survival(frame, "seed").survival
-        self.assertEqual((curves.index.names, list(curves[0.1])), (["density", "time"], [1, 0.5, 0.5]))
-        self.assertRaisesRegex(FrameError, "ensemble", trlab.lifetime, frame.droplevel("seed").set_index(pandas.Index(range(4), name="seed")), "seed")
+    def test_lives_of_several_inputs(self):
+        index = pandas.MultiIndex.from_product([[0.1, 0.2], [0, 1]], names=["density", "seed"])
+        lives = pandas.DataFrame({"time": [3, 5, 4, 4], "observed": [True, False, True, True]}, index=index)
+        for call in trlab.lifetime, trlab.survival:
+            self.assertRaisesRegex(EstimateError, r"several values of \['density', 'seed'\]", call, lives.time, lives.observed)
+            self.assertRaisesRegex(EstimateError, "of the same run", call, lives.droplevel("density").time, lives.droplevel("density").observed)
+            self.assertRaisesRegex(EstimateError, "same runs", call, lives.time, lives.observed[::-1])
+            self.assertRaisesRegex(EstimateError, "one column", call, lives, lives.observed)
+        means = {density: trlab.lifetime(runs.time, runs.observed).mean for density, runs in lives.groupby("density")}
+        self.assertEqual(means, {0.1: 8, 0.2: 4})
 
     def test_of_runs(self):
-        lives = Grid(lambda seed, key: Job(limit=5, length=500, density=0.18, rule=SlowToStart("1/64", "3/4"), start=moving, steps=500, key=key),
-                     seed=range(12)).run(call=lambda job: job.time_until(lambda window: window.stopped > 0, every=10))
-        found = trlab.lifetime(lives, "seed").iloc[0]
-        self.assertEqual((found.n, found.observed, found.lifetime), (12, lives.observed.sum(), lives.time.sum() / lives.observed.sum()))
-        self.assertEqual(trlab.to_si(trlab.lifetime(lives, "seed"), step=2).lifetime_s[0], 2 * found.lifetime)
+        lives = Grid(lambda seed, key: Job(limit=5, length=500, density=0.18, rule=SlowToStart("1/64", "3/4"), start=moving, steps=500,
+                                           key=key), seed=range(12)).run(call=lambda job: job.time_until(lambda it: it.stopped > 0, every=10))
+        found = trlab.lifetime(lives.time, lives.observed)
+        self.assertEqual((found.observed, found.mean), (lives.observed.sum(), lives.time.sum() / lives.observed.sum()))
+        self.assertEqual(found.observed + found.censored, 12)
+
+    def test_a_mean_of_censored_times_is_refused(self):
+        lives = runs_of([{"seed": 0, "time": 3, "observed": True}, {"seed": 1, "time": 5, "observed": False}], ["seed"])
+        self.assertRaisesRegex(FrameError, "trlab.lifetime", trlab.means, lives, "seed")
+        self.assertEqual(trlab.means(lives.assign(observed=True), "seed").time[0], 4)
 
 
 if __name__ == "__main__":

@@ -1,4 +1,5 @@
 """Means against plain Python: they are equal, or there is an error."""
+import contextlib
 import math
 import os
 import statistics
@@ -7,22 +8,17 @@ import sys
 import unittest
 from pathlib import Path
 
-from tests.optional import need
+import trlab
+from tests.libraries import hypothesis, numpy, pandas
+from tests.studies_for_tests import known, studies
+from trlab import FrameError, Grid, Job, Nasch, ParameterError, random_cells
+from trlab._analysis.frames import tidy
+from trlab._analysis.means import mean_and_sem
 
-need("pandas", "hypothesis")
+given, st = hypothesis.given, hypothesis.strategies
 
-import numpy  # noqa: E402
-import pandas  # noqa: E402
-from hypothesis import given, settings, strategies as st  # noqa: E402
-
-import trlab  # noqa: E402
-from tests.studies_for_tests import known, studies  # noqa: E402
-from trlab import FrameError  # noqa: E402
-from trlab._analysis.frames import tidy  # noqa: E402
-from trlab._analysis.means import mean_and_sem  # noqa: E402
-
-MANY = settings(max_examples=25, deadline=None, database=None, derandomize=True)
-FEW = settings(max_examples=12, deadline=None, database=None, derandomize=True)
+MANY = hypothesis.settings(max_examples=25, deadline=None, database=None, derandomize=True)
+FEW = hypothesis.settings(max_examples=12, deadline=None, database=None, derandomize=True)
 
 
 def as_dict(means, column="flow"):
@@ -176,6 +172,98 @@ class Means(unittest.TestCase):
     def test_a_large_offset_costs_no_digits(self):
         mean, sem = mean_and_sem(1e9 + numpy.array([0.0, 1.0] * 50), numpy.zeros(100, dtype=int))
         self.assertEqual((mean[0], round(sem[0], 12)), (1e9 + 0.5, round(statistics.stdev([0.0, 1.0] * 50) / 10, 12)))
+
+
+class Misreadings(unittest.TestCase):
+    """Calls that used to give a wrong number without a word."""
+
+    def job(self, density, seed, key):
+        return Job(limit=5, length=50, density=density, rule=Nasch(0.25), start=random_cells(key), steps=40, key=key)
+
+    def frame(self, call=lambda job: job.series(every=10), **parameters):
+        return Grid(self.job, **{"density": [0.2], "seed": range(4), **parameters}).run(call=call)
+
+    def test_the_error_of_a_mean_is_that_over_runs(self):
+        frame = self.frame()
+        self.assertRaisesRegex(FrameError, "windows of one run are correlated", trlab.means, frame, "step")
+        found = trlab.means(trlab.per_run(frame), "seed").iloc[0]
+        flows = [job.series(every=40)[0].flow for job in Grid(self.job, density=[0.2], seed=range(4)).inputs.values()]
+        self.assertEqual((found.n, round(found.flow_sem, 12)), (4, round(statistics.stdev(flows) / 2, 12)))
+        by_window = trlab.means(frame, "seed")
+        self.assertRaisesRegex(FrameError, "are they means already", trlab.means, by_window, "step")
+
+    def test_columns_of_a_result_are_not_replaced(self):
+        frame = self.frame(lambda job: {"count": 7, "x": 1.0, "x_sem": 0.001})
+        self.assertEqual(list(frame["count"]), [7] * 4)
+        self.assertRaisesRegex(FrameError, "`x_sem` would be overwritten", trlab.means, frame, "seed")
+        self.assertRaisesRegex(FrameError, "`n` would be overwritten", trlab.means, frame.rename(columns={"count": "n"}), "seed", of="n")
+
+    def test_a_parameter_and_a_result_of_one_name(self):
+        self.assertRaisesRegex(FrameError, "give measured values another name", self.frame, lambda job: {"density": 0.9999})
+        self.assertRaisesRegex(FrameError, "give it another name", self.frame, lambda job: {"seed": 1})
+
+    def test_the_density_is_that_of_the_road(self):
+        frame = self.frame(density=[0.011, 0.2])
+        self.assertEqual(sorted(set(frame.index.get_level_values("density"))), [0.02, 0.2])
+        self.assertTrue((frame.flow <= 5 * frame.index.get_level_values("density")).all())
+        self.assertRaisesRegex(ParameterError, "both 1 cars", self.frame, density=[0.011, 0.02, 0.029])
+
+    def test_arithmetic_with_speeds_does_not_overflow(self):
+        speeds = Job(limit=20, length=200, cars=2, rule=Nasch(0), steps=50).run().speeds()
+        self.assertEqual(numpy.nanmax(speeds * speeds), 400)
+        self.assertGreater(numpy.nanmean(speeds * speeds), 0)
+        self.assertTrue(math.isnan(speeds.mean()))
+
+    def test_numbers_of_numpy_and_missing_ones(self):
+        frame = self.frame(lambda job: {"x": numpy.int64(job.count()), "y": numpy.nan, "z": None, "flag": numpy.bool_(True)})
+        self.assertEqual(trlab.means(frame, "seed", of=["x", "flag"]).x[0.2], 10)
+        for name in "y", "z":
+            self.assertRaisesRegex(FrameError, f"`{name}` has 4 values that are missing", trlab.means, frame, "seed", of=name)
+        self.assertRaisesRegex(FrameError, "missing or not finite", trlab.means, frame, "seed")
+
+    def test_one_value_does_not_remove_a_column(self):
+        for odd in {"x": None}, {}, {"x": "a"}:
+            frame = self.frame(lambda job: {"x": 1.0} if job.key % 3 else {"y": 0, **odd}, seed=range(9)).drop(columns="y")
+            self.assertRaises(FrameError, trlab.means, frame, "seed")
+
+    def test_a_choice_without_rows_does_not_vanish(self):
+        def windows(job):
+            return job.series(every=10)[:0 if job.key % 2 else 4]
+
+        self.assertRaisesRegex(FrameError, "the result has no rows", self.frame, windows, seed=range(9))
+        frame = Grid(self.job, density=[0.2], seed=range(9)).run(call=windows, errors="keep")
+        self.assertEqual(set(frame.index.get_level_values("seed")), set(range(9)))
+        self.assertRaisesRegex(FrameError, "choices have no result", trlab.per_run, frame)
+
+    def test_repetitions_of_one_key(self):
+        def forgets(seed, key):
+            return Job(limit=5, length=50, density=0.2, rule=Nasch(0.25), steps=40)
+
+        def starts(seed, key):
+            return Job(limit=5, length=50, density=0.2, rule=Nasch(0.25), steps=40, start=random_cells(seed))
+
+        self.assertRaisesRegex(ParameterError, "the same input", Grid, forgets, seed=range(5))
+        frame = Grid(starts, seed=range(5)).run(call=lambda job: job.series(every=40))
+        self.assertRaisesRegex(FrameError, "the same key", trlab.means, frame, "seed")
+
+    def test_the_error_of_one_long_run(self):
+        flows, naive, blocks = [], [], []
+        for key in range(20):
+            table = Job(limit=5, length=100, density=0.12, rule=Nasch(0.25), steps=9000, key=key, start=random_cells(key)).series(5, 1000)
+            flow = table.to_pandas().flow
+            flows.append(flow.mean())
+            naive.append(flow.sem())
+            with contextlib.suppress(trlab.EstimateError):
+                blocks.append(trlab.blocking(flow).sem)
+        spread = statistics.stdev(flows)
+        self.assertLess(statistics.fmean(naive) / spread, 0.75)
+        self.assertGreater(len(blocks), 15)
+        self.assertTrue(0.7 < statistics.fmean(blocks) / spread < 1.4, (statistics.fmean(blocks), spread))
+
+    def test_a_row_and_its_fields_have_one_flow(self):
+        rows = self.frame(lambda job: job.series(every=40)[0])
+        pandas.testing.assert_frame_equal(self.frame(lambda job: job.series(every=40)[0]._asdict()), rows)
+        self.assertTrue((rows.flow <= 1).all())
 
 
 class NumpyTwo(unittest.TestCase):

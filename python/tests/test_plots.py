@@ -2,20 +2,9 @@
 import io
 import unittest
 
-from tests.optional import need
-
-need("pandas", "matplotlib")
-
-import matplotlib  # noqa: E402
-
-matplotlib.use("Agg")
-
-import numpy  # noqa: E402
-import pandas  # noqa: E402
-from matplotlib import pyplot  # noqa: E402
-
-import trlab  # noqa: E402
-from trlab import FrameError, Grid, Job, Nasch, ParameterError, Rickert, Snapshots, random_cells  # noqa: E402
+import trlab
+from tests.libraries import numpy, pyplot
+from trlab import FrameError, Grid, Job, Nasch, ParameterError, Rickert, Snapshots, random_cells
 
 TWO = Job(limit=5, length=30, lanes=2, cars=25, start=random_cells(4), rule=Rickert("1/4", 1), steps=60).run()
 
@@ -75,19 +64,14 @@ class Diagrams(Plots):
         self.assertRaisesRegex(FrameError, "show density", trlab.plot_space_time, TWO, ax=axes)
 
     def test_frames_that_are_not_means(self):
-        for frame in self.windows, self.runs, self.means[["flow"]], self.means.drop(columns="flow"), self.runs.groupby(["p", "density"]).mean(numeric_only=True):
+        for frame in (self.windows, self.runs, self.means[["flow"]], self.means.drop(columns="flow"),
+                      self.runs.groupby(["p", "density"]).mean(numeric_only=True)):
             self.assertRaisesRegex(FrameError, r"trlab.means\(frame, over\)", trlab.plot_means, frame, hue="p")
         self.assertRaisesRegex(FrameError, r"several means at one density: select one value of \['p'\]", trlab.plot_means, self.means)
         self.assertRaisesRegex(FrameError, "'q' is not a parameter", trlab.plot_means, self.means, hue="q")
         self.assertRaisesRegex(FrameError, "'length' is not a parameter", trlab.plot_means, self.means, x="length", hue="p")
         single = trlab.means(self.runs.xs(0, level="seed", drop_level=False), "seed")
         self.assertRaisesRegex(FrameError, "a single run has no error", trlab.plot_means, single, hue="p")
-
-    def test_lifetimes(self):
-        lives = pandas.DataFrame({"density": [0.1, 0.1, 0.2, 0.2], "seed": [0, 1, 0, 1], "time": [3, 4, 1, 2], "observed": True,
-                                  "key": [*"abcd"], "road": 0, "ensemble": [*"xxyy"]}).set_index(["density", "seed"])
-        axes = trlab.plot_means(trlab.lifetime(lives, "seed"), y="lifetime")
-        self.assertEqual(axes.get_ylabel(), "lifetime (steps)")
 
 
 class SpaceTimes(Plots):

@@ -4,17 +4,11 @@ import unittest
 from collections import namedtuple
 from fractions import Fraction
 
-from tests.optional import need
-
-need("pandas", "hypothesis")
-
-import numpy  # noqa: E402
-import pandas  # noqa: E402
-
-import trlab  # noqa: E402
-from tests.studies_for_tests import known  # noqa: E402
-from trlab import FrameError, Grid, Job, Nasch, Point, Rickert, Sweep, Table, Window, random_cells  # noqa: E402
-from trlab._analysis.frames import tidy  # noqa: E402
+import trlab
+from tests.libraries import numpy, pandas
+from tests.studies_for_tests import known
+from trlab import FrameError, Grid, Job, Nasch, Point, Rickert, Sweep, Table, Window, random_cells
+from trlab._analysis.frames import tidy
 
 WINDOW = Window(10, 2, 10, 10, 5, 1, 0, 50000, *[0] * 6)
 

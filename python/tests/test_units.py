@@ -1,14 +1,9 @@
 """Units of columns, and cells and steps as metres and seconds."""
 import unittest
 
-from tests.optional import need
-
-need("pandas")
-
-import pandas  # noqa: E402
-
-import trlab  # noqa: E402
-from trlab import FrameError, Grid, Job, Nasch, ParameterError, random_cells  # noqa: E402
+import trlab
+from tests.libraries import pandas
+from trlab import FrameError, Grid, Job, Nasch, ParameterError, random_cells
 
 
 def frame_of(**columns):

@@ -42,7 +42,7 @@ from ._version import __version__
 _ANALYSIS = {
     "blocking": ["Blocking", "blocking"],
     "detectors": ["detectors", "passings"],
-    "lifetimes": ["lifetime", "survival"],
+    "lifetimes": ["Lifetime", "lifetime", "survival"],
     "means": ["means", "per_run"],
     "peak": ["Peak", "peak"],
     "plots": ["plot_means", "plot_space_time"],

@@ -92,8 +92,10 @@ def _check_units(frame: pandas.DataFrame) -> None:
             raise FrameError(f"{fault}: give such a column another name") from None
         wrong = values[(values < 0) | (values > _RANGES[name])]
         if len(wrong):
-            raise FrameError(f"`{name}` is between 0 and {_RANGES[name]} in the units of trlab (see `trlab.UNITS`), not {wrong[0]:g}: "
-                             "give a column in other units another name")
+            raise FrameError(
+                f"`{name}` is between 0 and {_RANGES[name]} in the units of trlab (see `trlab.UNITS`), not {wrong[0]:g}: give a "
+                "column in other units another name"
+            )
 
 
 def _with_derived(counts: pandas.DataFrame) -> pandas.DataFrame:

@@ -1,23 +1,10 @@
 """The libraries of the analysis, or an error that says how to install them."""
 from __future__ import annotations
 
-from importlib import import_module
-from typing import Any
+from .._libraries import library
 
-from .._errors import MissingLibraryError
-
-_INSTALL = "pip install numpy pandas matplotlib"
-
-
-def library(name: str) -> Any:
-    """A module by its name. Raises `MissingLibraryError`, with the command that installs it, if it is not there."""
-    try:
-        return import_module(name)
-    except ModuleNotFoundError as missing:
-        raise MissingLibraryError(f"this needs {missing.name}, which is not installed: {_INSTALL}") from None
-
-
+# Before the imports, which say nothing about how to install a missing library.
 library("numpy"), library("pandas")
 
-import numpy as numpy  # noqa: E402 (after the check, so that a missing library is told kindly)
+import numpy as numpy  # noqa: E402
 import pandas as pandas  # noqa: E402

@@ -4,11 +4,14 @@ from __future__ import annotations
 from typing import Any, Optional
 
 from .columns import as_numbers
-from .libraries import library, numpy, pandas
+from .libraries import numpy, pandas
 from .units import label
 from .._errors import FrameError, ParameterError
 from .._inputs.numbers import MAX_SPEED, whole
+from .._libraries import library
 from .._results.snapshots import Snapshots
+
+_LINE = {"marker": "o", "markersize": 3, "linewidth": 1, "elinewidth": 1, "capsize": 2}
 
 
 def plot_means(
@@ -19,72 +22,77 @@ def plot_means(
         ax = trlab.plot_means(trlab.means(frame, over="seed"), hue="p")
         ax.figure.savefig("diagram.pdf")
 
-    There is one curve for each value of the parameter `hue`. `ax` are axes of matplotlib, by default those of a new figure, and
-    `style` goes to `Axes.errorbar`, for example `marker="s"` or `linestyle=""`. Labels have the units of `UNITS`.
+    There is one curve for each value of the parameter `hue`. `ax` are axes of matplotlib, by default those of a new figure,
+    and `style` goes to `Axes.errorbar`, for example `marker="s"` or `linestyle="none"`. Labels have the units of `UNITS`.
 
-    Raises `FrameError` if the frame has no errors (see `means`), if there are several means at one `x` without a `hue`, and if
-    `ax` shows something else already."""
+    Raises `FrameError` if the frame has no errors (see `means`), if there are several means at one `x` without a `hue`, and
+    if `ax` shows something else already."""
     _need_means(means, x, y)
     flat = means.reset_index()
     if hue is not None and hue not in flat:
         raise FrameError(f"{hue!r} is not a parameter of these means, which have {list(means.index.names)}")
     shown = [x] if hue is None else [x, hue]
     if flat.duplicated(shown).any():
-        others = [name for name in means.index.names if name not in shown and means.index.get_level_values(name).nunique() > 1]
-        raise FrameError(f"there are several means at one {x}: select one value of {others}, or name it as `hue`")
+        various = [name for name in means.index.names if name not in shown and flat[name].nunique() > 1]
+        raise FrameError(f"there are several means at one {x}: select one value of {various}, or name it as `hue`")
     axes = _axes(ax, label(x), label(y))
-    flat = flat.sort_values(x, kind="stable")
-    for value in [None] if hue is None else list(dict.fromkeys(means.reset_index()[hue])):
-        part = flat if hue is None else flat[flat[hue] == value]
+    for value, curve in [(None, flat)] if hue is None else flat.groupby(hue, sort=False):
+        curve = curve.sort_values(x, kind="stable")
         named = {} if hue is None else {"label": value}
-        axes.errorbar(part[x], part[y], yerr=part[f"{y}_sem"], **{"marker": "o", "markersize": 3, "linewidth": 1, "capsize": 2, **named, **style})
+        axes.errorbar(curve[x], curve[y], yerr=curve[f"{y}_sem"], **{**_LINE, **named, **style})
     if hue is not None:
         axes.legend(title=label(hue))
     return axes
 
 
 def plot_space_time(snapshots: Snapshots, lane: int = 0, ax: Any = None, limit: Optional[int] = None, **style: Any) -> Any:
-    """Draw the space-time diagram of a lane and return the axes: the speed of the car in each cell (cells per step) against its
-    position, with time running down. Empty cells are white.
+    """Draw the space-time diagram of a lane and return the axes: the speed of the car in each cell (cells per step) against
+    its position, with time running down. Empty cells are white.
 
-        trlab.plot_space_time(job.run(every=10, first=1000)).figure.savefig("jams.png", dpi=200)
+        ax = trlab.plot_space_time(job.run(every=10, first=1000))
+        ax.figure.savefig("jams.png", dpi=200)
 
-    `limit` is the highest speed of the scale, by default that of the snapshots: give the limit of the job to compare diagrams.
-    `ax` are axes of matplotlib, by default those of a new figure, and `style` goes to `Axes.imshow`. The image is
-    `ax.images[-1]`, and its scale `ax.images[-1].colorbar`. Raises `ParameterError` unless the snapshots are at equal distances
-    of steps, which the time axis needs."""
+    `limit` is the highest speed of the scale, by default that of the snapshots: give the limit of the job to compare
+    diagrams. `ax` are axes of matplotlib, by default those of a new figure, and `style` goes to `Axes.imshow`. The image is
+    `ax.images[-1]`, and its scale `ax.images[-1].colorbar`. A diagram shows every cell only if it has as many pixels:
+    choose the size of the figure and `dpi` for it.
+
+    Raises `ParameterError` unless the snapshots are at equal distances of steps, which the time axis needs, and for a lane
+    that the road does not have."""
     steps = [snapshot.step for snapshot in snapshots]
-    distances = {after - before for before, after in zip(steps, steps[1:])} or {1}
-    if not steps or len(distances) > 1 or min(distances) < 1:
+    every = {after - before for before, after in zip(steps, steps[1:])} or {1}
+    if not steps or len(every) > 1 or min(every) < 1:
         raise ParameterError("a space-time diagram needs snapshots at equal distances of steps")
-    (distance,) = distances
     lanes = snapshots.speeds(dtype=numpy.float32)
     speeds = lanes[:, whole("lane", lane, 0, lanes.shape[1] - 1)]
-    fastest = int(numpy.nanmax(speeds)) if not numpy.isnan(speeds).all() else 0
-    highest = max(1, fastest) if limit is None else whole("limit", limit, max(1, fastest), MAX_SPEED)
+    fastest = max(1, int(numpy.nanmax(speeds, initial=0)))
+    highest = fastest if limit is None else whole("limit", limit, fastest, MAX_SPEED)
     axes = _axes(ax, "position (cells)", "time (steps)")
+    half = min(every) / 2
     image = axes.imshow(speeds, **{
-        "aspect": "auto", "interpolation": "nearest", "cmap": library("matplotlib.pyplot").get_cmap("viridis", highest + 1),
-        "extent": (-0.5, speeds.shape[1] - 0.5, steps[-1] + distance / 2, steps[0] - distance / 2),
-        "vmin": -0.5, "vmax": highest + 0.5, **style,
+        "aspect": "auto", "interpolation": "nearest", "extent": (-0.5, speeds.shape[1] - 0.5, steps[-1] + half, steps[0] - half),
+        "cmap": library("matplotlib.pyplot").get_cmap("viridis", highest + 1), "vmin": -0.5, "vmax": highest + 0.5, **style,
     })
     scale = axes.figure.colorbar(image, ax=axes, label=label("speed"))
-    scale.locator = library("matplotlib.ticker").MaxNLocator(integer=True)
-    scale.update_ticks()
+    scale.set_ticks(range(0, highest + 1, 1 if highest < 10 else 5))
     return axes
 
 
 def _need_means(means: pandas.DataFrame, x: str, y: str) -> None:
     """Raises `FrameError` unless the frame has means with errors to draw."""
     if y not in means or f"{y}_sem" not in means:
-        raise FrameError(f"this frame has no means `{y}` with errors `{y}_sem`: plot the frame that `trlab.means(frame, over)` returns, after "
-                         "`per_run` if it has windows")
+        raise FrameError(
+            f"this frame has no means `{y}` with errors `{y}_sem`: plot the frame that `trlab.means(frame, over)` returns, after "
+            "`per_run` if it has windows"
+        )
     if x not in (*means, *means.index.names):
         raise FrameError(f"{x!r} is not a parameter of these means, which have {list(means.index.names)}")
     values, errors = as_numbers(means[y]), as_numbers(means[f"{y}_sem"])
     if (numpy.isnan(errors) & ~numpy.isnan(values)).any():
-        raise FrameError(f"some `{y}_sem` are NaN, because a single run has no error: repeat these runs, or leave them out "
-                         "with `means[means.n > 1]`")
+        raise FrameError(
+            f"some `{y}_sem` are NaN, because a single run has no error: repeat these runs, or leave them out with "
+            "`means[means.n > 1]`"
+        )
 
 
 def _axes(ax: Any, across: str, up: str) -> Any:

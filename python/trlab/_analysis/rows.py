@@ -10,11 +10,10 @@ from .libraries import numpy, pandas
 from .._errors import FrameError
 from .._results.snapshots import Snapshot, Snapshots
 from .._results.tables import Point, Table, Window
+from .._studies.grid import MEASURE
 from .._studies.roads import KnownRoads
 
 Record = dict[str, Any]
-
-MEASURE = "call=lambda job: job.series(every=2000, first=1000)"
 
 KINDS: list[Any] = [Point, Window]
 
@@ -126,10 +125,11 @@ def columns_of(rows: Rows) -> list[str]:
 
 def _check_names(rows: Rows, names: Sequence[str]) -> None:
     """Raises `FrameError` if a measured value would overwrite a parameter, or the reverse."""
-    taken = [name for name in columns_of(rows) if name in RESERVED or name in names and name not in OF_THE_ROAD]
+    columns = columns_of(rows)
+    taken = [name for name in columns if name in RESERVED or name in names and name not in OF_THE_ROAD]
     if taken:
         raise FrameError(f"the result has a column `{taken[0]}`, which is a parameter or reserved: give it another name")
-    if rows.kind in (dict, pandas.DataFrame) and "flow_millionths" in columns_of(rows) and not set(COUNTS) <= set(columns_of(rows)):
+    if "flow_millionths" in columns and not set(COUNTS) <= set(columns):
         raise FrameError("`flow_millionths` is the number of the file: return the row itself, or `row.flow` as `flow`")
 
 
@@ -147,8 +147,10 @@ def _check_roads(rows: Rows, roads: KnownRoads) -> None:
         else:
             is_known = numpy.isclose(found[:, None], numpy.unique(known[name])).any(axis=1)
         if not is_known.all():
-            raise FrameError(f"the result has a `{name}` of {found[~is_known][0]:g}, and a road of this input has {known[name][0]:g}: "
-                             "return results of this input, and give measured values another name")
+            raise FrameError(
+                f"the result has a `{name}` of {found[~is_known][0]:g}, and a road of this input has {known[name][0]:g}: return "
+                "results of this input, and give measured values another name"
+            )
 
 
 def _check_levels(rows: Rows) -> None:
@@ -156,10 +158,12 @@ def _check_levels(rows: Rows) -> None:
     if len(rows.content) == 1 or rows.is_of_points:
         return
     if not rows.levels:
-        raise FrameError(f"the result has {len(rows.content)} rows that nothing tells apart: return a frame with a named index, "
-                         "for example `frame.rename_axis(\"passing\")`")
+        raise FrameError(
+            f"the result has {len(rows.content)} rows that nothing tells apart: return a frame with a named index, for example "
+            '`frame.rename_axis("passing")`'
+        )
     if pandas.DataFrame({name: _values(rows, name) for name in rows.levels}).duplicated().any():
-        raise FrameError(f"the result has several rows with the same {' and '.join(rows.levels)}: give it an index that tells them apart")
+        raise FrameError(f"the result has several rows with the same {' and '.join(rows.levels)}: give it an index that differs")
 
 
 def _values(rows: Rows, name: str) -> Any:

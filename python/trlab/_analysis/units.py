@@ -31,7 +31,6 @@ UNITS = {
     "n": "",
     "time": "steps",
     "observed": "",
-    "lifetime": "steps",
     "survival": "",
     "at_risk": "",
     "cell": "cells",
@@ -40,6 +39,7 @@ UNITS = {
     "time_mean_speed": "cells per step",
     "harmonic_mean_speed": "cells per step",
     "time_headway": "steps",
+    "mean_time_headway": "steps",
     "density_per_km": "vehicles per km and lane",
     "requested_density_per_km": "vehicles per km and lane",
     "flow_per_h": "vehicles per h and lane",
@@ -48,8 +48,8 @@ UNITS = {
     "harmonic_mean_speed_km_per_h": "km/h",
     "change_rate_per_h": "lane changes per vehicle and h",
     "time_s": "s",
-    "lifetime_s": "s",
     "time_headway_s": "s",
+    "mean_time_headway_s": "s",
 }
 """The unit of each column that trlab makes, "" for a share or a number of runs. `X_sem` has the unit of `X`. Flows and densities
 are those of one lane, also on two lanes: a mean over the lanes."""
@@ -64,7 +64,7 @@ def to_si(frame: pandas.DataFrame, cell: float = 7.5, step: float = 1.0) -> pand
     - `density_per_km` = density x 1000 / cell, `flow_per_h` = flow x 3600 / step, both per lane;
     - `speed_km_per_h` = speed x 3.6 x cell / step, also for the two mean speeds of detectors;
     - `change_rate_per_h` = change_rate x 3600 / step;
-    - `time_s`, `lifetime_s` and `time_headway_s` = steps x step.
+    - `time_s`, `time_headway_s` and `mean_time_headway_s` = steps x step.
 
     Counts, shares and `step` stay as they are. Raises `FrameError` if the frame was converted before, or has nothing to
     convert, and `ParameterError` unless `cell` and `step` are finite and above 0."""
@@ -75,7 +75,7 @@ def to_si(frame: pandas.DataFrame, cell: float = 7.5, step: float = 1.0) -> pand
     factors = {
         "density_per_km": 1000 / cell, "requested_density_per_km": 1000 / cell, "flow_per_h": flow, "change_rate_per_h": flow,
         "speed_km_per_h": speed, "time_mean_speed_km_per_h": speed, "harmonic_mean_speed_km_per_h": speed,
-        "time_s": step, "lifetime_s": step, "time_headway_s": step,
+        "time_s": step, "time_headway_s": step, "mean_time_headway_s": step,
     }
     converted = {_native(name) + end: (name + end, factor) for name, factor in factors.items() for end in ("", "_sem")}
     has_index = frame.index.names != [None]

@@ -22,10 +22,12 @@ if TYPE_CHECKING:
 
 Input = Union[Job, Sweep]
 
+MEASURE = "call=lambda job: job.series(every=2000, first=1000)"
+
 # Columns of frames that a parameter must not hide. `density` and `cars` are allowed, and are those of the road that runs.
-_TAKEN = set("key road ensemble error cells steps step distance stopped changes flow flow_millionths speed stopped_share change_rate "
-             "windows n requested_density time observed lifetime survival at_risk count occupancy time_mean_speed harmonic_mean_speed "
-             "time_headway cell lane".split())
+_TAKEN = set("key road ensemble error requested_density cells steps step distance stopped changes flow flow_millionths speed "
+             "stopped_share change_rate windows n time observed count occupancy time_mean_speed harmonic_mean_speed time_headway "
+             "mean_time_headway cell lane".split())
 
 
 class Grid:
@@ -49,9 +51,9 @@ class Grid:
     `inputs` has the input of each choice, a named tuple such as `(p=0.25, density=0.1, seed=3)`, and `names` those of the
     parameters.
 
-    Raises `ParameterError` if two choices give the same input, because `make` ignores a parameter or its `key`; if two parameters
-    change nothing but the key; if two requested densities are the same number of cars; and if a parameter `density` (within one
-    car) or `cars` is not that of the road."""
+    Raises `ParameterError` if two choices give the same input, because `make` ignores a parameter or its `key`; if two
+    parameters change nothing but the key; if two requested densities are the same number of cars; and if a parameter
+    `density` (within one car) or `cars` is not that of the road."""
 
     def __init__(self, make: Callable[..., Input], /, **parameters: Union[Iterable[Any], Mapping[str, Any]]) -> None:
         values = {name: _named_values(name, given) for name, given in parameters.items()}
@@ -69,32 +71,35 @@ class Grid:
 
     def _check_inputs(self) -> None:
         """Raises `ParameterError` if a choice or a parameter makes no difference."""
-        first: dict[Hashable, Any] = {}
-        for place, input in self.inputs.items():
-            other = first.setdefault(all_of(input), place)
-            if other is not place:
-                if "density" in self.names and other.density != place.density and other._replace(density=0) == place._replace(density=0):
-                    break
-                raise ParameterError(f"`make` gives the same input for {other} and {place}: use all parameters, and `key`")
         if "density" in self.names:
             self._check_densities()
+        first: dict[Hashable, Any] = {}
+        for place, input in self.inputs.items():
+            other = first.setdefault(all_of(input, self._runs[place]), place)
+            if other is not place:
+                raise ParameterError(f"`make` gives the same input for {other} and {place}: use all parameters, and `key`")
         unused = [name for name in self.names if self._changes_only_the_key(name)]
         if len(unused) > 1:
-            raise ParameterError(f"{' and '.join(unused)} change nothing but the key: use them in `make`, and repeat runs by one parameter")
+            unused_names = " and ".join(unused)
+            raise ParameterError(f"{unused_names} change nothing but the key: use them in `make`, and repeat by one parameter")
 
     def _check_densities(self) -> None:
+        """Raises `ParameterError` if two densities are the same number of cars."""
         first: dict[Hashable, Any] = {}
         for place, roads in self._runs.items():
             other = first.setdefault((place._replace(density=0), *roads["cars"], roads["cells"]), place)
             if other is not place:
-                raise ParameterError(f"the densities {other.density} and {place.density} are both {roads['cars'][0]} cars on {roads['cells']} "
-                                     "cells: leave one out, or take a longer road")
+                both = f"{roads['cars'][0]} cars on {roads['cells']} cells"
+                raise ParameterError(
+                    f"the densities {other.density} and {place.density} are both {both}: leave one out, or take a longer road"
+                )
 
     def _changes_only_the_key(self, name: str) -> bool:
+        """Whether a parameter is used for repetitions only: choices that differ in it have inputs that differ in their key."""
         at = self.names.index(name)
         groups: dict[Hashable, set[Hashable]] = {}
         for place, input in self.inputs.items():
-            groups.setdefault((*place[:at], *place[at + 1:]), set()).add(without_key(input))
+            groups.setdefault((*place[:at], *place[at + 1:]), set()).add(without_key(input, self._runs[place]))
         return len(groups) < len(self.inputs) and all(len(inputs) == 1 for inputs in groups.values())
 
     def __repr__(self) -> str:
@@ -129,7 +134,7 @@ class Grid:
         from .._analysis.frames import tidy
 
         if options.get("call") is None and any(isinstance(input, Job) for input in self.inputs.values()):
-            raise ParameterError("say what to measure in each job, for example call=lambda job: job.series(every=2000, first=1000)")
+            raise ParameterError(f"say what to measure in each job, for example {MEASURE}")
         # A frame is checked result by result. If one is wrong, the others must not go on.
         with closing(cast(Any, self.results(**options))) as found:
             frame = tidy(found, self.names, self._runs, options.get("errors") == "keep")
@@ -198,11 +203,13 @@ def _check_roads(chosen: Mapping[str, Any], roads: KnownRoads) -> None:
         try:
             wanted = as_fraction(chosen[name]) * (1 if name == "cars" else roads["cells"])
         except ValueError:
-            raise ParameterError(f"the parameter `{name}` must have numbers as values, not {chosen[name]!r}: give it another name") from None
+            wrong = f"the parameter `{name}` must have numbers as values, not {chosen[name]!r}"
+            raise ParameterError(f"{wrong}: give it another name") from None
         allowed = 0 if name == "cars" else 1 - 1e-9 * roads["cells"]
         if len(set(roads["cars"])) > 1 or abs(wanted - roads["cars"][0]) > allowed:
-            raise ParameterError(f"the parameter `{name}` is {chosen[name]}, and the input has {roads['cars'][:5]} cars on {roads['cells']} cells: "
-                                 "use it in `make`, or give it another name")
+            there = f"{roads['cars'][:5]} cars on {roads['cells']} cells"
+            wrong = f"the parameter `{name}` is {chosen[name]}, and the input has {there}"
+            raise ParameterError(f"{wrong}: use it in `make`, or give it another name")
 
 
 def _named_values(name: str, given: Any) -> dict[Any, Any]:

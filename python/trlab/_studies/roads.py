@@ -32,8 +32,8 @@ def known_roads(input: Union[Job, Sweep]) -> KnownRoads:
 
 
 def _about(input: Union[Job, Sweep], cells: int) -> list[object]:
-    """All that repetitions of an input have in common, besides the number of cars: everything but the key and the seed of random
-    cells. Roads that are given cell by cell count as drawn by their author, like random cells."""
+    """All that repetitions of an input have in common, besides the number of cars: everything but the key and the seed of
+    random cells. Roads that are given cell by cell count as drawn by their author, like random cells."""
     start = [input.start.placement, input.start.speed] if isinstance(input.start, InitialState) else "roads"
     if isinstance(input, Sweep):
         return [input.limit, input.lanes, cells, start, input.rule.lines(), [input.warm, input.measure]]
@@ -42,17 +42,15 @@ def _about(input: Union[Job, Sweep], cells: int) -> list[object]:
     return [input.limit, lanes, cells, start, rules, input.steps]
 
 
-def without_key(input: Union[Job, Sweep]) -> Hashable:
-    """Equal for inputs that differ only in their key, and in a seed of random cells that is this key."""
-    roads = known_roads(input)
+def without_key(input: Union[Job, Sweep], roads: KnownRoads) -> Hashable:
+    """Equal for inputs with these roads that differ only in their key, and in a seed of random cells that is this key."""
     start: Hashable = input.start
     if isinstance(start, InitialState) and start.seed == int(roads["key"], 16):
         start = start.placement, start.speed, "key"
     return tuple(roads["ensembles"]), start
 
 
-def all_of(input: Union[Job, Sweep]) -> Hashable:
-    """Equal for inputs that give the same output."""
-    roads = known_roads(input)
+def all_of(input: Union[Job, Sweep], roads: KnownRoads) -> Hashable:
+    """Equal for inputs with these roads that give the same output."""
     start: Hashable = input.start
     return tuple(roads["ensembles"]), roads["key"], start
