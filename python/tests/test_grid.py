@@ -1,9 +1,8 @@
-"""Grids: keys that depend on the parameters only, and one frame of all results."""
+"""Grids: keys that depend on the parameters only, and inputs and frames of all choices."""
 import hashlib
 import math
 import os
 import pickle
-import statistics
 import tempfile
 import unittest
 from fractions import Fraction
@@ -11,25 +10,24 @@ from pathlib import Path
 
 import trlab
 from tests.test_arrays import needs
-from trlab import Frame, Grid, Job, Nasch, Point, RejectedInputError, Rickert, SlowToStart, Sweep, Window
+from trlab import FrameError, Grid, Job, Nasch, ParameterError, Point, Rickert, SlowToStart, Sweep
 from trlab import key_for, random_cells, read_tables, write_inputs
-from trlab.frame import mean_and_error
 
 
-def job(chance, density, seed, key):
-    return Job(limit=5, length=50, density=density, rule=Nasch(chance), start=random_cells(key), steps=30, key=key)
+def job(p, density, seed, key):
+    return Job(limit=5, length=50, density=density, rule=Nasch(p), start=random_cells(key), steps=30, key=key)
 
 
-def sweep(chance, seed, key):
-    return Sweep(limit=5, length=50, rule=Nasch(chance), warm=5, measure=20, densities=[0.1, 0.2, 0.4], key=key)
+def sweep(p, seed, key):
+    return Sweep(limit=5, length=50, rule=Nasch(p), warm=5, measure=20, densities=[0.1, 0.2, 0.4], key=key)
 
 
 def last(job):
     return job.series(every=20, first=10)
 
 
-JOBS = {"chance": [0.25, "1/2"], "density": [0.1, 0.2, 0.5], "seed": range(4)}
-SWEEPS = {"chance": [0.25, 0.5], "seed": range(4)}
+JOBS = {"p": [0.25, "1/2"], "density": [0.1, 0.2, 0.5], "seed": range(4)}
+SWEEPS = {"p": [0.25, 0.5], "seed": range(4)}
 
 
 class Keys(unittest.TestCase):
@@ -42,8 +40,8 @@ class Keys(unittest.TestCase):
         self.assertEqual(key_for(chance=0.25, density=0.1, seed=3), kept)
 
     def test_equal_parameters_have_equal_keys(self):
-        keys = {key_for(seed=seed, chance=chance) for seed in (3, 3.0, Fraction(3)) for chance in (0.25, Fraction(1, 4))}
-        self.assertEqual(keys, {key_for(chance=0.25, seed=3)})
+        keys = {key_for(seed=seed, p=p) for seed in (3, 3.0, Fraction(3)) for p in (0.25, Fraction(1, 4))}
+        self.assertEqual(keys, {key_for(p=0.25, seed=3)})
 
     def test_other_parameters_have_other_keys(self):
         others = [{}, {"a": 1}, {"b": 1}, {"a": "1"}, {"a": 2}, {"a": 0.1}, {"a": Fraction(1, 10)}, {"a": 1, "b": 1}, {"a": "x\nb=1"}]
@@ -51,7 +49,7 @@ class Keys(unittest.TestCase):
 
     def test_values_without_a_key(self):
         for value in None, [1], math.nan, math.inf, Nasch(0), 1j:
-            self.assertRaises(TypeError, key_for, a=value)
+            self.assertRaises(ParameterError, key_for, a=value)
 
     @needs("numpy")
     def test_numbers_of_numpy(self):
@@ -63,149 +61,195 @@ class Keys(unittest.TestCase):
 class Inputs(unittest.TestCase):
     def test_an_input_for_each_choice(self):
         grid = Grid(job, **JOBS)
-        self.assertEqual((len(grid.inputs), repr(grid)), (24, "<grid of 24 inputs by chance, density, seed>"))
+        self.assertEqual((len(grid.inputs), repr(grid)), (24, "<grid of 24 inputs by p, density, seed>"))
         choice, made = list(grid.inputs.items())[7]
         self.assertEqual((choice, choice.density), ((0.25, 0.2, 3), 0.2))
-        self.assertEqual(made, job(0.25, 0.2, 3, int(key_for(chance=0.25, density=0.2, seed=3), 16)))
+        self.assertEqual(made, job(0.25, 0.2, 3, int(key_for(p=0.25, density=0.2, seed=3), 16)))
         self.assertEqual(len({made.key for made in grid.inputs.values()}), 24)
 
     def test_a_choice_keeps_its_input_in_a_larger_grid(self):
-        small, large = Grid(job, **JOBS), Grid(job, seed=range(9), density=[0.9, *JOBS["density"]], chance=JOBS["chance"])
-        inputs = set(large.inputs.values())
-        self.assertTrue(set(small.inputs.values()) < inputs)
+        small, large = Grid(job, **JOBS), Grid(job, seed=range(9), density=[0.9, *JOBS["density"]], p=JOBS["p"])
+        self.assertTrue(set(small.inputs.values()) < set(large.inputs.values()))
 
+    @needs("pandas")
     def test_names_for_values(self):
         rules = {"nasch": Nasch(0.25), "slow": SlowToStart("1/64", 0.75)}
         grid = Grid(lambda rule, key: Job(limit=5, length=50, cars=5, rule=rule, steps=30, key=key), rule=rules)
         self.assertEqual([it.rule for it in grid.inputs.values()], list(rules.values()))
-        frame = grid.run(call=last)
-        self.assertEqual([row.rule for row in frame], ["nasch", "slow"])
+        self.assertEqual(list(grid.run(call=last).index.get_level_values("rule")), ["nasch", "slow"])
 
-    def test_what_is_wrong_is_said_at_once(self):
-        for error, words, parameters in (
-            (TypeError, "chance must be a list of values", {"chance": 0.25}),
-            (TypeError, "chance must be a list of values", {"chance": "1/4"}),
-            (TypeError, "rule must have numbers or texts", {"rule": [Nasch(0)]}),
-            (ValueError, "seed has no values", {"seed": []}),
-            (ValueError, "seed has the same value twice", {"seed": [1, 2, 1.0]}),
-            (ValueError, "speed is a column", {"speed": [1]}),
+    def test_parameters_that_are_wrong(self):
+        for words, parameters in (
+            ("p must be a list of values", {"p": 0.25}),
+            ("p must be a list of values", {"p": "1/4"}),
+            ("rule must have numbers or texts", {"rule": [Nasch(0)]}),
+            ("seed has no values", {"seed": []}),
+            ("seed has the same value twice", {"seed": [1, 2, 1.0]}),
+            ("speed is a column", {"speed": [1]}),
+            ("flow_sem is a column", {"flow_sem": [1]}),
+            ("cannot have this name", {"class": [1]}),
         ):
-            with self.subTest(words=words), self.assertRaisesRegex(error, words):
+            with self.subTest(words=words), self.assertRaisesRegex(ParameterError, words):
                 Grid(job, **parameters)
 
+    def test_an_input_is_a_job_or_a_sweep(self):
+        self.assertRaisesRegex(ParameterError, "must return a Job or a Sweep, not None", Grid, lambda seed, key: None, seed=[1])
 
+    def test_choices_that_give_the_same_input(self):
+        for wrong in (
+            lambda p, density, seed, key: job(p, density, seed, 0),
+            lambda p, density, seed, key: job(p, density, seed, 3 * seed % 2),
+            lambda p, density, seed, key: job(0.25, density, seed, seed),
+            lambda p, density, seed, key: job(p, 0.1, seed, int(seed + 10 * density)),
+        ):
+            self.assertRaisesRegex(ParameterError, "the same input|densit", Grid, wrong, **JOBS)
+        Grid(lambda p, density, seed, key: job(p, density, seed, seed), **JOBS)
+
+    def test_a_parameter_that_make_ignores(self):
+        self.assertRaisesRegex(ParameterError, "p and seed change nothing but the key", Grid,
+                               lambda p, density, seed, key: job(0.25, density, seed, key), **JOBS)
+        self.assertRaisesRegex(ParameterError, "p and seed change nothing", Grid, lambda p, seed, key: sweep(0.25, seed, key), **SWEEPS)
+        # A parameter that is used for some values of another one is used.
+        rules = {"nasch": lambda q: Nasch(0.25), "slow": lambda q: SlowToStart(0.25, q)}
+        Grid(lambda rule, q, seed, key: Job(limit=5, length=20, cars=4, rule=rules[rule](q), steps=9, key=key),
+             rule=["nasch", "slow"], q=[0.5, 0.75], seed=[0, 1])
+
+    def test_densities_that_are_one_number_of_cars(self):
+        self.assertRaisesRegex(ParameterError, "the densities 0.02 and 0.029 are both 1 cars on 50 cells", Grid, job,
+                               p=[0.25], density=[0.02, 0.029], seed=[0])
+        self.assertRaisesRegex(ParameterError, "are both 1 cars", Grid, lambda density, key: job(0.25, density, 0, 1), density=[0.011, 0.02])
+        Grid(lambda length, density, key: Job(limit=5, length=length, density=density, rule=Nasch(0), steps=1, key=key),
+             length=[50, 100], density=[0.02, 0.04])
+
+    def test_a_density_that_is_not_that_of_the_road(self):
+        for name, values in ("density", [0.1, 0.2]), ("cars", [5, 6]):
+            self.assertRaisesRegex(ParameterError, f"the parameter `{name}`", Grid, lambda key, **chosen: job(0.25, 0.5, 0, key), **{name: values})
+            self.assertRaisesRegex(ParameterError, f"the parameter `{name}`", Grid, lambda key, **chosen: sweep(0.25, 0, key), **{name: values})
+        self.assertRaisesRegex(ParameterError, "must have numbers", Grid, lambda density, key: job(0.25, density, 0, key), density={"low": 0.1})
+        # Rounded down or up is near enough, because frames have the density of the road.
+        for cars in math.floor, math.ceil:
+            Grid(lambda density, key: Job(limit=5, length=50, cars=cars(50 * density), rule=Nasch(0), steps=1, key=key), density=[0.11, 0.33])
+
+    def test_old_names(self):
+        self.assertRaisesRegex(trlab.RenamedError, "named_inputs", lambda: Grid(sweep, **SWEEPS).texts())
+        self.assertFalse(hasattr(Grid(sweep, **SWEEPS), "no_such_name"))
+
+    def test_a_copy(self):
+        grid = pickle.loads(pickle.dumps(Grid(sweep, p=[0.25], seed=[0]).inputs[0.25, 0]))
+        self.assertEqual(grid, Grid(sweep, p=[0.25], seed=[0]).inputs[0.25, 0])
+
+
+@needs("pandas")
 class Frames(unittest.TestCase):
     def test_a_row_for_each_job(self):
         frame = Grid(job, **JOBS).run(call=last)
-        self.assertEqual(frame.columns[:6], ("chance", "density", "seed", "flow", "speed", "stopped_share"))
-        self.assertEqual((len(frame), frame.axes), (24, ("chance", "density", "seed")))
-        (window,) = last(job(0.25, 0.2, 3, int(key_for(chance=0.25, density=0.2, seed=3), 16)))
-        row = frame[7]
-        self.assertEqual((row.chance, row.density, row.seed), (0.25, 0.2, 3))
-        self.assertEqual((row.flow, row.speed, row.stopped_share), (window.passing, window.speed, window.stopped_share))
-        self.assertEqual((row.distance, row.cars, row.stopped0), (window.distance, 10, window.stopped0))
-        self.assertEqual(repr(frame), "<frame of 24 rows by chance, density, seed>")
+        self.assertEqual(list(frame)[:4], ["flow", "speed", "stopped_share", "change_rate"])
+        self.assertEqual(list(frame)[-3:], ["key", "road", "ensemble"])
+        self.assertEqual((len(frame), list(frame.index.names)), (24, ["p", "density", "seed", "step"]))
+        (window,) = last(job(0.25, 0.2, 3, int(key_for(p=0.25, density=0.2, seed=3), 16)))
+        row = frame.iloc[7]
+        self.assertEqual(row.name, (0.25, 0.2, 3, 30))
+        for name in "flow", "speed", "stopped_share", "change_rate", "distance", "cars", "stopped0":
+            self.assertEqual(row[name], getattr(window, name))
+        self.assertEqual(row.key, key_for(p=0.25, density=0.2, seed=3))
 
     def test_a_row_for_each_point_of_a_sweep(self):
         frame = Grid(sweep, **SWEEPS).run()
-        self.assertEqual((len(frame), frame.axes), (24, ("chance", "seed", "density")))
-        self.assertEqual([row.density for row in frame[:3]], [0.1, 0.2, 0.4])
-        repeated = Grid(lambda seed, key: trlab.Sweep(5, Nasch(0), 50, 0, 1, cars=[5, 5], key=key), seed=[0, 1]).run()
-        self.assertEqual((repeated.axes, [row.point for row in repeated]), (("seed", "point"), [0, 1, 0, 1]))
+        self.assertEqual((len(frame), list(frame.index.names)), (24, ["p", "seed", "density"]))
+        self.assertEqual(list(frame.index.get_level_values("density")[:3]), [0.1, 0.2, 0.4])
+        self.assertEqual(list(frame.road[:4]), [0, 1, 2, 0])
+        means = trlab.means(frame, "seed")
+        self.assertEqual((list(means.index.names), list(means.n)), (["p", "density"], [4] * 6))
+
+    def test_points_of_one_density_are_repetitions(self):
+        frame = Grid(lambda seed, key: Sweep(5, Nasch(0.25), 50, 0, 10, cars=[5, 5, 9, 9], key=key), seed=[0, 1]).run()
+        means = trlab.means(frame, ["seed", "road"])
+        self.assertEqual((list(means.index), list(means.n)), ([0.1, 0.18], [4, 4]))
 
     def test_a_row_for_each_window_of_a_series(self):
         frame = Grid(job, **JOBS).run(call=lambda job: job.series(every=10))
-        self.assertEqual((len(frame), frame.axes), (72, ("chance", "density", "seed", "step")))
-        self.assertEqual([row.step for row in frame[:3]], [10, 20, 30])
+        self.assertEqual((len(frame), list(frame.index.names)), (72, ["p", "density", "seed", "step"]))
+        self.assertEqual(list(frame.index.get_level_values("step")[:4]), [10, 20, 30, 10])
 
-    def test_other_results(self):
-        grid = Grid(lambda seed, key: seed, seed=range(3))
-        self.assertEqual(grid.run(call=lambda seed: seed / 2)[1:][1].value, 1.0)
-        self.assertEqual(grid.run(call=lambda seed: {"a": seed, "b": "x"}).columns, ("seed", "a", "b"))
-        rows = grid.run(call=lambda seed: [{"a": 0}, {"a": seed}])
-        self.assertEqual((rows.axes, [row.a for row in rows]), (("seed", "point"), [0, 0, 0, 1, 0, 2]))
-        for result in "text", None, ["text"], [1]:
-            self.assertRaises(TypeError, grid.run, call=lambda seed, result=result: result)
+    def test_frames_of_detectors(self):
+        frame = Grid(job, p=[0.25], density=[0.2], seed=[0, 1]).run(call=lambda job: job.detectors([0, 25], every=15))
+        self.assertEqual((len(frame), list(frame.index.names)), (8, ["p", "density", "seed", "cell", "lane", "step"]))
+        self.assertEqual(list(trlab.means(frame, "seed", of="flow").n), [2] * 4)
+        self.assertRaisesRegex(FrameError, "same key", trlab.means, frame, "cell", of="flow")
+        self.assertRaisesRegex(FrameError, "cannot add up", trlab.per_run, frame)
+
+    def test_a_job_needs_a_measurement(self):
+        with tempfile.TemporaryDirectory() as folder:
+            self.assertRaisesRegex(ParameterError, "job.series", Grid(job, **JOBS).run, cache=folder)
+            self.assertEqual(list(Path(folder).iterdir()), [])
+
+    def test_a_wrong_call_is_seen_at_the_first_result(self):
+        seen = []
+        self.assertRaisesRegex(FrameError, "p=0.25, density=0.1, seed=0: a result must be", Grid(job, **JOBS).run, call=lambda job: "text",
+                               progress=lambda done, of: seen.append(done), at_once=1)
+        self.assertEqual(seen, [1])
 
     def test_errors_that_are_kept(self):
-        grid = Grid(lambda chance, key: Job(limit=5, length=9, cars=1, rule=Rickert(chance, 0), steps=2, key=key), chance=[0, 1])
-        frame = grid.run(call=last, errors="keep")
-        self.assertEqual((len(frame), list(frame.errors)), (0, [(0,), (1,)]))
-        self.assertIsInstance(frame.errors[0,], RejectedInputError)
-        self.assertEqual(repr(frame), "<frame of 0 rows by chance, 2 without a result>")
+        grid = Grid(lambda p, key: Job(limit=5, length=9, cars=1, rule=Rickert(p, 0) if p else Nasch(0), steps=2, key=key), p=[0, 1])
+        frame = grid.run(call=lambda job: job.series(), errors="keep")
+        self.assertEqual(len(frame), 3)
+        self.assertRegex(frame.error.dropna()[1].iloc[0], "RejectedInputError: fault line 5 cause 4\n.*rickert")
+        self.assertRaises(trlab.RejectedInputError, grid.run, call=lambda job: job.series())
 
-    def test_means(self):
+    def test_a_table_without_rows(self):
+        grid = Grid(job, p=[0.25], density=[0.2], seed=[0, 1])
+        self.assertRaisesRegex(FrameError, "no rows", grid.run, call=lambda job: job.series(every=10)[:0])
+        found = grid.run(call=lambda job: job.series(every=10)[:0 if job == grid.inputs[0.25, 0.2, 1] else 9], errors="keep")
+        self.assertEqual((len(found), found.error.notna().sum()), (4, 1))
+
+    def test_a_result_of_another_input(self):
+        other = job(0.25, 0.3, 0, 0)
+        self.assertRaisesRegex(FrameError, "results of this input", Grid(job, **JOBS).run, call=lambda job: last(other))
+
+    def test_versions(self):
         frame = Grid(job, **JOBS).run(call=last)
-        means = frame.means("seed")
-        self.assertEqual((len(means), means.axes, means[0].count), (6, ("chance", "density"), 4))
-        flows = [row.flow for row in frame if (row.chance, row.density) == ("1/2", 0.2)]
-        (mean,) = [row for row in means if (row.chance, row.density) == ("1/2", 0.2)]
-        self.assertEqual((mean.flow, mean.flow_error), (statistics.fmean(flows), statistics.stdev(flows) / 2))
-        self.assertGreater(mean.flow_error, 0)
-        self.assertEqual(frame.means("seed", of=["flow"]).columns, ("chance", "density", "count", "flow", "flow_error"))
-        self.assertTrue(math.isnan(frame[:1].means("seed")[0].flow_error))
-        self.assertEqual(frame[:0].means("seed").axes, ("chance", "density"))
-        self.assertRaisesRegex(ValueError, "'sed' is not an axis", frame.means, "sed")
-        self.assertRaisesRegex(ValueError, "'flw' is not a column", frame.means, "seed", of=["flw"])
-
-    def test_means_of_named_measurements(self):
-        rows = Grid(lambda seed, key: seed, seed=[1, 3]).run(
-            call=lambda seed: [{"kind": "gap", "value": seed, "note": str(seed)}, {"kind": "time", "value": 2 * seed, "note": ""}]
-        )
-        means = rows.means("seed")
-        self.assertEqual(means.columns, ("point", "count", "kind", "value", "value_error"))
-        self.assertEqual([(it.kind, it.value) for it in means], [("gap", 2), ("time", 4)])
-
-    def test_means_of_a_large_sample(self):
-        mean, error = mean_and_error([0.0, 1.0] * 50)
-        self.assertEqual((mean, round(error, 6)), (0.5, 0.050252))
-
-    def test_as_a_text_and_as_a_copy(self):
-        frame = Grid(sweep, **SWEEPS).run()
-        lines = frame.csv().splitlines()
-        self.assertEqual((len(lines), lines[0].split(",")), (25, list(frame.columns)))
-        copy = pickle.loads(pickle.dumps(frame))
-        self.assertEqual((copy.csv(), copy.axes), (frame.csv(), frame.axes))
-
-    @needs("pandas")
-    def test_pandas(self):
-        frame = Grid(job, **JOBS).run(call=last)
-        table = frame.to_pandas()
-        self.assertEqual(list(table.columns), list(frame.columns))
-        found = table.groupby(["chance", "density"], sort=False)["flow"]
-        means = frame.means("seed").to_pandas()
-        self.assertTrue(((found.mean().values - means["flow"]).abs() < 1e-12).all())
-        self.assertTrue(((found.sem().values - means["flow_error"]).abs() < 1e-12).all())
+        self.assertEqual(frame.attrs["trlab"]["parameters"], ["p", "density", "seed"])
 
     @needs("xarray")
     def test_xarray(self):
         data = Grid(sweep, **SWEEPS).run().to_xarray()
-        self.assertEqual(dict(data.sizes), {"chance": 2, "seed": 4, "density": 3})
-        (point,) = [it for it in sweep(0.5, 2, int(key_for(chance=0.5, seed=2), 16)).sweep() if it.cars == 10]
-        self.assertEqual(float(data.flow.sel(chance=0.5, seed=2, density=0.2)), point.passing)
+        self.assertEqual(dict(data.sizes), {"p": 2, "seed": 4, "density": 3})
+        (point,) = [it for it in sweep(0.5, 2, int(key_for(p=0.5, seed=2), 16)).sweep() if it.cars == 10]
+        self.assertEqual(float(data.flow.sel(p=0.5, seed=2, density=0.2)), point.flow)
 
 
+@needs("pandas")
 class Clusters(unittest.TestCase):
+    def same(self, frame, wanted):
+        import pandas
+
+        pandas.testing.assert_frame_equal(frame, wanted, check_exact=True)
+
     def test_by_files(self):
         grid = Grid(sweep, **SWEEPS)
-        self.assertEqual(list(grid.texts())[5], "chance_0.5_seed_1")
+        self.assertEqual(list(grid.named_inputs())[5], "p_0.5_seed_1")
         with tempfile.TemporaryDirectory() as folder:
-            script = write_inputs(folder, grid.texts(), per_task=3)
+            script = write_inputs(folder, grid.named_inputs(), per_task=3)
             self.assertEqual(os.system(f"sh {script}"), 0)
-            frame = grid.frame(read_tables(folder, Point, grid.texts()))
-        self.assertEqual(frame.csv(), grid.run().csv())
+            tables = read_tables(folder, Point)
+        self.same(grid.frame(tables), grid.run())
+        late = tables.pop("p_0.5_seed_1")
+        frame = grid.frame({**tables, "p_0.25_seed_0": OSError("cut off")})
+        self.assertEqual(list(frame.error.dropna()), ["OSError: cut off", "no result yet"])
+        self.same(trlab.means(frame[frame.error.isna()], "seed"), trlab.means(grid.run().drop([(0.25, 0), (0.5, 1)]), "seed"))
+        self.assertRaisesRegex(FrameError, "2 choices have no result", trlab.means, frame, "seed")
+        self.assertRaisesRegex(ParameterError, "'p_9' is not an input", grid.frame, {"p_9": late})
 
     def test_a_grid_that_was_stopped_goes_on(self):
         with tempfile.TemporaryDirectory() as folder:
-            for choice, window in Grid(job, **JOBS).results(call=last, cache=folder):
+            for _ in Grid(job, **JOBS).results(call=last, cache=folder):
                 break
-            frame = Grid(job, **JOBS).run(call=last, cache=folder)
-            self.assertEqual(frame.csv(), Grid(job, **JOBS).run(call=last).csv())
+            self.same(Grid(job, **JOBS).run(call=last, cache=folder), Grid(job, **JOBS).run(call=last))
             self.assertEqual(len(list(Path(folder).iterdir())), 24)
 
     def test_names_that_are_equal_in_files(self):
-        grid = Grid(lambda chance, key: sweep(0, 0, key), chance=["1/4", "1_4"])
-        self.assertRaisesRegex(ValueError, "same file name", grid.texts)
+        grid = Grid(lambda p, key: sweep(0, 0, key), p=["1/4", "1_4"])
+        self.assertRaisesRegex(ParameterError, "same file name", grid.named_inputs)
 
 
 if __name__ == "__main__":

@@ -34,7 +34,8 @@ from ._runs.calls import version
 from ._runs.cluster import read_tables, write_inputs
 from ._runs.location import find_program
 from ._runs.many import results, run_all
-from ._studies.grid import Grid, key_for
+from ._studies.grid import Grid
+from ._studies.keys import key_for
 from ._studies.study_file import read_study
 from ._version import __version__
 
@@ -42,10 +43,13 @@ _WITH_LIBRARIES = {
     "_results.following": ["Cars", "follow"],
     "_results.jams": ["Jam"],
     "_results.trajectories": ["Trajectories", "Trip"],
-    "_analysis.frames": ["UNITS", "means", "per_run", "to_si"],
-    "_analysis.estimates": ["Blocking", "Lifetime", "Peak", "blocking", "lifetime", "peak", "survival"],
+    "_analysis.blocking": ["Blocking", "blocking"],
     "_analysis.detectors": ["detectors", "passings"],
+    "_analysis.lifetimes": ["Lifetime", "lifetime", "survival"],
+    "_analysis.means": ["means", "per_run"],
+    "_analysis.peak": ["Peak", "peak"],
     "_analysis.plots": ["plot_means", "plot_space_time"],
+    "_analysis.units": ["UNITS", "to_si"],
 }
 
 __all__ = [

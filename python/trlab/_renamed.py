@@ -51,6 +51,9 @@ IN_TRAJECTORIES = {
 }
 """Attributes of `Trajectories`."""
 
+IN_GRID = {"texts": "`named_inputs()`", "frame_of": "`frame(results)`, with results by the names of `named_inputs()`"}
+"""Attributes of a `Grid`."""
+
 
 def renamed(owner: str, name: str, names: Mapping[str, str]) -> None:
     """Raises `RenamedError` if this is an old name of the owner."""

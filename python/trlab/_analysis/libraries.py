@@ -1,8 +1,10 @@
 """The libraries of the analysis, or an error that says how to install them."""
-from .._errors import MissingLibraryError
+from __future__ import annotations
 
-try:
-    import numpy as numpy
-    import pandas as pandas
-except ModuleNotFoundError as missing:
-    raise MissingLibraryError(f'this needs {missing.name}: pip install "trlab[analysis]"') from None
+from .._libraries import library
+
+# Before the imports, which say nothing about how to install a missing library.
+library("numpy"), library("pandas")
+
+import numpy as numpy  # noqa: E402
+import pandas as pandas  # noqa: E402

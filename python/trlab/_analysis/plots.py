@@ -1,66 +1,105 @@
-"""Plots on axes of matplotlib: style, scale and save them as any other."""
+"""Plots on axes of matplotlib: style, scale and save them like any others."""
 from __future__ import annotations
 
 from typing import Any, Optional
 
+from .columns import as_numbers
 from .libraries import numpy, pandas
-from .._errors import FrameError
-from .frames import UNITS
+from .units import label
+from .._errors import FrameError, ParameterError
+from .._inputs.numbers import MAX_SPEED, whole
+from .._libraries import library
 from .._results.snapshots import Snapshots
 
-_WORDS = {"flow_per_h": "flow (vehicles per h and lane)", "density_per_km": "density (vehicles per km and lane)",
-          "speed_km_per_h": "speed (km/h)"}
-
-
-def label(name: str) -> str:
-    """The label of an axis: the name of a column, and its unit."""
-    unit = UNITS.get(name, "")
-    return _WORDS.get(name) or name.replace("_", " ") + (f" ({unit})" if unit else "")
+_LINE = {"marker": "o", "markersize": 3, "linewidth": 1, "elinewidth": 1, "capsize": 2}
 
 
 def plot_means(
     means: pandas.DataFrame, x: str = "density", y: str = "flow", hue: Optional[str] = None, ax: Any = None, **style: Any
 ) -> Any:
-    """The means `y` against the parameter `x`, with bars of one standard error, on an axis of matplotlib, which is returned;
-    one curve for each value of the parameter `hue`. `style` goes to `Axes.errorbar`. `FrameError` if the frame has no
-    `y_sem` (see `means`), or several means at one x."""
-    import matplotlib.pyplot as pyplot
+    """Draw the means `y` against the parameter `x`, with bars of one standard error to both sides, and return the axes:
 
-    if f"{y}_sem" not in means:
-        raise FrameError(f"this frame has no `{y}_sem`: plot the frame that `means` returns")
-    flat = means.reset_index().sort_values(x, kind="stable")
-    shown = [x, hue] if hue else [x]
+        ax = trlab.plot_means(trlab.means(frame, over="seed"), hue="p")
+        ax.figure.savefig("diagram.pdf")
+
+    There is one curve for each value of the parameter `hue`. `ax` are axes of matplotlib, by default those of a new figure,
+    and `style` goes to `Axes.errorbar`, for example `marker="s"` or `linestyle="none"`. Labels have the units of `UNITS`.
+
+    Raises `FrameError` if the frame has no errors (see `means`), if there are several means at one `x` without a `hue`, and
+    if `ax` shows something else already."""
+    _need_means(means, x, y)
+    flat = means.reset_index()
+    if hue is not None and hue not in flat:
+        raise FrameError(f"{hue!r} is not a parameter of these means, which have {list(means.index.names)}")
+    shown = [x] if hue is None else [x, hue]
     if flat.duplicated(shown).any():
-        others = [name for name in means.index.names if name not in shown]
-        raise FrameError(f"there are several means at one {x}: select one value of {others}, or name it as `hue`")
-    ax = pyplot.gca() if ax is None else ax
-    for value, part in flat.groupby(hue, sort=False) if hue else [(None, flat)]:
-        name = {} if value is None else {"label": f"{hue} = {value}"}
-        ax.errorbar(part[x], part[y], yerr=part[f"{y}_sem"], **{"marker": "o", "markersize": 3, "capsize": 2, **name, **style})
-    ax.set(xlabel=label(x), ylabel=label(y))
-    if hue:
-        ax.legend()
-    return ax
+        various = [name for name in means.index.names if name not in shown and flat[name].nunique() > 1]
+        raise FrameError(f"there are several means at one {x}: select one value of {various}, or name it as `hue`")
+    axes = _axes(ax, label(x), label(y))
+    for value, curve in [(None, flat)] if hue is None else flat.groupby(hue, sort=False):
+        curve = curve.sort_values(x, kind="stable")
+        named = {} if hue is None else {"label": value}
+        axes.errorbar(curve[x], curve[y], yerr=curve[f"{y}_sem"], **{**_LINE, **named, **style})
+    if hue is not None:
+        axes.legend(title=label(hue))
+    return axes
 
 
 def plot_space_time(snapshots: Snapshots, lane: int = 0, ax: Any = None, limit: Optional[int] = None, **style: Any) -> Any:
-    """The space-time diagram of a lane as `Axes.imshow` draws it, and its image: `image.axes` is the axis, and
-    `image.colorbar` the scale of speeds. Time runs down, empty cells are white; `limit` is the highest speed of the scale."""
-    import matplotlib.pyplot as pyplot
+    """Draw the space-time diagram of a lane and return the axes: the speed of the car in each cell (cells per step) against
+    its position, with time running down. Empty cells are white.
 
+        ax = trlab.plot_space_time(job.run(every=10, first=1000))
+        ax.figure.savefig("jams.png", dpi=200)
+
+    `limit` is the highest speed of the scale, by default that of the snapshots: give the limit of the job to compare
+    diagrams. `ax` are axes of matplotlib, by default those of a new figure, and `style` goes to `Axes.imshow`. The image is
+    `ax.images[-1]`, and its scale `ax.images[-1].colorbar`. A diagram shows every cell only if it has as many pixels:
+    choose the size of the figure and `dpi` for it.
+
+    Raises `ParameterError` unless the snapshots are at equal distances of steps, which the time axis needs, and for a lane
+    that the road does not have."""
     steps = [snapshot.step for snapshot in snapshots]
     every = {after - before for before, after in zip(steps, steps[1:])} or {1}
-    if not steps or len(every) > 1:
-        raise ValueError("a space-time diagram needs snapshots at equal distances of steps")
-    (distance,) = every
-    speeds = snapshots.speeds(dtype=numpy.float32)[:, lane]
-    ax = pyplot.gca() if ax is None else ax
-    fastest = limit if limit is not None else int(numpy.nanmax(speeds, initial=0))
-    low, high = steps[0] - distance / 2, steps[-1] + distance / 2
-    image = ax.imshow(speeds, **{
-        "aspect": "auto", "interpolation": "nearest", "extent": (-0.5, speeds.shape[1] - 0.5, high, low),
-        "cmap": pyplot.get_cmap("viridis", fastest + 1), "vmin": -0.5, "vmax": fastest + 0.5, **style,
+    if not steps or len(every) > 1 or min(every) < 1:
+        raise ParameterError("a space-time diagram needs snapshots at equal distances of steps")
+    lanes = snapshots.speeds(dtype=numpy.float32)
+    speeds = lanes[:, whole("lane", lane, 0, lanes.shape[1] - 1)]
+    fastest = max(1, int(numpy.nanmax(speeds, initial=0)))
+    highest = fastest if limit is None else whole("limit", limit, fastest, MAX_SPEED)
+    axes = _axes(ax, "position (cells)", "time (steps)")
+    half = min(every) / 2
+    image = axes.imshow(speeds, **{
+        "aspect": "auto", "interpolation": "nearest", "extent": (-0.5, speeds.shape[1] - 0.5, steps[-1] + half, steps[0] - half),
+        "cmap": library("matplotlib.pyplot").get_cmap("viridis", highest + 1), "vmin": -0.5, "vmax": highest + 0.5, **style,
     })
-    ax.set(xlabel="position (cells)", ylabel="time (steps)")
-    ax.figure.colorbar(image, ax=ax, label=label("speed"))
-    return image
+    scale = axes.figure.colorbar(image, ax=axes, label=label("speed"))
+    scale.set_ticks(range(0, highest + 1, 1 if highest < 10 else 5))
+    return axes
+
+
+def _need_means(means: pandas.DataFrame, x: str, y: str) -> None:
+    """Raises `FrameError` unless the frame has means with errors to draw."""
+    if y not in means or f"{y}_sem" not in means:
+        raise FrameError(
+            f"this frame has no means `{y}` with errors `{y}_sem`: plot the frame that `trlab.means(frame, over)` returns, after "
+            "`per_run` if it has windows"
+        )
+    if x not in (*means, *means.index.names):
+        raise FrameError(f"{x!r} is not a parameter of these means, which have {list(means.index.names)}")
+    values, errors = as_numbers(means[y]), as_numbers(means[f"{y}_sem"])
+    if (numpy.isnan(errors) & ~numpy.isnan(values)).any():
+        raise FrameError(
+            f"some `{y}_sem` are NaN, because a single run has no error: repeat these runs, or leave them out with "
+            "`means[means.n > 1]`"
+        )
+
+
+def _axes(ax: Any, across: str, up: str) -> Any:
+    """The given axes or those of a new figure, with these labels. Raises `FrameError` if they have other ones."""
+    axes = library("matplotlib.pyplot").subplots()[1] if ax is None else ax
+    for old, new in (axes.get_xlabel(), across), (axes.get_ylabel(), up):
+        if old not in ("", new):
+            raise FrameError(f"these axes show {old}, not {new}: draw on other axes, and change labels after the last curve")
+    axes.set(xlabel=across, ylabel=up)
+    return axes

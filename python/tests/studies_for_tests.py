@@ -1,0 +1,57 @@
+"""Random studies, as the records of their windows and as the frames that trlab makes of them."""
+import itertools
+import math
+import statistics
+from collections import namedtuple
+from fractions import Fraction
+
+from tests.libraries import hypothesis
+from trlab import Table, Window
+from trlab._analysis.frames import tidy
+
+st = hypothesis.strategies
+
+NAMES = ["p", "length", "site"]
+
+
+def known(key, cars=1, cells=10, ensemble="e"):
+    """What is known of an input with one road."""
+    return {"key": f"{key:064x}", "cars": [cars], "cells": cells, "ensembles": [ensemble]}
+
+
+class Study:
+    """Parameters `names` besides `seed`, records of rows, and the results that became `frame`."""
+
+    def __init__(self, names, results, runs):
+        self.names, self.results, self.runs, self.fields = names, results, runs, (*names, "seed")
+        self.frame = tidy(results, self.fields, runs)
+        self.seeds = len({place[-1] for place in results})
+
+    def expected(self):
+        """The number, mean and standard error of the flow over runs, by statistics and exact fractions."""
+        groups = {}
+        for place, rows in self.results.items():
+            flow = Fraction(sum(row.distance for row in rows), rows[0].cells * sum(row.steps for row in rows))
+            groups.setdefault(tuple(place[:-1]), []).append(float(flow))
+        return {place: (len(its), statistics.fmean(its), error(its)) for place, its in groups.items()}
+
+
+def error(values):
+    return statistics.stdev(values) / math.sqrt(len(values)) if len(values) > 1 else math.nan
+
+
+@st.composite
+def studies(draw):
+    names = NAMES[: draw(st.integers(0, 3))]
+    values = [draw(st.lists(st.sampled_from([0, 1, 2, 0.25, "a", "b"]), min_size=1, max_size=3, unique=True)) for _ in names]
+    seeds, windows = range(draw(st.integers(1, 5))), draw(st.integers(1, 4))
+    cells, cars, steps = draw(st.integers(2, 50)), draw(st.integers(1, 2)), draw(st.integers(1, 9))
+    choice, results, runs = namedtuple("Choice", [*names, "seed"]), {}, {}
+    for number, place in enumerate(itertools.product(*values, seeds)):
+        counts = st.integers(0, cars * steps)
+        rows = [
+            Window(steps * (at + 1), cars, cells, steps, *(draw(counts) for _ in range(3)), 0, *(draw(counts) for _ in range(6)))
+            for at in range(windows)
+        ]
+        results[choice(*place)], runs[choice(*place)] = Table(Window, rows), known(number, cars, cells, str(place[:-1]))
+    return Study(names, results, runs)

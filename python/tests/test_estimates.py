@@ -1,0 +1,263 @@
+"""Estimates and their errors: how often the truth is within two of them, and what is refused."""
+import math
+import unittest
+
+import trlab
+from tests.libraries import numpy, pandas
+from trlab import EstimateError, FrameError, Grid, Job, Nasch, SlowToStart, moving, random_cells
+
+
+def runs_of(rows, levels):
+    """A frame of runs, each with its own key."""
+    frame = pandas.DataFrame(rows)
+    if "key" not in frame:
+        frame["key"] = [f"{number:064x}" for number in range(len(frame))]
+    return frame.assign(road=0, ensemble=frame[[name for name in levels if name != "seed"]].astype(str).agg("/".join, axis=1)).set_index(levels)
+
+
+def autoregressive(noise, memory=0.9):
+    """Series with correlations memory**k and the mean 0, one in each row."""
+    found = numpy.empty_like(noise)
+    found[:, 0] = noise[:, 0] / math.sqrt(1 - memory**2)
+    for at in range(1, noise.shape[1]):
+        found[:, at] = memory * found[:, at - 1] + noise[:, at]
+    return found
+
+
+class Blocking(unittest.TestCase):
+    def setUp(self):
+        self.numbers = numpy.random.default_rng(1)
+
+    def test_it_covers_correlated_series(self):
+        found, naive = [], 0
+        for series in autoregressive(self.numbers.normal(size=(400, 4096))):
+            try:
+                found.append(trlab.blocking(series))
+            except EstimateError:
+                continue
+            naive += abs(found[-1].mean) < 2 * series.std(ddof=1) / 64
+        self.assertGreater(len(found), 380)
+        self.assertGreater(numpy.mean([abs(it.mean) < 2 * it.sem for it in found]), 0.90)
+        self.assertLess(naive / len(found), 0.5)
+        # The variance of the mean is (1 + 0.9) / (1 - 0.9) = 19 times that of independent values; blocks miss a little of it.
+        self.assertLess(abs(numpy.mean([it.inefficiency for it in found]) / 19 - 1), 0.15)
+        self.assertLess(abs(numpy.mean([it.sem for it in found]) / numpy.std([it.mean for it in found]) - 1), 0.12)
+        self.assertLess(abs(numpy.std([it.sem for it in found]) / numpy.mean([it.sem_error for it in found]) - 1), 0.4)
+
+    def test_independent_values_need_no_blocks(self):
+        series = self.numbers.normal(size=1024)
+        blocks = [trlab.blocking(self.numbers.normal(size=1024)).block for _ in range(50)]
+        self.assertLessEqual(numpy.median(blocks), 16)
+        self.assertAlmostEqual(trlab.blocking(series).mean, series.mean())
+
+    def test_the_formulas(self):
+        # 64 values, which are 0 or 1 in pairs: blocks of 2 lose nothing, and blocks of 16 are the first that are long enough.
+        pairs = numpy.repeat(self.numbers.integers(0, 2, size=32), 2).astype(float)
+        found = trlab.blocking(numpy.tile(pairs, 8))
+        level = numpy.tile(pairs, 8).reshape(-1, found.block).mean(axis=1)
+        self.assertAlmostEqual(found.sem, level.std(ddof=1) / math.sqrt(len(level)))
+        self.assertAlmostEqual(found.sem_error, found.sem / math.sqrt(2 * (len(level) - 1)))
+
+    def test_a_rest_that_fills_no_block_counts_in_the_mean(self):
+        series = [*self.numbers.normal(size=64), 1000.0]
+        self.assertAlmostEqual(trlab.blocking([*numpy.zeros(40), *numpy.ones(41)] * 30).mean, 41 / 81)
+        try:
+            self.assertAlmostEqual(trlab.blocking(series).mean, numpy.mean(series))
+        except EstimateError:
+            pass
+
+    def test_equal_values(self):
+        for value in 0, 0.1, 7:
+            self.assertEqual(trlab.blocking([value] * 40), (value, 0.0, 0.0, 1, 1.0))
+        self.assertEqual(trlab.blocking([0, 1] * 32)[:2], (0.5, 0.0))
+
+    def test_series_without_an_error(self):
+        for wrong in ([0.0] * 31, [[0.0] * 40] * 2, [*range(40), math.nan], [*range(40), math.inf], ["1"] * 40, [1j] * 40,
+                      range(200), self.numbers.normal(size=512).cumsum()):
+            self.assertRaises((EstimateError, ValueError), trlab.blocking, wrong)
+        with self.assertRaisesRegex(EstimateError, "drifts"):
+            trlab.blocking(range(200))
+
+    def test_one_run_of_a_grid(self):
+        grid = Grid(lambda density, seed, key: Job(limit=5, length=50, density=density, rule=Nasch(0.25), steps=20000, key=key,
+                                                   start=random_cells(key)), density=[0.2, 0.3], seed=range(2))
+        flow = grid.run(call=lambda job: job.series(every=50)).flow
+        self.assertRaisesRegex(EstimateError, "several values of .*density.*seed", trlab.blocking, flow)
+        one = flow.xs((0.2, 1), level=("density", "seed"))
+        table = grid.inputs[0.2, 1].series(every=50).to_pandas().flow
+        self.assertEqual(trlab.blocking(one), trlab.blocking(table))
+        self.assertEqual(len(flow.groupby(["density", "seed"]).apply(trlab.blocking)), 4)
+        for part in one.drop(400), one[::-1], pandas.concat([one, one]), one.sample(frac=1, random_state=1):
+            self.assertRaisesRegex(EstimateError, "gaps", trlab.blocking, part)
+        self.assertEqual(trlab.blocking(one[50:]), trlab.blocking(list(one[50:])))
+
+
+class Peaks(unittest.TestCase):
+    AT = numpy.linspace(0.05, 0.13, 9)
+
+    def setUp(self):
+        self.numbers = numpy.random.default_rng(1)
+
+    def curve(self, flow, at=AT, runs=10, noise=0.002, shared=0.0):
+        common = self.numbers.normal(size=runs) * shared
+        rows = [
+            {"density": x, "seed": seed, "flow": flow(x) + noise * self.numbers.normal() + common[seed],
+             "key": f"{seed if shared else 1000 * seed + number:064x}"}
+            for number, x in enumerate(at) for seed in range(runs)
+        ]
+        return runs_of(rows, ["density", "seed"])
+
+    @staticmethod
+    def parabola(x):
+        return 0.318 - 20 * (x - 0.086) ** 2
+
+    def test_it_covers_a_parabola_also_with_shared_keys(self):
+        for shared, runs in (0.0, 10), (0.002, 30):
+            z = []
+            for _ in range(80):
+                try:
+                    found = trlab.peak(self.curve(self.parabola, runs=runs, shared=shared), over="seed")
+                except EstimateError:
+                    continue
+                z.append(((found.y - 0.318) / found.y_sem, (found.x - 0.086) / found.x_sem))
+            self.assertGreater(len(z), 65)
+            for its in numpy.array(z).T:
+                self.assertGreater((abs(its) < 2).mean(), 0.87)
+                self.assertLess(abs(its.mean()), 0.4)
+                self.assertLess(abs(its.std() - 1), 0.3)
+
+    def test_it_is_less_than_the_highest_mean(self):
+        frames = [self.curve(self.parabola, runs=5, noise=0.004) for _ in range(40)]
+        highest = numpy.mean([trlab.means(frame, "seed").flow.max() for frame in frames])
+        fitted = []
+        for frame in frames:
+            try:
+                fitted.append(trlab.peak(frame, "seed").y)
+            except EstimateError:
+                continue
+        self.assertGreater(highest - 0.318, 2 * abs(numpy.mean(fitted) - 0.318))
+
+    def test_what_it_returns(self):
+        frame = self.curve(self.parabola, runs=7, noise=1e-4)
+        found = trlab.peak(frame, over="seed", within=0.05)
+        self.assertEqual((found.n, found.points - found.degree - 1), (7, found.dof))
+        more = frame.assign(limit=5, step=30).set_index(["limit", "step"], append=True)
+        self.assertEqual(trlab.peak(more, over="seed"), found)
+        scaled = trlab.peak(frame.assign(flow=frame.flow * 3600), over="seed")
+        numpy.testing.assert_allclose([scaled.x, scaled.x_sem, scaled.y, scaled.y_sem], [found.x, found.x_sem, 3600 * found.y, 3600 * found.y_sem],
+                                      rtol=1e-6)
+
+    def test_curves_without_a_peak(self):
+        at = numpy.linspace(0.13, 0.21, 12)
+        for words, frame in (
+            ("kink", self.curve(lambda x: min(5 * x, 1 - x), at, 8, 0.0005)),
+            ("points are within", self.curve(lambda x: x, at, 8, 0.0005)),
+            ("points are within", self.curve(lambda x: -x, at, 8, 0.0005)),
+            ("points are within", self.curve(self.parabola, self.AT[:4])),
+            ("not bent significantly|kink|points are within", self.curve(lambda x: 0.3, noise=0.001)),
+            ("at least 5 runs", self.curve(self.parabola, runs=4)),
+            ("all equal", self.curve(self.parabola, noise=0.0)),
+        ):
+            self.assertRaisesRegex(EstimateError, words, trlab.peak, frame, over="seed")
+
+    def test_frames_that_are_no_curve(self):
+        frame = self.curve(self.parabola)
+        two = pandas.concat({0.1: frame, 0.2: frame.assign(ensemble="x")}, names=["p"])
+        self.assertRaisesRegex(EstimateError, r"several curves: select one value of \['p'\]", trlab.peak, two, over="seed")
+        self.assertRaisesRegex(EstimateError, "needs the levels", trlab.peak, frame, over="sed")
+        self.assertRaisesRegex(EstimateError, "needs the levels", trlab.peak, frame, over="seed", y="speed")
+        self.assertRaisesRegex(EstimateError, "share between 0 and 1", trlab.peak, frame, over="seed", within=5)
+        self.assertRaises((EstimateError, FrameError), trlab.peak, trlab.means(frame, "seed"), over="seed")
+        shared = frame.assign(key=[f"{number // 2:064x}" for number in range(len(frame))])
+        self.assertRaises((EstimateError, FrameError), trlab.peak, shared, over="seed")
+        partly = self.curve(self.parabola, shared=0.001, runs=20)
+        keys = partly.key.to_list()
+        keys[len(keys) // 2] = "f" * 64
+        self.assertRaisesRegex(EstimateError, "share keys", trlab.peak, partly.assign(key=keys), over="seed")
+
+
+class Lifetimes(unittest.TestCase):
+    def test_the_formula(self):
+        found = trlab.lifetime([3, 5, 2, 10], [True, True, False, False])
+        self.assertEqual(found, (10.0, 10 / math.sqrt(2), 2, 2))
+
+    def test_half_may_be_cut_off(self):
+        numbers, z = numpy.random.default_rng(1), []
+        for _ in range(200):
+            times = numbers.exponential(1000, size=60)
+            found = trlab.lifetime(numpy.minimum(times, 700), times <= 700)
+            z.append((found.mean - 1000) / found.sem)
+        self.assertLess(abs(numpy.mean(z)), 0.3)
+        self.assertGreater((abs(numpy.array(z)) < 2).mean(), 0.9)
+
+    def test_survival_with_an_example_by_hand(self):
+        # At 2 one of 5 lives ends, at 3 one of 4 ends and one is cut off, at 5 one of 2 ends.
+        found = trlab.survival([2, 3, 3, 5, 8], [True, True, False, True, False])
+        self.assertEqual((list(found.index), list(found.at_risk)), ([0, 2, 3, 5, 8], [5, 5, 4, 2, 1]))
+        numpy.testing.assert_allclose(found.survival, [1, 4 / 5, 3 / 5, 3 / 10, 3 / 10])
+        greenwood = numpy.cumsum([0, 1 / (5 * 4), 1 / (4 * 3), 1 / (2 * 1), 0])
+        numpy.testing.assert_allclose(found.survival_sem, found.survival * numpy.sqrt(greenwood))
+
+    def test_survival_without_cuts_is_the_share_of_longer_lives(self):
+        times = numpy.random.default_rng(2).integers(1, 30, size=50)
+        found = trlab.survival(times, [True] * 50)
+        for time, row in found.iterrows():
+            share = numpy.mean(times > time)
+            self.assertAlmostEqual(row.survival, share)
+            if share:
+                self.assertAlmostEqual(row.survival_sem, math.sqrt(share * (1 - share) / 50))
+        self.assertTrue(math.isnan(found.survival_sem.iloc[-1]))
+
+    def test_survival_of_an_exponential_law(self):
+        times = numpy.random.default_rng(3).exponential(100, size=2000)
+        found = trlab.survival(numpy.minimum(times, 150), times < 150)
+        inside = abs(found.survival - numpy.exp(-found.index / 100)) < 3 * found.survival_sem + 0.01
+        self.assertTrue(inside[found.index < 140].all())
+
+    def test_lives_that_say_nothing(self):
+        for call in trlab.lifetime, trlab.survival:
+            for words, times, observed in (
+                ("above 0", [0, 5], [True, True]),
+                ("above 0", [-1, 5], [True, True]),
+                ("not finite", [math.nan, 5], [True, True]),
+                ("not finite", [math.inf, 5], [True, True]),
+                ("`times` must be one list of numbers", ["3", 5], [True, True]),
+                ("True or False", [1, 2], [1, 3]),
+                ("`observed` has 1 values that are missing", [1, 2], [True, None]),
+                ("`observed` must be one list of numbers", [1, 2], ["yes", "no"]),
+                ("as many", [1, 2], [True]),
+                ("as many", [], []),
+                ("one list", numpy.ones((2, 2)), [True, True]),
+                ("must be a list", 5, True),
+            ):
+                with self.subTest(words, times=times), self.assertRaisesRegex(EstimateError, words):
+                    call(times, observed)
+        self.assertRaisesRegex(EstimateError, "no life ended in 7 steps", trlab.lifetime, [3, 4], [False, False])
+        self.assertEqual(list(trlab.survival([3, 4], [False, False]).survival), [1, 1, 1])
+
+    def test_lives_of_several_inputs(self):
+        index = pandas.MultiIndex.from_product([[0.1, 0.2], [0, 1]], names=["density", "seed"])
+        lives = pandas.DataFrame({"time": [3, 5, 4, 4], "observed": [True, False, True, True]}, index=index)
+        for call in trlab.lifetime, trlab.survival:
+            self.assertRaisesRegex(EstimateError, r"several values of \['density', 'seed'\]", call, lives.time, lives.observed)
+            self.assertRaisesRegex(EstimateError, "of the same run", call, lives.droplevel("density").time, lives.droplevel("density").observed)
+            self.assertRaisesRegex(EstimateError, "same runs", call, lives.time, lives.observed[::-1])
+            self.assertRaisesRegex(EstimateError, "one column", call, lives, lives.observed)
+        means = {density: trlab.lifetime(runs.time, runs.observed).mean for density, runs in lives.groupby("density")}
+        self.assertEqual(means, {0.1: 8, 0.2: 4})
+
+    def test_of_runs(self):
+        lives = Grid(lambda seed, key: Job(limit=5, length=500, density=0.18, rule=SlowToStart("1/64", "3/4"), start=moving, steps=500,
+                                           key=key), seed=range(12)).run(call=lambda job: job.time_until(lambda it: it.stopped > 0, every=10))
+        found = trlab.lifetime(lives.time, lives.observed)
+        self.assertEqual((found.observed, found.mean), (lives.observed.sum(), lives.time.sum() / lives.observed.sum()))
+        self.assertEqual(found.observed + found.censored, 12)
+
+    def test_a_mean_of_censored_times_is_refused(self):
+        lives = runs_of([{"seed": 0, "time": 3, "observed": True}, {"seed": 1, "time": 5, "observed": False}], ["seed"])
+        self.assertRaisesRegex(FrameError, "trlab.lifetime", trlab.means, lives, "seed")
+        self.assertEqual(trlab.means(lives.assign(observed=True), "seed").time[0], 4)
+
+
+if __name__ == "__main__":
+    unittest.main()

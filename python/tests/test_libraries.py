@@ -1,0 +1,71 @@
+"""Without numpy, pandas and matplotlib: inputs, runs and rows work, and the analysis says what is missing."""
+import os
+import subprocess
+import sys
+import unittest
+from pathlib import Path
+
+from trlab import find_program
+
+SCRIPT = """
+import sys
+import trlab
+from trlab import Grid, Job, Nasch, Snapshots, Sweep
+
+class Hidden:
+    def find_spec(self, name, path=None, target=None):
+        if name.split(".")[0] in MISSING:
+            raise ModuleNotFoundError(f"No module named {name!r}", name=name)
+
+sys.meta_path.insert(0, Hidden())
+job = Job(limit=5, length=20, cars=4, rule=Nasch(0.25), steps=20)
+grid = Grid(lambda seed, key: Job(limit=5, length=20, cars=4, rule=Nasch(0.25), steps=20, key=key), seed=[0, 1])
+table = job.series(every=10)
+assert [row.flow for row in table] and len(dict(grid.results(call=lambda job: job.series()))) == 2 and grid.named_inputs()
+ran = []
+calls = {
+    "Grid.run": lambda: grid.run(call=lambda job: ran.append(1) or 1), "to_pandas": table.to_pandas,
+    "Grid.frame": lambda: grid.frame({}), "plot_space_time": lambda: trlab.plot_space_time(job.run()),
+    **{name: lambda name=name: getattr(trlab, name) for name in ("means", "per_run", "peak", "blocking", "lifetime", "plot_means", "to_si")},
+}
+for name, call in calls.items():
+    try:
+        call()
+        said = "nothing"
+    except trlab.MissingLibraryError as error:
+        assert isinstance(error, ImportError) and isinstance(error, trlab.TrlabError)
+        said = str(error)
+    print(name, said, sep=": ")
+assert not ran or "numpy" not in MISSING and "pandas" not in MISSING
+"""
+
+
+def said(*missing):
+    """What each call says if these libraries are missing, in a Python that may have them or not."""
+    script = f"MISSING = {missing!r}\n{SCRIPT}"
+    place = {**os.environ, "PYTHONPATH": str(Path(__file__).parents[1]), "TRLAB": find_program(), "MPLBACKEND": "Agg"}
+    found = subprocess.run([sys.executable, "-B", "-c", script], capture_output=True, text=True, env=place)
+    assert not found.returncode, found.stderr
+    return dict(line.split(": ", 1) for line in found.stdout.splitlines())
+
+
+class Libraries(unittest.TestCase):
+    def test_what_to_install(self):
+        for missing in ("numpy", "pandas", "matplotlib"), ("pandas",):
+            lines = said(*missing)
+            self.assertEqual(len(lines), 11)
+            for name, line in lines.items():
+                self.assertRegex(line, "^this needs (numpy|pandas), which is not installed: pip install numpy pandas matplotlib$", name)
+
+    def test_only_plots_need_matplotlib(self):
+        try:
+            import pandas  # noqa: F401
+        except ModuleNotFoundError:
+            self.skipTest("pandas is not installed")
+        lines = said("matplotlib")
+        self.assertEqual([name for name, line in lines.items() if line != "nothing"], ["plot_space_time"])
+        self.assertIn("this needs matplotlib", lines["plot_space_time"])
+
+
+if __name__ == "__main__":
+    unittest.main()

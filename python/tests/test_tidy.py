@@ -1,0 +1,224 @@
+"""Results as frames: whatever a call returns, a column means what its name says, or there is an error."""
+import io
+import unittest
+from collections import namedtuple
+from fractions import Fraction
+
+import trlab
+from tests.libraries import numpy, pandas
+from tests.studies_for_tests import known
+from trlab import FrameError, Grid, Job, Nasch, Point, Rickert, Sweep, Table, Window, random_cells
+from trlab._analysis.frames import tidy
+
+WINDOW = Window(10, 2, 10, 10, 5, 1, 0, 50000, *[0] * 6)
+
+
+def frame_of(result, names=("seed",), place=(0,), roads=None, keep=False):
+    """The frame of one result."""
+    return tidy({place: result}, list(names), {place: roads or known(0, cars=2)}, keep)
+
+
+def frame_by_seed(results):
+    return tidy({(seed,): result for seed, result in enumerate(results)}, ["seed"], {(seed,): known(seed, 2) for seed in range(len(results))})
+
+
+def job(density, seed, key):
+    return Job(limit=5, length=50, density=density, rule=Nasch(0.25), start=random_cells(key), steps=30, key=key)
+
+
+def windows(job):
+    return job.series(every=10)
+
+
+class Results(unittest.TestCase):
+    def test_a_row_in_any_form_is_the_same_row(self):
+        wanted = frame_of(Table(Window, [WINDOW]))
+        self.assertEqual((wanted.flow[0, 10], wanted.density[0, 10]), (0.05, 0.2))
+        for same in WINDOW, [WINDOW], WINDOW._asdict(), [WINDOW._asdict()], Table(Window, [WINDOW]).to_pandas():
+            pandas.testing.assert_frame_equal(frame_of(same), wanted)
+
+    def test_counts_and_a_value_of_ones_own(self):
+        frame = frame_of({**WINDOW._asdict(), "gap": 4.5})
+        self.assertEqual((frame.flow[0, 10], frame.gap[0, 10]), (0.05, 4.5))
+        self.assertNotIn("flow_millionths", frame)
+        self.assertRaisesRegex(FrameError, "`flow` of the result is not", frame_of, {**WINDOW._asdict(), "flow": 0.06})
+
+    def test_numbers_flags_and_rows_with_names(self):
+        Measured = namedtuple("Measured", "mean note")
+        for result, column, value in (
+            (0.5, "value", 0.5), (3, "value", 3), (True, "value", True), (numpy.int64(3), "value", 3), (numpy.bool_(True), "value", True),
+            (Fraction(1, 4), "value", 0.25), ({"x": 7}, "x", 7), (Measured(2, "a"), "note", "a"), (pandas.Series({"x": 7}), "x", 7),
+            (trlab.Duration(30, False), "observed", False),
+        ):
+            self.assertEqual(frame_of(result)[column].iloc[0], value)
+
+    def test_numbers_of_numpy_have_means(self):
+        results = [{"x": numpy.int64(seed), "y": numpy.float32(seed), "is_jammed": numpy.bool_(seed > 1), "flag": seed > 0} for seed in range(4)]
+        (row,) = trlab.means(frame_by_seed(results), "seed").itertuples()
+        self.assertEqual((row.n, row.x, row.y, row.is_jammed, row.flag), (4, 1.5, 1.5, 0.5, 0.75))
+
+    def test_a_small_type_does_not_overflow(self):
+        frame = frame_by_seed([{"x": numpy.int8(100)}, {"x": numpy.int8(120)}])
+        self.assertEqual(trlab.means(frame.astype({"x": "int8"}), "seed").x[0], 110)
+        counts = frame_of(WINDOW._replace(distance=100, steps=100))
+        small = counts.astype({name: "int8" for name in ("cars", "cells", "steps", "distance")})
+        self.assertEqual((small.dtypes["cells"], trlab.per_run(small).flow[0]), ("int8", 0.1))
+
+    def test_one_missing_value_does_not_remove_a_column(self):
+        for rows in [{"x": None}, {"x": 1}], [{}, {"x": 1}], [{"x": numpy.nan}, {"x": 1}], [{"y": 1}, {"x": 1}]:
+            self.assertRaisesRegex(FrameError, "missing or not finite", trlab.means, frame_by_seed(rows), "seed")
+        self.assertRaisesRegex(FrameError, "not numbers", trlab.means, frame_by_seed([{"x": "1"}, {"x": 1}]), "seed")
+
+    def test_texts_are_not_averaged(self):
+        self.assertEqual(list(trlab.means(frame_by_seed([{"x": 1, "note": "a"}, {"x": 3, "note": "b"}]), "seed")), ["n", "x", "x_sem"])
+
+    def test_names_that_are_taken(self):
+        for name in "seed", "key", "road", "ensemble", "error", "requested_density":
+            self.assertRaisesRegex(FrameError, f"`{name}`, which is a parameter or reserved", frame_of, {name: 0.2})
+            self.assertRaisesRegex(FrameError, f"`{name}`", frame_of, pandas.DataFrame({name: [1]}))
+            self.assertRaisesRegex(FrameError, f"`{name}`", frame_of, pandas.DataFrame({name: [1], "x": 1}).set_index(name))
+
+    def test_a_density_is_that_of_the_road(self):
+        for names, place in (["density"], (0.2,)), (["seed"], (0,)):
+            for wrong in {"density": 0.9}, {"cars": 7}, {"cells": 50}, {"density": None}, pandas.DataFrame({"density": [0.2, 0.3], "step": [1, 2]}):
+                self.assertRaises(FrameError, frame_of, wrong, names, place)
+            frame = frame_of({"density": 0.2, "cars": 2, "x": 1}, names, place)
+            self.assertEqual(frame.reset_index().density[0], 0.2)
+        self.assertRaisesRegex(FrameError, "results of this input", frame_of, Table(Window, [WINDOW._replace(cars=3)]))
+
+    def test_numbers_in_other_units(self):
+        for wrong in {"flow": 463700}, {"flow": -0.1}, {"speed": 36.0}, {"stopped_share": 50}, {"flow": "0.4"}:
+            self.assertRaises(FrameError, frame_of, wrong)
+        self.assertRaisesRegex(FrameError, "row.flow", frame_of, {"flow_millionths": 463700})
+
+    def test_rows_that_nothing_tells_apart(self):
+        for rows in [{"x": 0}, {"x": 1}], [{"x": 0, "step": 5}, {"x": 1, "step": 5}], pandas.DataFrame({"x": [0, 1]}), [1, 2], \
+                Table(Window, [WINDOW, WINDOW]), pandas.DataFrame({"x": [0, 1]}, index=pandas.Index([3, 3], name="cell")):
+            self.assertRaises(FrameError, frame_of, rows)
+        for rows in [{"x": 0, "step": 5}, {"x": 1, "step": 6}], pandas.DataFrame({"x": [0, 1], "step": [5, 6]}):
+            self.assertEqual(list(frame_of(rows).index.names), ["seed", "step"])
+        frame = frame_of(pandas.DataFrame({"x": [0, 1]}).rename_axis("passing"))
+        self.assertEqual(list(frame.index.names), ["seed", "passing"])
+        self.assertRaisesRegex(FrameError, "same key", trlab.means, frame, "passing")
+
+    def test_results_that_are_not_rows(self):
+        road = Job(limit=5, length=9, cars=1, rule=Nasch(0), steps=1).run()
+        for wrong in "text", None, ["text"], [[1, 2]], 1j, object(), {1: 2}:
+            self.assertRaises(FrameError, frame_of, wrong)
+        for snapshots in road, road[0], list(road):
+            self.assertRaisesRegex(FrameError, "job.series", frame_of, snapshots)
+
+    def test_no_rows(self):
+        for empty in Table(Window), [], pandas.DataFrame({"x": []}):
+            self.assertRaisesRegex(FrameError, "seed=0: the result has no rows", frame_of, empty)
+            frame = frame_of(empty, keep=True)
+            self.assertRegex(frame.error[0], "no rows")
+
+    def test_some_points_of_a_sweep(self):
+        roads = {"key": "0" * 64, "cells": 10, "cars": [1, 2], "ensembles": ["a", "b"]}
+        points = [Point(1, 10, 5, 5, 0, 0, 0), Point(2, 10, 5, 5, 0, 0, 0)]
+        frame = frame_of(points, roads=roads)
+        self.assertEqual(list(frame.index), [(0, 0.1), (0, 0.2)])
+        self.assertEqual([*frame.road, *frame.ensemble], [0, 1, "a", "b"])
+        for wrong in points[:1], points[::-1], [*points, points[0]]:
+            self.assertRaises(FrameError, frame_of, wrong, roads=roads)
+
+
+class Errors(unittest.TestCase):
+    def test_a_failed_density_keeps_its_place(self):
+        runs = {(at, 0): known(cars, cars, 10, str(at)) for at, cars in ((0.1, 1), (0.5, 5))}
+        table = Table(Window, [WINDOW._replace(cars=1)])
+        frame = tidy({(0.1, 0): table, (0.5, 0): OSError("gone")}, ["density", "seed"], runs, keep=True)
+        self.assertEqual(list(frame.index.get_level_values("density")), [0.1, 0.5])
+        self.assertEqual([text for text in frame.error if isinstance(text, str)], ["OSError: gone"])
+        with self.assertRaisesRegex(FrameError, "density=0.5.*OSError: gone"):
+            trlab.means(frame, "seed")
+        self.assertEqual(len(trlab.means(frame[frame.error.isna()], "seed")), 1)
+
+    def test_errors_of_all_choices(self):
+        frame = tidy({(0,): OSError("a"), (1,): OSError("b")}, ["seed"], {(0,): known(0), (1,): known(1)}, keep=True)
+        self.assertEqual(list(frame.error), ["OSError: a", "OSError: b"])
+
+
+class Density(unittest.TestCase):
+    def test_speeds_without_cars_are_not_numbers_and_no_defect(self):
+        grid = Grid(job, density=[0, 0.1], seed=range(3))
+        means = trlab.means(trlab.per_run(grid.run(call=windows)), "seed")
+        self.assertEqual((list(means.n), means.flow[0.0], means.flow_sem[0.0]), ([3, 3], 0, 0))
+        for name in "speed", "stopped_share", "change_rate":
+            self.assertTrue(numpy.isnan(means[name][0.0]) and numpy.isnan(means[f"{name}_sem"][0.0]))
+            self.assertFalse(numpy.isnan(means[name][0.1]))
+
+    def test_the_road_that_ran(self):
+        frame = Grid(job, density=[0.011, "1/3", 0.5], seed=range(2)).run(call=windows)
+        self.assertEqual(list(frame.index.get_level_values("density")[::6]), [0.02, 0.34, 0.5])
+        self.assertEqual(list(frame.requested_density[::6]), [0.011, 1 / 3, 0.5])
+        self.assertNotIn("requested_density", Grid(job, density=[0.1, 0.5], seed=range(2)).run(call=windows))
+
+
+class Survival(unittest.TestCase):
+    """What can be done to a frame, and its identity."""
+
+    def setUp(self):
+        self.frame = trlab.per_run(Grid(job, density=[0.1, 0.2], seed=range(3)).run(call=windows))
+        self.means = trlab.means(self.frame, "seed")
+
+    def same(self, frame):
+        pandas.testing.assert_frame_equal(trlab.means(frame, "seed"), self.means)
+
+    def test_what_keeps_it(self):
+        flat = self.frame.reset_index()
+        self.same(flat.set_index(["density", "seed"]))
+        self.same(pandas.concat([self.frame[:2], self.frame[2:]]))
+        self.same(pandas.concat([part for _, part in self.frame.groupby("density")]))
+        self.same(flat.merge(pandas.DataFrame({"density": [0.1, 0.2]}), on="density").set_index(["density", "seed"]))
+        self.same(self.frame[self.frame.flow > 0])
+        self.same(self.frame.swaplevel().swaplevel())
+        self.same(self.frame.astype({"road": "int8", "ensemble": "category"}).astype({"ensemble": str}))
+
+    def test_csv(self):
+        text = io.StringIO(self.frame.to_csv())
+        self.same(pandas.read_csv(text, dtype={"key": str, "ensemble": str}).set_index(["density", "seed"]))
+        numbers = self.frame.assign(key=[f"{seed:064x}" for seed in range(6)])
+        read = pandas.read_csv(io.StringIO(numbers.to_csv())).set_index(["density", "seed"])
+        self.assertRaisesRegex(FrameError, "read_csv.*dtype", trlab.means, read, "seed")
+
+    def test_what_loses_it(self):
+        for lost in (
+            self.frame.groupby("density").mean(numeric_only=True), self.frame[["flow"]], self.frame.describe(),
+            self.frame.reset_index().pivot_table(index="density", values="flow"), self.means, self.means.reset_index(),
+        ):
+            self.assertRaises(FrameError, trlab.means, lost, "density")
+
+    def test_two_studies(self):
+        other = Grid(lambda density, seed, key: Job(limit=3, length=50, density=density, rule=Nasch(0.25), start=random_cells(key), steps=30, key=key + 1),
+                     density=[0.1, 0.2], seed=range(3))
+        slow = trlab.per_run(other.run(call=windows))
+        for both in pandas.concat([self.frame, slow]), pandas.concat([self.frame, slow.rename(index=lambda seed: seed + 3, level="seed")]):
+            self.assertRaises(FrameError, trlab.means, both, "seed")
+        named = pandas.concat({5: self.frame, 3: slow}, names=["limit"])
+        self.assertEqual(list(trlab.means(named, "seed").index.names), ["limit", "density"])
+        self.assertRaisesRegex(FrameError, "different `ensemble`", trlab.means, named, ["limit", "seed"])
+
+
+class Ensembles(unittest.TestCase):
+    def ensembles(self, make, **parameters):
+        return {tuple(roads["ensembles"]) for roads in Grid(make, **parameters)._runs.values()}
+
+    def test_repetitions_have_one(self):
+        self.assertEqual(len(self.ensembles(job, density=[0.1], seed=range(5))), 1)
+
+    def test_any_other_difference_is_another_one(self):
+        usual = {"limit": 5, "length": 20, "cars": 4, "rule": Rickert(0.25, 0), "steps": 9, "start": trlab.even, "lanes": 2, "at": {}}
+        others = [{}, {"limit": 4}, {"length": 21}, {"cars": 5}, {"rule": Rickert(0.25, 1)}, {"steps": 10}, {"start": trlab.moving},
+                  {"start": trlab.jammed}, {"start": random_cells(3)}, {"at": {3: Rickert(0, 0)}}, {"length": 40, "lanes": 1, "rule": Nasch(0.25)}]
+        made = self.ensembles(lambda at, seed, key: Job(**{**usual, **others[at]}, key=key), at=range(len(others)), seed=[0, 1])
+        self.assertEqual(len(made), len(others))
+        sweep = {"limit": 5, "length": 20, "rule": Nasch(0.25), "warm": 3, "measure": 6, "cars": [4]}
+        changed = [{}, {"warm": 4}, {"measure": 7}, {"cars": [5]}, {"start": random_cells(1)}]
+        swept = self.ensembles(lambda at, seed, key: Sweep(**{**sweep, **changed[at]}, key=key), at=range(len(changed)), seed=[0, 1])
+        self.assertEqual(len(swept | made), len(changed) + len(others))
+
+
+if __name__ == "__main__":
+    unittest.main()

@@ -1,0 +1,87 @@
+"""The error of a mean from one correlated series."""
+from __future__ import annotations
+
+import math
+from collections.abc import Iterable
+from typing import NamedTuple, Union
+
+from .columns import Array
+from .libraries import numpy, pandas
+from .means import mean_and_sem
+from .series import as_column, finite_numbers, various_levels
+from .._errors import EstimateError
+
+LEAST_BLOCKS = 16
+
+
+class Blocking(NamedTuple):
+    """The `mean` of a correlated series and its standard error `sem`, in the unit of the series. `sem` is itself uncertain by
+    `sem_error` (one standard error). `block` is the number of values per block, and `inefficiency` the number of values that
+    are worth one independent value."""
+
+    mean: float
+    sem: float
+    sem_error: float
+    block: int
+    inefficiency: float
+
+
+def blocking(values: Union[Iterable[float], Array, pandas.Series]) -> Blocking:
+    """The mean of the windows of one run in its steady state, and its standard error although they are correlated, by the
+    blocks of Flyvbjerg and Petersen (J. Chem. Phys. 91, 461, 1989):
+
+        trlab.blocking(job.series(every=10, first=1000).to_pandas().flow)
+
+    Neighbours are averaged in pairs, and these again, until the error of the mean no longer grows. The block is the smallest
+    one whose length B fulfils B**3 > 2 n (sem_B / sem_1)**4, with n values in the series (Lee and others, Phys. Rev. E 83,
+    066706, 2011). This needs about 90 times as many values as the inefficiency. Values that do not fill a block are left out
+    of the error, never out of the mean. The error of a series of equal values is 0.
+
+    `values` is a column of a frame or any list of at least 32 numbers. If its index has the parameters of a study, they must
+    be those of one run. Raises `EstimateError` if it is no such series, and if less than 16 blocks would be left, because the
+    series is too short for its correlations then, or drifts (see `Table.drift`)."""
+    series = _series(values)
+    n, block, level = len(series), 1, series
+    mean, naive = _mean_and_sem(series)
+    if (series == series[0]).all():
+        return Blocking(mean, 0.0, 0.0, 1, 1.0)
+    while len(level) >= LEAST_BLOCKS:
+        _, sem = _mean_and_sem(level)
+        if block**3 > 2 * n * (sem / naive) ** 4:
+            return Blocking(mean, sem, sem / math.sqrt(2 * (len(level) - 1)), block, (sem / naive) ** 2)
+        level = level[:len(level) // 2 * 2].reshape(-1, 2).mean(axis=1)
+        block *= 2
+    raise EstimateError(f"the series of {n} values is too short for its correlations, or drifts: run longer, or repeat the run")
+
+
+def _mean_and_sem(values: Array) -> tuple[float, float]:
+    (mean,), (sem,) = mean_and_sem(values, numpy.zeros(len(values), dtype=numpy.int64))
+    return float(mean), float(sem)
+
+
+def _series(values: Union[Iterable[float], Array, pandas.Series]) -> Array:
+    """The values of one run as floats."""
+    column = as_column(values, "the series")
+    if isinstance(values, pandas.Series):
+        _need_one_run(values)
+    series = finite_numbers(column, "the series")
+    if len(series) < 2 * LEAST_BLOCKS:
+        raise EstimateError(f"blocking needs a series of at least {2 * LEAST_BLOCKS} values, not {len(series)}")
+    return series
+
+
+def _need_one_run(values: pandas.Series) -> None:
+    """Raises `EstimateError` if the index of a series shows that it is not one run from its begin to its end."""
+    levels = list(values.index.names)
+    step = "step" if "step" in levels else levels[-1]
+    various = [name for name in various_levels(values) if name not in (step, 0)]
+    if various:
+        raise EstimateError(
+            f"blocking is for the windows of one run, and these have several values of {various}: select one run, for example "
+            f"with `frame.groupby({various}).flow.apply(trlab.blocking)`"
+        )
+    steps = values.index.get_level_values(step if step is not None else 0)
+    if pandas.api.types.is_numeric_dtype(steps) and len(steps) > 1:
+        every = numpy.diff(steps.to_numpy(dtype=float))
+        if not (every[0] > 0 and numpy.allclose(every, every[0])):
+            raise EstimateError("blocking needs all windows of a run in order: the steps of this series have gaps, or go back")

@@ -1,0 +1,94 @@
+"""Lifetimes, some of which are cut off by the end of a run."""
+from __future__ import annotations
+
+import math
+from collections.abc import Iterable
+from typing import NamedTuple, Union
+
+from .columns import Array
+from .libraries import numpy, pandas
+from .series import as_column, finite_numbers, various_levels
+from .._errors import EstimateError
+
+Values = Union[Iterable[float], Array, pandas.Series]
+
+
+class Lifetime(NamedTuple):
+    """The mean life `mean` of an exponential law and its standard error `sem`, in the unit of the times (steps), from
+    `observed` lives whose end was seen and `censored` ones that were cut off. The number of runs is the sum of both."""
+
+    mean: float
+    sem: float
+    observed: int
+    censored: int
+
+
+def lifetime(times: Values, observed: Values) -> Lifetime:
+    """The mean life of an exponential law, although runs end before some lives do. `times` (steps, above 0) and `observed`
+    (whether the end was seen) are those of `Job.time_until` in independent runs of the same input:
+
+        lives = grid.run(call=lambda job: job.time_until(lambda window: window.stopped > 0, every=10))
+        for density, runs in lives.groupby("density"):
+            print(density, trlab.lifetime(runs.time, runs.observed))
+
+    The mean is all times together, divided by the number of ends d, and its standard error is mean / sqrt(d), which is rough
+    for d below 10 (Epstein and Sobel, J. Am. Stat. Assoc. 48, 486, 1953). The law is exponential if `survival` is straight on
+    a logarithmic axis. Times of windows of `every` steps are half a window too long on average.
+
+    Raises `EstimateError` if no life ended, because there is only a lower bound then, if times and ends are not as said, and
+    if an index shows that runs of several inputs are mixed."""
+    time, is_observed = _lives(times, observed)
+    ends = int(is_observed.sum())
+    if not ends:
+        raise EstimateError(f"no life ended in {time.sum():.0f} steps together, so that there is only a lower bound: run longer")
+    mean = float(time.sum() / ends)
+    return Lifetime(mean, mean / math.sqrt(ends), ends, len(time) - ends)
+
+
+def survival(times: Values, observed: Values) -> pandas.DataFrame:
+    """The share of lives that are longer than `time`, although runs end before some lives do, by Kaplan and Meier (J. Am. Stat.
+    Assoc. 53, 457, 1958). The arguments are those of `lifetime`:
+
+        curve = trlab.survival(runs.time, runs.observed).survival
+        curve.plot(drawstyle="steps-post", logy=True)
+
+    The index is `time`, from 0 on, in the unit of the times (steps); the columns are `at_risk`, the number of lives that are at
+    least that long, the share `survival`, and its standard error `survival_sem` by the formula of Greenwood (1926). This is 0
+    before the first end and NaN when no life is left: the error is unknown there, and not 0.
+
+    Raises `EstimateError` as `lifetime` does, but not if no life ended."""
+    time, is_observed = _lives(times, observed)
+    lives = pandas.DataFrame({"time": time, "end": is_observed}).groupby("time")["end"].agg(["size", "sum"])
+    lives = pandas.concat([pandas.DataFrame(0, index=[0.0], columns=["size", "sum"]), lives]).rename_axis("time")
+    at_risk, ends = lives["size"][::-1].cumsum()[::-1], lives["sum"]
+    share = (1 - ends / at_risk).cumprod()
+    # The terms of Greenwood, of which the last one divides by zero if the longest life ended.
+    terms = ends / (at_risk * (at_risk - ends)).where(at_risk > ends)
+    sem = share * numpy.sqrt(terms.cumsum(skipna=False))
+    return pandas.DataFrame({"at_risk": at_risk, "survival": share, "survival_sem": sem})
+
+
+def _lives(times: Values, observed: Values) -> tuple[Array, Array]:
+    """The times, and which of them have an end that was seen."""
+    time, end = as_column(times, "`times`"), as_column(observed, "`observed`")
+    if len(time) != len(end) or not len(time):
+        raise EstimateError(f"`times` and `observed` must be as many, and at least one: there are {len(time)} and {len(end)}")
+    if isinstance(times, pandas.Series) and isinstance(observed, pandas.Series) and not time.index.equals(end.index):
+        raise EstimateError("`times` and `observed` must be of the same runs in the same order: their indexes differ")
+    _need_one_input(time)
+    values, ends = finite_numbers(time, "`times`"), finite_numbers(end, "`observed`")
+    if not numpy.isin(ends, [0, 1]).all():
+        raise EstimateError("`observed` must be True or False for each life")
+    if not (values > 0).all():
+        raise EstimateError(f"each time must be above 0, and {values.min():g} is not")
+    return values, ends.astype(bool)
+
+
+def _need_one_input(time: pandas.Series) -> None:
+    """Raises `EstimateError` if the index of the times shows that they are not repetitions of one input."""
+    various = various_levels(time)
+    if len(various) > 1:
+        raise EstimateError(f"these lives have several values of {various}: select one input, for example with "
+                            f"`frame.groupby({various[0]!r})`")
+    if time.index.has_duplicates and time.index.names != [None]:
+        raise EstimateError("two of these lives are of the same run: is a parameter missing in the index, or a run there twice?")

@@ -1,0 +1,144 @@
+"""The peak of a diagram, from repeated runs."""
+from __future__ import annotations
+
+import math
+from typing import Any, NamedTuple
+
+from .columns import RUN, Array
+from .libraries import numpy, pandas
+from .means import means
+from .repetitions import numbers, repetitions
+from .._errors import EstimateError
+
+LEAST_RUNS, LEAST_POINTS, MAX_DEGREE = 5, 5, 5
+
+
+class Peak(NamedTuple):
+    """The maximum `y` of a curve at `x`, with standard errors, in the units of the columns. It is from at least `n` runs at
+    each of `points` points, to whose means a polynomial of `degree` was fitted with `chi2`, for `dof` degrees of freedom."""
+
+    x: float
+    x_sem: float
+    y: float
+    y_sem: float
+    n: int
+    points: int
+    degree: int
+    chi2: float
+    dof: int
+
+
+def peak(frame: pandas.DataFrame, over: str, x: str = "density", y: str = "flow", within: float = 0.05) -> Peak:
+    """The peak of a curve of `y` against the parameter `x`, from runs that are repeated over `over`:
+
+        trlab.peak(frame.xs(0.25, level="p"), over="seed")
+
+    The largest of noisy means is too high. So a polynomial is fitted, by least squares, to the means next to the highest one
+    that are at most the share `within` lower than it, and its maximum is returned. The degree, 2 to 5, is that of the least
+    chi2 + 2 degree (Akaike, IEEE Trans. Autom. Control 19, 716, 1974).
+
+    `y_sem` and `x_sem` are one standard error: the covariance of the means, from the scatter of the n runs (with n - 1), is
+    propagated to first order, also if runs share keys between points, which correlates their means. What depends on `within`
+    is not in the errors: results for different `within` scatter by about as much, so try several. `chi2` is scaled for the
+    uncertainty of errors from n runs, so that it is about `dof`.
+
+    Raises `EstimateError` if there are less than 5 runs at a point or less than 5 points, if the peak is at an end of the
+    curve, if no such polynomial fits because the curve has a kink (take points closer to the peak, and a smaller `within`),
+    and if the curve is not bent significantly (take more runs, or a larger `within`). Raises `FrameError` as `means` does."""
+    if isinstance(within, bool) or not 0 < within < 1:
+        raise EstimateError(f"`within` is a share between 0 and 1, not {within!r}")
+    runs = _one_curve(frame, over, x, y)
+    part = _top(means(runs, over=over, of=[y]).sort_index(), y, within)
+    at = part.index.to_numpy(dtype=float)
+    middle, width = (at[0] + at[-1]) / 2, (at[-1] - at[0]) / 2
+    n, covariance = int(part["n"].min()), _covariance(runs, over, x, y, part)
+    degree, chi2, solve = _fit((at - middle) / width, part[y].to_numpy(), covariance, n)
+    top, top_sem, height, height_sem = _maximum(solve @ part[y].to_numpy(), solve @ covariance @ solve.T)
+    dof = len(part) - degree - 1
+    return Peak(middle + top * width, top_sem * width, height, height_sem, n, len(part), degree, chi2, dof)
+
+
+def _one_curve(frame: pandas.DataFrame, over: str, x: str, y: str) -> pandas.DataFrame:
+    """The frame without the levels that have one value only. Raises `EstimateError` if it has several curves."""
+    levels = list(frame.index.names)
+    if x not in levels or over not in (*levels, "road") or y not in frame:
+        raise EstimateError(
+            f"`peak` needs the levels {x!r} and {over!r} and the column {y!r}: this frame has the levels {levels} and the "
+            f"columns {list(frame)}"
+        )
+    others = [name for name in levels if name not in (x, over)]
+    various = [name for name in others if frame.index.get_level_values(name).nunique(dropna=False) > 1]
+    if various:
+        raise EstimateError(f"this frame has several curves: select one value of {various}, with `frame.xs(value, level=name)`")
+    if not pandas.api.types.is_numeric_dtype(frame.index.get_level_values(x)):
+        raise EstimateError(f"the values of {x!r} must be numbers")
+    return frame.droplevel(others)
+
+
+def _top(curve: pandas.DataFrame, y: str, within: float) -> pandas.DataFrame:
+    """The points next to the highest one that are at most the share `within` lower."""
+    values = curve[y].to_numpy()
+    top = int(values.argmax())
+    low = values < values[top] - within * abs(values[top])
+    before, after = numpy.flatnonzero(low[:top]), numpy.flatnonzero(low[top:])
+    part = curve.iloc[before[-1] + 1 if len(before) else 0:top + after[0] if len(after) else len(values)]
+    if not 0 < top < len(values) - 1 or len(part) < LEAST_POINTS:
+        raise EstimateError(
+            f"{len(part)} of {len(values)} points are within {within:g} of the highest one, which is point {top + 1} at "
+            f"{curve.index[top]:g}: at least {LEAST_POINTS} are needed, on both sides of it"
+        )
+    if part["n"].min() < LEAST_RUNS:
+        raise EstimateError(f"`peak` needs at least {LEAST_RUNS} runs at each point, and there are {part['n'].min()}")
+    if (part[f"{y}_sem"] == 0).any():
+        raise EstimateError("the runs at a point are all equal, so that the error of the peak does not follow from them")
+    return part
+
+
+def _covariance(runs: pandas.DataFrame, over: str, x: str, y: str, part: pandas.DataFrame) -> Array:
+    """The covariance of the means of these points: from whole keys if each key has a run at every point."""
+    found = repetitions(runs, over)
+    rows = found.rows.assign(**{y: numbers(found, y)})
+    rows = rows[rows[x].isin(part.index)]
+    if not rows.duplicated(RUN).any():
+        return numpy.diag(part[f"{y}_sem"].to_numpy() ** 2)
+    by_key = rows.pivot(index=RUN, columns=x, values=y)
+    if by_key.isna().any(axis=None) or len(by_key) <= len(part):
+        raise EstimateError(
+            "some runs share keys between the points: give each run its own key, or each key a run at every point, and more keys "
+            "than points"
+        )
+    return numpy.atleast_2d(numpy.cov(by_key.to_numpy().T)) / len(by_key)
+
+
+def _fit(t: Array, mean: Array, covariance: Array, n: int) -> tuple[int, float, Array]:
+    """The degree of the best polynomial, its chi2, and the matrix that gives its coefficients from the means."""
+    # With few runs the errors are uncertain too: the mean of Student's t**2 is (n - 1) / (n - 3) for n - 1 degrees of freedom.
+    scale = (n - 3) / (n - 1)
+    fits = []
+    for degree in range(2, min(MAX_DEGREE, len(t) - 2) + 1):
+        design = numpy.vander(t, degree + 1, increasing=True)
+        solve = numpy.linalg.pinv(design)
+        chi2 = float(((mean - design @ (solve @ mean)) ** 2 / numpy.diag(covariance)).sum()) * scale
+        fits.append((chi2 + 2 * degree, degree, chi2, solve))
+    _, degree, chi2, solve = min(fits, key=lambda fit: fit[:2])
+    dof = len(t) - degree - 1
+    if chi2 > dof + 3 * math.sqrt(2 * dof):
+        raise EstimateError(
+            f"no polynomial fits (chi2 {chi2:.0f} for {dof} degrees of freedom): the curve has a kink. Take points closer to the "
+            "peak, and a smaller `within`"
+        )
+    return degree, chi2, solve
+
+
+def _maximum(coefficients: Array, covariance: Array) -> tuple[float, float, float, float]:
+    """The place and the height of the maximum of a polynomial between -1 and 1, each with its standard error."""
+    fitted: Any = numpy.polynomial.Polynomial(coefficients)
+    slope, bend = fitted.deriv(), fitted.deriv(2)
+    roots = [float(root.real) for root in slope.roots() if abs(root.imag) < 1e-12 and abs(root.real) < 1]
+    top = max(roots, key=fitted, default=1.0)
+    powers = numpy.arange(len(coefficients))
+    at, slopes = top**powers, powers * top ** numpy.maximum(powers - 1, 0)
+    top_sem = math.sqrt(slopes @ covariance @ slopes) / abs(bend(top)) if bend(top) else math.inf
+    if not roots or bend(top) >= 0 or fitted(top) < max(fitted(-1), fitted(1)) or top_sem > 0.5:
+        raise EstimateError("the curve is not bent significantly around its highest point: take more runs, or a larger `within`")
+    return top, top_sem, float(fitted(top)), math.sqrt(at @ covariance @ at)

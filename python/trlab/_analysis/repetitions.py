@@ -1,0 +1,169 @@
+"""The rows of a frame in groups of independent repetitions, or an error that says why they are none."""
+from __future__ import annotations
+
+from collections.abc import Sequence
+from typing import NamedTuple, Union
+
+from .columns import IDENTITY, PER_CAR, RUN, Array, as_numbers, place_shown
+from .libraries import numpy, pandas
+from .._errors import FrameError
+
+
+class Repetitions(NamedTuple):
+    """The rows with their parameters as columns, the names of the columns that tell the groups apart, and the group of each
+    row: 0, 1 and so on in the order in which they appear."""
+
+    rows: pandas.DataFrame
+    names: list[str]
+    group: Array
+
+    @property
+    def first(self) -> pandas.DataFrame:
+        """The first row of each group."""
+        return self.rows[~pandas.Series(self.group).duplicated().to_numpy()]
+
+    def place(self, group: int) -> str:
+        """A group in a message."""
+        names = [name for name in self.names if name not in IDENTITY]
+        return place_shown(names, self.first[names].iloc[group]) or "the only group"
+
+    def by_group(self, columns: dict[str, Array]) -> pandas.DataFrame:
+        """A frame with one row for each group, whose index is the names."""
+        found = pandas.DataFrame(columns)
+        if not self.names:
+            return found
+        places = self.first[self.names].reset_index(drop=True)
+        return pandas.concat([places, found], axis=1).set_index(self.names)
+
+
+def need_runs(frame: pandas.DataFrame) -> pandas.DataFrame:
+    """The rows of a frame with their parameters as columns. Raises `FrameError` unless they are single runs or windows."""
+    if not {*IDENTITY} <= set(frame):
+        raise FrameError(
+            "this frame has no columns `key`, `road` and `ensemble`, so its rows are not single runs (are they means already?): "
+            "take the frame that `Grid.run` returned"
+        )
+    if frame.index.names == [None]:
+        raise FrameError("the parameters of a frame must be its index: call `frame.set_index([..])` with their names first")
+    if not len(frame):
+        raise FrameError("this frame has no rows")
+    _need_results(frame)
+    rows = frame.reset_index()
+    if len(set(rows)) < len(rows.columns):
+        raise FrameError(f"this frame has two columns of the same name: {list(rows)}")
+    are_texts = [rows[name].map(lambda text: isinstance(text, str)).all() for name in ("key", "ensemble")]
+    if not all(are_texts) or rows["road"].isna().any():
+        raise FrameError(
+            "`key` and `ensemble` must be texts and `road` a number in each row. Read a file with "
+            '`pandas.read_csv(file, dtype={"key": str, "ensemble": str})`, and do not mix single runs with means'
+        )
+    return rows
+
+
+def _need_results(frame: pandas.DataFrame) -> None:
+    """Raises `FrameError` if there are rows of choices without a result."""
+    failed = frame[frame["error"].notna()] if "error" in frame else frame[:0]
+    if len(failed):
+        place = failed.index[0] if isinstance(failed.index[0], tuple) else (failed.index[0],)
+        raise FrameError(
+            f"{len(failed)} choices have no result, first {place_shown(frame.index.names, place)}: {failed['error'].iloc[0]}. "
+            "Run them again, or leave them out with `frame[frame.error.isna()]`"
+        )
+
+
+def grouped(rows: pandas.DataFrame, names: list[str]) -> Repetitions:
+    """The rows by the values of these columns."""
+    if not names:
+        return Repetitions(rows, names, numpy.zeros(len(rows), dtype=numpy.int64))
+    number = rows.groupby(names, sort=False, dropna=False, observed=True).ngroup()
+    return Repetitions(rows, names, pandas.factorize(number)[0])
+
+
+def repetitions(frame: pandas.DataFrame, over: Union[str, Sequence[str]], unequal: bool = False) -> Repetitions:
+    """The groups of runs that differ only in the levels `over`. Raises `FrameError` unless they are independent
+    repetitions, as many in each group unless `unequal`."""
+    rows = need_runs(frame)
+    levels = [over] if isinstance(over, str) else list(over)
+    if not levels:
+        raise FrameError('`over` is the name of the parameter that repeats the runs, for example over="seed"')
+    for name in levels:
+        if name == "step":
+            raise FrameError("windows of one run are correlated: use `per_run(frame)`, or `blocking` for one run")
+        if name not in (*frame.index.names, "road"):
+            raise FrameError(f"{name!r} is not a parameter of this frame, which has {list(frame.index.names)}")
+    found = grouped(rows, [name for name in frame.index.names if name not in levels])
+    _need_independent(found, list(frame.index.names))
+    _need_same(found)
+    if not unequal:
+        _need_complete(found, levels)
+    return found
+
+
+def _need_independent(found: Repetitions, levels: Sequence[str]) -> None:
+    rows = found.rows
+    doubled = rows.duplicated([*levels, "road"])
+    if doubled.any():
+        place = place_shown(levels, rows.loc[doubled, levels].iloc[0])
+        raise FrameError(f"two rows are {place}: is a parameter missing in the index, or a run in the frame twice?")
+    if rows[RUN].assign(group=found.group).duplicated().any():
+        raise FrameError(
+            "some repetitions have the same key, so they are not independent: let `make` use the `key` that it gets, and "
+            "use `per_run(frame)` if these are windows of one run"
+        )
+
+
+def _need_same(found: Repetitions) -> None:
+    """Raises `FrameError` if a group has runs of different inputs, roads or lengths."""
+    for name in [name for name in ("ensemble", "cars", "cells", "steps") if name in found.rows]:
+        count = found.rows[name].groupby(found.group).nunique(dropna=False)
+        if (count > 1).any():
+            group = int(count.idxmax())
+            values = list(dict.fromkeys(found.rows[name][found.group == group]))[:3]
+            raise FrameError(
+                f"runs with different `{name}` are not repetitions, and would be averaged at {found.place(group)}: {values}. "
+                "Keep the parameter in which they differ as a level, or select one value of it"
+            )
+
+
+def _need_complete(found: Repetitions, levels: Sequence[str]) -> None:
+    """Raises `FrameError` if groups have different sizes, with an example of a missing run."""
+    n = numpy.bincount(found.group)
+    if n.min() == n.max():
+        return
+    most, least = int(n.argmax()), int(n.argmin())
+    whose = found.rows[[name for name in levels if name != "road"]]
+    there = set(whose[found.group == least].itertuples(index=False, name=None))
+    missing = [row for row in whose[found.group == most].itertuples(index=False, name=None) if row not in there]
+    example = f" (without {place_shown(whose, missing[0])})" if missing and missing[0] else ""
+    raise FrameError(
+        f"groups have {n.min()} to {n.max()} runs; the fewest are at {found.place(least)}{example}. Run the missing ones, or say "
+        "unequal=True if the reason why they are missing does not matter"
+    )
+
+
+def numbers(found: Repetitions, name: str) -> Array:
+    """A column of the rows as floats. Raises `FrameError` for anything but finite numbers, except that a value per car is NaN
+    without cars."""
+    try:
+        values = as_numbers(found.rows[name])
+    except ValueError as fault:
+        raise FrameError(f"{fault}: name the columns to average with `of`") from None
+    wrong = ~numpy.isfinite(values)
+    if name in PER_CAR:
+        wrong &= ~(numpy.isnan(values) & _without_cars(found.rows))
+    if wrong.any():
+        place = found.place(found.group[int(wrong.argmax())])
+        raise FrameError(
+            f"`{name}` has {wrong.sum()} values that are missing or not finite, first at {place}: drop these rows, or choose "
+            "other columns with `of`"
+        )
+    return values
+
+
+def _without_cars(rows: pandas.DataFrame) -> Array:
+    """Whether there are no cars, by row."""
+    for name in "cars", "density":
+        if name in rows:
+            found: Array = (rows[name] == 0).to_numpy()
+            return found
+    return numpy.zeros(len(rows), dtype=bool)

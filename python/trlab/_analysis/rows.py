@@ -1,0 +1,179 @@
+"""The rows of one result, checked against the input that gave it."""
+from __future__ import annotations
+
+from collections.abc import Hashable, Iterable, Mapping, Sequence
+from numbers import Real
+from typing import Any, NamedTuple, Union
+
+from .columns import COUNTS, IDENTITY, Array
+from .libraries import numpy, pandas
+from .._errors import FrameError
+from .._results.snapshots import Snapshot, Snapshots
+from .._results.tables import Point, Table, Window
+from .._studies.grid import MEASURE
+from .._studies.roads import KnownRoads
+
+Record = dict[str, Any]
+
+KINDS: list[Any] = [Point, Window]
+
+RESERVED = [*IDENTITY, "error", "requested_density"]
+
+# A result may repeat what is known of the road. It is compared, and then left out.
+OF_THE_ROAD = ["density", "cars", "cells"]
+
+
+class NoRows(FrameError):
+    """A result without rows."""
+
+
+class Rows(NamedTuple):
+    """The rows of a result in the form that costs least: a table is an array, and joined with others before it is a frame.
+    `kind` is `Point`, `Window`, `dict` or `pandas.DataFrame`, and `levels` tell the rows apart, besides their road."""
+
+    kind: type[Any]
+    content: Union[Array, list[Record], pandas.DataFrame]
+    levels: list[str]
+
+    @property
+    def is_of_points(self) -> bool:
+        """Whether row i is that of road i."""
+        return self.kind is Point
+
+
+def rows_of(result: object, names: Sequence[str], roads: KnownRoads) -> Rows:
+    """The rows of a result of the input with these roads. Raises `FrameError` if it cannot be part of a frame of the parameters
+    `names`, or is not of this input."""
+    found = _read(result)
+    if not len(found.content):
+        raise NoRows("the result has no rows: `first` and `every` may be longer than the run")
+    _check_names(found, names)
+    _check_roads(found, roads)
+    _check_levels(found)
+    return found
+
+
+def _read(result: object) -> Rows:
+    if isinstance(result, (Snapshot, Snapshots)):
+        raise FrameError(f"snapshots are not rows of a frame: say what to measure in each job, for example {MEASURE}")
+    if isinstance(result, pandas.DataFrame):
+        return _of_frame(result)
+    if isinstance(result, (Mapping, pandas.Series)) or hasattr(result, "_fields"):
+        return _of_list([result])
+    if isinstance(result, Table):
+        return _of_table(result)
+    if isinstance(result, (Real, numpy.bool_)):
+        return Rows(dict, [{"value": _plain(result)}], [])
+    if isinstance(result, Iterable) and not isinstance(result, (str, bytes)):
+        return _of_list(list(result))
+    raise FrameError(f"a result must be a table, a frame, a number, or rows with names, not {result!r}")
+
+
+def _of_table(table: Table[Any]) -> Rows:
+    return Rows(table.kind, table.to_numpy(), ["step"] if table.kind is Window else [])
+
+
+def _of_list(items: Sequence[object]) -> Rows:
+    """Rows of a table, or named tuples and mappings, which have a `step` each if there are several."""
+    for kind in KINDS:
+        if items and all(isinstance(item, kind) for item in items):
+            return _of_table(Table(kind, items))
+    records = [_record(item) for item in items]
+    for kind in KINDS:
+        if records and all(set(record) == set(kind._fields) for record in records):
+            return _of_table(Table(kind, [kind(**record) for record in records]))
+    has_steps = bool(records) and all("step" in record for record in records)
+    return Rows(dict, records, ["step"] if has_steps else [])
+
+
+def _record(item: object) -> Record:
+    """A row by the names of its columns."""
+    if isinstance(item, Snapshot):
+        raise FrameError(f"snapshots are not rows of a frame: say what to measure in each job, for example {MEASURE}")
+    found = item._asdict() if hasattr(item, "_asdict") else item
+    if not isinstance(found, (Mapping, pandas.Series)):
+        raise FrameError(f"a result must be a table, a frame, a number, or rows with names, and {item!r} is not a row with names")
+    return {_name(name): _plain(value) for name, value in found.items()}
+
+
+def _plain(value: object) -> object:
+    """A number of numpy as one of Python."""
+    return value.item() if isinstance(value, numpy.generic) else value
+
+
+def _of_frame(frame: pandas.DataFrame) -> Rows:
+    levels = [_name(name) for name in frame.index.names if name is not None]
+    flat = frame.reset_index(drop=not levels) if len(levels) == frame.index.nlevels else frame
+    if len(set(flat)) < len(flat.columns):
+        raise FrameError(f"the result has two columns of the same name: {list(flat)}")
+    for name in flat:
+        _name(name)
+    return Rows(pandas.DataFrame, flat, levels or (["step"] if "step" in flat else []))
+
+
+def _name(name: Hashable) -> str:
+    if not isinstance(name, str):
+        raise FrameError(f"the columns of a result have names, and {name!r} is not a string")
+    return name
+
+
+def columns_of(rows: Rows) -> list[str]:
+    if isinstance(rows.content, list):
+        return list(dict.fromkeys(name for record in rows.content for name in record))
+    return list(rows.content) if isinstance(rows.content, pandas.DataFrame) else list(rows.content.dtype.names or ())
+
+
+def _check_names(rows: Rows, names: Sequence[str]) -> None:
+    """Raises `FrameError` if a measured value would overwrite a parameter, or the reverse."""
+    columns = columns_of(rows)
+    taken = [name for name in columns if name in RESERVED or name in names and name not in OF_THE_ROAD]
+    if taken:
+        raise FrameError(f"the result has a column `{taken[0]}`, which is a parameter or reserved: give it another name")
+    if "flow_millionths" in columns and not set(COUNTS) <= set(columns):
+        raise FrameError("`flow_millionths` is the number of the file: return the row itself, or `row.flow` as `flow`")
+
+
+def _check_roads(rows: Rows, roads: KnownRoads) -> None:
+    """Raises `FrameError` if a result has other roads than its input."""
+    count = len(roads["cars"])
+    if rows.is_of_points and len(rows.content) != count:
+        raise FrameError(f"the result has {len(rows.content)} of {count} points: return the whole table of the sweep")
+    cars = numpy.asarray(roads["cars"], dtype=float)
+    known = {"cars": cars, "cells": numpy.full(count, float(roads["cells"])), "density": cars / roads["cells"]}
+    for name in [name for name in OF_THE_ROAD if name in columns_of(rows)]:
+        found = _column(rows, name)
+        if rows.is_of_points:
+            is_known = numpy.isclose(found, known[name])
+        else:
+            is_known = numpy.isclose(found[:, None], numpy.unique(known[name])).any(axis=1)
+        if not is_known.all():
+            raise FrameError(
+                f"the result has a `{name}` of {found[~is_known][0]:g}, and a road of this input has {known[name][0]:g}: return "
+                "results of this input, and give measured values another name"
+            )
+
+
+def _check_levels(rows: Rows) -> None:
+    """Raises `FrameError` if a result has several rows that cannot be told apart."""
+    if len(rows.content) == 1 or rows.is_of_points:
+        return
+    if not rows.levels:
+        raise FrameError(
+            f"the result has {len(rows.content)} rows that nothing tells apart: return a frame with a named index, for example "
+            '`frame.rename_axis("passing")`'
+        )
+    if pandas.DataFrame({name: _values(rows, name) for name in rows.levels}).duplicated().any():
+        raise FrameError(f"the result has several rows with the same {' and '.join(rows.levels)}: give it an index that differs")
+
+
+def _values(rows: Rows, name: str) -> Any:
+    if isinstance(rows.content, list):
+        return [record.get(name) for record in rows.content]
+    return rows.content[name]
+
+
+def _column(rows: Rows, name: str) -> Array:
+    try:
+        return numpy.asarray(_values(rows, name), dtype=float)
+    except (TypeError, ValueError):
+        raise FrameError(f"the column `{name}` of the result has values that are not numbers") from None

@@ -1,0 +1,56 @@
+"""What is known of the roads of an input before it runs."""
+from __future__ import annotations
+
+import json
+from collections.abc import Hashable
+from hashlib import sha256
+from typing import TypedDict, Union
+
+from .._inputs.jobs import Job
+from .._inputs.numbers import key_digits
+from .._inputs.states import InitialState
+from .._inputs.sweeps import Sweep
+
+
+class KnownRoads(TypedDict):
+    """The key of an input, and by road its cars and its ensemble. All roads have as many cells."""
+
+    key: str
+    cells: int
+    cars: list[int]
+    ensembles: list[str]
+
+
+def known_roads(input: Union[Job, Sweep]) -> KnownRoads:
+    """The roads of an input."""
+    is_sweep = isinstance(input, Sweep)
+    cars = input.counts() if isinstance(input, Sweep) else [input.count()]
+    cells = input.length * input.lanes if isinstance(input, Sweep) else input.cells()
+    about = _about(input, cells)
+    ensembles = [sha256(json.dumps([is_sweep, count, *about]).encode()).hexdigest()[:12] for count in cars]
+    return {"key": key_digits(input.key).lower(), "cells": cells, "cars": cars, "ensembles": ensembles}
+
+
+def _about(input: Union[Job, Sweep], cells: int) -> list[object]:
+    """All that repetitions of an input have in common, besides the number of cars: everything but the key and the seed of
+    random cells. Roads that are given cell by cell count as drawn by their author, like random cells."""
+    start = [input.start.placement, input.start.speed] if isinstance(input.start, InitialState) else "roads"
+    if isinstance(input, Sweep):
+        return [input.limit, input.lanes, cells, start, input.rule.lines(), [input.warm, input.measure]]
+    lanes = input.lanes if isinstance(input.start, InitialState) else len(input.road())
+    rules = [[-1, *input.rule.lines()], *([step, *rule.lines()] for step, rule in input.at.items())]
+    return [input.limit, lanes, cells, start, rules, input.steps]
+
+
+def without_key(input: Union[Job, Sweep], roads: KnownRoads) -> Hashable:
+    """Equal for inputs with these roads that differ only in their key, and in a seed of random cells that is this key."""
+    start: Hashable = input.start
+    if isinstance(start, InitialState) and start.seed == int(roads["key"], 16):
+        start = start.placement, start.speed, "key"
+    return tuple(roads["ensembles"]), start
+
+
+def all_of(input: Union[Job, Sweep], roads: KnownRoads) -> Hashable:
+    """Equal for inputs with these roads that give the same output."""
+    start: Hashable = input.start
+    return tuple(roads["ensembles"]), roads["key"], start
