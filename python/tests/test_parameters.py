@@ -5,13 +5,16 @@ import subprocess
 import sys
 import unittest
 import warnings
+from contextlib import ExitStack
 from dataclasses import replace
 from decimal import Decimal
 from fractions import Fraction
+from functools import partial
 from pathlib import Path
 from unittest import mock
 
-from trlab import InitialState, Job, Nasch, ParameterError, Rickert, SlowToStart, Snapshot, Sweep, TrlabError, TrlabWarning, jammed, random_cells
+from trlab import InitialState, Job, Nasch, ParameterError, Rickert, SlowToStart, Snapshot, Sweep, TrlabError, TrlabWarning
+from trlab import jammed, random_cells
 
 try:
     import numpy
@@ -51,23 +54,35 @@ class Indexed:
 
 
 WHOLE = {
-    "limit": lambda it: replace(JOB, limit=it), "length": lambda it: replace(JOB, length=it), "lanes": lambda it: replace(JOB, lanes=it),
-    "cars": lambda it: replace(JOB, cars=it), "steps": lambda it: replace(JOB, steps=it), "key": lambda it: replace(JOB, key=it),
-    "step of `at`": lambda it: replace(JOB, at={it: Nasch(1)}), "seed": lambda it: replace(JOB, start=random_cells(it)),
-    "speed": lambda it: replace(JOB, start=random_cells(1, it)), "speed ": lambda it: replace(JOB, start=InitialState("jammed", it)),
+    "limit": lambda it: replace(JOB, limit=it),
+    "length": lambda it: replace(JOB, length=it),
+    "lanes": lambda it: replace(JOB, lanes=it),
+    "cars": lambda it: replace(JOB, cars=it),
+    "steps": lambda it: replace(JOB, steps=it),
+    "key": lambda it: replace(JOB, key=it),
+    "step of `at`": lambda it: replace(JOB, at={it: Nasch(1)}),
+    "seed": lambda it: replace(JOB, start=random_cells(it)),
+    "speed": lambda it: replace(JOB, start=random_cells(1, it)),
+    "speed ": lambda it: replace(JOB, start=InitialState("jammed", it)),
     "speed of a car": lambda it: replace(ROADS, start=[None, it, 2], length=None),
-    "limit of a sweep": lambda it: replace(SWEEP, limit=it), "length of a sweep": lambda it: replace(SWEEP, length=it),
-    "lanes of a sweep": lambda it: replace(SWEEP, lanes=it), "cars of a sweep": lambda it: replace(SWEEP, cars=[it]),
-    "warm": lambda it: replace(SWEEP, warm=it), "measure": lambda it: replace(SWEEP, measure=it),
+    "limit of a sweep": lambda it: replace(SWEEP, limit=it),
+    "length of a sweep": lambda it: replace(SWEEP, length=it),
+    "lanes of a sweep": lambda it: replace(SWEEP, lanes=it),
+    "cars of a sweep": lambda it: replace(SWEEP, cars=[it]),
+    "warm": lambda it: replace(SWEEP, warm=it),
+    "measure": lambda it: replace(SWEEP, measure=it),
     "key of a sweep": lambda it: replace(SWEEP, key=it),
     "steps of a continued job": lambda it: JOB.continued(Snapshot(0, ("0..",)), steps=it),
     "key of a continued job": lambda it: JOB.continued(Snapshot(0, ("0..",)), key=it),
     "step of a snapshot": lambda it: JOB.continued(Snapshot(it, ("0..",))),
 }
 SHARES = {
-    "brake": lambda it: replace(JOB, rule=Nasch(it)), "brake ": lambda it: replace(JOB, rule=SlowToStart(it, 0)),
-    "stopped": lambda it: replace(JOB, rule=SlowToStart(0, it)), "brake  ": lambda it: replace(JOB, rule=Rickert(it, 0)),
-    "change": lambda it: replace(JOB, rule=Rickert(0, it)), "density": lambda it: replace(JOB, cars=None, density=it),
+    "brake": lambda it: replace(JOB, rule=Nasch(it)),
+    "brake ": lambda it: replace(JOB, rule=SlowToStart(it, 0)),
+    "stopped": lambda it: replace(JOB, rule=SlowToStart(0, it)),
+    "brake  ": lambda it: replace(JOB, rule=Rickert(it, 0)),
+    "change": lambda it: replace(JOB, rule=Rickert(0, it)),
+    "density": lambda it: replace(JOB, cars=None, density=it),
     "densities": lambda it: replace(SWEEP, cars=None, densities=[it]),
 }
 SIZES = [getattr(numpy, f"{sign}int{bits}") for sign in ("", "u") for bits in (8, 16, 32, 64)]
@@ -80,16 +95,24 @@ def of_size(size):
 
 
 WHOLE_NUMBERS = st.one_of(st.integers(-3, 70000), st.integers(0, 2**257), st.one_of(*map(of_size, SIZES)))
-REALS = st.one_of(st.floats(), st.floats(0, 1), st.floats(0, 1, width=16).flatmap(lambda it: st.sampled_from(FLOATS).map(lambda kind: kind(it))))
+OF_NUMPY = st.builds(lambda kind, it: kind(it), st.sampled_from(FLOATS), st.floats(0, 1, width=16))
+REALS = st.one_of(st.floats(), st.floats(0, 1), OF_NUMPY)
+WRITTEN = {"1/4": 0.25, "0.25": 0.25, "1e-3": Fraction(1, 1000), " .5 ": 0.5, "-1/4": -0.25, "5/4": 1.25}
 EXACT = st.one_of(
-    st.fractions(-1, 2, max_denominator=99), st.decimals(-1, 2, places=5), st.decimals(),
-    st.sampled_from(["1/4", "0.25", "1e-3", " .5 ", "1/0", "nan", "-1/4", "5/4", "a", "", "1_0", "٣", "1e-99999999", "0x1", Decimal("1e-999999")]),
+    st.fractions(-1, 2, max_denominator=99), st.decimals(-1, 2, places=5), st.decimals(), st.sampled_from([*WRITTEN]),
+    st.sampled_from(["1/0", "nan", "inf", "a", "", "1_0", "\u0663", "1e-99999999", "0x1", Decimal("1e-999999")]),
 )
 OTHERS = st.sampled_from([
-    None, True, False, numpy.bool_(True), numpy.bool_(False), Five.FIVE, Five.ONE, Kind.QUARTER, 1j, numpy.complex128(0.25), b"5", [5], (1,),
-    numpy.array([5]), numpy.array([0.25]), numpy.array(True), numpy.timedelta64(5), numpy.datetime64("2020"), object(), numpy.str_("1/4"),
-    numpy.array(5), numpy.array(0.25), Odd(5), Odd(1), Indexed(), 5.0, 1.0,
+    None, True, False, numpy.bool_(True), numpy.bool_(False), Five.FIVE, Five.ONE, Kind.QUARTER, 1j, numpy.complex128(0.25), b"5",
+    [5], (1,), numpy.array([5]), numpy.array([0.25]), numpy.array(True), numpy.timedelta64(5), numpy.datetime64("2020"), object(),
+    numpy.str_("1/4"), numpy.array(5), numpy.array(0.25), Odd(5), Odd(1), Indexed(), 5.0, 1.0,
 ])
+ANY = st.one_of(WHOLE_NUMBERS, REALS, EXACT, OTHERS)
+
+
+def is_single(value, kinds):
+    """Whether this is an array of a single number, without a dimension."""
+    return isinstance(value, numpy.ndarray) and value.shape == () and value.dtype.kind in kinds
 
 
 def plain_whole(value):
@@ -98,7 +121,7 @@ def plain_whole(value):
         return None
     if isinstance(value, Odd):
         return int.__add__(value, 0)
-    if isinstance(value, (int, numpy.integer)) or isinstance(value, numpy.ndarray) and value.shape == () and value.dtype.kind in "iu":
+    if isinstance(value, (int, numpy.integer)) or is_single(value, "iu"):
         return int(value)
     return 5 if isinstance(value, Indexed) else None
 
@@ -106,10 +129,10 @@ def plain_whole(value):
 def plain_share(value):
     """The number as Python's own, or None if it is not one."""
     if isinstance(value, str) and not isinstance(value, enum.Enum):
-        return {"1/4": 0.25, "0.25": 0.25, "1e-3": Fraction(1, 1000), " .5 ": 0.5, "-1/4": -0.25, "5/4": 1.25}.get(str(value))
+        return WRITTEN.get(str(value))
     if isinstance(value, Decimal):
         return Fraction(value) if value.is_finite() and abs(value.adjusted()) < 999 else None
-    if isinstance(value, (float, Fraction, numpy.floating)) or isinstance(value, numpy.ndarray) and value.shape == () and value.dtype.kind == "f":
+    if isinstance(value, (float, Fraction, numpy.floating)) or is_single(value, "f"):
         return value if isinstance(value, Fraction) else float(value)
     return None if isinstance(value, Indexed) else plain_whole(value)
 
@@ -132,37 +155,38 @@ class Parameters(unittest.TestCase):
             self.assertEqual(outcome(make, value), expected, (name, value))
 
     @SETTINGS
-    @given(st.one_of(WHOLE_NUMBERS, REALS, EXACT, OTHERS))
+    @given(ANY)
     def test_whole_numbers(self, value):
-        # A speed may be left out, and a road's may be a float: see `Roads`.
-        left = ("speed", "speed ", "speed of a car", "key", "key of a sweep", "key of a continued job", "steps of a continued job")
+        # These may be None, and the speeds of a road may be floats: see `test_roads_of_arrays`.
+        left = ("speed", "speed ", "speed of a car", "key of a continued job", "steps of a continued job")
         makers = {name: make for name, make in WHOLE.items() if value is not None or name not in left}
         if isinstance(value, (float, numpy.floating, numpy.ndarray)):
             makers.pop("speed of a car", None)
+        try:
+            hash(value)
+        except TypeError:
+            makers.pop("step of `at`")  # No dict has it as a key.
         self.same(makers, plain_whole, value)
 
     @SETTINGS
-    @given(st.one_of(WHOLE_NUMBERS, REALS, EXACT, OTHERS))
+    @given(ANY)
     def test_probabilities_and_densities(self, value):
-        self.same({name: make for name, make in SHARES.items()}, plain_share, value)
+        self.same(SHARES, plain_share, value)
 
     @SETTINGS
-    @given(st.one_of(WHOLE_NUMBERS, REALS, EXACT, OTHERS))
+    @given(ANY)
     def test_options(self, value):
         number, asked = plain_whole(value), []
-        calls = {
-            "every": lambda it: ROADS.run(every=it), "first": lambda it: ROADS.run(first=it), "workers": lambda it: ROADS.run(workers=it),
-            "every ": lambda it: ROADS.snapshots(every=it), "first ": lambda it: ROADS.snapshots(first=it),
-            "every  ": lambda it: ROADS.series(every=it), "first  ": lambda it: ROADS.series(first=it),
-            "workers ": lambda it: ROADS.series(workers=it), "every   ": lambda it: ROADS.time_until(bool, every=it),
-            "runners": lambda it: SWEEP.sweep(runners=it), "workers  ": lambda it: SWEEP.sweep(workers=it),
-            "runners ": lambda it: replace(SWEEP, start=jammed).sweep(runners=it),
-        }
+        calls = [
+            *((call, name) for call in (ROADS.run, ROADS.snapshots, ROADS.series) for name in ("every", "first", "workers")),
+            *((partial(ROADS.time_until, bool), name) for name in ("every", "first")),
+            *((sweep.sweep, name) for sweep in (SWEEP, replace(SWEEP, start=jammed)) for name in ("runners", "workers")),
+        ]
 
-        def words(call, it):
+        def words(call, name, it):
             asked.clear()
             try:
-                call(it)
+                call(**{name: it})
             except ParameterError:
                 self.assertEqual(asked, [])
                 return ParameterError
@@ -174,13 +198,17 @@ class Parameters(unittest.TestCase):
             asked.append(words)
             raise InterruptedError
 
-        names = [f"trlab._inputs.{module}.{name}" for module, name in (
-            ("jobs", "ask"), ("jobs", "ask_for_bytes"), ("jobs", "ask_by_line"), ("sweeps", "ask"))]
-        with mock.patch(names[0], ask), mock.patch(names[1], ask), mock.patch(names[2], ask), mock.patch(names[3], ask):
-            with mock.patch("trlab._runs.many.run_all", lambda jobs, call, at_once: asked.append(at_once) or []):
-                for name, call in calls.items():
-                    expected = ParameterError if number is None else words(call, number)
-                    self.assertEqual(words(call, value), expected, (name, value))
+        def run_all(jobs, call, at_once):
+            asked.append(at_once)
+            return [call(job) for job in jobs]
+
+        with ExitStack() as patched:
+            for name in "jobs.ask", "jobs.ask_for_bytes", "jobs.ask_by_line", "sweeps.ask":
+                patched.enter_context(mock.patch(f"trlab._inputs.{name}", ask))
+            patched.enter_context(mock.patch("trlab._runs.many.run_all", run_all))
+            for call, name in calls:
+                expected = ParameterError if number is None else words(call, name, number)
+                self.assertEqual(words(call, name, value), expected, (call, name, value))
 
     @SETTINGS
     @given(st.lists(st.one_of(st.none(), st.integers(0, 5)), min_size=1, max_size=9), st.sampled_from(SIZES + FLOATS + [object]))
@@ -199,7 +227,8 @@ class Parameters(unittest.TestCase):
             self.assertEqual((other, hash(other), other.text(), other.road()), (job, hash(job), job.text(), [cells]))
         for roads in array[None, :], [array, array], array[None, None, :]:
             sweep = Sweep(limit=5, length=len(cells), rule=Nasch(0), warm=1, measure=1, start=roads)
-            self.assertEqual([it.text() for it in sweep.jobs()], [it.text() for it in replace(sweep, start=[cells] * len(roads)).jobs()])
+            self.assertEqual(sweep, replace(sweep, start=[cells] * len(roads)))
+            self.assertEqual({it.text().split("\n")[3] for it in sweep.jobs()}, {job.text().split("\n")[3]})
 
 
 class WeakPromotion(unittest.TestCase):
@@ -218,22 +247,27 @@ class Findings(unittest.TestCase):
         for length, cars in (numpy.int32(100000), 60000), (numpy.int8(100), 50), (numpy.uint16(40000), numpy.uint16(30000)):
             job, plain = Job(length=length, cars=cars, **shape), Job(length=int(length), cars=int(cars), **shape)
             self.assertEqual((job, job.text(), job.cells()), (plain, plain.text(), int(length)))
-        self.assertEqual(Sweep(limit=5, rule=Nasch(0), length=numpy.uint16(40000), lanes=2, densities=[0.5001], warm=0, measure=1).counts(), [40008])
+        sweep = Sweep(limit=5, rule=Nasch(0), length=numpy.uint16(40000), lanes=2, densities=[0.5001], warm=0, measure=1)
+        self.assertEqual(sweep.counts(), [40008])
         sweep = replace(SWEEP, warm=numpy.uint16(60000), measure=numpy.uint16(10000), start=random_cells(1))
         self.assertEqual([job.steps for job in sweep.jobs()], [70000])
 
     def test_what_is_stored_is_of_python(self):
-        job = Job(limit=numpy.int8(5), length=numpy.uint8(9), density=numpy.float32(0.5), rule=Rickert(numpy.float16(0.5), Decimal("0.1")),
-                  steps=numpy.int64(5), key=numpy.uint64(2**63), lanes=numpy.int8(2), start=random_cells(1, numpy.int8(2)), at={numpy.int8(3): Nasch(numpy.int8(1))})
-        numbers = [job.limit, job.length, job.steps, job.lanes, job.key, job.start.speed, job.start.seed, *job.at, job.at[3].brake]
-        self.assertEqual({type(it) for it in numbers}, {int})
+        job = Job(
+            limit=numpy.int8(5), length=numpy.uint8(9), density=numpy.float32(0.5), steps=numpy.int64(5), lanes=numpy.int8(2),
+            rule=Rickert(numpy.float16(0.5), Decimal("0.1")), key=numpy.uint64(2**63),
+            start=random_cells(numpy.int8(1), numpy.int8(2)), at={numpy.int8(3): Nasch(numpy.int8(1))},
+        )
+        numbers = [job.limit, job.length, job.steps, job.lanes, job.key, job.start.speed, job.start.seed]
+        self.assertEqual({type(it) for it in [*numbers, *job.at, job.at[3].brake]}, {int})
         self.assertEqual((type(job.density), type(job.rule.brake), job.rule.change), (float, float, Fraction(1, 10)))
         sweep = replace(SWEEP, cars=None, densities=numpy.linspace(0, 1, 3, dtype="f"), warm=numpy.int8(3))
-        self.assertEqual(({type(it) for it in sweep.densities}, type(sweep.warm), type(replace(SWEEP, cars=numpy.array([3])).cars[0])), ({float}, int, int))
+        self.assertEqual(({type(it) for it in sweep.densities}, type(sweep.warm)), ({float}, int))
+        self.assertEqual({type(it) for it in replace(SWEEP, cars=numpy.array([3, 4])).cars}, {int})
 
     def test_an_occupancy_is_not_a_road(self):
-        for road in [0, 1, 0, 1], [0, 0, 0], [1, 1], [[0, 1], [1, 0]], (0, 1.0), [True, False, True], numpy.array([0, 1, 0]), numpy.zeros(5), \
-                numpy.array([True, False]), numpy.array([[0, 1], [1, 0]], bool), [None, True], [0, numpy.bool_(True), None]:
+        lists = [0, 1, 0, 1], [0, 0, 0], [1, 1], [[0, 1], [1, 0]], (0, 1.0), [True, False], [None, True]
+        for road in *lists, [0, numpy.bool_(True), None], *map(numpy.array, lists), numpy.zeros(5), numpy.ones((2, 5), bool):
             with self.assertRaises(ParameterError):
                 replace(ROADS, start=road, length=None)
         for full in "000", ["01", "10"], "111":
@@ -247,8 +281,9 @@ class Findings(unittest.TestCase):
             snapshots = job.run()
             for array in snapshots.speeds(), snapshots.speeds("int8", empty=-1):
                 again = Job(limit=5, start=array[-1], rule=job.rule, steps=5)
-                self.assertEqual((again.text(), again.lanes), (Job(limit=5, start=snapshots[-1].lanes, rule=job.rule, steps=5).text(), job.lanes))
-            self.assertRaisesRegex(ParameterError, r"shape .* not \(\d+, [12], ", replace, ROADS, start=snapshots.speeds(), length=None)
+                self.assertEqual(again, Job(limit=5, start=snapshots[-1].lanes, rule=job.rule, steps=5))
+            with self.assertRaisesRegex(ParameterError, r"shape .* not \(\d+, [12], "):
+                replace(ROADS, start=snapshots.speeds(), length=None)
 
     def test_numbers_of_many_digits(self):
         for make in (*WHOLE.values(), *SHARES.values()):

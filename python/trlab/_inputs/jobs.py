@@ -2,8 +2,8 @@
 from __future__ import annotations
 
 import os
-from contextlib import closing, nullcontext
-from dataclasses import dataclass, field, replace
+from contextlib import AbstractContextManager, closing, nullcontext
+from dataclasses import dataclass, field
 from collections.abc import Callable, Generator, Iterator, Mapping, Sequence
 from typing import TYPE_CHECKING, Any, NamedTuple, Optional, Union, cast
 
@@ -32,16 +32,19 @@ class Job:
     """A road, a rule and a number of steps.
 
     The road has `lanes` lanes of `length` cells (at most 100,000). `cars` cars in total, or the number nearest to
-    `density`, are placed in the initial state `start`. Or leave out these four and let `start` be the road: a list or an array of
-    speeds by cell (cells per step; None, NaN or -1 for an empty cell), or two of them; or the characters of a file, for example
-    `"0..3."` or the `lanes` of a snapshot. A road of only 0 and 1 is an error, because it may be meant as the number of cars by cell.
+    `density`, are placed in the initial state `start`. Or leave out these four and let `start` be the road:
+
+    - the speeds by cell (cells per step; None, NaN or -1 for an empty cell), as a list or an array, or two of them;
+    - the characters of a file, for example `"0..3."`, or a list with those of two lanes, as the `lanes` of a snapshot.
+
+    A list of only 0 and 1 raises an error, because it may be meant as the number of cars by cell, while 0 is a stopped car.
 
     `limit` is the maximum speed in cells per step, 1 to 35. `at` maps steps to the rules that take over then. A job
     of more than 500,000 steps runs as several inputs, each of which continues the previous input.
 
-    Whole numbers may be of any integer type, also numpy's, and are stored as `int`; a road is stored as the characters of its
-    lanes, with its `length` and `lanes`. Raises `ParameterError` if a parameter is wrong. If the program rejects the job,
-    `RejectedInputError` is raised when it runs."""
+    Numbers of other libraries, for example numpy's, are stored as Python's own, and a road as the characters of its lanes,
+    with its `length` and `lanes`. Raises `ParameterError` if a parameter is wrong; booleans and members of an enumeration are
+    not numbers. If the program rejects the job, `RejectedInputError` is raised when it runs."""
 
     limit: int
     rule: Rule
@@ -79,15 +82,15 @@ class Job:
         if self.cars is not None or self.density is not None:
             raise ParameterError("a road as `start` has its own cars: leave `cars` and `density` out")
         if self.length not in (None, len(road[0])) or self.lanes > len(road):
-            raise ParameterError(f"a road as `start` has its own length and lanes, here {len(road)} x {len(road[0])} cells: leave "
-                                 "`length` and `lanes` out")
+            shape = f"{len(road)} x {len(road[0])}"
+            raise ParameterError(f"a road as `start` has its own cells, here {shape}: leave `length` and `lanes` out")
         store(self, start=road, length=len(road[0]), lanes=len(road))
 
     @classmethod
     def read(cls, path: Union[str, os.PathLike[str]]) -> Job:
-        """Read a job file: a job with the same `.text()`, to the last byte. Its road is that of the file, and its probabilities are
-        fractions. Raises `RejectedInputError` with the explanation if the program rejects the file, and `ParameterError` if the
-        file is not UTF-8 or does not end with a line feed."""
+        """Read a job file. The job has the same `.text()`, to the last byte, the road of the file as its `start`, and fractions
+        as its probabilities. Raises `RejectedInputError` with the explanation if the program rejects the file, and
+        `ParameterError` if the file is not in UTF-8 or does not end with a line feed."""
         return cls.from_text(reading.content_of(path, "Job"))
 
     @classmethod
@@ -131,13 +134,13 @@ class Job:
         return input_text(lines)
 
     def run(self, workers: int = 1, every: int = 1, first: int = 0) -> Snapshots:
-        """The snapshots of step 0 and after each step, or only of the steps `first`, `first + every` and so on, up to `steps`. Other
+        """The snapshots of step 0 and after each step, or only of the steps `first`, `first + every` and so on. Other
         snapshots are never made, so a long run fits in memory:
 
             job.run(every=100, first=5000)
 
-        `first` is at most `steps`, so that there is a snapshot. `workers` is the number of threads, 1 to 16; results do not depend
-        on it. Raises `ParameterError` before anything runs."""
+        `first` is at most `steps`, so that there is at least one snapshot. `workers` is the number of threads, 1 to 16;
+        results do not depend on it. A wrong number raises `ParameterError` before anything runs."""
         asked = Asked.snapshots(self.steps, every, first, workers)
         if self.steps > MAX_STEPS:
             return Snapshots(long_jobs.snapshots(self, asked))
@@ -151,23 +154,25 @@ class Job:
         return snapshots_in(ask_by_line(["run", *asked.words()], self.text()))
 
     def series(self, every: int = 1, first: int = 0, workers: int = 1) -> Table[Window]:
-        """The counts of each window of `every` steps, from step `first` on, as `trlab series` writes them. The windows fill the run:
-        `steps - first` must be a positive multiple of `every`, otherwise `ParameterError` names numbers that fit. A job of more
-        than 500,000 steps takes about twice as long per step."""
+        """The counts of each window of `every` steps, from step `first` on, as `trlab series` writes them. The windows must
+        fill the run: if `steps - first` is not a positive multiple of `every`, `ParameterError` names numbers that fit. A job of
+        more than 500,000 steps takes about twice as long per step."""
         asked = Asked.windows(self.steps, every, first, workers)
         if self.steps > MAX_STEPS:
             return Table(Window, long_jobs.windows(self, asked))
         return Table.read(Window, ask(["series", *asked.words()], self.text()))
 
     def time_until(self, condition: Callable[[Window], bool], every: int = 1, first: int = 0) -> Duration:
-        """The number of steps from step `first` to the end of the first window of `every` steps for which `condition(window)` is
-        true, for `trlab.lifetime`. The program stops there. If the condition never holds, the time is that of the whole run,
-        `steps - first`, and is not `observed`:
+        """Run until `condition(window)` is true for a window of `every` steps, and no longer:
 
             job.time_until(lambda window: window.stopped > 0, every=10)
 
-        `every` is the resolution of the time. Windows are those of `series`, and must fill the run. `condition` returns True or
-        False; anything else raises `ParameterError`. The output is cut off, so it is never kept in a cache of `trlab.results`."""
+        `time` is the number of steps from step `first` to the end of this window, so that `every` is its resolution. If the
+        condition is false for every window, `time` is `steps - first`, and `observed` is False: the event takes longer than this
+        run. `trlab.lifetime` estimates the mean of such times.
+
+        The windows are those of `series`, and must fill the run. `condition` returns True or False; any other answer raises
+        `ParameterError`. The output is cut off, and is therefore never kept in a cache of `trlab.results`."""
         if not callable(condition):
             raise ParameterError(f"`condition` must be a function of a window, not {shown(condition)}")
         asked = Asked.windows(self.steps, every, first, 1)
@@ -207,10 +212,13 @@ class Job:
             raise ParameterError(f"a job is continued from a snapshot, for example `job.run()[-1]`, not from {shown(snapshot)}")
         done = whole("the step of the snapshot", snapshot.step, 0, self.steps)
         going = self.steps if steps is None else whole("steps", steps, 0, MAX_ALL_STEPS)
-        return replace(
-            self, start=tuple(snapshot.lanes), length=None, lanes=1, cars=None, density=None, rule=self._rule_at(done), steps=going,
-            at={step - done: rule for step, rule in self.at.items() if done < step < done + going},
+        return Job(
+            limit=self.limit,
+            rule=self._rule_at(done),
+            steps=going,
+            start=tuple(snapshot.lanes),
             key=derived_key("continued", self.key, done) if key is None else key,
+            at={step - done: rule for step, rule in self.at.items() if done < step < done + going},
         )
 
     if not TYPE_CHECKING:
@@ -233,7 +241,7 @@ class Duration(NamedTuple):
     observed: bool
 
 
-def _without_cache() -> Any:
+def _without_cache() -> AbstractContextManager[None]:
     """Calls of the program in this block run at once, and their outputs are not kept: one that is left early is not whole."""
     now = setting()
     return nullcontext() if now is None else set_to(now._replace(cache=None))

@@ -74,12 +74,15 @@ def _narrow_windows(job: Job, width: int, asked: Asked) -> Iterator[Window]:
 
 
 def windows_in(lines: Iterator[str]) -> Iterator[Window]:
-    """The windows in the output of `trlab series`, one by one. Raises `OutputFormatError` if a line is not a window."""
-    heading = next(lines, "")
+    """The windows in the output of `trlab series`, one by one. Raises `OutputFormatError` if it is anything else."""
+    heading, columns = next(lines, ""), len(Window._fields)
     Table.read(Window, heading)
     for line in lines:
-        (window,) = Table.read(Window, heading + line)
-        yield window
+        numbers = line.split(",")
+        if len(numbers) != columns or not line.endswith("\n"):
+            # This says what is wrong.
+            Table.read(Window, heading + line)
+        yield Window._make(map(int, numbers))
 
 
 def _last_snapshot(job: Job, workers: int) -> Snapshot:

@@ -50,13 +50,14 @@ def whole(name: str, number: object, least: int, most: Optional[int] = None) -> 
     """A whole number in its range, as Python's `int`. Raises `ParameterError` with its name if it is anything else: floats,
     booleans and members of an enumeration are not whole numbers."""
     value = _index(number)
+    greatest = "2**256 - 1" if most == MAX_KEY else most
     if value is None:
-        allowed = f"at least {least}" if most is None else f"from {least} to {most}"
+        allowed = f"at least {least}" if most is None else f"from {least} to {greatest}"
         raise ParameterError(f"{name} must be a whole number, {allowed}, not {shown(number)}")
     if most is None and value < least:
         raise ParameterError(f"{name} must be at least {least}, not {shown(value)}")
     if most is not None and not least <= value <= most:
-        raise ParameterError(f"{name} must be between {least} and {most}, not {shown(value)}")
+        raise ParameterError(f"{name} must be between {least} and {greatest}, not {shown(value)}")
     return value
 
 
@@ -135,12 +136,9 @@ def checked_key(key: object) -> Key:
         if not re.fullmatch("[0-9a-fA-F]{64}", key):
             raise ParameterError(f"key must be a number or 64 hexadecimal digits, not {shown(key)}")
         return str.__str__(key)
-    number = _index(key)
-    if number is None:
+    if _index(key) is None:
         raise ParameterError(f"key must be a whole number or 64 hexadecimal digits, not {shown(key)}")
-    if not 0 <= number <= MAX_KEY:
-        raise ParameterError(f"key must be from 0 to 2**256 - 1, not {shown(number)}")
-    return number
+    return whole("key", key, 0, MAX_KEY)
 
 
 def key_digits(key: object) -> str:

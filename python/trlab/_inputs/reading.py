@@ -9,7 +9,7 @@ from typing import Any, Optional, Protocol, TypeVar, Union
 
 from .._errors import ParameterError, RejectedInputError
 from .._runs.calls import explained
-from .numbers import ALWAYS
+from .numbers import ALWAYS, shown
 from .rules import Nasch, Own, Rickert, Rule, SlowToStart
 
 _MODELS: dict[str, Any] = {"nasch": Nasch, "vdr": SlowToStart, "rickert": Rickert}
@@ -34,6 +34,8 @@ def content_of(path: Union[str, os.PathLike[str]], kind: str) -> str:
 
 def need_accepted(command: str, text: str) -> None:
     """Raises `RejectedInputError` if the program rejects this input for a command, `run` or `sweep`."""
+    if not isinstance(text, str):
+        raise ParameterError(f"the content of an input file is a text, not {shown(text)}")
     report = explained(text, "--json", command)
     if report.returncode != 0:
         raise RejectedInputError(explained(text, command).stdout.rstrip("\n"), json.loads(report.stdout))

@@ -13,11 +13,11 @@ SPEEDS = "0123456789abcdefghijklmnopqrstuvwxyz"
 """The characters of speeds in files and snapshots, 0 to 35 cells per step."""
 
 Lane = Union[str, Iterable[Optional[float]]]
-"""A lane as its user writes it: the speed of the car in each cell, in cells per step, and None, NaN or -1 for an empty cell; or
-the characters of a file."""
+"""A lane as you write it: the speed of the car in each cell, in cells per step, and None, NaN or -1 for an empty cell; or the
+characters of a file."""
 
 Road = Union[Lane, Iterable[Lane]]
-"""A road as its user writes it: a lane, or two lanes."""
+"""A road as you write it: a lane, or two lanes."""
 
 _NO_ROAD = "a road is a list of speeds, with None for an empty cell, or two such lists"
 
@@ -25,8 +25,8 @@ _NO_ROAD = "a road is a list of speeds, with None for an empty cell, or two such
 def lanes_of(road: object, limit: int = MAX_SPEED) -> tuple[str, ...]:
     """A road in the characters of a file: the speed of each car, and `.` for an empty cell.
 
-    Raises `ParameterError` if it is not a road, if a car is faster than `limit`, or if it may be meant as the numbers of cars by
-    cell."""
+    Raises `ParameterError` if it is not a road, if a car is faster than `limit`, or if it may be meant as the number of cars
+    by cell."""
     shape: tuple[int, ...] = getattr(road, "shape", ())
     if len(shape) > 2 or len(shape) == 2 and shape[0] > 2:
         raise ParameterError(f"{_NO_ROAD}: an array has the shape (cells,) or (lanes, cells) with 1 or 2 lanes, not {shape}")
@@ -96,8 +96,10 @@ def _lane_text(cells: Union[str, Sequence[Any]], limit: int) -> str:
     if isinstance(cells, str):
         others = set(cells) - set(SPEEDS[: limit + 1] + ".")
         if others:
-            raise ParameterError(f"a lane has the character {min(others)!r}, and the limit is {limit} cells per step: "
-                                 f"`.` is an empty cell, and {SPEEDS[0]} to {SPEEDS[limit]} are cars")
+            raise ParameterError(
+                f"a lane has the character {min(others)!r}, and the limit is {limit} cells per step: "
+                f"`.` is an empty cell, and {SPEEDS[0]} to {SPEEDS[limit]} are cars"
+            )
         return cells
     return "".join([_sign(cell, limit) for cell in cells])
 
@@ -123,9 +125,9 @@ def _sign(cell: Any, limit: int) -> str:
 
 
 def _refuse_occupancy(lanes: Sequence[str]) -> None:
-    """Raises `ParameterError` if these speeds may be meant as 1 for a car and 0 for an empty cell, of which Python cannot know."""
+    """Raises `ParameterError` if these speeds may be meant as 1 for a car and 0 for an empty cell."""
     if not any(set(lane) - {"0", "1"} for lane in lanes):
         raise ParameterError(
-            "a list of only 0 and 1 is not a road, because 0 is a stopped car and not an empty cell: write None (or NaN, or -1) for "
-            f"an empty cell. For a road that is full of cars write the characters of a file, {shown(lanes[0][:9])}"
+            "a list of only 0 and 1 is not a road, because 0 is a stopped car and not an empty cell: write None, NaN or -1 for "
+            f"an empty cell. If every cell has a car, write the characters of a file, for example {lanes[0][:9]!r}"
         )

@@ -24,8 +24,8 @@ PLACEMENTS = ("even", "jammed", "random")
 
 @dataclass(frozen=True)
 class InitialState:
-    """An initial state: `even`, `moving`, `jammed` or `random_cells(seed)`. `placement` is "even", "jammed" or "random"; `speed` and
-    `seed` are as in `random_cells`."""
+    """An initial state: `even`, `moving`, `jammed` or `random_cells(seed)`. `placement` is "even", "jammed" or "random";
+    `speed` and `seed` are as in `random_cells`."""
 
     placement: str
     speed: Optional[int] = 0
@@ -72,8 +72,9 @@ class InitialState:
 
 
 even = InitialState("even")
-"""Evenly spaced and stopped, the default. On two lanes the cars of lane 0 and of lane 1 may differ in number, for example if their
-number divides the lane length: then all of them are on lane 0. Inputs of this kind give a `TrlabWarning` with the numbers."""
+"""Evenly spaced and stopped, the default. On two lanes the cells are counted across the lanes, so that more cars may be on lane 0
+than on lane 1: all of them if their number divides the lane length. If they differ by more than one car, the job or sweep gives a
+`TrlabWarning` with the numbers."""
 
 moving = InitialState("even", None)
 """Evenly spaced, at the maximum speed, on the same cells as with `even`."""

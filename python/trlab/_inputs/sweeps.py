@@ -12,8 +12,8 @@ from .._results.tables import Point, Table
 from . import reading
 from .jobs import Job
 from .numbers import (
-    MAX_ALL_STEPS, MAX_CELLS, MAX_POINTS, MAX_SPEED, MAX_STEPS, MAX_THREADS, Density, Key, cars_at, checked_key, derived_key, key_digits,
-    share, shown, store, whole,
+    MAX_ALL_STEPS, MAX_CELLS, MAX_POINTS, MAX_SPEED, MAX_STEPS, MAX_THREADS, Density, Key, cars_at, checked_key, derived_key,
+    key_digits, share, shown, store, whole,
 )
 from .roads import Road, cars_on, roads_of
 from .rules import Rule, need_rule
@@ -60,7 +60,8 @@ class Sweep:
     def __post_init__(self) -> None:
         store(self, limit=whole("limit", self.limit, 1, MAX_SPEED), length=whole("length", self.length, 1, MAX_CELLS))
         store(self, lanes=whole("lanes", self.lanes, 1, 2), key=checked_key(self.key), rule=need_rule(self.rule))
-        store(self, warm=whole("warm", self.warm, 0, MAX_ALL_STEPS // 2), measure=whole("measure", self.measure, 1, MAX_ALL_STEPS // 2))
+        store(self, warm=whole("warm", self.warm, 0, MAX_ALL_STEPS // 2))
+        store(self, measure=whole("measure", self.measure, 1, MAX_ALL_STEPS // 2))
         if self.cars is not None:
             store(self, cars=tuple(whole("cars", cars, 0, self.cells()) for cars in _listed("cars", self.cars)))
         if self.densities is not None:
@@ -146,9 +147,10 @@ class Sweep:
         Point i, from 0 on, has the key derived from `trlab point KEY i`. The seed of `random_cells(seed)` is derived from
         `trlab seed SEED i`, read as a hexadecimal number. Jobs of an even sweep draw other random numbers than its
         `.text()`."""
+        steps = self.warm + self.measure
         with lanes_are_told():
             return [
-                Job(limit=self.limit, rule=self.rule, steps=self.warm + self.measure, key=derived_key("point", self.key, number), **state)
+                Job(limit=self.limit, rule=self.rule, steps=steps, key=derived_key("point", self.key, number), **state)
                 for number, state in enumerate(self._initial_states())
             ]
 
@@ -183,6 +185,7 @@ class Sweep:
 
 def _listed(name: str, values: object) -> list[Any]:
     """The values of the points; raises `ParameterError` if they are not a list."""
-    if isinstance(values, (str, bytes, bytearray, Mapping, Set)) or not isinstance(values, Iterable) or getattr(values, "shape", None) == ():
+    is_list = isinstance(values, Iterable) and not isinstance(values, (str, bytes, bytearray, Mapping, Set))
+    if not is_list or getattr(values, "shape", None) == ():
         raise ParameterError(f"{name} must be a list with a number for each point, not {shown(values)}")
-    return list(values)
+    return list(cast(Iterable[Any], values))

@@ -32,11 +32,10 @@ def job_file(controls: Controls) -> str:
     else:
         road = {name: controls[name] for name in ("length", "lanes", "cars")}
         road["start"] = _initial_state(controls["start"], _key(controls))
+    numbers = {name: controls[name] for name in ("limit", "steps")}
     with lanes_are_told():
         # The page shows where the cars are.
-        return Job(
-            limit=controls["limit"], rule=_rule(first, controls["lanes"]), steps=controls["steps"], key=_key(controls), at=dict(at), **road
-        ).text()
+        return Job(rule=_rule(first, controls["lanes"]), key=_key(controls), at=dict(at), **numbers, **road).text()
 
 
 def sweep_file(controls: Controls) -> str:
@@ -110,10 +109,6 @@ def _decimal(number: str) -> float:
     return next(it for digits in range(12) if parts(it := round(exact, digits)) == int(number))
 
 
-def _no_number(written: str) -> None:
-    raise ParameterError(f"{written} is not a number")
-
-
 _WRITERS: dict[str, Callable[[Controls], str]] = {"file/job": job_file, "file/sweep": sweep_file}
 
 
@@ -122,7 +117,6 @@ def answer(name: str, text: bytes) -> bytes:
     try:
         if name == "controls":
             return json.dumps(controls_of(text.decode())).encode()
-        # NaN and infinities are not JSON, but Python would read them.
-        return _WRITERS[name](json.loads(text, parse_constant=_no_number)).encode()
+        return _WRITERS[name](json.loads(text)).encode()
     except (LookupError, TypeError, AttributeError, ArithmeticError, RecursionError) as error:
         raise ValueError(f"{type(error).__name__}: {error}") from None
