@@ -72,7 +72,7 @@ class Arrays(Folder):
         cuts.write_text(f'#!/bin/sh\n"{find_program()}" "$@" | head -c 60\n[ "$1" = --version ] || exit $(cat "{self.place}/status")\n')
         cuts.chmod(0o755)
         script = write_inputs(self.folder, SWEEPS, program=str(cuts))
-        told = {3: "trlab ended with status 3: memory ran out", 0: "trlab wrote 2 of 3 lines"}
+        told = {3: "trlab ended with status 3: memory ran out", 0: "trlab wrote 1 of 3 lines"}
         told[4] = "trlab ended with status 4: reading the input or writing the output failed"
         for ended, why in told.items():
             (Path(self.place) / "status").write_text(str(ended))
