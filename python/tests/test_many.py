@@ -58,7 +58,7 @@ class Results(unittest.TestCase):
         self.assertEqual(next(found), (0, 0))
 
     def test_so_many_at_once(self):
-        lock, running, most, two = threading.Lock(), [], [], threading.Barrier(2, timeout=600)
+        lock, running, most, two = threading.Lock(), [], [], threading.Barrier(2, timeout=300)
 
         def call(number):
             with lock:
