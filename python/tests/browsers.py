@@ -1,66 +1,39 @@
-"""Browsers without a window, driven by selenium: Chromium by its chromedriver, and Firefox by Marionette. In Debian these are
-the packages python3-selenium, chromium-driver and firefox-esr."""
-import shutil
-
+"""A page in a browser without a window, driven by selenium. In Debian the browsers and their drivers are the packages
+python3-selenium, chromium-driver and firefox-esr."""
 try:
-    from selenium import webdriver
-    from selenium.webdriver import ActionChains
-    from selenium.webdriver.chrome.service import Service
+    from selenium.webdriver import ActionChains, Keys
     from selenium.webdriver.common.actions.action_builder import ActionBuilder
     from selenium.webdriver.common.by import By
-    from selenium.webdriver.common.keys import Keys
 
-    from tests.marionette import FIREFOX, Firefox
+    from tests import drivers
 except ModuleNotFoundError:
-    webdriver = Keys = None
+    drivers = Keys = None
 
 from tests.waiting import LIMIT, holds
-
-CHROMIUM = shutil.which("chromium") or shutil.which("chromium-browser") or shutil.which("google-chrome")
-DRIVER = shutil.which("chromedriver")
 
 
 def missing(browser):
     """The reason why a browser cannot be driven here, or nothing."""
-    if not webdriver:
+    if not drivers:
         return "selenium is not installed"
     if browser == "firefox":
-        return "" if FIREFOX else "firefox is not installed (firefox-esr)"
-    if not CHROMIUM:
+        return "" if drivers.FIREFOX else "firefox is not installed (firefox-esr)"
+    if not drivers.CHROMIUM:
         return "chromium is not installed"
-    return "" if DRIVER else "chromedriver is not installed (chromium-driver)"
-
-
-def chromium(width, height, calm):
-    options = webdriver.ChromeOptions()
-    options.binary_location = CHROMIUM
-    for word in "--headless=new", "--no-sandbox", "--disable-gpu", "--hide-scrollbars", f"--window-size={width},{height}":
-        options.add_argument(word)
-    if calm:
-        options.add_argument("--force-prefers-reduced-motion")
-    options.set_capability("goog:loggingPrefs", {"browser": "ALL"})
-    driver = webdriver.Chrome(options=options, service=Service(DRIVER))
-    size = {"width": width, "height": height, "deviceScaleFactor": 1, "mobile": width < 500}
-    driver.execute_cdp_cmd("Emulation.setDeviceMetricsOverride", size)
-    driver.errors = lambda: [it["message"] for it in driver.get_log("browser") if it["level"] == "SEVERE"]
-    return driver
-
-
-def firefox(width, height, calm):
-    driver = Firefox(**{"ui.prefersReducedMotion": int(calm)})
-    for _ in range(2):  # Firefox makes no window below 450 pixels
-        bars = driver.execute_script("return [outerWidth - innerWidth, outerHeight - innerHeight]")
-        driver.set_window_size(width + bars[0], height + bars[1])
-    return driver
+    return "" if drivers.CHROMEDRIVER else "chromedriver is not installed (chromium-driver)"
 
 
 class Window:
     """A page in a browser, whose size in pixels is given."""
 
     def __init__(self, browser, address, width=1280, height=900, calm=False):
-        self.driver = {"chromium": chromium, "firefox": firefox}[browser](width, height, calm)
+        self.driver = {"chromium": drivers.Chromium, "firefox": drivers.Firefox}[browser](calm)
         self.driver.set_script_timeout(LIMIT)
+        self.size(width, height)
         self.get(address)
+
+    def size(self, width, height):
+        self.driver.resize(width, height)
 
     def get(self, address):
         self.driver.get(address)

@@ -59,7 +59,7 @@ def end(started):
     started.communicate()
 
 
-def until(condition, seconds=60):
+def until(condition, seconds=300):
     """Waits for a condition, and says whether it came true."""
     end = time.monotonic() + seconds
     while time.monotonic() < end:

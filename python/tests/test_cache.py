@@ -5,7 +5,6 @@ import signal
 import subprocess
 import sys
 import tempfile
-import time
 import unittest
 from dataclasses import replace
 from pathlib import Path
@@ -307,12 +306,11 @@ class Stopped(unittest.TestCase):
                 else:
                     running.stdin.write("\n")
                     running.stdin.flush()
-                begun = time.monotonic()
                 lines = [running.stdout.readline()]
                 while lines[-1] not in ("over\n", ""):
                     lines.append(running.stdout.readline())
-                self.assertLess(time.monotonic() - begun, 30)
                 self.assertEqual(marked(running.mark, trlab.find_program()), [])
+                # The cache would have the other results if the programs had not been stopped.
                 self.assertEqual(sorted(file.name[:5] for file in Path(cache).iterdir()), [key_of_short()[:5]])
                 return lines
             finally:

@@ -265,7 +265,7 @@ class Pages:
         tries = [
             ("density", "0.3", {"cars": 300}), ("cars", "151", {"cars": 151}), ("limit", "7", {"cars": 151, "limit": 7}),
             ("limit", "99", {"cars": 151, "limit": 35}), ("limit", "5", {"cars": 151}), ("cars", "", {"cars": 151}),
-            ("start", "even", {"cars": 151, "start": trlab.even}), ("start", "jammed", {"cars": 151, "start": trlab.jammed}),
+            ("start", "even", {"cars": 151, "start": trlab.even}), ("start", "jam", {"cars": 151, "start": trlab.jammed}),
             ("start", "random", {"cars": 151}), ("key", "77", {"cars": 151, "key": 77, "start": trlab.random_cells(77)}),
             ("key", "x", {"cars": 151, "key": 77, "start": trlab.random_cells(77)}), ("key", "1", {"cars": 151}),
             ("p", "0.5", {"cars": 151, "rule": Nasch(0.5)}), ("p", "0.123456789", {"cars": 151, "rule": Nasch(0.123456789)}),
@@ -318,7 +318,7 @@ class Pages:
 
     def test_every_slider(self):
         self.page.set("model", "vdr")
-        self.has_line("\nrule vdr ")
+        self.has_line("rule vdr ")
         for name in "p", "q", "density", "limit", "length", "cars":
             value = self.page.js("""const slider = document.querySelector(`#${arguments[0]} ~ [type=range]`);
                 slider.value = +slider.min + 0.4 * (slider.max - slider.min);

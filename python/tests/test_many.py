@@ -7,7 +7,6 @@ import subprocess
 import sys
 import tempfile
 import threading
-import time
 import unittest
 import warnings
 from concurrent.futures import ProcessPoolExecutor, ThreadPoolExecutor
@@ -59,13 +58,13 @@ class Results(unittest.TestCase):
         self.assertEqual(next(found), (0, 0))
 
     def test_so_many_at_once(self):
-        lock, running, most = threading.Lock(), [], []
+        lock, running, most, two = threading.Lock(), [], [], threading.Barrier(2, timeout=300)
 
         def call(number):
             with lock:
                 running.append(number)
                 most.append(len(running))
-            time.sleep(0.02)
+            two.wait()
             with lock:
                 running.remove(number)
 

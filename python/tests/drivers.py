@@ -1,5 +1,6 @@
-"""Firefox for selenium without geckodriver, which Debian does not package: the commands of selenium are sent to Firefox in its
-own protocol, Marionette, as geckodriver would do."""
+"""The drivers of selenium for Chromium and Firefox without a window. Chromium has a driver of its own. The one of Firefox,
+geckodriver, is not packaged by Debian, so that the commands of selenium are sent to Firefox in its own protocol, Marionette, as
+geckodriver would do."""
 import json
 import shutil
 import socket
@@ -8,11 +9,14 @@ import tempfile
 from pathlib import Path
 
 from selenium.common.exceptions import WebDriverException
-from selenium.webdriver import FirefoxOptions, Remote
+from selenium.webdriver import Chrome, ChromeOptions, FirefoxOptions, Remote
+from selenium.webdriver.chrome.service import Service
 from selenium.webdriver.remote.command import Command
 
 from tests.waiting import LIMIT, first_of
 
+CHROMIUM = shutil.which("chromium") or shutil.which("chromium-browser") or shutil.which("google-chrome")
+CHROMEDRIVER = shutil.which("chromedriver")
 FIREFOX = shutil.which("firefox-esr") or shutil.which("firefox")
 SETTINGS = {
     "marionette.port": 0, "app.update.disabledForTesting": True, "browser.shell.checkDefaultBrowser": False,
@@ -32,12 +36,36 @@ COMMANDS = {
 }
 
 
+class Chromium(Chrome):
+    """A driver for Chromium. With `calm` the user wants no motion."""
+
+    def __init__(self, calm=False):
+        options = ChromeOptions()
+        options.binary_location = CHROMIUM
+        for word in "--headless=new", "--no-sandbox", "--disable-gpu", "--hide-scrollbars":
+            options.add_argument(word)
+        if calm:
+            options.add_argument("--force-prefers-reduced-motion")
+        options.set_capability("goog:loggingPrefs", {"browser": "ALL"})
+        super().__init__(options=options, service=Service(CHROMEDRIVER))
+
+    def resize(self, width, height):
+        """Give the page a size in pixels."""
+        size = {"width": width, "height": height, "deviceScaleFactor": 1, "mobile": width < 500}
+        self.execute_cdp_cmd("Emulation.setDeviceMetricsOverride", size)
+
+    def errors(self):
+        """The errors in the console since the last call."""
+        return [it["message"] for it in self.get_log("browser") if it["level"] == "SEVERE"]
+
+
 class Marionette:
     """A Firefox without a window, and the connection to it, over which selenium executes its commands."""
 
-    def __init__(self, **settings):
+    def __init__(self, calm):
         self.folder = tempfile.TemporaryDirectory()
-        lines = [f"user_pref({json.dumps(name)}, {json.dumps(value)});\n" for name, value in {**SETTINGS, **settings}.items()]
+        settings = {**SETTINGS, "ui.prefersReducedMotion": int(calm)}
+        lines = [f"user_pref({json.dumps(name)}, {json.dumps(value)});\n" for name, value in settings.items()]
         (Path(self.folder.name) / "user.js").write_text("".join(lines))
         words = ["--headless", "--marionette", "--remote-allow-system-access", "--no-remote", "--profile", self.folder.name]
         self.firefox = subprocess.Popen([FIREFOX, *words, "about:blank"], stdout=subprocess.DEVNULL, stderr=subprocess.DEVNULL)
@@ -64,9 +92,10 @@ class Marionette:
     def execute(self, command, words):
         """The answer to a command of selenium, or to one of Marionette."""
         self.number += 1
-        if command == Command.NEW_SESSION:
-            words = {}
-        message = json.dumps([0, self.number, COMMANDS.get(command, command), {"sandbox": None, **(words or {})}]).encode()
+        words = {name: value for name, value in (words or {}).items() if name != "sessionId" and command != Command.NEW_SESSION}
+        if command == Command.W3C_EXECUTE_SCRIPT:
+            words["sandbox"] = None  # so that a script sees the variables of the page
+        message = json.dumps([0, self.number, COMMANDS.get(command, command), words]).encode()
         self.stream.write(b"%d:%b" % (len(message), message))
         self.stream.flush()
         _, _, error, result = self.read()
@@ -76,12 +105,18 @@ class Marionette:
 
 
 class Firefox(Remote):
-    """A driver of selenium for Firefox."""
+    """A driver for Firefox. With `calm` the user wants no motion."""
 
-    def __init__(self, **settings):
-        self.marionette, self.seen = Marionette(**settings), 0
+    def __init__(self, calm=False):
+        self.marionette, self.seen = Marionette(calm), 0
         super().__init__(self.marionette, options=FirefoxOptions())
-        self._is_remote = False
+        self._is_remote = False  # otherwise keys that are the name of a file would be sent as this file
+
+    def resize(self, width, height):
+        """Give the page a size in pixels. Firefox makes no window below 450 pixels."""
+        for _ in range(2):
+            bars = self.execute_script("return [outerWidth - innerWidth, outerHeight - innerHeight]")
+            self.set_window_size(width + bars[0], height + bars[1])
 
     def errors(self):
         """The errors in the console since the last call."""
