@@ -114,7 +114,6 @@ def other_version(folder, version="0"):
 class Kept(unittest.TestCase):
     def setUp(self):
         self.folder = Path(self.enterContext_(tempfile.TemporaryDirectory()))
-        self.program = trlab.find_program()
         self.enterContext_(mock.patch.dict("os.environ", TRLAB=str(logging_program(self.folder))))
         self.cache = self.folder / "cache"
         self.wanted = {name: sweep.sweep() for name, sweep in SWEEPS.items()}
@@ -208,7 +207,7 @@ print(found == {name: sweep.sweep() for name, sweep in SWEEPS.items()}, *(it.mes
         self.folder.chmod(0o755)
         self.cache.chmod(0o555)
         self.addCleanup(self.cache.chmod, 0o755)
-        environment = {**os.environ, "PYTHONPATH": str(PYTHON), "TRLAB": self.program}
+        environment = {**os.environ, "PYTHONPATH": str(PYTHON)}
         ran = subprocess.run([sys.executable, "-B", "-c", script, str(self.cache)], env=environment, stdout=subprocess.PIPE, text=True)
         equal, *told = ran.stdout.rstrip("\n").split("|")
         self.assertEqual((ran.returncode, equal, len(told)), (0, "True", 2))
