@@ -16,6 +16,7 @@ from tests.processes import PYTHON, calls, child, end, logging_program, marked, 
 from trlab import Job, Nasch, ParameterError, ProgramError, RejectedInputError, ResultFilesError, Rickert, Sweep
 from trlab._runs import cache as caching
 from trlab._runs.cache import Cache
+from trlab._runs.calls import ask
 from trlab._runs.ownership import new_path
 from trlab._runs.requests import Request
 
@@ -224,7 +225,7 @@ print(found == {name: sweep.sweep() for name, sweep in SWEEPS.items()}, *(it.mes
         for _ in range(2):
             self.assertRaises(RejectedInputError, list, trlab.results([replace(JOB, rule=Rickert(0, 0))], cache=self.cache))
             with self.assertRaises(ProgramError):
-                list(trlab.results([JOB], call=lambda job: job.run(workers=17), cache=self.cache))
+                list(trlab.results([JOB], call=lambda job: ask(["run", "--workers", "17"], job.text()), cache=self.cache))
         self.assertEqual((calls(self.folder, "run"), list(self.cache.iterdir())), (4, []))
 
     def test_pictures_one_by_one(self):
