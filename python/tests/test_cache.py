@@ -15,6 +15,7 @@ from tests.processes import PYTHON, calls, child, end, logging_program, marked, 
 from trlab import Job, Nasch, ParameterError, ProgramError, RejectedInputError, ResultFilesError, Rickert, Sweep
 from trlab._runs import cache as caching
 from trlab._runs.cache import Cache
+from trlab._runs.calls import ask
 from trlab._runs.ownership import new_path
 from trlab._runs.requests import Request
 
@@ -113,7 +114,6 @@ def other_version(folder, version="0"):
 class Kept(unittest.TestCase):
     def setUp(self):
         self.folder = Path(self.enterContext_(tempfile.TemporaryDirectory()))
-        self.program = trlab.find_program()
         self.enterContext_(mock.patch.dict("os.environ", TRLAB=str(logging_program(self.folder))))
         self.cache = self.folder / "cache"
         self.wanted = {name: sweep.sweep() for name, sweep in SWEEPS.items()}
@@ -207,7 +207,7 @@ print(found == {name: sweep.sweep() for name, sweep in SWEEPS.items()}, *(it.mes
         self.folder.chmod(0o755)
         self.cache.chmod(0o555)
         self.addCleanup(self.cache.chmod, 0o755)
-        environment = {**os.environ, "PYTHONPATH": str(PYTHON), "TRLAB": self.program}
+        environment = {**os.environ, "PYTHONPATH": str(PYTHON)}
         ran = subprocess.run([sys.executable, "-B", "-c", script, str(self.cache)], env=environment, stdout=subprocess.PIPE, text=True)
         equal, *told = ran.stdout.rstrip("\n").split("|")
         self.assertEqual((ran.returncode, equal, len(told)), (0, "True", 2))
@@ -224,7 +224,7 @@ print(found == {name: sweep.sweep() for name, sweep in SWEEPS.items()}, *(it.mes
         for _ in range(2):
             self.assertRaises(RejectedInputError, list, trlab.results([replace(JOB, rule=Rickert(0, 0))], cache=self.cache))
             with self.assertRaises(ProgramError):
-                list(trlab.results([JOB], call=lambda job: job.run(workers=17), cache=self.cache))
+                list(trlab.results([JOB], call=lambda job: ask(["run", "--workers", "17"], job.text()), cache=self.cache))
         self.assertEqual((calls(self.folder, "run"), list(self.cache.iterdir())), (4, []))
 
     def test_pictures_one_by_one(self):

@@ -1,7 +1,7 @@
 """Inputs as files: the requests that an input is, one or several, and the table that their outputs are together."""
 from __future__ import annotations
 
-from collections.abc import Iterable, Sequence
+from collections.abc import Sequence
 from typing import Any, Union
 
 from .._errors import ParameterError
@@ -51,7 +51,9 @@ def kind_of(words: Sequence[str]) -> Any:
     return Point if words[0] == "sweep" else Window
 
 
-def joined(kind: Any, tables: Iterable[Table[Any]]) -> Table[Any]:
+def joined(kind: Any, tables: Sequence[Table[Any]]) -> Table[Any]:
     """The table of all parts of an input. A point of a sweep may have been a window."""
+    if len(tables) == 1 and tables[0].kind is kind:
+        return tables[0]
     rows = [row for table in tables for row in table]
     return Table(kind, [Point(*row[1:1 + len(Point._fields)]) if kind is Point and isinstance(row, Window) else row for row in rows])

@@ -159,8 +159,8 @@ def _study_in(file: zipfile.ZipFile, size: int) -> Study:
     """The study in an archive of so many bytes. Raises `StudyFileError`, or other errors if it is damaged."""
     members = file.infolist()
     names = [member.filename for member in members]
-    _need(sum(member.file_size for member in members) <= size, "its members are longer than the file")
     _need(all(member.compress_type == zipfile.ZIP_STORED for member in members), "it is compressed")
+    _need(sum(member.file_size for member in members) <= size, "its members are longer than the file")
     _need(len(set(names)) == len(names), "it has two members of one name")
     about = json.loads(file.read("study.json"), parse_constant=_no_number)
     _need(isinstance(about, dict), "study.json is not an object")
