@@ -91,7 +91,7 @@ def _are_possible(numbers: array[int], columns: int, rules: Callable[[Sequence[A
     numpy = sys.modules.get("numpy")
     if numpy is None or not numbers:
         return False
-    rows = numpy.frombuffer(numbers, dtype=numpy.int64).reshape(-1, columns).T
+    rows = numpy.ascontiguousarray(numpy.frombuffer(numbers, dtype=numpy.int64).reshape(-1, columns).T)
     cells, steps = (rows[2], rows[3]) if columns == 14 else (rows[1], rows[2])
     if int(cells.max()) * int(steps.max()) >= _MOST_PLACES:
         return False
