@@ -37,8 +37,8 @@ class Sweeps(unittest.TestCase):
         sweep = Sweep(limit=5, length=1000, rule=Nasch(0.25), warm=200, measure=400, cars=cars)
         self.assertEqual(sweep.text(), example("fundamental_diagram.sweep"))
         table = sweep.sweep(runners=2)
-        self.assertEqual(table.text(), example("fundamental_diagram.csv"))
-        self.assertEqual(table, Table.read(Point, table.text()))
+        self.assertEqual(table.csv(), example("fundamental_diagram.csv"))
+        self.assertEqual(table, Table.read(Point, table.csv()))
 
     def test_what_a_point_tells(self):
         point = Point(cars=4, cells=20, steps=10, distance=60, stopped=8, changes=0, flow=300000)
@@ -131,7 +131,7 @@ class Series(unittest.TestCase):
             with stand_in(folder, lines):
                 told = self.JOBS[0].series(every=10, first=5, workers=3)
             self.assertEqual(told, [Window(*range(14))])
-            self.assertEqual(told.text(), table)
+            self.assertEqual(told.csv(), table)
             self.assertEqual((Path(folder) / "words").read_text(), "series --every 10 --from 5 --workers 3\n")
             self.assertEqual((Path(folder) / "text").read_text(), self.JOBS[0].text())
 

@@ -113,7 +113,7 @@ class Studies(unittest.TestCase):
             for text, sweep in itertools.islice(script(name).texts(False).items(), 2):
                 first = replace(sweep, cars=sweep.counts()[:2], densities=None)
                 with self.subTest(study=name, text=text):
-                    self.assertEqual(Sweep.sweep(first).text().splitlines()[1:], table[text][:2])
+                    self.assertEqual(Sweep.sweep(first).csv().splitlines()[1:], table[text][:2])
 
     def test_first_points_of_random_initial_states_come_out_again(self):
         for name in "1992", "1996", "triangle":
@@ -176,7 +176,7 @@ class Studies(unittest.TestCase):
         jobs = module.branches(False)
         self.assertEqual(list(table), list(jobs))
         for text in "jam_0.03_key1", "moving_0.03_key2":
-            self.assertEqual(module.last_half(jobs[text]).text().splitlines()[1:], table[text])
+            self.assertEqual(module.last_half(jobs[text]).csv().splitlines()[1:], table[text])
         lives = rows(STUDIES / "1998" / "lives.csv")
         for text, job in itertools.islice(module.lives(False).items(), 3):
             self.assertEqual([f"{job.length},{module.life(job)}"], lives[text])

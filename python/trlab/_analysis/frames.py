@@ -17,7 +17,7 @@ from .._results.tables import Point, Table, Window
 UNITS = {
     "density": "cars per cell", "flow": "cars per step and lane", "speed": "cells per step", "stopped_share": "",
     "change_rate": "changes per car and step", "step": "steps", "time": "steps", "occupancy": "",
-    "time_mean_speed": "cells per step", "harmonic_mean_speed": "cells per step", "time_headway": "steps", "mean_time_headway": "steps",
+    "time_mean_speed": "cells per step", "harmonic_mean_speed": "cells per step", "time_headway": "steps",
 }
 """The unit of each column that trlab makes; "" for a share. `_sem` columns have the unit of their mean."""
 
