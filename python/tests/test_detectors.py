@@ -9,27 +9,17 @@ from fractions import Fraction
 from pathlib import Path
 
 import trlab
+from tests.random_jobs import needs_hypothesis
 from tests.test_arrays import needs
 from trlab import Job, Nasch, ParameterError, Rickert, Snapshot, Snapshots, SnapshotsError, random_cells
 
 if importlib.util.find_spec("hypothesis"):
-    from hypothesis import given, settings, strategies as some
+    from hypothesis import given, strategies as some
+    from tests.random_jobs import EXAMPLES, jobs
 
-    ROADS = given(
-        lanes=some.integers(1, 2), length=some.integers(1, 45), density=some.floats(0, 1), limit=some.integers(1, 35),
-        key=some.integers(0, 999), first=some.integers(0, 3), is_fast=some.booleans(),
-    )
-    EXAMPLES = settings(max_examples=60, deadline=None, database=None, derandomize=True)
+    ROADS = given(jobs(27), some.integers(0, 3))
 else:
-    ROADS = EXAMPLES = unittest.skip("hypothesis is not installed")
-
-
-def run(lanes, length, density, limit, key, first, is_fast, steps=24):
-    """The snapshots of a random road."""
-    rule = Rickert("1/4", "3/4") if lanes == 2 else Nasch("1/4")
-    start = random_cells(key, None if is_fast else 0)
-    job = Job(limit=limit, length=length, lanes=lanes, density=density, start=start, rule=rule, steps=first + steps, key=key)
-    return job.run(first=first)
+    ROADS = EXAMPLES = needs_hypothesis
 
 
 def cell_by_cell(snapshots):
@@ -51,8 +41,8 @@ def mean(values):
 class Detectors(unittest.TestCase):
     @EXAMPLES
     @ROADS
-    def test_passings_are_those_of_each_car(self, **road):
-        snapshots, cells = run(**road), [*range(road["length"])]
+    def test_passings_are_those_of_each_car(self, job, first):
+        snapshots, cells = job.run(first=first), [*range(job.length)]
         found = trlab.passings(iter(snapshots), cells)
         wanted = sorted(cell_by_cell(snapshots))
         self.assertEqual([*found[["step", "cell", "lane", "speed"]].itertuples(index=False, name=None)], wanted)
@@ -67,13 +57,12 @@ class Detectors(unittest.TestCase):
 
     @EXAMPLES
     @ROADS
-    def test_windows_are_sums_over_passings(self, **road):
-        snapshots = run(**road)
-        cells = [*{0, road["length"] // 2, road["length"] - 1}]
-        passed, first = [*cell_by_cell(snapshots)], snapshots[0].step
+    def test_windows_are_sums_over_passings(self, job, first):
+        snapshots, cells = job.run(first=first)[:25], [*{0, job.length // 2, job.length - 1}]
+        passed = [*cell_by_cell(snapshots)]
         for every in 1, 6, 24:
             found = trlab.detectors(iter(snapshots), cells, every)
-            self.assertEqual((len(found), found.index.names), (len(cells) * road["lanes"] * 24 // every, ["cell", "lane", "step"]))
+            self.assertEqual((len(found), found.index.names), (len(cells) * job.lanes * 24 // every, ["cell", "lane", "step"]))
             for (cell, lane, end), row in found.iterrows():
                 before = [step for step, *place, _ in passed if place == [cell, lane] and step <= end]
                 speeds = [speed for step, *place, speed in passed if place == [cell, lane] and end - every < step <= end]
@@ -92,11 +81,11 @@ class Detectors(unittest.TestCase):
 
     @EXAMPLES
     @ROADS
-    def test_headways_are_those_of_trajectories(self, **road):
-        snapshots = run(**road)
-        paths, passed = snapshots.trajectories(), trlab.passings(snapshots, [*range(road["length"])])
-        for cell in range(road["length"]):
-            for lane in range(road["lanes"]):
+    def test_headways_are_those_of_trajectories(self, job, first):
+        snapshots = job.run(first=first)
+        paths, passed = snapshots.trajectories(), trlab.passings(snapshots, [*range(job.length)])
+        for cell in range(job.length):
+            for lane in range(job.lanes):
                 here = passed[(passed.cell == cell) & (passed.lane == lane)]
                 self.assertEqual(paths.time_headways(cell, lane).tolist(), here.time_headway[1:].tolist())
 

@@ -7,8 +7,9 @@ import unittest
 from unittest import mock
 
 from tests.by_pictures import windows
+from tests.random_jobs import needs_hypothesis
 from tests.test_arrays import needs
-from trlab import Job, Nasch, OutputFormatError, Point, RenamedError, Rickert, SlowToStart, Snapshots, SnapshotsError, Sweep, Table, Window
+from trlab import Job, Nasch, OutputFormatError, Point, RenamedError, Rickert, Snapshots, SnapshotsError, Sweep, Table, Window
 from trlab import random_cells
 
 if importlib.util.find_spec("numpy"):
@@ -130,30 +131,23 @@ class Impossible(unittest.TestCase):
         self.assertRaises(OutputFormatError, Table.read, Point, (POINTS + GOOD_POINT).encode() + b"\xff\n")
 
 
-@unittest.skipUnless(importlib.util.find_spec("hypothesis"), "hypothesis is not installed")
+@needs_hypothesis
 class OfTheProgram(unittest.TestCase):
     """Tables that the program writes are read, and changed ones are not."""
 
     def test_series_are_read(self):
-        from hypothesis import given, settings, strategies as some
+        from hypothesis import given, strategies as some
+        from tests.random_jobs import EXAMPLES, jobs
 
-        @settings(max_examples=80, deadline=None, database=None, derandomize=True)
-        @given(
-            some.integers(1, 2), some.integers(1, 60), some.floats(0, 1), some.integers(1, 35), some.integers(0, 99), some.integers(1, 4),
-            some.integers(0, 3), some.booleans(), some.data(),
-        )
-        def read(lanes, length, density, limit, key, every, first, is_fast, data):
-            rule = Rickert("1/4", "3/4") if lanes == 2 else SlowToStart("1/64", "1/2")
-            start = random_cells(key, None if is_fast else 0)
-            job = Job(
-                limit=limit, length=length, lanes=lanes, cars=lanes * round(density * length), start=start, rule=rule,
-                steps=first + 4 * every, key=key,
-            )
+        @EXAMPLES
+        @given(jobs(15), some.sampled_from([(1, 9), (2, 7), (3, 3), (5, 0)]), some.data())
+        def read(job, window, data):
+            every, first = window
             table = job.series(every=every, first=first)
             text = table.text()
             with without_numpy():
                 self.assertEqual(Table.read(Window, text), table)
-            self.assertEqual((Table.read(Window, text), Table.read(Window, text).text(), len(table)), (table, text, 4))
+            self.assertEqual((Table.read(Window, text), Table.read(Window, text).text()), (table, text))
             self.assertEqual(table, [*windows(job.run(), every, first)])
             # Every other number in a window between two others is refused, but for the lane changes.
             rows = [list(row) for row in table]
@@ -168,18 +162,18 @@ class OfTheProgram(unittest.TestCase):
         read()
 
     def test_sweeps_are_read(self):
-        from hypothesis import given, settings, strategies as some
+        from hypothesis import given, strategies as some
+        from tests.random_jobs import EXAMPLES, jobs
 
-        @settings(max_examples=40, deadline=None, database=None, derandomize=True)
-        @given(
-            some.integers(1, 2), some.integers(1, 60), some.lists(some.floats(0, 1), min_size=1, max_size=4), some.integers(1, 35),
-            some.integers(0, 99), some.integers(0, 9), some.integers(1, 20),
-        )
-        def read(lanes, length, densities, limit, key, warm, measure):
-            rule = Rickert("1/4", "3/4") if lanes == 2 else Nasch("1/4")
-            cars = [round(density * length) * lanes for density in densities]
+        @EXAMPLES
+        @given(some.lists(jobs(0), min_size=1, max_size=4), some.integers(0, 9), some.integers(1, 20))
+        def read(roads, warm, measure):
+            one = roads[0]
+            cars = [road.cars for road in roads if road.cars <= one.length * one.lanes]
+            sweep = Sweep(
+                limit=one.limit, length=one.length, lanes=one.lanes, cars=cars, rule=one.rule, warm=warm, measure=measure, key=one.key
+            )
             # On two lanes some even starts have all cars on one lane, with a warning.
-            sweep = Sweep(limit=limit, length=length, lanes=lanes, cars=cars, rule=rule, warm=warm, measure=measure, key=key)
             with mock.patch("warnings.warn"):
                 table = sweep.sweep()
             with without_numpy():

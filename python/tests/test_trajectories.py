@@ -4,6 +4,7 @@ import unittest
 from dataclasses import replace
 
 from tests.by_pictures import windows
+from tests.random_jobs import needs_hypothesis
 from tests.test_arrays import needs
 from trlab import Job, Nasch, Own, ParameterError, Snapshot, Snapshots, SnapshotsError, Rickert, SlowToStart, jammed, random_cells
 from trlab._inputs.states import SPEEDS
@@ -399,17 +400,16 @@ class Followed(unittest.TestCase):
                 self.assertEqual(cars.ahead(2).tolist(), paths.ahead(2)[row].tolist())
             self.assertEqual(row, len(paths) - 1)
 
+    @needs_hypothesis
     def test_cars_of_random_roads(self):
-        from hypothesis import given, settings, strategies as some
+        from hypothesis import given
+        from tests.random_jobs import EXAMPLES, jobs
 
-        @settings(max_examples=60, deadline=None, database=None, derandomize=True)
-        @given(some.integers(1, 2), some.integers(1, 40), some.floats(0, 1), some.integers(1, 35), some.integers(0, 99), some.booleans())
-        def agree(lanes, length, density, limit, key, is_at_full_speed):
-            rule = Rickert("1/4", "3/4") if lanes == 2 else Nasch("1/4")
-            start = random_cells(key, None if is_at_full_speed else 0)
-            snapshots = Job(limit=limit, length=length, lanes=lanes, density=density, start=start, rule=rule, steps=12, key=key).run()
-            rows = followed_by_dictionaries(snapshots)
-            for wanted, cars in zip(rows, trlab.follow(iter(snapshots))):
+        @EXAMPLES
+        @given(jobs(12))
+        def agree(job):
+            snapshots = job.run()
+            for wanted, cars in zip(followed_by_dictionaries(snapshots), trlab.follow(iter(snapshots))):
                 self.assertEqual([*zip(*(it.tolist() for it in (cars.lane, cars.cell, cars.distance, cars.speed)))], wanted)
             self.assertEqual(len([*trlab.follow(snapshots)]), 13)
 

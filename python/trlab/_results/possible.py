@@ -65,8 +65,8 @@ def _pair(before: Sequence[Any], row: Sequence[Any]) -> tuple[Any, ...]:
     return (row[0] - row[3] != before[0]) | (row[3] != before[3]), (row[1] != before[1]) | (row[2] != before[2])
 
 
-_FAST = 2**42
-"""Below this number, and this many places, no product of the rules leaves 64 bits unless another rule is broken."""
+_MOST_PLACES = 2**42
+"""With fewer places (cells x steps), a product of the rules leaves 64 bits only if one of its factors breaks another rule."""
 
 
 def first_fault(numbers: array[int], columns: int) -> Optional[tuple[int, str]]:
@@ -91,9 +91,9 @@ def _are_possible(numbers: array[int], columns: int, rules: Callable[[Sequence[A
     numpy = sys.modules.get("numpy")
     if numpy is None or not numbers:
         return False
-    rows = numpy.frombuffer(numbers, dtype=numpy.int64).reshape(-1, columns).T
+    rows = numpy.ascontiguousarray(numpy.frombuffer(numbers, dtype=numpy.int64).reshape(-1, columns).T)
     cells, steps = (rows[2], rows[3]) if columns == 14 else (rows[1], rows[2])
-    if rows.max() >= _FAST or int(cells.max()) * int(steps.max()) >= _FAST:
+    if int(cells.max()) * int(steps.max()) >= _MOST_PLACES:
         return False
     faults = rules(rows) + (_pair(rows[:, :-1], rows[:, 1:]) if columns == 14 else ())
     return not any(fault.any() for fault in faults)

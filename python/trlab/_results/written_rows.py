@@ -13,9 +13,11 @@ from .possible import first_fault
 
 BLOCK = 1 << 18
 DIGITS = b"0123456789"
-AS_ZEROS = bytes(DIGITS[0] if sign in DIGITS else sign for sign in range(256))
+AS_ZEROS, AS_ZERO_OR_ONE = (bytes.maketrans(DIGITS, digits) for digits in (10 * b"0", b"0" + 9 * b"1"))
 MOST_DIGITS = 18
 """Numbers of so many digits are below 2**63. The program writes at most 13."""
+
+TOO_LONG = (MOST_DIGITS + 1) * b"0"
 
 HEADINGS = {"flow_millionths": "flow"}
 """The names of columns in files, if they differ from those in Python."""
@@ -80,12 +82,10 @@ def _blocks(text: str, begin: int) -> Iterator[bytes]:
 def _is_of_rows(block: bytes, columns: int) -> bool:
     """Whether each line of the block has so many numbers, without leading zeros and too many digits."""
     rows = (b"," * (columns - 1) + b"\n") * block.count(b"\n")
-    # All numbers between two commas each.
-    numbers = b"," + block.replace(b"\n", b",").replace(b",", b",,")
-    return (
-        block.endswith(b"\n") and block.translate(None, DIGITS) == rows and b",,," not in numbers
-        and numbers.count(b",0") == numbers.count(b",0,") and DIGITS[:1] * (MOST_DIGITS + 1) not in block.translate(AS_ZEROS)
-    )
+    if not block.endswith(b"\n") or block.translate(None, DIGITS) != rows:
+        return False
+    numbers = (b"," + block.replace(b"\n", b",")).translate(AS_ZERO_OR_ONE)
+    return not any(wrong in numbers for wrong in (b",,", b",00", b",01")) and TOO_LONG not in numbers.translate(AS_ZEROS)
 
 
 def _numbers(block: bytes) -> array[int]:
