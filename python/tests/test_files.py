@@ -341,7 +341,7 @@ class Tables(Folder):
             folder = self.folder / f"{every} {first}"
             self.task(write_inputs(folder, {"a": JOB}, words))
             whole = (folder / "a.csv").read_text()
-            self.assertEqual(read_tables(folder, Window, {"a": JOB})["a"].csv(), whole)
+            self.assertEqual(read_tables(folder, Window, {"a": JOB})["a"].text(), whole)
             for length in range(len(whole)):
                 (folder / "a.csv").write_text(whole[:length])
                 with self.subTest(every=every, first=first, length=length), self.assertRaises(ValueError):
