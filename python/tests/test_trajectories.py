@@ -251,7 +251,7 @@ class Paths(unittest.TestCase):
         for places, later in (0, 0), (1, 0), (2, 3), (0, 5):
             pairs = [
                 (int(paths.speed[row][car]), int(paths.speed[row + later][(car + places) % paths.cars]))
-                for row in range(len(paths) - later)
+                for row in range(1, len(paths) - later)
                 for car in range(paths.cars)
             ]
             means = [sum(column) / len(pairs) for column in zip(*pairs)]
@@ -260,13 +260,17 @@ class Paths(unittest.TestCase):
             ]
             self.assertAlmostEqual(paths.speed_correlation(places, later), moments[0] / math.sqrt(moments[1] * moments[2]))
         self.assertEqual(paths.speed_correlation(), 1)
+        # The speeds of the initial state are no result.
+        other = Snapshots([Snapshot(0, (ONE_LANE[0].run()[0].lanes[0].replace("0", "5"),)), *ONE_LANE[0].run()[1:]])
+        self.assertEqual(other.trajectories().speed_correlation(1, 1), paths.speed_correlation(1, 1))
+        self.assertTrue(math.isnan(ONE_LANE[0].run()[:1].trajectories().speed_correlation()))
         self.assertTrue(math.isnan(Job(limit=5, length=9, cars=0, rule=Nasch(0), steps=1).run().trajectories().speed_correlation()))
 
     def test_numbers_out_of_range(self):
         paths = ONE_LANE[0].run().trajectories()
         for call in (
             lambda: paths.time_headways(40), lambda: paths.time_headways(-1), lambda: paths.time_headways(0, 1), lambda: paths.ahead(-1),
-            lambda: paths.travel_times(0, 40), lambda: paths.speed_correlation(0, 61), lambda: paths.speed_correlation(0, -1),
+            lambda: paths.travel_times(0, 40), lambda: paths.speed_correlation(0, 60), lambda: paths.speed_correlation(0, -1),
             lambda: paths.speed_correlation(-1), lambda: paths.time_headways(1.5),
         ):
             self.assertRaises((ValueError, TypeError), call)

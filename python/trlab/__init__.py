@@ -39,7 +39,7 @@ from ._studies.keys import key_for
 from ._studies.study_file import read_study
 from ._version import __version__
 
-_WITH_LIBRARIES = {
+_ANALYSIS = {
     "_results.following": ["Cars", "follow"],
     "_results.jams": ["Jam"],
     "_results.trajectories": ["Trajectories", "Trip"],
@@ -66,7 +66,7 @@ __all__ = [
 def __getattr__(name: str) -> object:
     """A name that needs a library, which is imported when it is first used. Raises `RenamedError` for an old name."""
     _renamed("trlab", name, _IN_PACKAGE)
-    for module, names in _WITH_LIBRARIES.items():
+    for module, names in _ANALYSIS.items():
         if name in names:
             found: object = getattr(_import_module(f"trlab.{module}"), name)
             globals()[name] = found
@@ -75,4 +75,4 @@ def __getattr__(name: str) -> object:
 
 
 def __dir__() -> "list[str]":
-    return sorted({*globals(), *(name for names in _WITH_LIBRARIES.values() for name in names)})
+    return sorted({*globals(), *(name for names in _ANALYSIS.values() for name in names)})

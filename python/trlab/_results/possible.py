@@ -68,10 +68,13 @@ def _pair(before: Sequence[Any], row: Sequence[Any]) -> tuple[Any, ...]:
 _MOST_PLACES = 2**42
 """With fewer places (cells x steps), a product of the rules leaves 64 bits only if one of its factors breaks another rule."""
 
+_FEW = 1000
+"""Fewer numbers are checked as fast without numpy."""
+
 
 def first_fault(numbers: array[int], columns: int) -> Optional[tuple[int, str]]:
     """The number of the first row that cannot be, from 0, and its contradiction; None if all rows can be. Tables of 14
-    columns are series. If the program has imported numpy, it accepts good tables ten times as fast."""
+    columns are series. If numpy is imported, it accepts long tables ten times as fast."""
     rules, sentences = (_window, _OF_POINT + _OF_LANES) if columns == 14 else (_point, _OF_POINT)
     if _are_possible(numbers, columns, rules):
         return None
@@ -89,7 +92,7 @@ def first_fault(numbers: array[int], columns: int) -> Optional[tuple[int, str]]:
 def _are_possible(numbers: array[int], columns: int, rules: Callable[[Sequence[Any]], tuple[Any, ...]]) -> bool:
     """Whether numpy is there and finds no contradiction in any row."""
     numpy = sys.modules.get("numpy")
-    if numpy is None or not numbers:
+    if numpy is None or len(numbers) < _FEW:
         return False
     rows = numpy.ascontiguousarray(numpy.frombuffer(numbers, dtype=numpy.int64).reshape(-1, columns).T)
     cells, steps = (rows[2], rows[3]) if columns == 14 else (rows[1], rows[2])

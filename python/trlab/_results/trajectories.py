@@ -32,8 +32,8 @@ class Trajectories(OnRoad):
     numbered from 0 by lane and cell in row 0.
 
     - `lane`, 0 or 1, and `cell`, 0 to `length` - 1, after the step;
-    - `speed`: the cells that the car drove in the step. Row 0 has the speeds of the first snapshot, which are those of
-      the initial state if it is step 0, and no car drove them: take `speed[1:]` for means;
+    - `speed`: the cells that the car drove in the step. Row 0 has the speeds of the first snapshot. If that is step 0, they
+      are those of the initial state, and no car drove them: take `speed[1:]` for means, as `speed_correlation` does;
     - `distance`: the cell in row 0 plus all later speeds, not wrapped round the ring.
 
     The arrays have 64-bit integers unless a smaller type is requested. All measurements use 64 bits. `trlab.follow` gives
@@ -102,18 +102,18 @@ class Trajectories(OnRoad):
         return jams_of(self.first, self.speed, self.ahead(), self.gaps())
 
     def speed_correlation(self, places: int = 0, later: int = 0) -> float:
-        """Pearson's correlation of the speed x of a car after a step with the speed y of the car `places` places ahead, as
-        the lane is after this step, `later` steps later:
+        """Pearson's correlation of the speed x of a car after a step with the speed y of the car `places` places ahead on the
+        lane after that step, `later` steps later:
 
             r = (<xy> - <x><y>) / sqrt((<x**2> - <x>**2) (<y**2> - <y>**2)), -1 to 1,
 
-        where <> is the mean over all cars and all rows for which both speeds are there, also row 0. Use `places=k` for the
+        where <> is the mean over all cars and all steps after row 0 for which both speeds are there. Use `places=k` for the
         correlation in space and `later=t` for that in time. NaN if x or y does not vary. Raises `ParameterError` if
-        `places` is negative, or `later` not from 0 to the number of steps."""
-        later = whole("later", later, 0, len(self) - 1)
-        x, y = self.speed[:len(self) - later].astype(numpy.int64), self.speed[later:].astype(numpy.int64)
+        `places` is negative, or `later` not from 0 to the number of steps - 1."""
+        later = whole("later", later, 0, max(0, len(self) - 2))
+        x, y = self.speed[1:len(self) - later].astype(numpy.int64), self.speed[1 + later:].astype(numpy.int64)
         if whole("places", places, 0):
-            y = numpy.take_along_axis(y, self.ahead(places)[:len(x)], axis=1)
+            y = numpy.take_along_axis(y, self.ahead(places)[1:len(self) - later], axis=1)
         # Whole numbers, so that equal speeds have a spread of exactly 0.
         n, sum_x, sum_y = x.size, int(x.sum()), int(y.sum())
         xx, yy, xy = (int(numpy.vdot(one, other)) for one, other in ((x, x), (y, y), (x, y)))
