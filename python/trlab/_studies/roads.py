@@ -4,7 +4,7 @@ from __future__ import annotations
 import json
 from collections.abc import Hashable
 from hashlib import sha256
-from typing import TypedDict, Union
+from typing import TypedDict, Union, cast
 
 from .._inputs.jobs import Job
 from .._inputs.numbers import key_digits
@@ -37,14 +37,13 @@ def _about(input: Union[Job, Sweep], cells: int) -> list[object]:
     start = [input.start.placement, input.start.speed] if isinstance(input.start, InitialState) else "roads"
     if isinstance(input, Sweep):
         return [input.limit, input.lanes, cells, start, input.rule.lines(), [input.warm, input.measure]]
-    lanes = input.lanes if isinstance(input.start, InitialState) else len(input.road())
     rules = [[-1, *input.rule.lines()], *([step, *rule.lines()] for step, rule in input.at.items())]
-    return [input.limit, lanes, cells, start, rules, input.steps]
+    return [input.limit, input.lanes, cells, start, rules, input.steps]
 
 
 def without_key(input: Union[Job, Sweep], roads: KnownRoads) -> Hashable:
     """Equal for inputs with these roads that differ only in their key, and in a seed of random cells that is this key."""
-    start: Hashable = input.start
+    start = cast(Hashable, input.start)
     if isinstance(start, InitialState) and start.seed == int(roads["key"], 16):
         start = start.placement, start.speed, "key"
     return tuple(roads["ensembles"]), start
@@ -52,5 +51,5 @@ def without_key(input: Union[Job, Sweep], roads: KnownRoads) -> Hashable:
 
 def all_of(input: Union[Job, Sweep], roads: KnownRoads) -> Hashable:
     """Equal for inputs with these roads that give the same output."""
-    start: Hashable = input.start
+    start = cast(Hashable, input.start)
     return tuple(roads["ensembles"]), roads["key"], start
