@@ -105,13 +105,11 @@ fn push_warning(facts: &mut Draft, word: u8, draws: &[Draw]) {
         };
         write!(facts, "{separator}{draw}");
     }
-    writeln!(
+    write!(
         facts,
-        " use random word {word}. If a car runs more than one of them in a step, they see the"
+        " use random word {word}. If a car runs more than one of them in a step, "
     );
-    facts.push_line(
-        "  same random number, so they are not independent. Use a different word for each decision.",
-    );
+    facts.push_line("they see the same random number. Use a different word for each decision.");
 }
 
 /// Adds a warning for each random word of which a car may use two draws in a step. The car may run both programs.
@@ -155,23 +153,28 @@ fn push_draws_below(
         return Ok(Vec::new(alloc));
     };
     let count = code.instrs().len();
-    let is_in_bytes = without_prefix(b"code ", first.line).is_some();
-    let canonical = disassemble(alloc, code)?;
-    let listed = if is_in_bytes {
-        UnreadLines::below(0, &canonical).read_instructions(alloc, count)?
+    let first_line = first.number;
+    if without_prefix(b"code ", first.line).is_some() {
+        let canonical = disassemble(alloc, code)?;
+        let listed = UnreadLines::below(0, &canonical).read_instructions(alloc, count)?;
+        let program = Listing {
+            code,
+            lines: &listed,
+            first_line,
+            is_in_bytes: true,
+        };
+        push_draws(alloc, facts, program)
     } else {
-        lines.read_instructions(alloc, count)?
-    };
-    if !is_in_bytes {
+        let listed = lines.read_instructions(alloc, count)?;
         lines.read_to(b"end");
+        let program = Listing {
+            code,
+            lines: &listed,
+            first_line,
+            is_in_bytes: false,
+        };
+        push_draws(alloc, facts, program)
     }
-    let program = Listing {
-        code,
-        lines: &listed,
-        first_line: first.number,
-        is_in_bytes,
-    };
-    push_draws(alloc, facts, program)
 }
 
 /// Reads the programs of a line `rule own`, which are on the lines below it, and adds their draws.
