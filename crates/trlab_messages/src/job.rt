@@ -2,8 +2,8 @@
 
 use crate::amount::Amount;
 use crate::body::{Body, Number};
-use crate::rules::{count_digits, megabytes, push_rules};
-use trlab_bounds::runs::MAX_LATER;
+use crate::lines::UnreadLines;
+use crate::rules::{add_next_rule, count_digits, megabytes};
 use trlab_jobs::Job;
 use trlab_road::Road;
 
@@ -59,20 +59,24 @@ fn run_numbers(text: &[u8], job: &Job) -> [Number; 4] {
     ]
 }
 
+/// Adds the rules of a job.
+fn add_rules(body: &mut Body, text: &[u8], job: &Job) {
+    let mut lines = UnreadLines::below(0, text);
+    body.facts.push_line("The rule from the start:");
+    add_next_rule(body, &mut lines, b"rule", &job.first);
+    if !job.later.is_empty() {
+        body.facts.push_line("Later rules:");
+    }
+    for (_, rule) in &job.later {
+        add_next_rule(body, &mut lines, b"at", rule);
+    }
+}
+
 /// Adds the road, the rules and the work of a valid job.
 pub fn add_job(body: &mut Body, text: &[u8], job: &Job) {
     body.intro = "This is a valid job: `trlab run` runs it.";
     body.add_numbers(&road_numbers(&job.road));
     body.numbers_above = body.numbers.len();
-    push_rules(
-        &mut body.facts,
-        "The rule from the start:",
-        text,
-        b"rule",
-        1,
-    );
-    if !job.later.is_empty() {
-        push_rules(&mut body.facts, "Later rules:", text, b"at", MAX_LATER);
-    }
+    add_rules(body, text, job);
     body.add_numbers(&run_numbers(text, job));
 }

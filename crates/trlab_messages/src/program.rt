@@ -1,18 +1,21 @@
 //! Programs: the facts known in an accepted one, and why the verifier rejects one.
 
+mod draws;
 mod register_facts;
 mod rejection;
 
-use crate::Result;
 use crate::body::{Body, Known, Number};
 use crate::fault::Fault;
+use crate::lines::{NumberedLine, UnreadLines};
+use crate::program::draws::push_program_draws;
+pub use crate::program::draws::push_rule_draws;
 use crate::program::register_facts::push_register_fact;
 use crate::program::rejection::add_rejection;
 use crate::sentence::{Draft, Quoted};
 use std::alloc::{AllocError, Global};
 use trlab_asm::{REGISTERS, disassemble};
 use trlab_code::Code;
-use trlab_lines::{Place, name_and_operands, next_line};
+use trlab_lines::Place;
 use trlab_notes::Reason;
 use trlab_texts::Wanted;
 use trlab_texts::word::without_prefix;
@@ -27,18 +30,13 @@ pub enum ProgramVerdict {
     Rejected { pc: u32, reason: u32 },
 }
 
-/// A line and its number.
-#[derive(Clone, Copy)]
-struct NumberedLine<'a> {
-    number: u32,
-    line: &'a [u8],
-}
-
 /// A program with the lines of its instructions, from the input or, for a program in bytes, from the canonical form.
 #[derive(Clone, Copy)]
 pub struct Listing<'a> {
     code: &'a Code,
     lines: &'a [NumberedLine<'a>],
+    /// The number of its first line.
+    first_line: u32,
     is_in_bytes: bool,
 }
 
@@ -73,30 +71,6 @@ impl<'a> Listing<'a> {
     }
 }
 
-/// The first `count` lines of a text that have an instruction. The text's first line has the number
-/// `line_before + 1`.
-fn instruction_lines<'a>(
-    alloc: Global,
-    line_before: u32,
-    text: &'a [u8],
-    count: usize,
-) -> Result<Vec<NumberedLine<'a>>> {
-    let mut lines = Vec::new(alloc);
-    let mut left = text;
-    let mut number = line_before;
-    for _ in 0..text.len() {
-        let Some((line, rest)) = next_line(left) else {
-            break;
-        };
-        number = number.saturating_add(1);
-        if lines.len() < count && !name_and_operands(line).0.is_empty() {
-            lines.push(NumberedLine { number, line })?;
-        }
-        left = rest;
-    }
-    Ok(lines)
-}
-
 /// An instruction of an accepted program, and its note's facts about each register that is set and about the side
 /// cell.
 fn known_before(alloc: Global, program: Listing<'_>, pc: u32, note: &Note) -> Known {
@@ -124,6 +98,8 @@ fn add_accepted(body: &mut Body, program: Listing<'_>, budget: u32) {
     let number = Number::whole("budget", runs, u64::from(budget), " instructions per step.");
     body.add_numbers(&[number]);
     body.numbers_above = 1;
+    let pushed = push_program_draws(body.alloc, &mut body.facts, program);
+    body.ok_or_fail(pushed);
     let table = match notes(body.alloc, program.code) {
         Ok(table) => Ok(Some(table)),
         Err(NotesFault::Refused) => Ok(None),
@@ -152,13 +128,15 @@ fn add_verdict(body: &mut Body, code: &Code, place: &Place<'_>, verdict: Program
     } else {
         (place.number, place.below())
     };
-    let lines = instruction_lines(body.alloc, line_before, text, code.instrs().len());
+    let count = code.instrs().len();
+    let lines = UnreadLines::below(line_before, text).read_instructions(body.alloc, count);
     let Some(lines) = body.ok_or_fail(lines) else {
         return;
     };
     let program = Listing {
         code,
         lines: &lines,
+        first_line: place.number,
         is_in_bytes,
     };
     match verdict {

@@ -1,33 +1,22 @@
 //! The rules of a valid input with their probabilities, and two helpers for sizes.
 
-use crate::amount::Amount;
+use crate::body::Body;
+use crate::lines::UnreadLines;
 use crate::names::after_rule;
+use crate::probability::push_probability;
+use crate::program::push_rule_draws;
 use crate::sentence::{Draft, Quoted};
 use trlab_bounds::programs::CERTAIN;
-use trlab_lines::{cut, next_line};
+use trlab_lines::cut;
+use trlab_rules::Rule;
 use trlab_texts::word::{head_word, number_from};
 
 /// A rule has at most this many probabilities.
 const MAX_PROBABILITIES: u32 = 2;
 
-/// A probability above 0 and at most this many parts of 2^31 (one in a million) is probably a mistake.
-const SMALL: u32 = 2147;
-
-/// Adds a probability, which a file writes as p x 2^31.
-fn push_probability(facts: &mut Draft, parts: u32) {
-    let p = Amount::of(u64::from(parts), u64::from(CERTAIN), 11);
-    let warning = if 0 < parts && parts <= SMALL {
-        " Warning: less than one in a million. 2147483648 means always."
-    } else {
-        ""
-    };
-    writeln!(facts, "  p = {p} ({parts}).{warning}");
-}
-
-/// Adds the line of a rule, and a line for each of its probabilities.
-fn push_rule(facts: &mut Draft, number: u32, line: &[u8]) {
-    writeln!(facts, "line {number}: {}", Quoted(line));
-    let mut left = after_rule(line).unwrap_or(b"");
+/// Adds the probabilities after the name of a rule.
+fn push_probabilities(facts: &mut Draft, words: &[u8]) {
+    let mut left = words;
     for _ in 0..MAX_PROBABILITIES {
         let Some((_, rest)) = cut(left, b' ') else {
             break;
@@ -39,22 +28,20 @@ fn push_rule(facts: &mut Draft, number: u32, line: &[u8]) {
     }
 }
 
-/// Adds a heading, and the first `most` lines of the input that begin with the word `name`, as rules.
-pub fn push_rules(facts: &mut Draft, heading: &str, text: &[u8], name: &[u8], most: u32) {
-    facts.push_line(heading);
-    let mut left = text;
-    let mut number = 1u32;
-    let mut found = 0u32;
-    for _ in 0..text.len() {
-        let Some((line, rest)) = next_line(left) else {
-            break;
-        };
-        if head_word(line) == name && found < most {
-            push_rule(facts, number, line);
-            found = found.saturating_add(1);
-        }
-        number = number.saturating_add(1);
-        left = rest;
+/// Reads the lines up to the next one that begins with the word `name`, and adds this line of a rule with its
+/// probabilities, or with the draws of its programs.
+pub fn add_next_rule(body: &mut Body, lines: &mut UnreadLines<'_>, name: &[u8], rule: &Rule) {
+    let Some(found) = lines.read_to(name) else {
+        return;
+    };
+    let number = found.number;
+    writeln!(body.facts, "line {number}: {}", Quoted(found.line));
+    let words = after_rule(found.line).unwrap_or(b"");
+    if words == b"own".as_slice() {
+        let pushed = push_rule_draws(body.alloc, &mut body.facts, lines, rule);
+        body.ok_or_fail(pushed);
+    } else {
+        push_probabilities(&mut body.facts, words);
     }
 }
 

@@ -1,7 +1,8 @@
 //! The work of a valid sweep.
 
 use crate::body::{Body, Number};
-use crate::rules::{count_digits, megabytes, push_rules};
+use crate::lines::UnreadLines;
+use crate::rules::{add_next_rule, count_digits, megabytes};
 use trlab_jobs::Sweep;
 use trlab_jobs::limits::MAX_CARS_IN_MEMORY;
 
@@ -143,6 +144,8 @@ pub fn add_sweep(body: &mut Body, text: &[u8], sweep: &Sweep) {
     body.intro = "This is a valid sweep: `trlab sweep` runs it.";
     add_roads(body, sweep);
     body.numbers_above = body.numbers.len();
-    push_rules(&mut body.facts, "The rule:", text, b"rule", 1);
+    body.facts.push_line("The rule:");
+    let mut lines = UnreadLines::below(0, text);
+    add_next_rule(body, &mut lines, b"rule", &sweep.rule);
     add_points(body, text, sweep);
 }

@@ -1,0 +1,19 @@
+//! Probabilities as decimals.
+
+use crate::amount::Amount;
+use crate::sentence::Draft;
+use trlab_bounds::programs::CERTAIN;
+
+/// A probability above 0 and at most this many parts of 2^31 (one in a million) is probably a mistake.
+const SMALL: u32 = 2147;
+
+/// Adds a probability, which a file writes as p x 2^31.
+pub fn push_probability(facts: &mut Draft, parts: u32) {
+    let p = Amount::of(u64::from(parts), u64::from(CERTAIN), 11);
+    let warning = if 0 < parts && parts <= SMALL {
+        " Warning: less than one in a million. 2147483648 means always."
+    } else {
+        ""
+    };
+    writeln!(facts, "  p = {p} ({parts}).{warning}");
+}
