@@ -2,6 +2,8 @@
 import json
 import os
 import signal
+import subprocess
+import sys
 import tempfile
 import time
 import unittest
@@ -10,10 +12,11 @@ from pathlib import Path
 from unittest import mock
 
 import trlab
-from tests.processes import calls, child, end, logging_program, marked, until
-from trlab import ProgramError, Job, Nasch, RejectedInputError, Rickert, Sweep
+from tests.processes import PYTHON, calls, child, end, logging_program, marked, until
+from trlab import Job, Nasch, ParameterError, ProgramError, RejectedInputError, ResultFilesError, Rickert, Sweep
 from trlab._runs import cache as caching
 from trlab._runs.cache import Cache
+from trlab._runs.calls import ask
 from trlab._runs.ownership import new_path
 from trlab._runs.requests import Request
 
@@ -153,11 +156,76 @@ class Kept(unittest.TestCase):
                 self.assertEqual(self.new_calls(), 1)
                 self.assertEqual(one.read_bytes(), whole)
 
+    def test_what_is_no_file_is_replaced(self):
+        """A pipe, a device or a link has the name of an output: nothing is read from it, and nothing waits for it."""
+        self.new_calls()
+        one = min(self.cache.glob("*.out"))
+        whole = one.read_bytes()
+        victim = self.folder / "victim"
+        victim.write_text("untouched")
+        makers = {
+            "pipe": lambda: os.mkfifo(one), "full device": lambda: one.symlink_to("/dev/full"), "null": lambda: one.symlink_to("/dev/null"),
+            "itself": lambda: one.symlink_to(one.name), "nothing": lambda: one.symlink_to("nowhere"), "other": lambda: one.symlink_to(victim),
+        }
+        for name, make in makers.items():
+            with self.subTest(name):
+                one.unlink()
+                make()
+                self.assertEqual(self.new_calls(), 1)
+                self.assertEqual((one.is_symlink(), one.read_bytes()), (False, whole))
+        self.assertEqual(victim.read_text(), "untouched")
+
+    def test_a_folder_in_place_of_an_output_is_named(self):
+        self.new_calls()
+        one = min(self.cache.glob("*.out"))
+        one.unlink()
+        one.mkdir()
+        self.assertRaisesRegex(ResultFilesError, f"{one.name} is a folder", dict, trlab.results(SWEEPS, cache=self.cache))
+        self.assertEqual([file.name for file in self.cache.iterdir() if file.name.startswith(".")], [])
+
+    def test_a_cache_has_a_name(self):
+        self.assertRaisesRegex(ParameterError, "current folder", trlab.results, SWEEPS, cache="")
+        self.assertRaises(TypeError, trlab.results, SWEEPS, cache=True)
+
+    def test_a_read_only_cache_is_read_and_a_warning_says_that_nothing_is_kept(self):
+        script = """
+import os, sys, warnings, trlab
+from tests.test_cache import SWEEPS
+if os.getuid() == 0:
+    os.setuid(65534)
+trlab.find_program()
+with warnings.catch_warnings(record=True) as told:
+    warnings.simplefilter("always")
+    found = dict(trlab.results(SWEEPS, cache=sys.argv[1]))
+print(found == {name: sweep.sweep() for name, sweep in SWEEPS.items()}, *(it.message for it in told), sep="|")
+"""
+        self.new_calls()
+        for file in self.cache.iterdir():
+            file.chmod(0o444)
+        lacking, unreadable, *_ = sorted(self.cache.glob("*.out"))
+        unreadable.chmod(0)
+        lacking.unlink()
+        self.folder.chmod(0o755)
+        self.cache.chmod(0o555)
+        self.addCleanup(self.cache.chmod, 0o755)
+        environment = {**os.environ, "PYTHONPATH": str(PYTHON)}
+        ran = subprocess.run([sys.executable, "-B", "-c", script, str(self.cache)], env=environment, stdout=subprocess.PIPE, text=True)
+        equal, *told = ran.stdout.rstrip("\n").split("|")
+        self.assertEqual((ran.returncode, equal, len(told)), (0, "True", 2))
+        self.assertRegex(told[0], f"not kept, because {self.cache} cannot be written to")
+        self.assertEqual(len(list(self.cache.iterdir())), 4)
+
+    def test_a_full_disk_is_an_error(self):
+        full = OSError(28, "No space left on device")
+        with mock.patch("trlab._runs.cache.os.fsync", side_effect=full), self.assertRaises(OSError) as caught:
+            dict(trlab.results(SWEEPS, cache=self.cache))
+        self.assertEqual((caught.exception.errno, list(self.cache.iterdir())), (28, []))
+
     def test_a_rejected_input_and_a_failed_run_are_not_kept(self):
         for _ in range(2):
             self.assertRaises(RejectedInputError, list, trlab.results([replace(JOB, rule=Rickert(0, 0))], cache=self.cache))
             with self.assertRaises(ProgramError):
-                list(trlab.results([JOB], call=lambda job: job.run(workers=17), cache=self.cache))
+                list(trlab.results([JOB], call=lambda job: ask(["run", "--workers", "17"], job.text()), cache=self.cache))
         self.assertEqual((calls(self.folder, "run"), list(self.cache.iterdir())), (4, []))
 
     def test_pictures_one_by_one(self):

@@ -1,5 +1,6 @@
 """Inputs and tables as files: `array.sh` leaves whole results only, and `read_tables` names each one that is not."""
 import os
+import shlex
 import shutil
 import signal
 import subprocess
@@ -9,7 +10,8 @@ from dataclasses import replace
 from pathlib import Path
 
 from tests.processes import calls, child, end, logging_program, marked, until
-from trlab import Job, Nasch, Point, ResultFilesError, Rickert, Sweep, Window, find_program, read_tables, write_inputs
+from trlab import Job, Nasch, ParameterError, Point, ProgramNotFoundError, ResultFilesError, Rickert, Sweep, Window
+from trlab import find_program, moving, random_cells, read_tables, write_inputs
 
 SHAPE = Sweep(limit=5, length=100, rule=Nasch(0.25), warm=10, measure=20, cars=[10, 20])
 SWEEPS = {f"key {key}": replace(SHAPE, key=key) for key in range(5)}
@@ -72,7 +74,7 @@ class Arrays(Folder):
         cuts.write_text(f'#!/bin/sh\n"{find_program()}" "$@" | head -c 60\n[ "$1" = --version ] || exit $(cat "{self.place}/status")\n')
         cuts.chmod(0o755)
         script = write_inputs(self.folder, SWEEPS, program=str(cuts))
-        told = {3: "trlab ended with status 3: memory ran out", 0: "trlab wrote 2 of 3 lines"}
+        told = {3: "trlab ended with status 3: memory ran out", 0: "trlab wrote 1 of 3 lines"}
         told[4] = "trlab ended with status 4: reading the input or writing the output failed"
         for ended, why in told.items():
             (Path(self.place) / "status").write_text(str(ended))
@@ -125,6 +127,110 @@ class Arrays(Folder):
         self.assertRaisesRegex(ResultFilesError, "key 0.csv", write_inputs, self.folder, changed)
         self.assertRaisesRegex(ResultFilesError, "key 0.csv", write_inputs, self.folder, SWEEPS, ["sweep", "--runners", "2"])
         write_inputs(self.folder, {**SWEEPS, "key 1": replace(SHAPE, measure=21)})
+
+
+class Scripts(Folder):
+    """What the script says and does for folders, programs and numbers of tasks."""
+
+    def test_folders_that_a_line_cannot_name(self):
+        for name in "x\ntouch INJECTED\n#", "a\tb", "a\rb", "a\x1bb", "a\u2028b", "a\udc80b":
+            self.assertRaises(ParameterError, write_inputs, Path(self.place) / name, SWEEPS)
+        self.assertRaises(ParameterError, write_inputs, "", SWEEPS)
+
+    def test_a_percent_sign_is_one_for_slurm(self):
+        self.folder /= "100%j 'quoted' $HOME \"é"
+        script = write_inputs(self.folder, SWEEPS)
+        output = next(line for line in script.read_text("utf-8").splitlines() if line.startswith("#SBATCH")).partition("--output=")[2]
+        self.assertEqual(shlex.split(output), [f"{self.folder}/slurm-%A_%a.out".replace("100%j", "100%%j")])
+        self.assertEqual(self.task(script), (0, ""))
+        self.assertEqual(read_tables(self.folder, Point, SWEEPS), {name: it.sweep() for name, it in SWEEPS.items()})
+
+    def test_the_number_of_tasks_is_named(self):
+        for per_task, tasks in (1, 5), (2, 3), (5, 1), (9, 1):
+            self.assertIn(f"#     seq {tasks} | parallel ", write_inputs(self.folder, SWEEPS, per_task=per_task).read_text())
+
+    def other_program(self, version="trlab 9.9.9"):
+        path = Path(self.place) / "other"
+        path.write_text(f'#!/bin/sh\n[ "$1" != --version ] || exec echo {version}\nexec "{find_program()}" "$@"\n')
+        path.chmod(0o755)
+        return str(path)
+
+    def test_results_of_another_program_are_not_kept(self):
+        write_inputs(self.folder, SWEEPS, program=self.other_program())
+        script = write_inputs(self.folder, SWEEPS)
+        self.task(script, 1)
+        self.assertRaisesRegex(ResultFilesError, "another program", write_inputs, self.folder, SWEEPS, program=self.other_program())
+        self.assertEqual(self.task(script), (0, ""))
+        (self.folder / "array.program").unlink()
+        self.assertRaisesRegex(ResultFilesError, "unknown program", write_inputs, self.folder, SWEEPS)
+        self.assertRaises(ProgramNotFoundError, write_inputs, self.folder, SWEEPS, program="/bin/false")
+
+    def test_a_task_that_finds_another_program_writes_nothing(self):
+        program = self.other_program()
+        script = write_inputs(self.folder, SWEEPS, program=program)
+        self.other_program("trlab 9.9.8")
+        status, said = self.task(script)
+        self.assertEqual((status, self.results()), (1, []))
+        self.assertRegex(said, "^.*/other is trlab 9.9.8 [0-9a-f]{64}, and this folder is for trlab 9.9.9 ")
+
+    def test_a_program_of_other_machines_is_remembered_by_the_first_task(self):
+        program = Path(self.place) / "other"
+        script = write_inputs(self.folder, SWEEPS, program=str(program))
+        self.assertEqual((self.task(script)[0], self.results()), (1, []))
+        self.other_program()
+        self.assertEqual(self.task(script, 1), (0, ""))
+        self.other_program("trlab 9.9.8")
+        self.assertEqual((self.task(script, 2)[0], self.results()), (1, ["key 0.csv"]))
+
+    def test_inputs_and_words_that_do_not_fit(self):
+        for words in ["sweep"], ["check"], ["series; touch INJECTED"], [], "series", ["series", "$(id)"], ["series", "--every", "3"], \
+                ["series", "--from", "10"], ["run", "--from", "11"], ["series", "--every", "x"]:
+            self.assertRaises(ParameterError, write_inputs, self.folder, {"a": JOB}, words)
+        for words in ["series"], ["run"]:
+            self.assertRaises(ParameterError, write_inputs, self.folder, SWEEPS, words)
+        self.assertRaises(ParameterError, write_inputs, self.folder, {"a": "sweep 1"})
+        self.assertRaises(ParameterError, write_inputs, self.folder, {"a~1of2": SHAPE})
+
+
+class Parts(Folder):
+    """Sweeps that are no single file: from other states than even, and with many points."""
+
+    SWEEPS = {
+        "random": replace(SHAPE, start=random_cells(1), cars=[10, 20, 30]),
+        "one": replace(SHAPE, start=moving, cars=[10]),
+        "even": SHAPE,
+        "many": replace(SHAPE, warm=0, measure=1, cars=[number % 50 for number in range(450)]),
+    }
+
+    def setUp(self):
+        super().setUp()
+        self.script = write_inputs(self.folder, self.SWEEPS, per_task=3)
+        self.assertEqual(self.task(self.script), (0, ""))
+
+    def test_the_tables_are_those_of_the_sweeps(self):
+        wanted = {name: sweep.sweep() for name, sweep in self.SWEEPS.items()}
+        self.assertEqual(read_tables(self.folder, Point, self.SWEEPS), wanted)
+        self.assertEqual(read_tables(self.folder, Point), wanted)
+        files = sorted(file.name for file in self.folder.iterdir() if file.suffix in (".job", ".sweep"))
+        self.assertEqual(files, ["even.sweep", *(f"many~{n}of3.sweep" for n in (1, 2, 3)), "one.job", *(f"random~{n}of3.job" for n in (1, 2, 3))])
+        self.assertIn("of the 8 inputs", self.script.read_text())
+
+    def test_a_part_that_is_missing_is_named(self):
+        (self.folder / "random~2of3.csv").unlink()
+        for inputs in self.SWEEPS, None:
+            found = read_tables(self.folder, Point, inputs, errors="keep")
+            self.assertEqual(sorted(found), sorted(self.SWEEPS))
+            self.assertEqual(str(found["random"]), "random~2of3.csv is missing")
+            self.assertEqual(found["many"], self.SWEEPS["many"].sweep())
+
+    def test_other_steps_are_another_input(self):
+        """The jobs of both sweeps are the same, and their words differ."""
+        other = {"random": replace(self.SWEEPS["random"], warm=11, measure=19)}
+        self.assertRaisesRegex(ResultFilesError, "another input", write_inputs, self.folder, other)
+        self.assertRaisesRegex(ResultFilesError, "other windows", read_tables, self.folder, Point, other)
+
+    def test_a_point_that_is_too_long_for_a_file(self):
+        self.assertRaisesRegex(ParameterError, "500000", write_inputs, self.folder, {"long": replace(SHAPE, warm=500000)})
 
 
 class Tables(Folder):
@@ -184,6 +290,51 @@ class Tables(Folder):
         for other in replace(SHAPE, cars=[10]), replace(SHAPE, cars=[10, 30]), replace(SHAPE, measure=21):
             self.assertEqual(self.fault({"key 0": other}), ["key 0.csv has other points than its sweep"])
 
+    def test_the_others_are_usable(self):
+        jobs = {"late": JOB, "wrong": replace(JOB, rule=Rickert(0, 0)), "damaged": replace(JOB, key=1), "good": replace(JOB, key=2)}
+        folder = self.folder / "jobs"
+        self.task(write_inputs(folder, jobs, ["series"]))
+        (folder / "late.csv").unlink()
+        with open(folder / "damaged.csv", "a") as file:
+            file.write("1,2\n")
+        found = read_tables(folder, Window, jobs, errors="keep")
+        self.assertEqual((list(found), found["good"]), (list(jobs), jobs["good"].series()))
+        told = {name: str(fault) for name, fault in found.items() if isinstance(fault, ResultFilesError)}
+        self.assertEqual(told["late"], "late.csv is missing")
+        self.assertEqual(told["wrong"], "wrong.csv is missing: trlab ended with status 1: fault line 5 cause 4")
+        self.assertRegex(told["damaged"], "^damaged.csv is damaged: ")
+        with self.assertRaises(ResultFilesError) as caught:
+            read_tables(folder, Window, jobs)
+        for line in told.values():
+            self.assertIn(f"\n  {line}", str(caught.exception))
+        self.assertRaises(ParameterError, read_tables, folder, Window, jobs, errors="ignore")
+        self.assertRaises(ParameterError, read_tables, folder, Point, jobs)
+
+    def test_results_that_cannot_be(self):
+        heading, first, second = (self.folder / "key 0.csv").read_text().splitlines()
+        good = first.split(",")
+        changes = {0: "101", 1: "0", 2: "0", 3: "99999", 4: "201", 6: "1000001"}
+        rows = [",".join(change if place == at else number for place, number in enumerate(good)) for at, change in changes.items()]
+        for row in [*rows, "0" + first, ",".join([*good[:-1], "9" * 5000])]:
+            (self.folder / "key 0.csv").write_text(f"{heading}\n{row}\n{second}\n")
+            with self.subTest(row=row[:60]):
+                self.assertRegex(self.fault(None)[0], "^key 0.csv is damaged: ")
+        (self.folder / "key 0.csv").write_bytes(f"{heading}\r{first}\r{second}\n".encode())
+        self.assertRegex(self.fault(None)[0], "^key 0.csv is damaged: ")
+
+    def test_a_table_of_another_road(self):
+        folder = self.folder / "jobs"
+        self.task(write_inputs(folder, {"a": replace(JOB, cars=5)}, ["series"]))
+        (folder / "a.job").write_text(JOB.text())
+        self.assertRaisesRegex(ResultFilesError, "a.csv has another road than its job", read_tables, folder, Window, {"a": JOB})
+
+    def test_windows_of_other_words(self):
+        folder = self.folder / "jobs"
+        self.task(write_inputs(folder, {"a": JOB}, ["series", "--every", "5"]))
+        lines = (folder / "a.csv").read_text().splitlines(True)
+        (folder / "a.csv").write_text(lines[0] + lines[2])
+        self.assertRaisesRegex(ResultFilesError, "other windows than `trlab series --every 5`", read_tables, folder, Window, {"a": JOB})
+
     def test_every_cut_of_a_series_is_found(self):
         for every, first in (1, 0), (5, 0), (3, 1), (4, 2), (10, 0):
             words = ["series", "--every", str(every), "--from", str(first)]
@@ -203,7 +354,7 @@ class Tables(Folder):
         (self.folder / "a.csv").write_text("".join(lines[:5]))
         self.assertEqual(self.fault({"a": JOB}, Window), ["a.csv is short: its last window ends after 4 of 10 steps"])
         (self.folder / "a.csv").write_text("".join(lines[:3] + lines[4:]))
-        self.assertEqual(self.fault({"a": JOB}, Window), ["a.csv has other windows than its job"])
+        self.assertRegex(self.fault({"a": JOB}, Window)[0], "^a.csv (has other windows than its job|is damaged: .* window)")
 
 
 if __name__ == "__main__":

@@ -108,10 +108,10 @@ class Series(unittest.TestCase):
     def test_pictures_tell_what_a_sweep_counts(self):
         # On one lane, and where all cars start on lane 0 of two, a job numbers its cars as the first point of a sweep.
         for lanes, cars, rule in (1, 17, Nasch(0.25)), (2, 20, Rickert(0.25, 0.75)):
-            sweep = Sweep(limit=5, length=60, lanes=lanes, rule=rule, warm=20, measure=100, cars=[cars])
-            job = Job(limit=5, length=60, lanes=lanes, rule=rule, steps=120, cars=cars, start=even)
             with warnings.catch_warnings():
                 warnings.simplefilter("ignore")
+                sweep = Sweep(limit=5, length=60, lanes=lanes, rule=rule, warm=20, measure=100, cars=[cars])
+                job = Job(limit=5, length=60, lanes=lanes, rule=rule, steps=120, cars=cars, start=even)
                 (point,) = sweep.sweep()
                 (told,) = windows(job.snapshots(), every=100, first=20)
             self.assertEqual(told[1:8], point)
@@ -119,7 +119,8 @@ class Series(unittest.TestCase):
 
     def test_the_table_is_that_of_the_pictures(self):
         for job in self.JOBS:
-            for every, first in (1, 0), (7, 0), (4, 5), (100, 0):
+            widths = [(every, first) for every in range(1, job.steps + 1, 3) for first in (0, 1, 5) if first < job.steps]
+            for every, first in [it for it in widths if (job.steps - it[1]) % it[0] == 0]:
                 told = job.series(every=every, first=first, workers=2)
                 self.assertEqual(told, list(windows(job.snapshots(), every, first)))
 
@@ -172,8 +173,9 @@ class Refusals(unittest.TestCase):
 
     def test_words_that_are_refused(self):
         with self.assertRaises(ProgramError) as caught:
-            Job(limit=5, length=10, cars=2, rule=Nasch(0), steps=1).run(workers=17)
+            ask(["run", "--workers", "17"], Job(limit=5, length=10, cars=2, rule=Nasch(0), steps=1).text())
         self.assertEqual(caught.exception.status, 2)
+        self.assertIn("--workers", caught.exception.message)
 
     def test_a_run_that_ends_early_is_no_result(self):
         with tempfile.TemporaryDirectory() as folder, stand_in(folder, "echo step 0; echo .; echo full >&2; exit 4\n"):

@@ -68,12 +68,12 @@ class Explanation(NamedTuple):
 
 def explained(text: str, *words: str) -> Explanation:
     """The explanation of an input, read as for this command, or as its first word says."""
-    output, blocks = b"", run(Request(("explain", *words), text))
-    while True:
-        try:
-            output += next(blocks)
-        except StopIteration as end:
-            return Explanation(_decoded(output), end.value)
+    status: list[int] = []
+
+    def blocks() -> Iterator[bytes]:
+        status.append((yield from run(Request(("explain", *words), text))))
+
+    return Explanation(_decoded(b"".join(blocks())), status[0])
 
 
 def version() -> str:

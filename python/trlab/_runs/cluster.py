@@ -241,7 +241,10 @@ def _wanted(place: Path, kind: Any, inputs: Optional[Mapping[str, Union[Job, Swe
         if kind is not (Point if isinstance(given, Sweep) else Window):
             raise ParameterError(f"the tables of sweeps are of kind Point, those of jobs of kind Window: {name!r} is a {type(given).__name__}")
         files = _files(name, given, ["sweep"] if isinstance(given, Sweep) else ["series"])
-        found[name] = [_File(it.name, it.request._replace(words=before.get(it.name, it.request.words))) for it in files]
+        if isinstance(given, Job):
+            # Only the folder knows which windows of a job were asked for.
+            files = [_File(it.name, it.request._replace(words=before.get(it.name, it.request.words))) for it in files]
+        found[name] = files
     return found
 
 

@@ -25,7 +25,12 @@ stop() {{
 }}
 trap stop HUP INT TERM
 # All results of a folder are of one program: of that in array.program.
-identity="$("$program" --version | head -n 1) $(sha256sum < "$(command -v -- "$program")" | cut -c 1-64)"
+version=$("$program" --version | head -n 1)
+case $version in
+    'trlab '*) ;;
+    *) echo "$program is not trlab: it does not answer to --version as trlab does" >&2 && exit 1 ;;
+esac
+identity="$version $(sha256sum < "$(command -v -- "$program")" | cut -c 1-64)"
 if ! [ -e array.program ]; then
     new=".array.new.$(uname -n).$$"
     echo "$identity" > "$new" && ln -- "$new" array.program 2>/dev/null

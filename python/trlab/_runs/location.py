@@ -9,6 +9,7 @@ import os
 import shutil
 import subprocess
 import tempfile
+import threading
 import zlib
 from pathlib import Path
 from collections.abc import Iterator
@@ -22,6 +23,9 @@ _PACKED = _HERE / "programs"
 _SCRIPT = _HERE.parents[1] / "trlab"
 # What Linux calls the features that a processor of level x86-64-v3 has beyond the oldest ones.
 _V3 = set("cx16 lahf_lm pni popcnt sse4_1 sse4_2 ssse3 abm avx avx2 bmi1 bmi2 f16c fma movbe xsave".split())
+_LONGEST_ANSWER = 65536
+_PATIENCE = 60.0
+"""How long a program may take to tell its version, in seconds."""
 # Set while the command `trlab` runs a program that it found on the PATH, which may be this command again.
 _ON_PATH = "TRLAB_FOUND_ON_PATH"
 
@@ -56,14 +60,22 @@ def _program_behind(path: str) -> Path:
 
 
 def asked(path: str, word: str) -> Optional[str]:
-    """What a program writes for `--version` or `--where`, or None if it cannot be run or ends with an error."""
+    """What a program writes for `--version` or `--where`, or None if it cannot be run, ends with an error or does not end."""
     try:
-        ran = subprocess.run(
-            [path, word], stdin=subprocess.DEVNULL, stdout=subprocess.PIPE, stderr=subprocess.DEVNULL, timeout=60
-        )
-    except (OSError, subprocess.TimeoutExpired):
+        process = subprocess.Popen([path, word], stdin=subprocess.DEVNULL, stdout=subprocess.PIPE, stderr=subprocess.DEVNULL)
+    except OSError:
         return None
-    return os.fsdecode(ran.stdout) if ran.returncode == 0 else None
+    alarm = threading.Timer(_PATIENCE, process.kill)
+    alarm.daemon = True
+    alarm.start()
+    with process:
+        assert process.stdout is not None
+        answer = process.stdout.read(_LONGEST_ANSWER + 1)
+        if len(answer) > _LONGEST_ANSWER:
+            process.kill()
+        process.wait()
+    alarm.cancel()
+    return os.fsdecode(answer) if process.returncode == 0 and len(answer) <= _LONGEST_ANSWER else None
 
 
 def _named(name: str) -> str:

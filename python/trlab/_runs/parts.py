@@ -1,7 +1,7 @@
 """Inputs as files: the requests that an input is, one or several, and the table that their outputs are together."""
 from __future__ import annotations
 
-from collections.abc import Iterable, Sequence
+from collections.abc import Sequence
 from typing import Any, Union
 
 from .._errors import ParameterError
@@ -31,15 +31,19 @@ def requests_of(given: Union[Job, Sweep], words: Sequence[str]) -> list[Request]
 
 
 def _request_of(job: Job, words: Sequence[str]) -> Request:
-    """The request of a job. Raises `ParameterError` if it measures nothing, or drops steps at the end of a series."""
     if words[:1] not in (["run"], ["series"]):
         raise ParameterError(f'a job needs words that begin with "run" or "series", not {list(words)}')
     request = Request(tuple(words), job.text())
+    need_whole_windows(request)
+    return request
+
+
+def need_whole_windows(request: Request) -> None:
+    """Raises `ParameterError` if the output of a job has no rows, or if a series drops steps at the end."""
     every, first = request.windows()
     going = request.steps() - first
-    if going < 0 or (words[0] == "series" and (going == 0 or going % every)):
-        raise ParameterError(f"the {going} steps from step {first} on are not whole windows of {every} steps: {' '.join(words)}")
-    return request
+    if (going < 0 and request.words[0] != "sweep") or (request.words[0] == "series" and (going == 0 or going % every)):
+        raise ParameterError(f"the {going} steps from step {first} on are not whole windows of {every} steps: {request}")
 
 
 def kind_of(words: Sequence[str]) -> Any:
@@ -47,7 +51,9 @@ def kind_of(words: Sequence[str]) -> Any:
     return Point if words[0] == "sweep" else Window
 
 
-def joined(kind: Any, tables: Iterable[Table[Any]]) -> Table[Any]:
+def joined(kind: Any, tables: Sequence[Table[Any]]) -> Table[Any]:
     """The table of all parts of an input. A point of a sweep may have been a window."""
+    if len(tables) == 1 and tables[0].kind is kind:
+        return tables[0]
     rows = [row for table in tables for row in table]
     return Table(kind, [Point(*row[1:1 + len(Point._fields)]) if kind is Point and isinstance(row, Window) else row for row in rows])

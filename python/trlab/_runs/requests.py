@@ -10,7 +10,7 @@ from .._errors import IncompleteOutputError, ParameterError
 # No row of a table is longer: 14 numbers of at most 20 digits.
 _LONGEST_ROW = 400
 # No explanation, and no program that is checked, is longer.
-_LONGEST_ANSWER = 1 << 26
+_LONGEST_ANSWER = 1 << 24
 
 
 class Request(NamedTuple):

@@ -2,6 +2,7 @@
 from __future__ import annotations
 
 import json
+import math
 import os
 import re
 import zipfile
@@ -19,7 +20,8 @@ from .._runs.cache import program_identity
 from .._runs.calls import ask
 from .._runs.many import results as results_of
 from .._runs.ownership import new_path, owned
-from .._runs.parts import joined, kind_of, requests_of
+from .._runs.parts import joined, kind_of, need_whole_windows, requests_of
+from .._runs.requests import Request
 from .._inputs.sweeps import Sweep
 from .._version import __version__
 
@@ -32,7 +34,9 @@ _MOST_BYTES = 4 * 1024 * 1024
 _FILE = re.compile(r"inputs/[0-9]{6}(?:~[0-9]{4})?\.(?:job|sweep)")
 _WORD = re.compile("[a-zA-Z0-9=-]+")
 _FIXED = (1980, 1, 1, 0, 0, 0)
-_DAMAGED = (zipfile.BadZipFile, zlib.error, EOFError, LookupError, NotImplementedError, OSError, RecursionError, RuntimeError, ValueError)
+_DAMAGED = (
+    zipfile.BadZipFile, zlib.error, ArithmeticError, EOFError, LookupError, NotImplementedError, OSError, RuntimeError, TypeError, ValueError,
+)
 
 
 class StudyInput(NamedTuple):
@@ -66,7 +70,9 @@ class Study:
         """Yield each choice and its table, with the options of `trlab.results`. This needs no package."""
         if options.get("call") is not None:
             raise ParameterError("a study says itself what is measured: leave out `call`")
-        return results_of(self.inputs, **{**options, "call": StudyInput.table})
+        all_options: dict[str, Any] = {**options, "call": StudyInput.table}
+        found: Iterator[tuple[Any, Table[Any]]] = results_of(self.inputs, **all_options)
+        return found
 
     def run(self, **options: Any) -> pandas.DataFrame:
         """Run the study, with the options of `trlab.results`. The frame is that of `Grid.run`, to the last bit."""
@@ -153,8 +159,8 @@ def _study_in(file: zipfile.ZipFile, size: int) -> Study:
     """The study in an archive of so many bytes. Raises `StudyFileError`, or other errors if it is damaged."""
     members = file.infolist()
     names = [member.filename for member in members]
-    _need(sum(member.file_size for member in members) <= size, "its members are longer than the file")
     _need(all(member.compress_type == zipfile.ZIP_STORED for member in members), "it is compressed")
+    _need(sum(member.file_size for member in members) <= size, "its members are longer than the file")
     _need(len(set(names)) == len(names), "it has two members of one name")
     about = json.loads(file.read("study.json"), parse_constant=_no_number)
     _need(isinstance(about, dict), "study.json is not an object")
@@ -172,6 +178,9 @@ def _study_in(file: zipfile.ZipFile, size: int) -> Study:
         for choice in about["choices"]
     }
     _need(len(inputs) == len(about["choices"]), "two choices have the same values")
+    for given in inputs.values():
+        for text in given.texts:
+            need_whole_windows(Request(given.words, text))
     return Study(about, inputs)
 
 
@@ -204,7 +213,7 @@ def _read_value(value: Any) -> Union[str, int, float, Fraction]:
     if isinstance(value, dict):
         _need(list(value) == ["fraction"] and isinstance(value["fraction"], str), "a parameter has no value")
         return Fraction(value["fraction"])
-    _need(type(value) in (str, int, float), "a parameter has no value")
+    _need(type(value) in (str, int) or (type(value) is float and math.isfinite(value)), "a parameter has no value")
     found: Union[str, int, float] = value
     return found
 

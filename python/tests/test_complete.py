@@ -1,0 +1,289 @@
+"""An output counts only if it has all lines that its input gives, whatever the exit status says; nothing else is kept."""
+import os
+import signal
+import subprocess
+import sys
+import tempfile
+import threading
+import unittest
+from pathlib import Path
+from unittest import mock
+
+import trlab
+from tests.processes import MARK, PYTHON, child, end, marked, until
+from trlab import ExitStatusError, IncompleteOutputError, Job, Nasch, OutputFormatError, ProgramError, RejectedInputError, Rickert, Sweep
+from trlab import check, explain, find_program
+from trlab._runs import cache as caching
+from trlab._runs.requests import Request
+
+JOB = Job(limit=5, length=20, cars=4, rule=Nasch(0.25), steps=6)
+TWO_LANES = Job(limit=5, length=20, lanes=2, cars=7, rule=Rickert(0.25, 1), steps=6)
+SWEEP = Sweep(limit=5, length=20, rule=Nasch(0.25), warm=5, measure=6, cars=[3, 4, 5])
+
+CALLS = {
+    "run": lambda: JOB.run(every=2),
+    "run of two lanes": lambda: TWO_LANES.run(every=3, first=0),
+    "snapshots": lambda: list(JOB.snapshots(every=2)),
+    "series": lambda: JOB.series(every=2),
+    "sweep": SWEEP.sweep,
+}
+
+
+def fake(folder, lines):
+    """A program in the shell: `real` in its lines is trlab with the same words."""
+    path = Path(folder) / "fake_trlab"
+    path.write_text(f'#!/bin/sh\nreal() {{ "{find_program()}" "$@"; }}\n[ "$1" != --version ] || exec echo trlab 0\n{lines}\n')
+    path.chmod(0o755)
+    return mock.patch.dict(os.environ, TRLAB=str(path))
+
+
+class Lines(unittest.TestCase):
+    def test_the_number_of_lines_is_that_of_the_program(self):
+        jobs = [JOB, TWO_LANES, Job(limit=1, length=1, cars=0, rule=Nasch(0), steps=0)]
+        for text in (job.text() for job in jobs):
+            for options in [], ["--every", "2"], ["--from", "3"], ["--every=4", "--from", "1"], ["--every", "7"], ["--from", "9"]:
+                for command in "run", "series":
+                    words = (command, *options)
+                    with self.subTest(words=words):
+                        self.assertEqual(Request(words, text).lines(), self.lines(words, text))
+        self.assertEqual(Request(("sweep",), SWEEP.text()).lines(), self.lines(["sweep"], SWEEP.text()))
+        self.assertIsNone(Request(("check",), "motion\n").lines())
+
+    def lines(self, words, text):
+        return subprocess.run([find_program(), *words], input=text.encode(), stdout=subprocess.PIPE, check=True).stdout.count(b"\n")
+
+
+class Incomplete(unittest.TestCase):
+    def setUp(self):
+        folder = tempfile.TemporaryDirectory()
+        self.addCleanup(folder.cleanup)
+        self.folder = Path(folder.name)
+        self.cache = self.folder / "cache"
+
+    def try_all(self, lines, *errors):
+        """Every call of such a program raises one of these errors, and nothing is kept."""
+        errors = errors or (IncompleteOutputError,)
+        with fake(self.folder, lines):
+            for name, call in CALLS.items():
+                with self.subTest(call=name):
+                    self.assertRaises(errors, call)
+                    self.assertRaises(errors, list, trlab.results([call], call=lambda it: it(), cache=self.cache))
+                    self.assertEqual(list(self.cache.iterdir()), [])
+
+    def test_no_output(self):
+        self.try_all("cat >/dev/null")
+
+    def test_cut_between_two_lines(self):
+        for lines in 1, 2, 3, -1:
+            self.try_all(f'real "$@" | head -n {lines}', IncompleteOutputError, OutputFormatError)
+
+    def test_cut_in_the_middle_of_a_line(self):
+        for length in 3, 50, 70:
+            self.try_all(f'real "$@" | head -c {length}', IncompleteOutputError, OutputFormatError)
+
+    def test_a_last_line_without_its_end(self):
+        self.try_all('printf %s "$(real "$@")"', IncompleteOutputError, OutputFormatError)
+
+    def test_too_many_lines(self):
+        self.try_all('real "$@"; echo 1')
+        self.try_all('real "$@"; printf 1')
+        self.try_all('cat >input; real "$@" <input; real "$@" <input'.replace("input", f'"{self.folder}/input"'))
+
+    def test_the_exit_status_is_told_first(self):
+        self.try_all('real "$@" | head -n 1; exit 3', ProgramError)
+        self.try_all("kill -9 $$", ProgramError)
+
+    def test_an_endless_output_is_stopped(self):
+        for lines in "while :; do echo 0; done", "while :; do printf 0; done", "cat /dev/zero", 'real "$@"; cat /dev/zero':
+            mark = f"endless {id(lines)}"
+            with mock.patch.dict(os.environ, {MARK: mark}):
+                self.try_all(lines)
+                with fake(self.folder, lines):
+                    for call in lambda: check("motion\ngo 0\n"), lambda: explain(JOB):
+                        if "real" not in lines and "do" not in lines:
+                            self.assertRaises(IncompleteOutputError, call)
+            self.assertTrue(until(lambda: not marked(mark, "/bin/sh")))
+
+    def test_snapshots_one_by_one_end_with_the_error(self):
+        with fake(self.folder, 'real "$@" | head -n 4'):
+            snapshots = JOB.snapshots()
+            self.assertEqual([next(snapshots).step for _ in range(2)], [0, 1])
+            self.assertRaisesRegex(IncompleteOutputError, "`trlab run` wrote 4 of the 14 lines", next, snapshots)
+
+    def test_bytes_that_are_no_text(self):
+        with fake(self.folder, r"printf '\377\n'"):
+            self.assertRaises(OutputFormatError, check, "motion\ngo 0\n")
+
+    def test_a_rejection_that_is_not_explained(self):
+        with fake(self.folder, '[ "$1" = explain ] && real "$@" || { echo fault line 1 cause 1; exit 1; }'):
+            self.assertRaisesRegex(ProgramError, "accepts", JOB.run)
+
+    def test_a_kept_output_that_is_not_complete_is_replaced(self):
+        request = Request(("series",), JOB.text())
+        whole = JOB.series()
+        cut = "".join(f"{line}\n" for line in subprocess_output(request).splitlines()[:3]).encode()
+        self.cache.mkdir()
+        with open(caching.Cache(self.cache).path(caching.key_of(request)), "wb") as file:
+            file.write(caching._heading(caching.key_of(request), caching.hashlib.sha256(cut).hexdigest()) + cut)
+        found = dict(trlab.results([JOB], call=Job.series, cache=self.cache))
+        self.assertEqual(found, {0: whole})
+
+
+def subprocess_output(request):
+    return subprocess.run([find_program(), *request.words], input=request.text, stdout=subprocess.PIPE, text=True, check=True).stdout
+
+
+# Prints the class of what each call raises, or what it returns.
+EACH_CALL = """
+import sys, trlab
+from trlab.lab import Lab
+job = trlab.Job(limit=5, length=10, cars=1, rule=trlab.Nasch(0), steps=1)
+calls = [job.run, job.series, lambda: list(job.snapshots()), lambda: list(trlab.results([job])), lambda: trlab.run_all([job], trlab.Job.run),
+         lambda: trlab.check("motion\\ngo 0\\n"), lambda: trlab.explain(job), trlab.version, Lab]
+for call in calls:
+    try:
+        print(type(call()).__name__)
+    except Exception as error:
+        print(type(error).__name__, "signal.signal(signal.SIGCHLD, signal.SIG_DFL)" in str(error))
+"""
+
+
+class Statuses(unittest.TestCase):
+    def test_a_status_that_would_be_lost_is_an_error(self):
+        environment = {**os.environ, "PYTHONPATH": str(PYTHON), "TRLAB": find_program()}
+        for words in [], ["env", "--ignore-signal=CHLD"]:
+            line = [*words, sys.executable, "-c", EACH_CALL]
+            ran = subprocess.run(line, env=environment, stdout=subprocess.PIPE, text=True, check=True)
+            raised = [line for line in ran.stdout.splitlines() if line == "ExitStatusError True"]
+            self.assertEqual(len(raised), len(ran.stdout.splitlines()) if words else 0, ran.stdout)
+
+    def test_a_status_that_another_takes_is_an_error(self):
+        """A server that waits for any child process takes the statuses of all."""
+        is_over = threading.Event()
+
+        def reap():
+            while not is_over.is_set():
+                try:
+                    os.waitpid(-1, 0)
+                except ChildProcessError:
+                    is_over.wait(0.01)
+
+        with tempfile.TemporaryDirectory() as folder, fake(folder, 'real "$@"; kill -9 $$'):
+            # The program is asked for its version before.
+            find_program()
+            reaper = threading.Thread(target=reap)
+            reaper.start()
+            try:
+                self.assertRaises(ExitStatusError, JOB.run)
+            finally:
+                is_over.set()
+                reaper.join()
+
+
+# Sweeps that take minutes, and write nothing until they end; a signal comes after the first line.
+ENDLESS = """
+import signal, sys, trlab
+from concurrent.futures import ProcessPoolExecutor, ThreadPoolExecutor
+long = trlab.Sweep(limit=5, length=100000, lanes=2, cars=[99999], rule=trlab.Rickert(0.25, 1), warm=0, measure=500000)
+short = trlab.Sweep(limit=5, length=10, cars=[1], rule=trlab.Nasch(0), warm=0, measure=1)
+job = trlab.Job(limit=5, length=20000, density=0.2, rule=trlab.Nasch(0.25), steps=500000)
+way, cache = sys.argv[1:]
+if way == "handled":
+    signal.signal(signal.SIGTERM, lambda *_: sys.exit(7))
+print("ready", flush=True)
+if way in ("sweep", "handled"):
+    long.sweep()
+elif way == "snapshots":
+    for snapshot in job.snapshots(every=1000):
+        pass
+elif way == "inner":
+    trlab.run_all([long], lambda it: trlab.run_all([it, it], trlab.Sweep.sweep, at_once=2))
+else:
+    kind = {"threads": lambda: None, "pool": lambda: ThreadPoolExecutor(2), "processes": lambda: ProcessPoolExecutor(2)}
+    for name, table in trlab.results([short, long, long], call=trlab.Sweep.sweep, cache=cache, executor=kind[way](), at_once=2):
+        pass
+"""
+
+
+class Signals(unittest.TestCase):
+    """SIGTERM and SIGHUP end a study as they would without trlab, and its programs with it."""
+
+    def try_one(self, way, sent, programs):
+        with tempfile.TemporaryDirectory() as cache:
+            running = child(ENDLESS, way, cache)
+            try:
+                self.assertEqual(running.stdout.readline(), "ready\n")
+                self.assertTrue(until(lambda: len(marked(running.mark, find_program())) == programs))
+                running.send_signal(sent)
+                status = running.wait()
+                self.assertTrue(until(lambda: not marked(running.mark, find_program()), seconds=20))
+                if way != "processes":
+                    self.assertEqual([file.name for file in Path(cache).iterdir() if file.name.startswith(".")], [])
+                return status
+            finally:
+                end(running)
+
+    def test_all_ways(self):
+        for way, programs in {"sweep": 1, "snapshots": 1, "inner": 2, "threads": 2, "pool": 2, "processes": 2}.items():
+            for sent in signal.SIGTERM, signal.SIGHUP:
+                with self.subTest(way=way, signal=sent):
+                    self.assertEqual(self.try_one(way, sent, programs), -sent)
+
+    def test_a_handler_of_the_script_is_left_alone(self):
+        self.assertEqual(self.try_one("handled", signal.SIGTERM, 1), 7)
+
+    def test_afterwards_the_signals_are_as_before(self):
+        before = [signal.getsignal(number) for number in (signal.SIGTERM, signal.SIGHUP)]
+        held = trlab.results([JOB, JOB])
+        first = next(held)
+        self.assertNotEqual([signal.getsignal(number) for number in (signal.SIGTERM, signal.SIGHUP)], before)
+        JOB.series()
+        self.assertEqual(dict([first, *held]), {0: JOB.run(), 1: JOB.run()})
+        self.assertEqual([signal.getsignal(number) for number in (signal.SIGTERM, signal.SIGHUP)], before)
+
+    def test_a_process_that_was_forked_has_none_of_it(self):
+        held = trlab.results([JOB, JOB])
+        next(held)
+        number = os.fork()
+        if number == 0:
+            os._exit(0 if signal.getsignal(signal.SIGTERM) == signal.SIG_DFL else 1)
+        self.assertEqual(os.waitpid(number, 0)[1], 0)
+        held.close()
+
+    def test_the_first_process_of_a_container(self):
+        line = ["unshare", "--pid", "--fork", "--kill-child"]
+        if subprocess.run([*line, "true"], stderr=subprocess.DEVNULL).returncode:
+            self.skipTest("unshare is not allowed")
+        script = "import os, signal, trlab; from trlab._runs.processes import new_processes\n" \
+            "with new_processes():\n    os.kill(os.getpid(), signal.SIGTERM)\nprint('goes on')"
+        environment = {**os.environ, "PYTHONPATH": str(PYTHON), "TRLAB": find_program()}
+        ran = subprocess.run([*line, sys.executable, "-c", script], env=environment, stdout=subprocess.PIPE, text=True)
+        self.assertEqual((ran.returncode, ran.stdout), (143, ""))
+
+
+class Words(unittest.TestCase):
+    def test_errors_do_not_depend_on_the_locale(self):
+        script = (
+            "import trlab, json\n"
+            "for program in 'motion\\ng\\u00e9t r0, speed\\n', 'motion\\nget \\u00e9\\u00e9 r0, speed\\n':\n"
+            "    try:\n        trlab.check(program)\n"
+            "    except trlab.RejectedInputError as error:\n"
+            "        print(json.dumps([error.line, error.first, error.last, error.answer, str(error), trlab.explain(program)]))"
+        )
+        told = set()
+        for changes in {}, {"LC_ALL": "C", "PYTHONUTF8": "0", "PYTHONCOERCECLOCALE": "0"}, {"LC_ALL": "C.UTF-8", "PYTHONUTF8": "1"}:
+            environment = {**os.environ, "PYTHONPATH": str(PYTHON), "TRLAB": find_program(), **changes}
+            ran = subprocess.run([sys.executable, "-c", script], env=environment, stdout=subprocess.PIPE, text=True, check=True)
+            self.assertEqual(len(ran.stdout.splitlines()), 2)
+            told.add(ran.stdout)
+        self.assertEqual(len(told), 1)
+
+    def test_bytes_that_were_no_text_reach_the_program(self):
+        with self.assertRaises(RejectedInputError) as caught:
+            check(b"motion\ng\xff\xfft r0, speed\n".decode("utf-8", "surrogateescape"))
+        self.assertEqual((caught.exception.line, caught.exception.first), (2, 1))
+        self.assertRaises(trlab.ParameterError, check, "motion\n\ud800\n")
+
+
+if __name__ == "__main__":
+    unittest.main()

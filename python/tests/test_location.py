@@ -1,0 +1,124 @@
+"""The program is found, or one class of error says why it is not; first use leaves nothing behind."""
+import gzip
+import hashlib
+import os
+import subprocess
+import sys
+import tempfile
+import unittest
+from pathlib import Path
+from unittest import mock
+
+from tests.processes import PYTHON
+from trlab import Job, Nasch, ProgramNotFoundError, TrlabError, find_program
+from trlab._runs import location
+from trlab._runs.ownership import new_path
+
+
+class Folder(unittest.TestCase):
+    def setUp(self):
+        folder = tempfile.TemporaryDirectory()
+        self.addCleanup(folder.cleanup)
+        self.folder = Path(folder.name)
+
+
+class Named(Folder):
+    def script(self, content, mode=0o755):
+        path = self.folder / "trlab"
+        path.write_bytes(content)
+        path.chmod(mode)
+        return str(path)
+
+    def test_all_ways_not_to_be_there_are_one_class(self):
+        good = b"#!/bin/sh\necho trlab 0\n"
+        named = {
+            "there is no file": [str(self.folder / "missing"), str(self.folder), "~nobody of this name/trlab"],
+            "is not executable": [self.script(good, 0o644)],
+        }
+        for said, names in named.items():
+            for name in names:
+                with self.subTest(name), mock.patch.dict(os.environ, TRLAB=name):
+                    self.assertRaisesRegex(ProgramNotFoundError, said, find_program)
+        for content in b"#!/bin/sh\necho other 0\n", b"#!/nowhere\n", b"\0\1\2", b"", b"#!/bin/sh\nexit 3\n", b"#!/bin/sh\ncat /dev/zero\n":
+            with self.subTest(content), mock.patch.dict(os.environ, TRLAB=self.script(content)):
+                self.assertRaisesRegex(ProgramNotFoundError, "is not trlab", find_program)
+        self.assertTrue(issubclass(ProgramNotFoundError, (TrlabError, FileNotFoundError)))
+
+    def test_a_program_that_vanishes_or_changes_after_it_was_found(self):
+        job = Job(limit=5, length=10, cars=1, rule=Nasch(0), steps=1)
+        for change in os.unlink, lambda path: os.chmod(path, 0o644), lambda path: Path(path).write_text("#!/nowhere\n"):
+            path = self.script(b"#!/bin/sh\necho trlab 0\n")
+            with mock.patch("trlab._runs.processes.find_program", return_value=path):
+                change(path)
+                self.assertRaises(ProgramNotFoundError, job.run)
+
+    def test_the_command_says_it_in_a_line(self):
+        environment = {**os.environ, "PYTHONPATH": str(PYTHON), "TRLAB": str(self.folder / "missing")}
+        ran = subprocess.run([sys.executable, "-m", "trlab"], env=environment, stderr=subprocess.PIPE, text=True)
+        self.assertEqual((ran.returncode, ran.stderr.count("\n")), (1, 1))
+        self.assertRegex(ran.stderr, "^trlab: TRLAB is ")
+
+
+class Packed(Folder):
+    """A program in the installed package, which is unpacked on first use."""
+
+    def setUp(self):
+        super().setUp()
+        self.content = b"#!/bin/sh\necho trlab 0\n" + os.urandom(5000)
+        self.sum = hashlib.sha256(self.content).hexdigest()
+        self.packed, self.home = self.folder / "programs", self.folder / "home"
+        self.packed.mkdir()
+        lines = [f"{level} {self.sum}\n" for level in ("x86-64-v2", "x86-64-v3")]
+        (self.packed / "release.txt").write_text("# the released programs\n" + "".join(lines), encoding="utf-8")
+        self.write(gzip.compress(self.content))
+        for change in mock.patch.dict(os.environ, XDG_CACHE_HOME=str(self.home)), mock.patch.object(location, "_PACKED", self.packed):
+            change.start()
+            self.addCleanup(change.stop)
+
+    def write(self, content):
+        for level in "x86-64-v2", "x86-64-v3":
+            (self.packed / f"trlab-{level}.gz").write_bytes(content)
+
+    def find(self):
+        return location._packed.__wrapped__()
+
+    def test_first_use(self):
+        path = self.find()
+        self.assertEqual((Path(path).parent, Path(path).read_bytes()), (self.home / "trlab", self.content))
+        self.assertEqual([file.name for file in (self.home / "trlab").iterdir()], [Path(path).name])
+        self.assertEqual(self.find(), path)
+        Path(path).write_bytes(b"damaged")
+        self.assertEqual(Path(self.find()).read_bytes(), self.content)
+
+    def test_a_cut_download_is_an_error(self):
+        whole = gzip.compress(self.content)
+        for content in whole[:-9], whole[:100], whole[:5], b"", b"no archive", whole[:50] + bytes(100) + whole[150:], gzip.compress(b"other"):
+            self.write(content)
+            with self.subTest(length=len(content)):
+                self.assertRaisesRegex(ProgramNotFoundError, "is damaged.*install trlab again", self.find)
+
+    def test_a_new_file_that_another_process_removes(self):
+        before = os.fsync
+
+        def remove(handle):
+            for file in (self.home / "trlab").glob(".new*"):
+                file.unlink()
+            before(handle)
+
+        with mock.patch("trlab._runs.location.os.fsync", remove):
+            found = self.find()
+        self.assertEqual(Path(found).read_bytes(), self.content)
+
+    def test_what_a_killed_first_use_left_is_removed(self):
+        folder = self.home / "trlab"
+        folder.mkdir(parents=True)
+        mine = new_path(folder, "new")
+        left = Path(str(mine).replace(f"-{os.getpid()}-", "-999999999-"))
+        mine.touch()
+        left.touch()
+        self.find()
+        self.assertEqual([mine.exists(), left.exists()], [True, False])
+
+
+if __name__ == "__main__":
+    unittest.main()

@@ -1,0 +1,255 @@
+"""Studies in one file: the same frame to the last bit, the same bytes, and an error for any other file."""
+import hashlib
+import io
+import json
+import os
+import subprocess
+import sys
+import tempfile
+import unittest
+import zipfile
+from fractions import Fraction
+from pathlib import Path
+
+import trlab
+from tests.processes import PYTHON
+from tests.test_arrays import needs
+from trlab import Grid, Job, Nasch, ParameterError, Point, StudyFileError, Sweep, Table, Window, find_program, moving, random_cells, read_study
+
+WORDS = ["series", "--every", "15", "--from", "5"]
+
+
+def job(p, seed, key):
+    return Job(limit=5, length=50, cars=9, rule=Nasch(p), start=random_cells(key), steps=35, key=key)
+
+
+def sweep_from(start):
+    def sweep(p, seed, key):
+        cars = [number % 40 + 1 for number in range(250)] if start == "many" else [5, 10, 15]
+        return Sweep(limit=5, length=50, rule=Nasch(p), warm=5, measure=10, cars=cars, key=key,
+                     start={"random": random_cells(key), "moving": moving}.get(start, trlab.even))
+
+    return sweep
+
+
+WHOLE = []
+P = {"p": [0.25, Fraction(1, 3), "1/2"], "seed": [0, 1]}
+
+
+class Folder(unittest.TestCase):
+    def setUp(self):
+        folder = tempfile.TemporaryDirectory()
+        self.addCleanup(folder.cleanup)
+        self.path = Path(folder.name) / "study.trlab"
+
+    def saved(self):
+        """The bytes of a study, which is in the file then."""
+        if not WHOLE:
+            Grid(job, **P).save(self.path, WORDS)
+            WHOLE.append(self.path.read_bytes())
+        self.path.write_bytes(WHOLE[0])
+        return WHOLE[0]
+
+
+class Studies(Folder):
+    @needs("pandas")
+    def test_the_frame_is_the_same_to_the_last_bit(self):
+        from pandas.testing import assert_frame_equal
+
+        grids = {"jobs": (Grid(job, **P), WORDS), **{it: (Grid(sweep_from(it), **P), []) for it in ("even", "random", "moving", "many")}}
+        for name, (grid, words) in grids.items():
+            with self.subTest(name):
+                grid.save(self.path, words)
+                wanted = grid.run(call=(lambda it: it.series(every=15, first=5)) if words else None)
+                found = read_study(self.path).run()
+                assert_frame_equal(found, wanted, check_exact=True, check_flags=True)
+                self.assertEqual(found.attrs, wanted.attrs)
+
+    @needs("pandas")
+    def test_options_are_those_of_results(self):
+        self.saved()
+        with tempfile.TemporaryDirectory() as cache:
+            frames = [read_study(self.path).run(cache=cache, at_once=2) for _ in range(2)]
+            self.assertEqual(len(os.listdir(cache)), 6)
+        self.assertTrue(frames[0].equals(frames[1]))
+        self.assertRaises(ParameterError, read_study(self.path).run, call=Job.series)
+
+    def test_tables_need_no_package(self):
+        self.saved()
+        script = "import sys\nfor name in 'numpy', 'pandas':\n    sys.modules[name] = None\n" \
+            "import trlab\nstudy = trlab.read_study(sys.argv[1])\nfor place, table in study.results():\n    print(place.p, len(table))"
+        environment = {**os.environ, "PYTHONPATH": str(PYTHON)}
+        ran = subprocess.run([sys.executable, "-B", "-c", script, str(self.path)], env=environment, stdout=subprocess.PIPE, text=True)
+        self.assertEqual(sorted(ran.stdout.splitlines()), sorted(f"{p} 2" for p in ("0.25", "1/3", "1/2") for _ in range(2)))
+
+    def test_what_a_study_holds(self):
+        grid = Grid(job, **P)
+        self.saved()
+        study = read_study(self.path)
+        self.assertEqual((study.names, list(study.inputs)), (("p", "seed"), list(grid.inputs)))
+        self.assertEqual([type(place.p) for place in study.inputs], [float, float, Fraction, Fraction, str, str])
+        for place, given in study.inputs.items():
+            self.assertEqual((given.words, given.texts), (tuple(WORDS), (grid.inputs[place].text(),)))
+        self.assertEqual(dict(study.results()), {place: it.series(every=15, first=5) for place, it in grid.inputs.items()})
+        self.assertEqual((study.version, study.program), (trlab.__version__, hashlib.sha256(Path(find_program()).read_bytes()).hexdigest()))
+
+    def test_the_same_study_is_the_same_bytes(self):
+        content = self.saved()
+        Grid(job, **P).save(self.path, WORDS)
+        self.assertEqual(self.path.read_bytes(), content)
+        self.assertEqual([file.name for file in self.path.parent.iterdir()], [self.path.name])
+        # Nothing is compressed, because not all libraries compress alike.
+        for given in Grid(job, **P).inputs.values():
+            self.assertIn(given.text().encode(), content)
+
+    def test_anybody_can_run_a_line_by_hand(self):
+        self.saved()
+        with zipfile.ZipFile(self.path) as file:
+            about = json.loads(file.read("study.json"))
+            choice = about["choices"][3]
+            text = file.read(*choice["files"])
+        ran = subprocess.run([find_program(), *choice["words"]], input=text, stdout=subprocess.PIPE, check=True)
+        self.assertEqual(Table.read(Window, ran.stdout), Grid(job, **P).inputs[(Fraction(1, 3), 1)].series(every=15, first=5))
+
+    def test_what_cannot_be_saved(self):
+        grid = Grid(job, **P)
+        for words in [], ["run"], ["sweep"], ["series", "--every", "16"], ["series; id"]:
+            self.assertRaises(ParameterError, grid.save, self.path, words)
+        self.assertRaises(ParameterError, Grid(sweep_from("even"), **P).save, self.path, WORDS)
+        self.assertFalse(self.path.exists())
+
+    def test_another_program(self):
+        self.saved()
+        other = self.path.parent / "other"
+        other.write_text(f'#!/bin/sh\n[ "$1" != --version ] || exec echo trlab 9\nexec "{find_program()}" "$@"\n')
+        other.chmod(0o755)
+        script = "import sys, trlab\ntry:\n    trlab.read_study(sys.argv[1])\nexcept trlab.StudyFileError as error:\n    print(error)\n" \
+            "print(len(dict(trlab.read_study(sys.argv[1], any_program=True).results())))"
+        environment = {**os.environ, "PYTHONPATH": str(PYTHON), "TRLAB": str(other)}
+        ran = subprocess.run([sys.executable, "-B", "-c", script, str(self.path)], env=environment, stdout=subprocess.PIPE, text=True)
+        said, count = ran.stdout.splitlines()
+        self.assertRegex(said, "was made with trlab .*, program [0-9a-f]{12}, and yours is trlab 9, program .* any_program=True$")
+        self.assertEqual(count, "6")
+
+
+class OtherFiles(Folder):
+    """Damaged, foreign and hostile files."""
+
+    def refused(self, content, said="."):
+        self.path.write_bytes(content)
+        with self.assertRaises(StudyFileError) as caught:
+            read_study(self.path)
+        self.assertRegex(str(caught.exception), said)
+
+    def rewritten(self, change=lambda about: None, members=lambda texts: None, compression=zipfile.ZIP_STORED):
+        """The bytes of a study whose study.json or members were changed."""
+        with zipfile.ZipFile(io.BytesIO(self.saved())) as file:
+            texts = {name: file.read(name) for name in file.namelist()}
+        about = json.loads(texts["study.json"])
+        about = change(about) or about
+        texts["study.json"] = json.dumps(about).encode()
+        members(texts)
+        found = io.BytesIO()
+        with zipfile.ZipFile(found, "w", compression) as file:
+            for name, text in texts.items():
+                file.writestr(name, text)
+        return found.getvalue()
+
+    def test_a_changed_study_is_a_study(self):
+        """The tool of these tests makes studies, so that each refusal has its own reason."""
+        self.path.write_bytes(self.rewritten())
+        self.assertEqual(len(read_study(self.path).inputs), 6)
+
+    def test_every_cut_and_changed_byte(self):
+        whole = self.saved()
+        for length in range(0, len(whole), 97):
+            with self.subTest(length=length):
+                self.refused(whole[:length])
+        middle = whole.index(b"lane ") + 20
+        self.refused(whole[:middle] + bytes([whole[middle] ^ 1]) + whole[middle + 1:], "CRC")
+        self.refused(b"no archive")
+        self.refused(b"")
+
+    def test_what_is_no_file(self):
+        self.assertRaises(FileNotFoundError, read_study, self.path)
+        self.assertRaises(StudyFileError, read_study, self.path.parent)
+        os.mkfifo(self.path)
+        self.assertRaises(StudyFileError, read_study, self.path)
+
+    def test_study_json(self):
+        def without(name):
+            return lambda about: about.pop(name) and None
+
+        def of_choice(**changes):
+            return lambda about: about["choices"][0].update(changes)
+
+        changes = [
+            lambda about: [about], lambda about: 1, lambda about: {"format": about["format"]}, lambda about: about.update(format="trlab study 2"),
+            *map(without, ("format", "trlab", "program", "program_version", "parameters", "choices")),
+            *(lambda about, name=name: about.update({name: value}) for name in ("trlab", "program", "parameters", "choices", "format")
+              for value in (None, 1, True, [], {}, [1], "x", [None])),
+            lambda about: about.update(parameters=["p"]), lambda about: about.update(parameters=["p", "p"]),
+            lambda about: about.update(parameters=["p", "class"]), lambda about: about.update(parameters=["p", "_x"]),
+            lambda about: about.update(parameters=["p", "import os"]), lambda about: about["choices"].pop(), lambda about: about["choices"].clear(),
+            lambda about: about["choices"].append(about["choices"][0]), lambda about: about["choices"][0].update(about["choices"][1]),
+            *(lambda about, name=name: about["choices"][0].pop(name) and None for name in ("values", "roads", "words", "files", "is_sweep")),
+            *(of_choice(**{name: value}) for name in ("values", "roads", "words", "files", "is_sweep") for value in (None, 1, {}, [], [1], "x")),
+            *(of_choice(values=[value, 0]) for value in (None, True, [], {}, {"fraction": "1/0"}, {"fraction": 1}, {"fraction": "x"}, {"a": "1"},
+                                                         float("inf"), float("nan"))),
+            *(of_choice(words=words) for words in (["run"], ["check"], ["series", "--every", "16"], ["series", "--every", "x"], ["sweep"],
+                                                   ["series", "--from", "35"], ["series", "; id"], ["--version"])),
+            of_choice(is_sweep=1), of_choice(files=["../../etc/passwd"]), of_choice(files=["/etc/passwd"]), of_choice(files=["study.json"]),
+            *(lambda about, name=name, value=value: about["choices"][0]["roads"].update({name: value})
+              for name in ("key", "cells", "cars", "ensembles") for value in (None, "x", [], [None], True, {}, 1.5, [True])),
+        ]
+        for number, change in enumerate(changes):
+            with self.subTest(number=number):
+                self.refused(self.rewritten(change))
+        self.refused(self.rewritten(lambda about: about.update(choices=json.loads("[" * 900 + "]" * 900))))
+        self.refused(self.rewritten(members=lambda texts: texts.update({"study.json": b"[" * 10**6})))
+        self.refused(self.rewritten(members=lambda texts: texts.update({"study.json": b'{"a": ' + b"9" * 10**5 + b"}"})))
+        self.refused(self.rewritten(members=lambda texts: texts.update({"study.json": b"\xff"})))
+        self.refused(self.rewritten(members=lambda texts: texts.pop("study.json") and None))
+
+    def test_members(self):
+        first = "inputs/000000.job"
+        for change in (
+            lambda texts: texts.pop(first) and None, lambda texts: texts.update({"more": b""}), lambda texts: texts.update({"../evil": b""}),
+            lambda texts: texts.update({"/evil": b""}), lambda texts: texts.update({first: b"\xff\xfe"}),
+            lambda texts: texts.update({first: b"0" * (4 * 1024 * 1024 + 1)}), lambda texts: texts.update({first: b""}),
+        ):
+            self.refused(self.rewritten(members=change))
+
+    def test_names_that_lead_elsewhere(self):
+        name = "inputs/../../evil.job"
+        content = self.rewritten(lambda about: about["choices"][0].update(files=[name]),
+                                 lambda texts: texts.update({name: texts.pop("inputs/000000.job")}))
+        self.refused(content, "another name")
+
+    def test_huge_members(self):
+        self.refused(self.rewritten(compression=zipfile.ZIP_DEFLATED), "compressed")
+        # All entries of the directory are of one long member.
+        whole = self.saved()
+        begin = whole.index(b"PK\1\2")
+        entry = bytearray(whole[begin:whole.index(b"PK\1\2", begin + 4)])
+        many, end = bytes(entry) * 60000, whole[whole.rindex(b"PK\5\6"):]
+        tail = end[:8] + (60000).to_bytes(2, "little") * 2 + len(many).to_bytes(4, "little") + begin.to_bytes(4, "little") + end[20:]
+        self.refused(whole[:begin] + many + tail)
+
+    def test_two_members_of_one_name(self):
+        self.path.write_bytes(self.saved())
+        with zipfile.ZipFile(self.path, "a") as file, self.assertWarns(UserWarning):
+            file.writestr("inputs/000000.job", "")
+        self.refused(self.path.read_bytes(), "two members")
+
+    def test_locked_members(self):
+        whole = bytearray(self.saved())
+        at = whole.index(b"PK\1\2")
+        while at >= 0:
+            whole[at + 8] |= 1
+            at = whole.find(b"PK\1\2", at + 4)
+        self.refused(bytes(whole))
+
+
+if __name__ == "__main__":
+    unittest.main()
