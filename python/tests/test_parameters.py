@@ -279,7 +279,7 @@ class Findings(unittest.TestCase):
         two = Job(limit=5, length=20, lanes=2, cars=9, start=random_cells(1), rule=Rickert(0.25, 1), steps=5)
         for job in ROADS, two:
             snapshots = job.run()
-            for array in snapshots.speeds(), snapshots.speeds("int8", empty=-1):
+            for array in snapshots.speeds(), snapshots.speeds("int16", empty=-1):
                 again = Job(limit=5, start=array[-1], rule=job.rule, steps=5)
                 self.assertEqual(again, Job(limit=5, start=snapshots[-1].lanes, rule=job.rule, steps=5))
             with self.assertRaisesRegex(ParameterError, r"shape .* not \(\d+, [12], "):

@@ -82,8 +82,10 @@ class Job:
         if self.cars is not None or self.density is not None:
             raise ParameterError("a road as `start` has its own cars: leave `cars` and `density` out")
         if self.length not in (None, len(road[0])) or self.lanes > len(road):
-            shape = f"{len(road)} x {len(road[0])}"
-            raise ParameterError(f"a road as `start` has its own cells, here {shape}: leave `length` and `lanes` out")
+            raise ParameterError(
+                f"a road as `start` has its own cells, here {len(road)} x {len(road[0])}: leave `length` and `lanes` out, "
+                "or with `dataclasses.replace` set length=None and lanes=1"
+            )
         store(self, start=road, length=len(road[0]), lanes=len(road))
 
     @classmethod
