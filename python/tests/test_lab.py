@@ -323,7 +323,7 @@ class Exports(unittest.TestCase):
             text = path.read_text()
             with tempfile.TemporaryDirectory() as folder:
                 page = Path(folder) / "page.html"
-                with mock.patch("sys.stdin", io.StringIO(text)):
+                with mock.patch("sys.stdin", io.TextIOWrapper(io.BytesIO(text.encode()))):
                     main(["--export", str(page)])
                 run, script, style, sums = parts_of(page.read_text())
             self.assertEqual(run, ask(["run"], text), path.name)
