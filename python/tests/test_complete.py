@@ -174,7 +174,8 @@ class Statuses(unittest.TestCase):
             reaper = threading.Thread(target=reap)
             reaper.start()
             try:
-                self.assertRaises(ExitStatusError, JOB.run)
+                # The program's own status is seen if we are faster.
+                self.assertRaises((ExitStatusError, ProgramError), JOB.run)
             finally:
                 is_over.set()
                 reaper.join()

@@ -17,7 +17,7 @@ from .._errors import ProgramError, ProgramNotFoundError
 from .location import find_program
 from .ownership import remove_owned
 from .requests import Length, Request
-from .signals import Ending, need_exit_statuses, wait_for
+from .signals import Ending, exit_status, need_exit_statuses
 
 if TYPE_CHECKING:
     from .cache import Cache
@@ -162,7 +162,7 @@ def run(request: Request) -> Generator[bytes, None, int]:
             try:
                 rejection = yield from _blocks(process.stdout, request, length)
                 process.stdout.close()
-                wait_for(process)
+                status = exit_status(process)
             except BaseException:
                 # Also if the caller is interrupted or wants no more: the program does not go on without a reader.
                 process.kill()
@@ -171,12 +171,12 @@ def run(request: Request) -> Generator[bytes, None, int]:
                 process.wait()
                 processes.remove(process)
         if rejection:
-            raise RejectionError(process.returncode, rejection.decode(errors="replace"))
-        if process.returncode not in ((0, 1) if request.is_explanation() else (0,)):
+            raise RejectionError(status, rejection.decode(errors="replace"))
+        if status not in ((0, 1) if request.is_explanation() else (0,)):
             said.seek(0)
-            raise ProgramError(process.returncode, said.read(_LONGEST_MESSAGE).decode(errors="replace"))
+            raise ProgramError(status, said.read(_LONGEST_MESSAGE).decode(errors="replace"))
         length.end()
-        return process.returncode
+        return status
 
 
 @contextmanager

@@ -24,18 +24,20 @@ def need_exit_statuses() -> None:
         )
 
 
-def wait_for(process: subprocess.Popen[bytes]) -> None:
-    """Waits until a process has ended, and leaves its exit status to it. Raises `ExitStatusError` if the status is lost."""
+def exit_status(process: subprocess.Popen[bytes]) -> int:
+    """Waits until a process has ended; its exit status, or minus the signal that ended it. Raises `ExitStatusError` if it is lost."""
     try:
-        os.waitid(os.P_PID, process.pid, os.WEXITED | os.WNOWAIT)
+        ended = os.waitid(os.P_PID, process.pid, os.WEXITED | os.WNOWAIT)
     except ChildProcessError:
         # `Popen.kill` in another thread asks for the status first.
         if process.returncode is not None:
-            return
+            return process.returncode
         raise ExitStatusError(
             "the exit status of trlab is lost, because something else in this process waits for all child processes: "
             "run trlab in another process"
         ) from None
+    assert ended is not None
+    return ended.si_status if ended.si_code == os.CLD_EXITED else -ended.si_status
 
 
 class Ending:

@@ -17,7 +17,7 @@ from pathlib import Path
 from typing import Any, Optional
 
 from .._runs.location import find_program
-from .._runs.signals import need_exit_statuses, wait_for
+from .._runs.signals import exit_status, need_exit_statuses
 from . import jobs
 
 HERE = Path(__file__).resolve().parent
@@ -97,11 +97,6 @@ class Lab(ThreadingHTTPServer):
                 return child
         finally:
             os.close(source)
-
-    def status(self, child: subprocess.Popen[bytes]) -> int:
-        """The exit status of a process, which has closed its output. Raises `ExitStatusError` if it is lost."""
-        wait_for(child)
-        return child.wait()
 
     def end(self, child: subprocess.Popen[bytes]) -> None:
         """End a process, if it still runs."""
@@ -193,7 +188,7 @@ class Page(BaseHTTPRequestHandler):
         try:
             child = self.server.start(RUNS.get(name) or QUESTIONS[name], text)
             try:
-                is_whole = self.stream(child, self.skipped()) and self.server.status(child) in (0, 1)
+                is_whole = self.stream(child, self.skipped()) and exit_status(child) in (0, 1)
                 # Without the last chunk the page knows that the output is cut.
                 self.close_connection = not is_whole
                 if is_whole:
