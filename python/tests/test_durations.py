@@ -61,7 +61,7 @@ class Durations(unittest.TestCase):
         for every, first in (1, 0), (6, 0), (15, 0), (20, 20), (4, 48):
             for condition in stopped, lambda window: window.distance == 0, lambda window: window.step > 38, lambda window: False:
                 with short_inputs(20):
-                    self.assertEqual(job.time_until(condition, every, first), self.expected(job, condition, every, first))
+                    self.assertEqual(job.time_until(condition, every=every, first=first), self.expected(job, condition, every, first))
 
     def test_the_program_stops_with_the_event(self):
         with Recorded() as started:

@@ -257,7 +257,7 @@ class Command(unittest.TestCase):
         return running
 
     def test_it_ends_with_no_process_left_and_no_file(self):
-        for ending in signal.SIGINT, signal.SIGTERM, signal.SIGHUP:
+        for ending in signal.SIGINT, signal.SIGTERM, signal.SIGHUP, signal.SIGQUIT:
             with tempfile.TemporaryDirectory() as folder, self.subTest(ending=ending.name):
                 running = self.start(folder=folder)
                 address = re.fullmatch(r"http://(127\.0\.0\.1:\d+)(/[\w-]{32}/)\n", running.stdout.readline())
@@ -314,7 +314,7 @@ class Exports(unittest.TestCase):
             text = path.read_text()
             with tempfile.TemporaryDirectory() as folder:
                 page = Path(folder) / "page.html"
-                with mock.patch("sys.stdin", io.StringIO(text)):
+                with mock.patch("sys.stdin", io.TextIOWrapper(io.BytesIO(text.encode()))):
                     main(["--export", str(page)])
                 run, script, style, sums = parts_of(page.read_text())
             self.assertEqual(run, ask(["run"], text), path.name)

@@ -48,27 +48,30 @@ class Lanes(unittest.TestCase):
                     lambda: Sweep(**SWEEP, densities=[cars / 2000], start=start),
                 ):
                     (message,) = warnings_of(make)
-                    self.assertIn(f"evenly spaced, {cars} cars on two lanes of 1000 cells are ", message)
-                    self.assertIn(f"{first} cars on lane 0 and {second} on lane 1: ", message)
+                    self.assertIn(f"on two lanes of 1000 cells, {cars} cars are {first} on lane 0 and {second} on lane 1: ", message)
+                    self.assertIn(f"or {' or '.join(map(str, halved(cars, 1000)))} instead of {cars} cars", message)
                 for near in halved(cars, 1000):
                     self.assertEqual(warnings_of(lambda: Job(**JOB, cars=near, start=start)), [])
 
     def test_it_is_told_once(self):
         def study():
             for start in even, moving:
-                sweep = Sweep(**SWEEP, cars=[300, 299, 100, 100], start=start)
+                sweep = Sweep(**SWEEP, cars=[300, 299, 100, 100, 50, 20], start=start)
                 sweep.jobs(), sweep.counts(), sweep.sweep(), sweep.jobs()[0].text(), sweep.is_of_jobs() or sweep.parts()[0].text()
 
         messages = warnings_of(study)
         self.assertEqual(len(messages), 2)
-        self.assertIn("100 on lane 1 (and so for 1 other numbers of cars)", messages[0])
+        told = "300 cars are 200 on lane 0 and 100 on lane 1; 100 cars are 100 on lane 0 and 0 on lane 1; 50 cars are 50 on lane 0"
+        for message in messages:
+            self.assertIn(told, message)
+            self.assertIn("; further uneven numbers of cars: 1: use", message)
 
     def test_a_file_tells_it_too(self):
         with warnings.catch_warnings():
             warnings.simplefilter("ignore")
             text = Sweep(**SWEEP, cars=[300]).text()
         (message,) = warnings_of(lambda: Sweep.from_text(text))
-        self.assertIn("200 cars on lane 0", message)
+        self.assertIn("300 cars are 200 on lane 0", message)
 
     def test_other_states_have_nothing_to_tell(self):
         for cars in 300, 100:

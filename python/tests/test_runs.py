@@ -79,7 +79,7 @@ class Runs(unittest.TestCase):
         job = Job(limit=5, start=[0, None], rule=Nasch(0), steps=5)
         with tempfile.TemporaryDirectory() as folder:
             with stand_in(folder, f'echo $@ >>{folder}/words\nexec "{find_program()}" "$@"\n'):
-                told = [job.run(3), job.run(every=10, first=5, workers=3), list(job.snapshots(2, 4, 1))]
+                told = [job.run(workers=3), job.run(every=10, first=5, workers=3), list(job.snapshots(workers=2, every=4, first=1))]
             words = (Path(folder) / "words").read_text().splitlines()
         self.assertEqual([[it.step for it in snapshots] for snapshots in told], [[0, 1, 2, 3, 4, 5], [5], [1, 5]])
         self.assertEqual(words, ["run --workers 3", "run --every 10 --from 5 --workers 3", "run --every 4 --from 1 --workers 2"])

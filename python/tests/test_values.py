@@ -130,6 +130,11 @@ class Construction(unittest.TestCase):
         for more in {}, {"cars": 1, "density": 0.1}:
             self.assertRaises(ValueError, Job, limit=5, length=10, rule=Nasch(0), steps=1, **more)
 
+    def test_options_have_names(self):
+        # Of `run(10)` nobody knows whether 10 are steps or threads.
+        for call in JOB.run, JOB.snapshots, JOB.series, SWEEP.sweep:
+            self.assertRaises(TypeError, call, 1)
+
     def test_old_names_say_the_new_ones(self):
         for name, new in ("pictures", "snapshots"), ("wait", "time_until"):
             self.rejects(RenamedError, f"a job has no `{name}` .* use `{new}", getattr, JOB, name)

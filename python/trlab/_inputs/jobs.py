@@ -135,7 +135,7 @@ class Job:
             lines += [f"at {step} {first}", *others]
         return input_text(lines)
 
-    def run(self, workers: int = 1, every: int = 1, first: int = 0) -> Snapshots:
+    def run(self, *, every: int = 1, first: int = 0, workers: int = 1) -> Snapshots:
         """The snapshots of step 0 and after each step, or only of the steps `first`, `first + every` and so on. Other
         snapshots are never made, so a long run fits in memory:
 
@@ -148,14 +148,14 @@ class Job:
             return Snapshots(long_jobs.snapshots(self, asked))
         return Snapshots.read(ask_for_bytes(["run", *asked.words()], self.text()))
 
-    def snapshots(self, workers: int = 1, every: int = 1, first: int = 0) -> Iterator[Snapshot]:
+    def snapshots(self, *, every: int = 1, first: int = 0, workers: int = 1) -> Iterator[Snapshot]:
         """Iterate over the snapshots of `run` while the program runs, keeping only one."""
         asked = Asked.snapshots(self.steps, every, first, workers)
         if self.steps > MAX_STEPS:
             return long_jobs.snapshots(self, asked)
         return snapshots_in(ask_by_line(["run", *asked.words()], self.text()))
 
-    def series(self, every: int = 1, first: int = 0, workers: int = 1) -> Table[Window]:
+    def series(self, *, every: int = 1, first: int = 0, workers: int = 1) -> Table[Window]:
         """The counts of each window of `every` steps, from step `first` on, as `trlab series` writes them. The windows must
         fill the run: if `steps - first` is not a positive multiple of `every`, `ParameterError` names numbers that fit. A job of
         more than 500,000 steps takes about twice as long per step."""
@@ -164,7 +164,7 @@ class Job:
             return Table(Window, long_jobs.windows(self, asked))
         return Table.read(Window, ask(["series", *asked.words()], self.text()))
 
-    def time_until(self, condition: Callable[[Window], bool], every: int = 1, first: int = 0) -> Duration:
+    def time_until(self, condition: Callable[[Window], bool], *, every: int = 1, first: int = 0) -> Duration:
         """Run until `condition(window)` is true for a window of `every` steps, and no longer:
 
             job.time_until(lambda window: window.stopped > 0, every=10)
@@ -195,7 +195,7 @@ class Job:
         else:
             yield from long_jobs.windows_in(ask_by_line(["series", *asked.words()], self.text()))
 
-    def detectors(self, cells: Sequence[int], every: int, first: int = 0) -> pandas.DataFrame:
+    def detectors(self, cells: Sequence[int], *, every: int, first: int = 0) -> pandas.DataFrame:
         """Detector tables of the run, window by window: see `trlab.detectors`. Snapshots are not kept."""
         from .._analysis.detectors import detectors
 

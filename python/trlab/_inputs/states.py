@@ -126,12 +126,13 @@ def tell_lanes(start: object, counts: Iterable[int], length: int, lanes: int) ->
     uneven = [cars for cars in dict.fromkeys(counts) if surplus(cars, length) > 1]
     if not uneven:
         return
-    cars, more = uneven[0], surplus(uneven[0], length)
-    others = f" (and so for {len(uneven) - 1} other numbers of cars)" if len(uneven) > 1 else ""
+    told = [f"{cars} cars are {(cars + more) // 2} on lane 0 and {(cars - more) // 2} on lane 1"
+            for cars in uneven[:3] for more in [surplus(cars, length)]]
+    others = f"; further uneven numbers of cars: {len(uneven) - 3}" if len(uneven) > 3 else ""
+    near = " or ".join(map(str, halved(uneven[0], length)))
     warnings.warn(
-        f"evenly spaced, {cars} cars on two lanes of {length} cells are {(cars + more) // 2} cars on lane 0 and "
-        f"{(cars - more) // 2} on lane 1{others}: use `start=random_cells(seed)`, or "
-        f"{' or '.join(map(str, halved(cars, length)))} cars",
+        f"evenly spaced on two lanes of {length} cells, {'; '.join(told)}{others}: use `start=random_cells(seed)`, or {near} "
+        f"instead of {uneven[0]} cars",
         TrlabWarning,
         stacklevel=_level_of_user(),
     )

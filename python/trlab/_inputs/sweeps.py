@@ -162,7 +162,7 @@ class Sweep:
         for number, cars in enumerate(self.counts()):
             yield {"length": self.length, "lanes": self.lanes, "cars": cars, "start": self.start.of_point(number)}
 
-    def sweep(self, runners: int = 1, workers: int = 1) -> Table[Point]:
+    def sweep(self, *, runners: int = 1, workers: int = 1) -> Table[Point]:
         """The table, one row per point, in order. `runners` points, 1 to 16, run at a time, each with `workers` threads, 1 to 16,
         which does not change the table."""
         runners, workers = whole("runners", runners, 1, MAX_THREADS), whole("workers", workers, 1, MAX_THREADS)

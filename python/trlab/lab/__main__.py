@@ -4,6 +4,7 @@ from __future__ import annotations
 import argparse
 import base64
 import errno
+import io
 import signal
 import sys
 import webbrowser
@@ -30,9 +31,11 @@ def main(words: Optional[list[str]] = None) -> None:
     signal.signal(signal.SIGCHLD, signal.SIG_DFL)
     try:
         if options.export:
+            if isinstance(sys.stdin, io.TextIOWrapper):
+                sys.stdin.reconfigure(encoding="utf-8", errors="surrogateescape")
             if options.job:
                 parser.error("--export reads the job from standard input: trlab-lab --export FILE < JOB")
-            Path(options.export).write_text(exported(sys.stdin.buffer.read().decode("utf-8", "surrogateescape")), encoding="utf-8")
+            Path(options.export).write_text(exported(sys.stdin.read()), encoding="utf-8")
         else:
             _serve(options.port, fragment(options.job) if options.job else "", options.no_browser)
     except (TrlabError, OSError, ValueError, OverflowError) as error:
