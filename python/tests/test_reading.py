@@ -90,7 +90,7 @@ class Tables(unittest.TestCase):
         import numpy
 
         sweep = Sweep(limit=5, length=20, rule=Nasch("1/4"), warm=5, measure=9, cars=[0, 1, 7, 20]).sweep()
-        for table in sweep, Table(Point, list(sweep)), ONE.series(every=7), Table(Point):
+        for table in sweep, Table(Point, list(sweep)), ONE.series(every=8), Table(Point):
             frame = table.to_pandas()
             counts = [name for name in table.kind._fields if name != "flow_millionths"]
             self.assertEqual([*frame.columns], [*counts, "density", "flow", "speed", "stopped_share", "change_rate"])
