@@ -6,7 +6,7 @@ import unittest
 from tests.test_arrays import needs
 from tests.test_runs import stand_in
 from trlab import Job, Nasch, OutputFormatError, Snapshot, Snapshots, SnapshotsError, Point, Rickert, Sweep, Table, Window
-from trlab import random_cells
+from trlab import TrlabError, random_cells
 from trlab._results.written import snapshots_in
 
 ONE = Job(limit=12, length=30, cars=9, start=random_cells(3, None), rule=Nasch("1/4"), steps=120)
@@ -90,7 +90,7 @@ class Tables(unittest.TestCase):
         import numpy
 
         sweep = Sweep(limit=5, length=20, rule=Nasch("1/4"), warm=5, measure=9, cars=[0, 1, 7, 20]).sweep()
-        for table in sweep, Table(Point, list(sweep)), ONE.series(every=7), Table(Point):
+        for table in sweep, Table(Point, list(sweep)), ONE.series(every=8), Table(Point):
             frame = table.to_pandas()
             counts = [name for name in table.kind._fields if name != "flow_millionths"]
             self.assertEqual([*frame.columns], [*counts, "density", "flow", "speed", "stopped_share", "change_rate"])
@@ -159,11 +159,11 @@ class Runs(unittest.TestCase):
 
     def test_a_program_that_cuts_its_output_off(self):
         job = Job(limit=5, length=3, cars=0, rule=Nasch(0), steps=1)
-        for status, error in (0, ValueError), (4, Exception):
+        for status in 0, 4:
             with tempfile.TemporaryDirectory() as folder:
                 with stand_in(folder, f"printf 'step 0\\n...\\nstep 1\\n..'; exit {status}\n"):
-                    self.assertRaises(error, job.run)
-                    self.assertRaises(error, list, job.snapshots())
+                    self.assertRaises(TrlabError, job.run)
+                    self.assertRaises(TrlabError, list, job.snapshots())
 
     @needs("numpy")
     def test_arrays(self):
