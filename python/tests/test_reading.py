@@ -144,8 +144,11 @@ class Runs(unittest.TestCase):
             for place in RUN.index(".") + 0, len(RUN) - 3:
                 text = RUN[:place] + wrong + RUN[place + 1:]
                 line = RUN[:place].count("\n") + 1
-                with self.assertRaisesRegex(OutputFormatError, f"line {line} of the run has a character that is neither|not as long"):
-                    Snapshots.read(text)
+                for run in text, text.encode("latin-1"), text.replace("\n", "\r\n"):
+                    with self.assertRaisesRegex(OutputFormatError, f"^line {line} of the run has a character that is neither"):
+                        Snapshots.read(run)
+        for wrong in "step 0\n0.....\nstep 1\nstep 3\n", "step 0\nstep 3\nstep 1\n0.....\n", RUN + "step 11\n0\ud8001\n", RUN + "step 99\n0\xe91\n":
+            self.assertRaisesRegex(OutputFormatError, "^line [246] of the run has a character", Snapshots.read, wrong)
 
     def test_a_run_that_is_cut_off(self):
         whole = TWO.run().text()
