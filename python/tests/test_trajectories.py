@@ -286,6 +286,7 @@ class Paths(unittest.TestCase):
             (Snapshots([Snapshot(0, ("0..",)), Snapshot(1, ("0..", "..."))]), "step 1 has another size"),
             (Snapshots([Snapshot(0, ("0..", "...", "..."))]), "step 0 has 3 lanes"),
             (Snapshots([Snapshot(0, ("0..", ".."))]), "step 0 has another size"),
+            (Snapshots([Snapshot(0, ("0..",)), Snapshot(1, ("?..",))]), "a cell of step 1 has a character"),
             (Snapshots([Snapshot(0, ("0..",)), Snapshot(1, ("0.0",))]), "the cars of step 1 do not come"),
             (Snapshots([Snapshot(0, ("0..",)), Snapshot(1, ("...",))]), "the cars of step 1 do not come"),
             (Snapshots([Snapshot(0, ("...",)), Snapshot(1, ("0..",))]), "the cars of step 1 do not come"),

@@ -25,7 +25,8 @@ CELLS = f".{SPEEDS}".encode()
 
 _NO_CELL = "a character that is neither a speed nor a dot"
 
-# The speed of each character as a signed byte: -1 for an empty cell, -2 for a character that no cell has.
+EMPTY = -1
+# The speed of each character as a signed byte: that of an empty cell, and -2 for a character that no cell has.
 NUMBERS = bytes(255 if chr(sign) == "." else SPEEDS.find(chr(sign)) % 255 for sign in range(256))
 
 
