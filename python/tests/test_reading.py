@@ -147,7 +147,8 @@ class Runs(unittest.TestCase):
                 for run in text, text.encode("latin-1"), text.replace("\n", "\r\n"):
                     with self.assertRaisesRegex(OutputFormatError, f"^line {line} of the run has a character that is neither"):
                         Snapshots.read(run)
-        for wrong in "step 0\n0.....\nstep 1\nstep 3\n", "step 0\nstep 3\nstep 1\n0.....\n", RUN + "step 11\n0\ud8001\n", RUN + "step 99\n0\xe91\n":
+        for wrong in "step 0\n0.....\nstep 1\nstep 3\n", "step 0\nstep 3\nstep 1\n0.....\n", RUN + "step 11\n0\ud8001\n", \
+                RUN + "step 99\n0\xe91\n":
             self.assertRaisesRegex(OutputFormatError, "^line [246] of the run has a character", Snapshots.read, wrong)
 
     def test_a_run_that_is_cut_off(self):
@@ -207,7 +208,8 @@ class Runs(unittest.TestCase):
         self.assertTrue(numpy.isnan(snapshots.speeds().mean()))
         self.assertAlmostEqual(numpy.nanmean(snapshots.speeds()), sum(wanted) / len(wanted))
         for dtype, empty in (
-            ("int8", -1), ("uint8", 255), ("uint16", -1), ("float16", None), (bool, -1), (complex, None), (object, -1), ("U1", -1),
+            ("int8", -1), ("uint8", 255), ("uint16", -1), ("float16", None), (bool, -1), (complex, None), (object, -1),
+            ("U1", -1),
             ("int64", None), ("int64", 0), ("int64", 35), ("int16", -32769), ("int64", True), ("float64", -1),
         ):
             with self.subTest(dtype=dtype, empty=empty):
@@ -218,7 +220,8 @@ class Runs(unittest.TestCase):
         for snapshots in ONE.run(), TWO.run(), TWO.run()[::-2], TWO.run() + ONE.run(), Snapshots():
             wanted = [
                 [it.step, lane, cell, speed]
-                for it in snapshots for lane, cells in enumerate(it.speeds()) for cell, speed in enumerate(cells) if speed is not None
+                for it in snapshots for lane, cells in enumerate(it.speeds()) for cell, speed in enumerate(cells)
+                if speed is not None
             ]
             for frame in snapshots.to_pandas(), Snapshots([*snapshots]).to_pandas():
                 self.assertEqual((frame.values.tolist(), [*frame.columns]), (wanted, ["step", "lane", "cell", "speed"]))
