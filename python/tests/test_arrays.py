@@ -20,7 +20,7 @@ class Arrays(unittest.TestCase):
         array = JOB.run().speeds("int16", empty=-1)
         self.assertEqual(array.tolist(), [[[11, -1, 0], [-1, -1, 1]], [[-1, 1, 0], [-1, 2, -1]]])
         self.assertEqual(replace(JOB, start=array[0]).text(), JOB.text())
-        self.assertEqual(replace(JOB, start=array[0, 0], length=None, lanes=1).run()[0].lanes, ("b.0",))
+        self.assertEqual(Job(limit=12, start=array[0, 0], rule=Nasch(0), steps=1).run()[0].lanes, ("b.0",))
 
     @needs("numpy")
     def test_tables(self):

@@ -105,9 +105,10 @@ class Rejected(unittest.TestCase):
     def test_columns_that_cannot_drift(self):
         table = self.job.series()
         for column in "step", "steps", "cars", "cells", "density", "flow_millionths", "kind", "_asdict", "count":
-            self.assertRaisesRegex(ParameterError, f"^`column` must be one of flow, speed, .*, not '{column}'", table.drift, column)
+            said = f"^`column` must be one of flow, speed, .*, not '{column}'"
+            self.assertRaisesRegex(ParameterError, said, table.drift, column)
         self.assertRaisesRegex(RenamedError, "flow", table.drift, "passing")
-        for column in "distance", "stopped", "changes", "change_rate", "cars0", "distance0", "stopped0", "cars1", "distance1", "stopped1":
+        for column in "distance", "stopped", "changes", "change_rate", "cars0", "distance0", "stopped0", "cars1", "stopped1":
             self.assertIsInstance(table.drift(column), Drift)
 
     def test_without_cars_there_is_no_speed(self):

@@ -91,12 +91,15 @@ class Impossible(unittest.TestCase):
         self.assertEqual(len(Table.read(Point, POINTS + 2 * GOOD_POINT)), 2)
         for wrong, said in (
             ("0,0,0,0,0,0,0", "a road has 1 to 200000 cells"), ("0,200001,1,0,0,0,0", "a road has 1 to 200000 cells"),
-            ("4,20,0,0,0,0,0", "at least 1 step"), ("21,20,10,0,210,0,0", "more cars than cells"), ("4,20,10,0,41,0,0", "more stopped cars"),
-            ("1,10,100,999,0,0,999000", "no car drives further than its gap"), ("1,100,10,360,0,0,360000", "1 to 35 cells per step"),
+            ("4,20,0,0,0,0,0", "at least 1 step"), ("21,20,10,0,210,0,0", "more cars than cells"),
+            ("4,20,10,0,41,0,0", "more stopped cars"),
+            ("1,10,100,999,0,0,999000", "no car drives further than its gap"),
+            ("1,100,10,360,0,0,360000", "1 to 35 cells per step"),
             ("4,20,10,31,8,0,155000", "1 to 35 cells per step"), ("4,20,10,60,8,41,300000", "at most once per step"),
             ("4,21,10,60,8,1,285714", "only on a road of two lanes"), ("4,20,10,60,8,0,299999", "rounded down"),
             ("4,20,10,60,8,0,300001", "rounded down"), ("3,7,10,60,0,0,857143", "gap"), ("4,7,9,26,12,0,412699", "rounded down"),
-            ("999999999999999999,20,999999999999999999,60,8,0,300000", "more cars"), ("4,20,10,60,8,0,999999999999999999", "rounded down"),
+            ("999999999999999999,20,999999999999999999,60,8,0,300000", "more cars"),
+            ("4,20,10,60,8,0,999999999999999999", "rounded down"),
             ("4,20,999999999999999999,999999999999999999,8,0,50000", "1 to 35"),
             # In 64 bits without a sign these have 4 cells x steps, and the right flow.
             ("20,20,922337203685477581,0,4,0,0", "1 to 35"), (f"4,1024,1024,20480,0,0,{19531 + 2**44}", "rounded down"),
@@ -111,8 +114,10 @@ class Impossible(unittest.TestCase):
             ("15,4,20,10,60,8,5,300000,31,40,3,10,20,5", "cars of both lanes must add up"),
             ("15,4,20,10,60,8,5,300000,30,41,3,10,20,5", "distances of both lanes"),
             ("15,4,20,10,60,8,5,300000,30,40,3,10,20,4", "stopped cars of both lanes"),
-            ("15,4,20,10,60,8,5,300000,30,26,3,10,34,5", "on each lane"), ("15,4,20,10,60,8,5,300000,30,58,3,10,2,5", "on each lane"),
-            ("15,4,20,10,60,8,5,300000,2,40,3,38,20,5", "on each lane"), ("9,4,20,10,60,8,5,300000,30,40,3,10,20,5", "before step 0"),
+            ("15,4,20,10,60,8,5,300000,30,26,3,10,34,5", "on each lane"),
+            ("15,4,20,10,60,8,5,300000,30,58,3,10,2,5", "on each lane"),
+            ("15,4,20,10,60,8,5,300000,2,40,3,38,20,5", "on each lane"),
+            ("9,4,20,10,60,8,5,300000,30,40,3,10,20,5", "before step 0"),
             ("15,4,20,10,60,8,5,400000,30,40,3,10,20,5", "rounded down"),
         ):
             self.reject(Window, WINDOWS + wrong + "\n" + second, 2, said)
@@ -126,8 +131,9 @@ class Impossible(unittest.TestCase):
             self.reject(Window, WINDOWS + first + wrong + second, 3, said)
 
     def test_forms_of_numbers(self):
-        for wrong in "04,20,10,60,8,0,300000", "4,20,10,60,8,00,300000", "4,20,10,60,8,0,0300000", "4,20,10,60,8,0," + 5000 * "3", \
-                "4,20,10,60,8,0,300000\r", "4\r,20,10,60,8,0,300000", "4,20,10,60,8,0,3e5", "+4,20,10,60,8,0,300000", "\u0664,20,10,60,8,0,3":
+        for wrong in "04,20,10,60,8,0,300000", "4,20,10,60,8,00,300000", "4,20,10,60,8,0,0300000", \
+                "4,20,10,60,8,0," + 5000 * "3", "4,20,10,60,8,0,300000\r", "4\r,20,10,60,8,0,300000", "4,20,10,60,8,0,3e5", \
+                "+4,20,10,60,8,0,300000", "\u0664,20,10,60,8,0,3":
             for is_without in True, False:
                 with without_numpy() if is_without else with_numpy():
                     for text in POINTS + GOOD_POINT + wrong + "\n" + GOOD_POINT, POINTS + GOOD_POINT + wrong + "\n":
@@ -181,7 +187,8 @@ class OfTheProgram(unittest.TestCase):
             one = roads[0]
             cars = [road.cars for road in roads if road.cars <= one.length * one.lanes]
             sweep = Sweep(
-                limit=one.limit, length=one.length, lanes=one.lanes, cars=cars, rule=one.rule, warm=warm, measure=measure, key=one.key
+                limit=one.limit, length=one.length, lanes=one.lanes, cars=cars, rule=one.rule, warm=warm, measure=measure,
+                key=one.key,
             )
             # On two lanes some even starts have all cars on one lane, with a warning.
             with mock.patch("warnings.warn"):

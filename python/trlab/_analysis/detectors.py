@@ -121,8 +121,8 @@ class _Road:
         """Raises `SnapshotsError` if this cannot be the next snapshot."""
         if snapshot.step != self.step + 1:
             raise SnapshotsError(
-                f"step {snapshot.step} follows step {self.step}, and detectors need every step: leave `every` at 1, and do not put "
-                "parts of a run together"
+                f"step {snapshot.step} follows step {self.step}, and detectors need every step: leave `every` at 1, and do not "
+                "put parts of a run together"
             )
         if [len(lane) for lane in snapshot.lanes] != self.sizes or _cars_on(snapshot) != self.cars:
             raise SnapshotsError(f"the road of step {snapshot.step} has another size or number of cars than the one before it")

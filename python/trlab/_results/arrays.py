@@ -6,4 +6,4 @@ try:
 except ModuleNotFoundError as missing:
     if missing.name != "numpy":
         raise
-    raise MissingLibraryError('arrays and trajectories need numpy: pip install "trlab[analysis]"') from None
+    raise MissingLibraryError("this needs numpy, which is not installed: pip install numpy pandas matplotlib") from None

@@ -9,7 +9,7 @@ from .._errors import SnapshotsError
 from .._inputs.numbers import whole
 from .arrays import numpy
 from .snapshots import Snapshot
-from .written import speeds_in
+from .written import EMPTY, NUMBERS
 
 Array = numpy.ndarray[Any, Any]
 
@@ -107,37 +107,39 @@ def _next(before: Cars, snapshot: Snapshot) -> Cars:
             "`every` at 1, and do not put parts of a run together"
         )
     place, speed = _cars_on(snapshot, lanes, length)
-    car_at = numpy.full(lanes * length, -1)
-    car_at[before.lane * length + before.cell] = numpy.arange(len(before))
     lane, cell = numpy.divmod(place, length)
-    came_from = (cell - speed) % length
-    car = car_at[lane * length + came_from]
+    came_from, numbers = cell - speed, numpy.arange(len(before))
+    car_at = numpy.empty(lanes * length, dtype=numpy.int64)
+    car_at.fill(-1)
+    car_at[before.lane * length + before.cell] = numbers
+    car = car_at[lane * length + came_from % length]
     if lanes == 2:
-        car = numpy.where(car >= 0, car, car_at[(1 - lane) * length + came_from])
-    of_car = numpy.full(len(before), -1)
-    if len(car) == len(before) and (car >= 0).all():
-        of_car[car] = numpy.arange(len(car))
-    on_lane_0 = int(numpy.searchsorted(place, length))
-    if len(car) != len(before) or (of_car < 0).any() or _is_too_fast(cell, speed, on_lane_0, length):
+        car = numpy.where(car >= 0, car, car_at[(1 - lane) * length + came_from % length])
+    # Sorting whole runs of numbers takes no longer than reading them.
+    of_car = car.argsort(kind="stable")
+    if len(car) != len(before) or (car[of_car] != numbers).any() or _is_too_fast(cell, came_from, int((lane == 0).sum()), length):
         raise SnapshotsError(
             f"the cars of step {snapshot.step} do not come from those of step {before.step}: these are not snapshots of one run"
         )
-    return Cars(snapshot.step, length, lanes, lane[of_car], cell[of_car], before.distance + speed[of_car], speed[of_car])
+    speed = speed[of_car]
+    return Cars(snapshot.step, length, lanes, lane[of_car], cell[of_car], before.distance + speed, speed)
 
 
 def _cars_on(snapshot: Snapshot, lanes: int, length: int) -> tuple[Array, Array]:
     """The places of the cars, counted lane by lane, and their speeds."""
     if [len(lane) for lane in snapshot.lanes] != lanes * [length]:
         raise SnapshotsError(f"the road of step {snapshot.step} has another size")
-    speeds = speeds_in("".join(snapshot.lanes))
-    place = numpy.flatnonzero(speeds >= 0)
-    return place, speeds[place].astype(numpy.int64)
+    speeds = numpy.frombuffer("".join(snapshot.lanes).encode().translate(NUMBERS), dtype=numpy.int8)
+    place = (speeds != EMPTY).nonzero()[0]
+    speed = speeds[place].astype(numpy.int64)
+    if (speed < 0).any():
+        raise SnapshotsError(f"a cell of step {snapshot.step} has a character that is neither a speed nor a dot")
+    return place, speed
 
 
-def _is_too_fast(cell: Array, speed: Array, on_lane_0: int, length: int) -> bool:
+def _is_too_fast(cell: Array, came_from: Array, on_lane_0: int, length: int) -> bool:
     """Whether a car drove further than its gap, so that it is not behind the cell where the car ahead of it was before the
     motion. Cars are in the order of their lanes and cells."""
-    came_from = cell - speed
     for on_lane in slice(0, on_lane_0), slice(on_lane_0, None):
         now, then = cell[on_lane], came_from[on_lane]
         # The first car of a lane is ahead of the last one.

@@ -44,7 +44,7 @@ class Snapshots(ResultList[Snapshot]):
     @classmethod
     def read(cls, text: Union[str, bytes]) -> Snapshots:
         """Read the output of `trlab run`. Raises `OutputFormatError` with the line if it is anything else, or cut off."""
-        plain = text.encode() if isinstance(text, str) else text
+        plain = text.encode("ascii", "replace") if isinstance(text, str) else text
         return cls(read_snapshots(plain.replace(b"\r\n", b"\n") if b"\r" in plain else plain))
 
     def text(self) -> str:

@@ -25,7 +25,8 @@ CELLS = f".{SPEEDS}".encode()
 
 _NO_CELL = "a character that is neither a speed nor a dot"
 
-# The speed of each character as a signed byte: -1 for an empty cell, -2 for a character that no cell has.
+EMPTY = -1
+# The speed of each character as a signed byte: that of an empty cell, and -2 for a character that no cell has.
 NUMBERS = bytes(255 if chr(sign) == "." else SPEEDS.find(chr(sign)) % 255 for sign in range(256))
 
 
@@ -67,7 +68,7 @@ class WrittenSnapshots(Sequence[Snapshot]):
         if isinstance(steps, range):
             return WrittenSnapshots(self.text, steps, self.places[place], self.lanes, self.length)
         road = self.text[self.places[place]:self.places[place] + self.lanes * (self.length + 1)]
-        return Snapshot(steps, tuple(road.decode().split("\n")[:-1]))
+        return Snapshot(steps, tuple(road.decode("latin-1").split("\n")[:-1]))
 
     def __reduce__(self) -> Any:
         headings = map(b"step %d\n".__mod__, self.steps)
@@ -111,11 +112,16 @@ def read_snapshots(text: bytes) -> Sequence[Snapshot]:
     if found is None:
         # An error of its own is better than one of decoding.
         found = list(snapshots_in(text.decode("latin-1").splitlines(True)))
+    # Each heading has one space, and no lane has one.
     if text.translate(None, CELLS + b" \n") or text.count(b" ") != len(found):
-        lines = text.decode("latin-1").split("\n")
-        wrong = next(line for line in lines if not HEADING.match(line.encode() + b"\n") and line.strip(CELLS.decode()))
-        raise OutputFormatError(f"line {lines.index(wrong) + 1} of the run has {_NO_CELL}: {_shown(wrong)}")
+        raise OutputFormatError(_cell_fault(text.decode("latin-1").split("\n"), len(found[0].lanes)))
     return found
+
+
+def _cell_fault(lines: list[str], lanes: int) -> str:
+    """Says which lane, of so many between two headings, has a character that no cell has."""
+    place = next(place for place, line in enumerate(lines) if place % (lanes + 1) and line.strip(CELLS.decode()))
+    return f"line {place + 1} of the run has {_NO_CELL}: {_shown(lines[place])}"
 
 
 def _regular(text: bytes) -> Optional[WrittenSnapshots]:
