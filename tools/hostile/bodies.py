@@ -105,7 +105,7 @@ def functions_at(file, text, at, every):
     indent, name = started.groups()
     *_, head = [None, *BLOCK.finditer(text, 0, started.start())]
     method = rf"{re.escape(owner_in(head[1]))}\w*::{name}" if indent else name
-    module = re.sub(r"^src/(lib\.rt)?|\.rt$", "", file).replace("/", "::")
+    module = re.sub(r"^src/((lib|main)\.rt)?|\.rt$", "", file).replace("/", "::")
     here = {path for path in every if re.fullmatch(rf"{module}(::)?{method}", path)}
     # (a method is named by the module of its type, which may be another file's)
     return here or {path for path in every if indent and re.fullmatch(rf"(\w+::)*{method}", path)}
@@ -146,6 +146,7 @@ class Crate:
     def __init__(self, name, libraries):
         self.name, self.libraries = name, libraries
         self.folder = os.path.join(tools.TOP, "crates", name)
+        self.is_program = os.path.exists(os.path.join(self.folder, "src", "main.rt"))
         self.together = bodies_in(os.path.join(self.folder, "must-fail", "_together.edit"))
         self.apart = bodies_in(os.path.join(self.folder, "apart.edit"))
         names = [body.name for body in self.together + self.apart]
@@ -162,12 +163,16 @@ class Crate:
 
     @functools.cached_property
     def functions(self):
-        """The paths of its functions, as the prover names them, without the crate's name."""
+        """The paths of its functions, as the prover names them, without the crate's name; of a program those of its root file."""
+        if self.is_program:
+            return {name for indent, name in FUNCTION.findall(self.text("src/main.rt")) if not indent}
         return {name.removeprefix(f"{self.name}::") for name, _ in json.loads(self.of_library("mir.json"))}
 
     @functools.cached_property
     def proved_alone(self):
-        """The functions, but closures, that have a proof of their own; those of a cycle of calls share one."""
+        """The functions, but closures, that have a proof of their own; those of a cycle of calls share one. A program's are not listed."""
+        if self.is_program:
+            return set()
         made = self.of_library("made.json")
         paths = [path.split("/") for path in re.findall(r'(?m)^\["proofs/((?:\w+/)*\w+)/Code"', made)]
         cycles = re.findall(r'(?m)^\["proofs/((?:\w+/)*)\+[^"/]+/Code/\+([^"/]+)"', made)
@@ -204,7 +209,7 @@ class Crate:
 
     def check_words(self):
         """The command that checks a copy of the crate over the libraries here."""
-        words = [os.path.join(kit(), "bin", "rattle"), "check", "--crate-name", self.name, "src/lib.rt"]
+        words = [os.path.join(kit(), "bin", "rattle"), "check", "--crate-name", self.name, f"src/{'main' if self.is_program else 'lib'}.rt"]
         for name in ["std", *self.libraries]:
             own = os.path.join(tools.TOP, "crates", name, "out", "rlib")
             words += ["--extern", os.path.join(f"{name}={own if os.path.isdir(own) else kit() + '/rlibs'}", f"{name}.rlib")]

@@ -1,31 +1,34 @@
 -- The calls of runners at a desk, one after another.
-use Rattle.std.specs.Prelude.{Result, Ok, Err, OnOk, IsOk, ◌↔◌, ◌⊎◌}
-use Rattle.std.proofs.Common.{◌≡◌, cond, subst, inl, inr, ℕ, ◌+◌, ◌<◌, ◌≤◌, max, Bool, true, false, List, [], ◌∷◌, ◌++◌, refl, sym, ap, ◌∙◌, arith, append_assoc, append-nil, MatchBool}
-use Rattle.std.proofs.lemmas.List.Sums.{sum_by-append}
-use Rattle.std.proofs.lemmas.List.Elements.{All-nil, All-push, All-append, All-weaker}
+use Rattle.std.specs.Prelude.{Result, Ok, Err, OnOk, IsOk, ◌↔◌, ◌⊎◌, MatchOption, ◌==◌}
+use Rattle.std.proofs.Common.{◌≡◌, cond, subst, inl, inr, ℕ, zero, suc, ◌+◌, ◌<◌, ◌≤◌, max, Option, None, Some, slice_get, Bool, true, false, List, [], ◌∷◌, ◌++◌, refl, sym, ap, ◌∙◌, arith, append_assoc, append-nil, All, MatchBool}
+use Rattle.std.proofs.lemmas.List.Sums.{sum_by-append, fold-append}
+use Rattle.std.proofs.lemmas.Bool.{MatchBool-at_true, eq-eqb, lt-ltb}
+use Rattle.std.proofs.lemmas.List.Elements.{All-nil, All-push, All-append, All-weaker, All-head, All-tail}
 use Rattle.trlab_sequential_book.specs.declared.event.Call.{Call}
+use Rattle.trlab_sequential_book.specs.declared.event.Call.TheVariants.{GiveBack}
+use Rattle.trlab_sequential_book.specs.declared.order.Order.{Order}
 use Rattle.trlab_sequential_book.specs.declared.event.Event.{Event}
 use Rattle.trlab_sequential_book.specs.declared.event.Reply.{Reply}
-use Rattle.trlab_sequential_book.specs.declared.event.Reply.TheVariants.{Refused}
+use Rattle.trlab_sequential_book.specs.declared.event.Reply.TheVariants.{Refused, Done, NoLease}
 use Rattle.trlab_sequential_book.specs.declared.fault.BookFault.{BookFault}
-use Rattle.trlab_sequential_book.specs.declared.fault.BookFault.TheVariants.{Ended, Full, HistoryFull, LanesMismatch, Memory, NoSuchJob, SheetFull, StrangerLease}
 use Rattle.trlab_book.specs.declared.running.RunFault.{RunFault}
 use Rattle.trlab_book.specs.declared.running.RunFault.TheVariants as run
-use Rattle.trlab_sequential_book.specs.Answers.{is_event, is_history_full}
-use Rattle.trlab_sequential_book.specs.Comparison.{OrderCall, offered}
-use Rattle.trlab_sequential_book.specs.Leases.{LeaseState}
-use Rattle.trlab_sequential_book.specs.Machine.{BookState}
+use Rattle.trlab_sequential_book.specs.Answers.{is_event, is_history_full, lease_reply, order_reply}
+use Rattle.trlab_sequential_book.specs.Comparison.{IsFresh, LeaseCall, OrderCall, offered}
+use Rattle.trlab_sequential_book.specs.Leases.{LeaseState, HasRun}
+use Rattle.trlab_sequential_book.specs.Machine.{BookState, JobState}
 use Rattle.trlab_sequential_book.specs.Replay.{event}
 use Rattle.trlab_strands.specs.declared.knowledge.Ledger.{Ghosts}
 use Rattle.trlab_strands.specs.declared.knowledge.Noted.{Noted}
 use Rattle.trlab_strands.specs.Knowledge.{noted, event_number}
 use Rattle.trlab_strands.specs.Tokens.{IsSameStrand}
 use Rattle.trlab_book.specs.declared.desk.Desk.{Desk}
-use Rattle.trlab_book.specs.Desks.{AreRunnerCalls, AddsRunnerCalls, HasEnded, HasSeen, MakesNoEvent, MakesEvent, MakesCallOn, subhistory_of, is_runner_call, finds_no_job, clock_of, no_job_count, part_count}
+use Rattle.trlab_book.specs.Turns.{Stage, Free, Has, Through, turn_of, Rise, is_of_turn, stage_after, last_stage, AreLogs}
+use Rattle.trlab_book.specs.Desks.{AreRunnerCalls, AddsRunnerCalls, EndsAt, Goes, HasEnded, LeaseIsFresh, HasSeen, MakesNoEvent, MakesEvent, MakesCallOn, subhistory_of, is_runner_call, finds_no_job, clock_of, no_job_count, part_count}
 use Rattle.trlab_sequential_book.specs.declared.book.TheConstants.{MAX_EVENTS}
 
 -- calls within a span are within a wider one
-wider : (from to below above : ℕ) (numbered : List (Noted Event)) → below ≤ from → to ≤ above → AreRunnerCalls from to numbered → AreRunnerCalls below above numbered
+pub wider : (from to below above : ℕ) (numbered : List (Noted Event)) → below ≤ from → to ≤ above → AreRunnerCalls from to numbered → AreRunnerCalls below above numbered
 wider from to below above numbered low high are = All-weaker
     (λ (x : Noted Event). (from ≤ event_number x) × (event_number x < to) × (is_runner_call x.event.call ≡ true))
     (λ (x : Noted Event). (below ≤ event_number x) × (event_number x < above) × (is_runner_call x.event.call ≡ true))
@@ -33,12 +36,46 @@ wider from to below above numbered low high are = All-weaker
     numbered are
 
 -- the calls of two lists within one span
-both : (from to : ℕ) (xs ys : List (Noted Event)) → AreRunnerCalls from to xs → AreRunnerCalls from to ys → AreRunnerCalls from to (xs ++ ys)
+pub both : (from to : ℕ) (xs ys : List (Noted Event)) → AreRunnerCalls from to xs → AreRunnerCalls from to ys → AreRunnerCalls from to (xs ++ ys)
 both from to xs ys first second =
     All-append (λ (x : Noted Event). (from ≤ event_number x) × (event_number x < to) × (is_runner_call x.event.call ≡ true)) xs ys first second
 
+-- a runner has ended with this fault
+abbrev pub failed : RunFault → Result (Unit {0}) RunFault
+failed fault = Err fault
+
+-- the logs of some runners, and those of others after them
+logs_append : (m n : ℕ) (xs ys : List (Noted Event)) → AreLogs m xs → AreLogs n ys → AreLogs (m + n) (xs ++ ys)
+logs_append zero n xs ys first second =
+    let all : n ≡ zero + n = omega arith in
+    subst (λ (k : ℕ). AreLogs k (xs ++ ys)) all (subst (λ (l : List (Noted Event)). AreLogs n (l ++ ys)) (sym first) second)
+logs_append (suc m) n xs ys first second =
+    let more : AreLogs (suc (m + n)) (xs ++ ys) =
+    (first.0, first.1 ++ ys, ap (λ (l : List (Noted Event)). l ++ ys) first.2 ∙ append_assoc first.0 first.1 ys, first.3, logs_append m n first.1 ys first.4 second) in
+    let all : suc (m + n) ≡ suc m + n = omega arith in
+    subst (λ (k : ℕ). AreLogs k (xs ++ ys)) all more
+
+same_number : (n : ℕ) → (n == n) ≡ true
+same_number n = eq-eqb n n refl
+
+-- events that come late enough
+lower : (from below : ℕ) (events : List (Noted Event)) → below ≤ from → Rise from events → Rise below events
+lower from below [] low rise = tt
+lower from below (made ∷ more) low rise = (omega (arith, low, rise.0), rise.1)
+
+-- events that come after others
+rise_append : (from to : ℕ) (xs ys : List (Noted Event)) → from ≤ to → All (λ (x : Noted Event). event_number x < to) xs → Rise from xs → Rise to ys → Rise from (xs ++ ys)
+rise_append from to [] ys low all first second = lower to from ys low second
+rise_append from to (x ∷ xs) ys low all first second =
+    let here : event_number x < to = All-head (λ (z : Noted Event). event_number z < to) x xs all in
+    (first.0, rise_append (event_number x + 1) to xs ys (omega (arith, here)) (All-tail (λ (z : Noted Event). event_number z < to) x xs all) first.1 second)
+
+-- a lease is offered in its own turn
+offers_own : (lease : LeaseState) (same : Bool) → is_of_turn (turn_of lease) (offered lease same) ≡ true
+offers_own lease same = rw (same_number lease.job, same_number lease.number, same_number lease.base.step, same_number lease.step) refl
+
 module _ {L : Type 0} {ledger : Ghosts L} where
-  pub goes_on : (a b c : Desk L ledger) → AddsRunnerCalls a b → AddsRunnerCalls b c → AddsRunnerCalls a c
+  abbrev pub goes_on : (a b c : Desk L ledger) → AddsRunnerCalls a b → AddsRunnerCalls b c → AddsRunnerCalls a c
   goes_on a b c first second = record {
     parts = second.parts ∙ first.parts;
     least = let p = first.least in let q = second.least in omega arith;
@@ -58,7 +95,7 @@ module _ {L : Type 0} {ledger : Ghosts L} where
       by_full false kept = let q = kept.2 in (kept.1, omega arith)
 
   -- a desk with the same calls has added none
-  stays : (a b : Desk L ledger) → part_count b ≡ part_count a → (subhistory_of b ≡ subhistory_of a) × (clock_of a ≤ clock_of b) → AddsRunnerCalls a b
+  abbrev pub stays : (a b : Desk L ledger) → part_count b ≡ part_count a → (subhistory_of b ≡ subhistory_of a) × (clock_of a ≤ clock_of b) → AddsRunnerCalls a b
   stays a b same kept = record {
     parts = same;
     least = kept.1;
@@ -92,7 +129,7 @@ module _ {L : Type 0} {ledger : Ghosts L} where
   orders_on Holds a b c lease told on made = goes_on a b c on (makes_goes (Holds made.0) b c (OrderCall (offered lease made.0)) told made.1 refl)
 
   -- runners have called through both parts of a desk that was split, and the parts are gathered again
-  pub gathers : (old kept given mine theirs new : Desk L ledger) → part_count kept + 1 ≡ part_count old → part_count given ≡ 1
+  abbrev pub gathers : (old kept given mine theirs new : Desk L ledger) → part_count kept + 1 ≡ part_count old → part_count given ≡ 1
       → subhistory_of kept ≡ subhistory_of old → subhistory_of given ≡ [] → clock_of kept ≡ clock_of old → clock_of given ≡ clock_of old
       → AddsRunnerCalls kept mine → AddsRunnerCalls given theirs
       → part_count new ≡ part_count mine + part_count theirs → subhistory_of new ≡ subhistory_of mine ++ subhistory_of theirs → clock_of new ≡ max (clock_of mine) (clock_of theirs)
@@ -124,28 +161,122 @@ module _ {L : Type 0} {ledger : Ghosts L} where
       let all = ap no_job_count on.subhistory ∙ none_append (subhistory_of a) on.more in
       omega arith
 
-  -- runners end after other calls
-  pub ended_after : (runners : ℕ) (ended : Result (Unit {0}) RunFault) (a b c : Desk L ledger) → AddsRunnerCalls a b → HasEnded runners ended b c → HasEnded runners ended a c
-  ended_after runners ended a b c on end = record { on = goes_on a b c on end.on; no_job = by_end ended end.no_job; full = end.full }
+  -- one event of a runner is added
+  abbrev pub one_more : (a b : Desk L ledger) (call : Call) (told : Reply) (book : BookState) → part_count b ≡ part_count a → MakesEvent a call told b book
+      → is_runner_call call ≡ true → AddsRunnerCalls a b
+  one_more a b call told book same made of_runner = record {
+    parts = same;
+    least = let p = made.noted.1 in let q = made.noted.3 in omega arith;
+    more = noted made.before (event call told) ∷ [];
+    subhistory = made.noted.2;
+    runners = All-push (λ (x : Noted Event). (clock_of a ≤ event_number x) × (event_number x < clock_of b) × (is_runner_call x.event.call ≡ true)) [] (noted made.before (event call told)) (All-nil _)
+        (made.noted.1, omega (arith, made.noted.3), of_runner);
+  }
+
+  -- it leads to the next stage
+  goes_one : (from to : Stage) (a b : Desk L ledger) (call : Call) (told : Reply) (book : BookState) → part_count b ≡ part_count a → MakesEvent a call told b book
+      → is_runner_call call ≡ true → stage_after from (event call told) ≡ to → Goes from to a b
+  goes_one from to a b call told book same made of_runner next = record { on = one_more a b call told book same made of_runner; stage = record { rise = (made.noted.1, tt); stage = next } }
+
+  -- calls are followed by others
+  pub goes_both : (s t u : Stage) (a b c : Desk L ledger) → Goes s t a b → Goes t u b c → Goes s u a c
+  goes_both s t u a b c first second = record {
+    on = goes_on a b c first.on second.on;
+    stage = record {
+      rise = rise_append (clock_of a) (clock_of b) first.on.more second.on.more first.on.least
+          (All-weaker (λ (x : Noted Event). (clock_of a ≤ event_number x) × (event_number x < clock_of b) × (is_runner_call x.event.call ≡ true)) (λ (x : Noted Event). event_number x < clock_of b) (λ x is. is.1) first.on.more first.on.runners) first.stage.rise second.stage.rise;
+      stage = fold-append (λ (stage : Stage) (made : Noted Event). stage_after stage made.event) s first.on.more second.on.more
+          ∙ (ap (λ (stage : Stage). last_stage stage second.on.more) first.stage.stage ∙ second.stage.stage);
+    };
+  }
+
+  -- a runner that makes no calls stays at its stage
+  pub rests : (s : Stage) (a : Desk L ledger) → Goes s s a a
+  rests s a = record { on = stays a a refl (refl, omega arith); stage = record { rise = tt; stage = refl } }
+
+  -- a lease goes out
+  pub leased_goes : (a b : Desk L ledger) (lease : LeaseState) → MakesCallOn (LeaseIsFresh (Ok (Some lease))) a LeaseCall (lease_reply (Ok (Some lease))) b → Goes Free (Has (turn_of lease)) a b
+  leased_goes a b lease made = goes_one Free (Has (turn_of lease)) a b LeaseCall (lease_reply (Ok (Some lease))) made.1.0 made.0 made.1.1 refl
+      (ap (λ (base : ℕ). Has (record { job = lease.job; number = lease.number; base = base; step = lease.step; steps = lease.steps })) (sym (base_is (slice_get made.1.0.jobs lease.job) made.1.2)))
     where
-      by_end : (e : Result (Unit {0}) RunFault) → OnOk e (no_job_count (subhistory_of b) + runners ≤ no_job_count (subhistory_of c)) → OnOk e (no_job_count (subhistory_of a) + runners ≤ no_job_count (subhistory_of c))
-      by_end (Ok done) out = let rises = none_rises a b on in omega arith
-      by_end (Err fault) out = tt
+      base_is : (found : Option JobState) → MatchOption found ⊥ (λ job. IsFresh job made.1.0.next lease) → lease.base.step ≡ lease.step
+      base_is None none = absurd none
+      base_is (Some job) fresh = fresh.base_step ∙ sym fresh.step
+
+  -- the next step of a lease is ordered, and run
+  pub ordered_goes : (a b : Desk L ledger) (lease next : LeaseState) (order : Order) (Holds : Bool → BookState → Type 0) → lease.step < lease.steps
+      → (same : Bool) × MakesCallOn (Holds same) a (OrderCall (offered lease same)) (order_reply (Ok order)) b → HasRun lease order next → Goes (Has (turn_of lease)) (Has (turn_of next)) a b
+  ordered_goes a b lease next order Holds left made ran =
+      goes_one (Has (turn_of lease)) (Has (turn_of next)) a b (OrderCall (offered lease made.0)) (order_reply (Ok order)) made.1.1.0 made.1.0 made.1.1.1 refl
+      (rw (offers_own lease made.0, lt-ltb lease.step lease.steps left) (ap (λ (now : LeaseState). Has (turn_of now)) (sym ran.grown)))
+
+  -- an order or a lease that is given back is refused: if this is an event, the lease has ended
+  refused_goes : (Holds : BookState → Type 0) (s t : Stage) (a b c : Desk L ledger) (call : Call) (fault : BookFault) → Goes s t a b → MakesCallOn Holds b call (Refused fault) c
+      → is_runner_call call ≡ true → stage_after t (event call (Refused fault)) ≡ Free → MatchBool (is_event (Refused fault)) (Goes s Free a c) (AddsRunnerCalls a c)
+  refused_goes Holds s t a b c call fault before made of_runner next = by_event (is_event (Refused fault)) made.1
+    where
+      by_event : (one : Bool) → MatchBool one ((book : BookState) × MakesEvent b call (Refused fault) c book × Holds book) (MakesNoEvent b (Refused fault) c)
+          → MatchBool one (Goes s Free a c) (AddsRunnerCalls a c)
+      by_event true one = goes_both s t Free a b c before (goes_one t Free b c call (Refused fault) one.0 made.0 one.1 of_runner next)
+      by_event false none = goes_on a b c before.on (stays b c made.0 (is_none b c (Refused fault) none))
+
+  pub refused_order : (Holds : Bool → BookState → Type 0) (s : Stage) (a b c : Desk L ledger) (lease : LeaseState) (fault : BookFault) → lease.step < lease.steps → Goes s (Has (turn_of lease)) a b
+      → (same : Bool) × MakesCallOn (Holds same) b (OrderCall (offered lease same)) (Refused fault) c → MatchBool (is_event (Refused fault)) (Goes s Free a c) (AddsRunnerCalls a c)
+  refused_order Holds s a b c lease fault left before made =
+      refused_goes (Holds made.0) s (Has (turn_of lease)) a b c (OrderCall (offered lease made.0)) fault before made.1 refl (rw (offers_own lease made.0, lt-ltb lease.step lease.steps left) refl)
+
+  pub refused_back : (Holds : Bool → BookState → Type 0) (s : Stage) (a b c : Desk L ledger) (lease : LeaseState) (fault : BookFault) → Goes s (Has (turn_of lease)) a b
+      → (same : Bool) × MakesCallOn (Holds same) b (GiveBack (offered lease same)) (Refused fault) c → MatchBool (is_event (Refused fault)) (Goes s Free a c) (AddsRunnerCalls a c)
+  refused_back Holds s a b c lease fault before made =
+      refused_goes (Holds made.0) s (Has (turn_of lease)) a b c (GiveBack (offered lease made.0)) fault before made.1 refl (rw (offers_own lease made.0) refl)
+
+  -- a lease is given back
+  pub back_goes : (Holds : Bool → BookState → Type 0) (a b : Desk L ledger) (lease : LeaseState)
+      → (same : Bool) × MakesCallOn (Holds same) a (GiveBack (offered lease same)) Done b → Goes (Has (turn_of lease)) Free a b
+  back_goes Holds a b lease made =
+      goes_one (Has (turn_of lease)) Free a b (GiveBack (offered lease made.0)) Done made.1.1.0 made.1.0 made.1.1.1 refl (rw (offers_own lease made.0) refl)
+
+  -- no job is free, and the runner has ended
+  pub none_left : (a b : Desk L ledger) → MakesCallOn (LeaseIsFresh (Ok None)) a LeaseCall NoLease b → EndsAt Free Through 1 (Ok tt) a b
+  none_left a b made =
+      let one = one_more a b LeaseCall NoLease made.1.0 made.0 made.1.1 refl in
+      let all = ap no_job_count one.subhistory ∙ none_append (subhistory_of a) one.more in
+      record { on = one; stage = record { rise = (made.1.1.noted.1, tt); stage = refl }; no_job = omega arith; full = λ e. absurd (cc e) }
+
+  -- a result after other calls
+  pub ended_after : (s t u : Stage) (count : ℕ) (ended : Result (Unit {0}) RunFault) (a b c : Desk L ledger) → Goes s t a b → EndsAt t u count ended b c → EndsAt s u count ended a c
+  ended_after s t u count (Ok done) a b c go end =
+      let both = goes_both s t u a b c go (record { on = end.on; stage = end.stage }) in
+      let rises = none_rises a b go.on in
+      let out = end.no_job in
+      record { on = both.on; stage = both.stage; no_job = omega arith; full = end.full }
+  ended_after s t u count (Err fault) a b c go end = record { on = goes_on a b c go.on end.on; stage = tt; no_job = tt; full = end.full }
 
   -- a runner that goes on has not ended with a fault
-  pub ended_none : (a b : Desk L ledger) → AddsRunnerCalls a b → HasEnded 0 (Ok tt) a b
-  ended_none a b on = let rises = none_rises a b on in record { on = on; no_job = omega arith; full = λ e. absurd (cc e) }
+  pub ended_none : (s t : Stage) (a b : Desk L ledger) → Goes s t a b → EndsAt s t 0 (Ok tt) a b
+  ended_none s t a b go = let rises = none_rises a b go.on in record { on = go.on; stage = go.stage; no_job = omega arith; full = λ e. absurd (cc e) }
 
-  -- after a call that answers HistoryFull its desk has seen the whole history
-  pub full_seen : (Holds : BookState → Type 0) (a b : Desk L ledger) (call : Call) (fault : BookFault) → MakesCallOn Holds a call (Refused fault) b → fault ≡ HistoryFull → MAX_EVENTS ≤ clock_of b
-  full_seen Holds a b call HistoryFull made is = made.1.3
-  full_seen Holds a b call Memory made is = absurd (cc is)
-  full_seen Holds a b call Ended made is = absurd (cc is)
-  full_seen Holds a b call Full made is = absurd (cc is)
-  full_seen Holds a b call LanesMismatch made is = absurd (cc is)
-  full_seen Holds a b call NoSuchJob made is = absurd (cc is)
-  full_seen Holds a b call SheetFull made is = absurd (cc is)
-  full_seen Holds a b call StrangerLease made is = absurd (cc is)
+  -- after a fault only the kinds of the calls are known
+  pub ended_fault : (s t : Stage) (count : ℕ) (fault : RunFault) (a b : Desk L ledger) → AddsRunnerCalls a b → (failed fault ≡ Err run.HistoryFull → MAX_EVENTS ≤ clock_of b) → EndsAt s t count (Err fault) a b
+  ended_fault s t count fault a b on seen = record { on = on; stage = tt; no_job = tt; full = seen }
+
+  -- a lease is dropped after a fault
+  pub dropped : (s : Stage) (a b c : Desk L ledger) (fault : BookFault) (ended : Result (Unit {0}) RunFault)
+      → MatchBool (is_event (Refused fault)) (Goes s Free a b) (AddsRunnerCalls a b) → AddsRunnerCalls b c → (IsOk ended → (is_event (Refused fault) ≡ true) × (c ≡ b))
+      → (ended ≡ Err run.HistoryFull → MAX_EVENTS ≤ clock_of c) → EndsAt s Free 0 ended a c
+  dropped s a b c fault (Ok done) before on over full =
+      let is = over refl in
+      subst (λ (d : Desk L ledger). EndsAt s Free 0 (Ok done) a d) (sym is.1) (ended_none s Free a b (MatchBool-at_true (Goes s Free a b) (AddsRunnerCalls a b) is.0 before))
+  dropped s a b c fault (Err why) before on over full = ended_fault s Free 0 why a c (goes_on a b c (known (is_event (Refused fault)) before) on) full
+    where
+      known : (one : Bool) → MatchBool one (Goes s Free a b) (AddsRunnerCalls a b) → AddsRunnerCalls a b
+      known true go = go.on
+      known false go = go
+
+  -- one runner has ended
+  pub one_ended : (ended : Result (Unit {0}) RunFault) (a b : Desk L ledger) → EndsAt Free Through 1 ended a b → HasEnded 1 ended a b
+  one_ended (Ok done) a b end = record { on = end.on; logs = (end.on.more, [], sym (append-nil end.on.more), record { rise = lower (clock_of a) 0 end.on.more (omega arith) end.stage.rise; stage = end.stage.stage }, refl); no_job = end.no_job; full = end.full }
+  one_ended (Err fault) a b end = record { on = end.on; logs = tt; no_job = tt; full = end.full }
 
   -- the ends of two runners, combined into one
   pub ended_both : (one others : ℕ) (first second told : Result (Unit {0}) RunFault) (old kept given mine theirs new : Desk L ledger)
@@ -157,6 +288,7 @@ module _ {L : Type 0} {ledger : Ghosts L} where
       → HasEnded (one + others) told old new
   ended_both one others first second told old kept given mine theirs new fewer part was free low least second_end first_end parts joined greater fine full = record {
     on = gathers old kept given mine theirs new fewer part was free low least second_end.on first_end.on parts joined greater;
+    logs = logs_told told refl;
     no_job = by_told told refl;
     full = λ e. elim (full.0 e) [
       | inl is ↦ let p = first_end.full is in omega arith
@@ -178,3 +310,15 @@ module _ {L : Type 0} {ledger : Ghosts L} where
           let d : no_job_count (subhistory_of given) ≡ 0 = ap no_job_count free in
           let f : no_job_count (subhistory_of new) ≡ no_job_count (subhistory_of mine) + no_job_count (subhistory_of theirs) = ap no_job_count joined ∙ none_append (subhistory_of mine) (subhistory_of theirs) in
           omega arith
+
+      logs_of : (n : ℕ) (e : Result (Unit {0}) RunFault) (a b : Desk L ledger) → (end : HasEnded n e a b) → IsOk e → AreLogs n end.on.more
+      logs_of n (Ok done) a b end is = end.logs
+      logs_of n (Err fault) a b end is = absurd (cc is)
+
+      logs_told : (e : Result (Unit {0}) RunFault) → told ≡ e → OnOk e (AreLogs (one + others) (second_end.on.more ++ first_end.on.more))
+      logs_told (Err fault) e = tt
+      logs_told (Ok done) e =
+          let both = fine.0 (subst IsOk (sym e) refl) in
+          let all : others + one ≡ one + others = omega arith in
+          subst (λ (n : ℕ). AreLogs n (second_end.on.more ++ first_end.on.more)) all
+          (logs_append others one second_end.on.more first_end.on.more (logs_of others second kept mine second_end both.1) (logs_of one first given theirs first_end both.0))

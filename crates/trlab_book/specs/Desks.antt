@@ -1,5 +1,5 @@
 -- Desks as callers see them: the calls made through a desk, each with its predecessors in the history.
-use Rattle.std.specs.Prelude.{◌≡◌, ◌↔◌, ℕ, ◌+◌, ◌<◌, ◌≤◌, Bool, true, false, ◌&&◌, IsTrue, Result, Err, Option, IfOk, OnOk, count_by, List, length, ◌++◌, All, MatchBool}
+use Rattle.std.specs.Prelude.{◌≡◌, ◌↔◌, ℕ, ◌+◌, ◌<◌, ◌≤◌, Bool, true, false, ◌&&◌, IsTrue, Result, Ok, Err, Option, IfOk, OnOk, count_by, List, length, ◌++◌, All, MatchBool}
 use Rattle.trlab_step.specs.Progress.{Progress}
 use Rattle.trlab_sequential_book.specs.declared.fault.BookFault.{BookFault}
 use Rattle.trlab_sequential_book.specs.declared.book.TheConstants.{MAX_EVENTS}
@@ -11,7 +11,7 @@ use Rattle.trlab_sequential_book.specs.declared.event.Call.{Call}
 use Rattle.trlab_sequential_book.specs.declared.event.Call.TheVariants as call
 use Rattle.trlab_sequential_book.specs.declared.event.Event.{Event}
 use Rattle.trlab_sequential_book.specs.declared.event.Reply.{Reply}
-use Rattle.trlab_sequential_book.specs.declared.event.Reply.TheVariants.{NoLease}
+use Rattle.trlab_sequential_book.specs.declared.event.Reply.TheVariants.{NoLease, Refused}
 use Rattle.trlab_sequential_book.specs.Machine.{BookState, reply_of}
 use Rattle.trlab_sequential_book.specs.Answers.{is_event, is_history_full}
 use Rattle.trlab_sequential_book.specs.Replay.{Replays, event}
@@ -19,6 +19,7 @@ use Rattle.trlab_strands.specs.declared.knowledge.Noted.{Noted}
 use Rattle.trlab_strands.specs.Knowledge.{event_number}
 use Rattle.trlab_strands.specs.declared.knowledge.Ledger.{Ghosts}
 use Rattle.trlab_strands.specs.Tokens.{AddsEvent, CatchesUp, IsSameStrand, strand_clock, strand_events}
+use Rattle.trlab_book.specs.Turns.{Stage, Free, Has, turn_of, Leads, AreLogs}
 use Rattle.trlab_book.specs.declared.desk.Desk.{Desk}
 use Rattle.trlab_book.specs.declared.desk.SharedBook.{SharedBook}
 use Rattle.trlab_book.specs.declared.running.RunFault.{RunFault}
@@ -157,17 +158,42 @@ finds_no_job made = is_lease made.call && is_no_lease made.reply
 abbrev pub no_job_count : List (Noted Event) → ℕ
 no_job_count events = count_by (λ made. finds_no_job made.event) events
 
--- the desk `old` is `new` after `runners` runners have called through it and have ended. If all succeeded, at
--- least one call of `lease` per runner found no free job; if one ended because the history was full, the desk
--- has seen all of it; if an allocation failed, nothing more is known
+-- the desk `old` is `new` after `runners` runners have called through it and have ended. If all succeeded, their
+-- calls are `runners` logs, so that none of them kept a lease; and at least one call of `lease` per runner found
+-- no free job. If one ended because the history was full, the desk has seen all of it; if an allocation failed,
+-- nothing more is known
 pub record HasEnded {L : Type 0} {ledger : Ghosts L} (runners : ℕ) (ended : Result (Unit {0}) RunFault)
     (old new : Desk L ledger) : Type 0 where
   pub on : AddsRunnerCalls old new
+  pub logs : OnOk ended (AreLogs runners on.more)
   pub no_job : OnOk ended (no_job_count (subhistory_of old) + runners ≤ no_job_count (subhistory_of new))
   pub full : ended ≡ Err run.HistoryFull → MAX_EVENTS ≤ clock_of new
 
--- the desk `old` is `new` after a runner's turn with one lease: the turn has added runner calls, and if it
--- ended because the history was full, the desk has seen all of it
+-- the desk `old` is `new` after calls of a runner that lead from the stage `from` to the stage `to`
+pub record Goes {L : Type 0} {ledger : Ghosts L} (from to : Stage) (old new : Desk L ledger) : Type 0 where
+  pub on : AddsRunnerCalls old new
+  pub stage : Leads (clock_of old) from to on.more
+
+-- the desk `old` is `new` after calls of a runner, with this result. If it succeeded, they lead from the stage
+-- `from` to the stage `to`, and `count` of them or more found no free job; if it ended because the history was
+-- full, the desk has seen all of it
+pub record EndsAt {L : Type 0} {ledger : Ghosts L} (from to : Stage) (count : ℕ)
+    (ended : Result (Unit {0}) RunFault) (old new : Desk L ledger) : Type 0 where
+  pub on : AddsRunnerCalls old new
+  pub stage : OnOk ended (Leads (clock_of old) from to on.more)
+  pub no_job : OnOk ended (no_job_count (subhistory_of old) + count ≤ no_job_count (subhistory_of new))
+  pub full : ended ≡ Err run.HistoryFull → MAX_EVENTS ≤ clock_of new
+
+-- the desk `old` is `new` after a runner's turn with one lease. If it succeeded, the lease has ended
 abbrev pub EndsTurn : {L : Type 0} {ledger : Ghosts L}
-    → Result (Unit {0}) RunFault → Desk L ledger → Desk L ledger → Type 0
-EndsTurn result old new = HasEnded 0 result old new
+    → LeaseState → Result (Unit {0}) RunFault → Desk L ledger → Desk L ledger → Type 0
+EndsTurn lease result old new = EndsAt (Has (turn_of lease)) Free 0 result old new
+
+-- the desk `old` is `new` after a runner has ordered and run steps of a lease, which was `before` and is `after`.
+-- If the book refused an order, the lease has ended; if an allocation failed or the history was full, only the
+-- kinds of the calls are known
+abbrev pub RunsSteps : {L : Type 0} {ledger : Ghosts L}
+    → LeaseState → LeaseState → Result (Unit {0}) BookFault → Desk L ledger → Desk L ledger → Type 0
+RunsSteps before after (Ok done) old new = Goes (Has (turn_of before)) (Has (turn_of after)) old new
+RunsSteps before after (Err fault) old new =
+    MatchBool (is_event (Refused fault)) (Goes (Has (turn_of before)) Free old new) (AddsRunnerCalls old new)

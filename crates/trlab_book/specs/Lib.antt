@@ -1,2 +1,5 @@
+pub mod FreeJobs
+pub mod LeasesEnd
+pub mod Turns
 pub mod Events
 pub mod Desks

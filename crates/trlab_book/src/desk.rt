@@ -97,6 +97,7 @@ impl<L: Ledger> SharedBook<L> {
     ghost use Rattle.trlab_sequential_book.specs.Answers.{give_back_reply, done_reply, is_event, lease_reply};
     ghost use Rattle.trlab_sequential_book.specs.Answers.{number_reply, order_reply, read_reply};
     ghost use Rattle.trlab_sequential_book.specs.Comparison.{LeaseCall, OrderCall, offered};
+    ghost use Rattle.trlab_sequential_book.specs.Leases.{FitsOrder};
     ghost use Rattle.trlab_sequential_book.specs.Replay.{Replays};
     ghost use Rattle.trlab_sequential_book.specs.declared.event.Call.TheVariants.{Cancel, GiveBack, Read};
     ghost use Rattle.trlab_sequential_book.specs.declared.event.Call.TheVariants.{Replace, Revoke, Submit};
@@ -291,9 +292,10 @@ impl<L: Ledger> SharedBook<L> {
         desk: &mut Desk<L>,
         lease: &Lease,
     ) -> Result<Order, BookFault>
-        ensures { (same : Bool)
+        ensures made { (same : Bool)
             × MakesCallOn (λ book. IsCorrectVerdict lease.now same book × OrderHasRuleInForce result book) desk.old
             (OrderCall (offered lease.now same)) (order_reply result) desk.new }
+        ensures fits { IfOk result (λ order. FitsOrder lease.now order) }
     {
         let mut guard = self.lock.lock(rt);
         let Locked { kept, keeper } = &mut *guard;

@@ -8,6 +8,7 @@ ghost use Rattle.trlab_sequential_book.specs.Answers.{give_back_reply, done_repl
 ghost use Rattle.trlab_sequential_book.specs.Answers.{number_reply, order_reply, read_reply};
 ghost use Rattle.trlab_sequential_book.specs.Comparison.{IsFreshIfLent, HasRuleInForce, RunsRoadOfItsJob, ShowsJob};
 ghost use Rattle.trlab_sequential_book.specs.Comparison.{LeaseCall, OrderCall, offered};
+ghost use Rattle.trlab_sequential_book.specs.Leases.{FitsOrder};
 ghost use Rattle.trlab_sequential_book.specs.Machine.{has_full_history, empty_book};
 ghost use Rattle.trlab_sequential_book.specs.Replay.{Replays, event};
 ghost use Rattle.trlab_sequential_book.specs.declared.event.Call.TheVariants.{Cancel, GiveBack, Read};
@@ -131,6 +132,7 @@ impl Kept {
         ensures made { (runs_its_road : Bool) → (IsTrue runs_its_road ↔ RunsRoadOfItsJob self.old.book.jobs lease.now)
             → Records self.old (OrderCall (offered lease.now runs_its_road)) (order_reply result) self.new }
         ensures rule { IfOk result (λ o. HasRuleInForce self.old.book.jobs o) }
+        ensures fits { IfOk result (λ o. FitsOrder lease.now o) }
         ensures full { RefusesIfFull self.old (order_reply result) }
         ensures noted { (runs_its_road : Bool)
             × OnTrue (is_event (order_reply result))

@@ -1,11 +1,14 @@
 //! Runners, which take the jobs of a book, one lease after the other.
 
-ghost use Rattle.std.specs.Prelude.{◌≡◌, ◌↔◌, ◌⊎◌, ◌<◌, ◌≤◌, Ok, Err, IsOk, MatchOption, MatchResult};
+ghost use Rattle.std.specs.Prelude.{◌≡◌, ◌↔◌, ◌⊎◌, ◌<◌, ◌≤◌, Ok, Err, IsOk, MatchOption, MatchResult, true};
 ghost use Rattle.std.specs.Thread.{IsSend, IsSync};
 ghost use Rattle.trlab_bounds.specs.declared.runs.TheConstants.{MAX_RUNNERS, MAX_WORKERS};
 ghost use Rattle.trlab_sequential_book.specs.declared.book.TheConstants.{MAX_EVENTS};
 ghost use Rattle.trlab_sequential_book.specs.declared.fault.BookFault.TheVariants.{HistoryFull};
-ghost use Rattle.trlab_book.specs.Desks.{AddsRunnerCalls, EndsTurn, HasEnded, clock_of, part_count};
+ghost use Rattle.trlab_sequential_book.specs.declared.event.Reply.TheVariants.{Refused};
+ghost use Rattle.trlab_sequential_book.specs.Answers.{is_event};
+ghost use Rattle.trlab_book.specs.Desks.{AddsRunnerCalls, EndsAt, EndsTurn, Goes, HasEnded, RunsSteps, clock_of, part_count};
+ghost use Rattle.trlab_book.specs.Turns.{Free, Through};
 ghost use Rattle.trlab_book.specs.declared.running.RunFault.TheVariants as run;
 
 use crate::desk::{Desk, SharedBook};
@@ -33,6 +36,8 @@ pub enum RunFault {
 /// Runs the jobs of a book with 1 to `MAX_RUNNERS` runners, each until it finds no free job. Each runner has 1 to
 /// `MAX_WORKERS` workers, which pass the gate. Returns the desk; the runners' calls follow its own, one runner after
 /// the other.
+///
+/// If it succeeds, each lease that a runner took was given back, or the book refused it.
 ///
 /// The desk needs a part for each runner. The calling thread is one of the runners. It begins after the others were
 /// started, and does the work of any that cannot be started.
@@ -171,7 +176,8 @@ impl<'a, L: Ledger, R: Threads + Wait + Sync, G: Gate + Sync> Runner<'a, L, R, G
     /// Leases a free job for one turn. Returns the result of the runner if it ends, because no job is free or after a
     /// fault; otherwise `None`.
     fn take_free(&self, desk: &mut Desk<L>) -> Option<Result<(), RunFault>>
-        ensures { MatchOption result (AddsRunnerCalls desk.old desk.new) (λ ended. HasEnded 1 ended desk.old desk.new) }
+        ensures { MatchOption result (Goes Free Free desk.old desk.new)
+            (λ ended. EndsAt Free Through 1 ended desk.old desk.new) }
     {
         match self.book.lease(self.rt, self.alloc, desk) {
             Ok(Some(lease)) => match self.take_turn(desk, lease) {
@@ -186,7 +192,7 @@ impl<'a, L: Ledger, R: Threads + Wait + Sync, G: Gate + Sync> Runner<'a, L, R, G
 
     /// Runs up to `STEPS_PER_TURN` steps of a lease and gives it back.
     fn take_turn(&self, desk: &mut Desk<L>, lease: Lease) -> Result<(), RunFault>
-        ensures { EndsTurn result desk.old desk.new }
+        ensures { EndsTurn lease result desk.old desk.new }
     {
         let mut lease = lease;
         match self.run_steps(desk, &mut lease) {
@@ -201,18 +207,22 @@ impl<'a, L: Ledger, R: Threads + Wait + Sync, G: Gate + Sync> Runner<'a, L, R, G
     /// Orders and runs up to `STEPS_PER_TURN` steps, but none beyond the end of the job. The book's lock is not held
     /// while a step runs.
     fn run_steps(&self, desk: &mut Desk<L>, lease: &mut Lease) -> Result<(), BookFault>
-        ensures on { AddsRunnerCalls desk.old desk.new }
+        ensures ran { RunsSteps lease.old lease.new result desk.old desk.new }
         ensures full { result ≡ Err HistoryFull → MAX_EVENTS ≤ clock_of desk.new }
     {
         for _ in 0..STEPS_PER_TURN {
             if lease.step() >= lease.steps() {
                 return Ok(());
             }
-            let order = self.book.order(self.rt, self.alloc, desk, lease)?;
+            let order = match self.book.order(self.rt, self.alloc, desk, lease) {
+                Ok(order) => order,
+                Err(fault) => return Err(fault),
+            };
             let ran = self.team.take_step(self.alloc, lease, &order);
             drop(order);
             match ran {
                 Ok(()) => {}
+                // Never: each order fits its lease.
                 Err(LeaseFault::WrongOrder) => return Err(BookFault::StrangerLease),
                 Err(LeaseFault::Memory) => return Err(BookFault::Memory),
             }
@@ -225,7 +235,9 @@ impl<'a, L: Ledger, R: Threads + Wait + Sync, G: Gate + Sync> Runner<'a, L, R, G
     /// lease, the runner goes on.
     fn end_lease(&self, desk: &mut Desk<L>, lease: Lease, fault: BookFault) -> Result<(), RunFault>
         requires seen { fault ≡ HistoryFull → MAX_EVENTS ≤ clock_of desk.old }
-        ensures { EndsTurn result desk.old desk.new }
+        ensures on { AddsRunnerCalls desk.old desk.new }
+        ensures over { IsOk result → (is_event (Refused fault) ≡ true) × (desk.new ≡ desk.old) }
+        ensures full { result ≡ Err run.HistoryFull → MAX_EVENTS ≤ clock_of desk.new }
     {
         let job = lease.job();
         drop(lease);

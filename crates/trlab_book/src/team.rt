@@ -131,7 +131,11 @@ impl<'a, R: Threads + Wait + Sync, G: Gate + Sync> Team<'a, R, G> {
         alloc: Global,
         lease: &mut Lease,
         order: &Order,
-    ) -> Result<(), LeaseFault> {
+    ) -> Result<(), LeaseFault>
+        ensures ok { OnOk result (HasRun lease.old order.now lease.new) }
+        ensures unchanged { OnErr result (lease.new ≡ lease.old) }
+        ensures wrong { (result ≡ Err WrongOrder) ↔ (FitsOrder lease.old order.now → ⊥) }
+    {
         if self.is_one {
             lease.advance(&OneWorker::new(self.gate), alloc, order)
         } else {

@@ -62,6 +62,14 @@ none_after every from steps last step some past is after within = not_true _ sho
           | inr early ↦ let product = mul-le at.0 every count every early (omega arith) in omega (arith, at.1, after, first, product)
         ]
 
+-- the last is shown
+pub last_shown : (every from steps last : ℕ) → from ≤ steps → last ≡ steps - (steps - from) % every → every_from every from last ≡ true
+last_shown every from steps last past is =
+    let count = (steps - from) / every in
+    let whole = div-add-mod' (steps - from) every in
+    let at : last ≡ from + count * every = omega (arith, is, past, whole) in
+    subst (λ (s : ℕ). every_from every from s ≡ true) (sym at) (at_multiple every from count)
+
 -- every step from step 0 on is each step
 every_one : (step : ℕ) → every_from 1 0 step ≡ each_step step
 every_one step =

@@ -1,6 +1,7 @@
 //! How an engine ends, and the functions that write a whole output, or the line of a refused input, at the end.
 
-ghost use Rattle.std.specs.Prelude.{◌≡◌, true, false};
+ghost use Rattle.std.specs.Prelude.{◌≡◌, ◌≢◌, true, false};
+ghost use Rattle.trlab_campaign.specs.declared.end.End.TheVariants.{Memory};
 ghost use Rattle.trlab_campaign.specs.Ending.{LeavesWriter, WroteOutputAtEnd};
 ghost use Rattle.trlab_campaign.specs.Refusal.{fault_line};
 
@@ -31,10 +32,12 @@ pub enum Failure {
     Device,
 }
 
-/// Writes a whole output and flushes the writer. `refused` is whether the output is a refusal.
+/// Writes a whole output and flushes the writer. `refused` is whether the output is a refusal. It allocates nothing, so
+/// it never ends with `Memory`.
 pub fn write_output<K: Sink>(refused: bool, text: &[u8], writer: &mut K) -> End
     requires { K.failed writer.old ≡ false }
-    ensures { LeavesWriter K.Sink (WroteOutputAtEnd refused text.now) result writer.old writer.new }
+    ensures ends { LeavesWriter K.Sink (WroteOutputAtEnd refused text.now) result writer.old writer.new }
+    ensures never { result ≢ Memory }
 {
     match write_last(writer, text) {
         Ok(()) => { if refused { End::Refused } else { End::Done } }

@@ -1,7 +1,7 @@
 //! The engine of runs: job texts in, pictures out. The whole text is checked before the first picture is
 //! written. The picture of a road is made while its cars are computed, and written once they have moved.
 
-ghost use Rattle.std.specs.Prelude.{◌≡◌, ℕ, ◌+◌, ◌<◌, ◌≤◌, ◌^◌, List, [], false, OnOk, if◌then◌else◌};
+ghost use Rattle.std.specs.Prelude.{◌≡◌, ℕ, ◌+◌, ◌<◌, ◌≤◌, ◌^◌, List, [], true, false, OnOk, if◌then◌else◌};
 ghost use Rattle.trlab_jobs.specs.Job.{Job as Told, seed_of, sheet_of};
 ghost use Rattle.trlab_jobs.specs.Stored.{IsStoredJob};
 ghost use Rattle.trlab_step.specs.Progress.{IsOneStepOn, at_start};
@@ -51,6 +51,7 @@ impl ShownSteps {
     /// The last step that is shown in a run of `steps` steps, or 0 if none is.
     pub fn last(&self, steps: u32) -> u32
         ensures within { result ≤ steps }
+        ensures shown { 0 < result → every_from self.now.every self.now.from result ≡ true }
         ensures none_later { (step : ℕ) → result < step → step ≤ steps
             → every_from self.now.every self.now.from step ≡ false }
     {

@@ -4,3 +4,4 @@ pub mod Requests
 pub mod Explains
 pub mod Outputs
 pub mod Statuses
+pub mod Ends

@@ -1,5 +1,5 @@
 -- The requests of the command line.
-use Rattle.std.specs.Prelude.{◌≡◌, ◌≤◌, ⊤, false, List, [], ◌∷◌, Option, Some, Ok, codes, find}
+use Rattle.std.specs.Prelude.{◌≡◌, ◌≤◌, ⊤, Bool, true, false, List, [], ◌∷◌, Option, Some, Ok, codes, find}
 use Rattle.clap.specs.Words.{Kinds, Row, Shape, Text, built, fault_of, subcommand_of}
 use Rattle.clap.specs.Kinds.{or_else}
 use Rattle.clap.specs.Walk.{answers_to, nothing_held, rows_after}
@@ -8,6 +8,7 @@ use Rattle.clap.specs.Faults.{level_fault}
 use Rattle.trlab_command_line.specs.CommandLine.{command_line}
 use Rattle.trlab_command_line.specs.Numbers.{GivesFlag, GivesNumber}
 use Rattle.trlab_command_line.specs.Explains.{request_from_matches, explain_arguments_fault}
+use Rattle.trlab_command_line.specs.declared.arguments.explain.ExplainRequest.TheVariants.{Number, Text as OfText}
 use Rattle.trlab_command_line.specs.declared.arguments.Request.{Request}
 use Rattle.trlab_command_line.specs.declared.arguments.Request.TheVariants.{Check, Explain, Run, Series, Sweep}
 use Rattle.trlab_bounds.specs.declared.runs.TheConstants.{MAX_RUNNERS, MAX_STEPS, MAX_WORKERS}
@@ -54,6 +55,24 @@ FitsEngines (Series workers every from progress) =
     ((1 ≤ workers) × (workers ≤ MAX_WORKERS))
     × ((1 ≤ every) × (every ≤ MAX_STEPS)) × (from ≤ MAX_STEPS)
 FitsEngines (Explain request) = ⊤
+
+-- does a request read the input? Each one does, but not the explanation of a number
+abbrev pub reads_input : Request → Bool
+reads_input Check = true
+reads_input (Run workers every from progress) = true
+reads_input (Sweep runners workers progress) = true
+reads_input (Series workers every from progress) = true
+reads_input (Explain (OfText subject form)) = true
+reads_input (Explain (Number topic number)) = false
+
+-- is the whole output of a request made before its first byte is written? Not that of `run` and `series`, which
+-- is written as it is made
+abbrev pub writes_at_once : Request → Bool
+writes_at_once Check = true
+writes_at_once (Run workers every from progress) = false
+writes_at_once (Sweep runners workers progress) = true
+writes_at_once (Series workers every from progress) = false
+writes_at_once (Explain request) = true
 
 -- the first of the arguments is the name of the command of the request, for example `run`
 abbrev pub IsNamedFirst : List Text → Request → Type 0

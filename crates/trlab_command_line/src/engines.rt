@@ -1,9 +1,8 @@
 //! Carries out a request: an engine runs from a reader to a writer, or a page is written.
 
 ghost use Rattle.std.specs.Prelude.{◌≡◌, false};
-ghost use Rattle.trlab_campaign.specs.Ending.{EngineEnds};
 ghost use Rattle.trlab_command_line.specs.Requests.{FitsEngines};
-ghost use Rattle.trlab_command_line.specs.Outputs.{output_of};
+ghost use Rattle.trlab_command_line.specs.Ends.{RequestEnds};
 
 use crate::{ExplainRequest, Request};
 use std::alloc::AllocGlobal;
@@ -17,6 +16,8 @@ use trlab_explain::{explain_number, explain_text};
 
 /// Carries out a request: reads the input from `reader`, and writes the output to `writer`. A request to explain a
 /// number reads nothing. `progress` observes a run, a sweep or a series.
+///
+/// If an allocation fails, a run and a series have written a prefix of their output, and any other request nothing.
 pub fn execute<
     R: AllocGlobal + Threads + Wait + Sync,
     S: Source,
@@ -26,7 +27,7 @@ pub fn execute<
     requires counts { FitsEngines request }
     requires reader_works { S.failed reader.old ≡ false }
     requires writer_works { K.failed writer.old ≡ false }
-    ensures { EngineEnds S.Source K.Sink (output_of request) result reader.old reader.new writer.old writer.new }
+    ensures { RequestEnds S.Source K.Sink request result reader.old reader.new writer.old writer.new }
 {
     match request {
         Request::Check => check_text(rt, reader, writer),

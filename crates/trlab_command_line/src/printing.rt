@@ -1,14 +1,14 @@
 //! Help, messages for arguments that are rejected, and the exit statuses: the numbers of `End`, and 2 for arguments
 //! that are rejected.
 
-ghost use Rattle.std.specs.Prelude.{◌≡◌, ◌↔◌, ◌⊎◌, true, false};
+ghost use Rattle.std.specs.Prelude.{◌≡◌, false};
 ghost use Rattle.clap.specs.Words.{kind_of};
 ghost use Rattle.trlab_campaign.specs.Ending.{WroteAtEnd, LeavesWriter};
-ghost use Rattle.trlab_campaign.specs.Flushes.{FlushedOnce};
 ghost use Rattle.trlab_campaign.specs.Writers.{AddsNone, bytes_of};
 ghost use Rattle.trlab_campaign.specs.declared.end.End.TheVariants.{Memory};
 ghost use Rattle.trlab_command_line.specs.Outputs.{IsHelp};
-ghost use Rattle.trlab_command_line.specs.Statuses.{asks_for_help, status_of_end, status_of_error, status_of_print};
+ghost use Rattle.trlab_command_line.specs.Ends.{PrintEnds};
+ghost use Rattle.trlab_command_line.specs.Statuses.{status_of_end, status_of_error};
 
 use clap::Error;
 use clap::error::ErrorKind;
@@ -87,13 +87,7 @@ pub fn print_help_or_error<R: AllocGlobal + Eprint, K: Sink>(
     writer: &mut K,
 ) -> u8
     requires { K.failed writer.old ≡ false }
-    // 3 if an allocation fails, also for the text of help.
-    ensures status { (result ≡ 3) ⊎ (result ≡ status_of_print (kind_of error.now) (K.failed writer.new)) }
-    ensures device { (result ≡ 4) ↔ (K.failed writer.new ≡ true) }
-    ensures kept { result ≡ 3 → AddsNone (bytes_of K.Sink writer.old) (bytes_of K.Sink writer.new) }
-    ensures handed { asks_for_help (kind_of error.now) ≡ true → result ≡ 0
-        → FlushedOnce (K.is_flushed writer.new) (K.flushes writer.old) (K.flushes writer.new) }
-    ensures silent { asks_for_help (kind_of error.now) ≡ false → writer.new ≡ writer.old }
+    ensures { PrintEnds K.Sink (kind_of error.now) result writer.old writer.new }
 {
     match error.kind() {
         ErrorKind::DisplayHelp | ErrorKind::DisplayVersion => {

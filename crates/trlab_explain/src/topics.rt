@@ -1,7 +1,9 @@
 //! The numbers of causes and reasons, explained.
 
 ghost use Rattle.std.specs.Prelude.{◌≡◌, ◌++◌, IfOk, OnOk, false, not};
+ghost use Rattle.trlab_campaign.specs.declared.end.End.TheVariants.{Memory};
 ghost use Rattle.trlab_campaign.specs.Ending.{WroteAtEnd, LeavesWriter};
+ghost use Rattle.trlab_campaign.specs.Writers.{AddsNone, bytes_of};
 ghost use Rattle.trlab_explain.specs.Explanations.{BeginsWith, IsNumberPage, topic_front};
 ghost use Rattle.trlab_explain.specs.Numbers.{is_known};
 
@@ -72,6 +74,7 @@ fn number_page(alloc: Global, topic: Topic, number: u32) -> Result<Output>
 }
 
 /// Writes the meaning of the cause or reason with a number, and a hint if there is one. An unknown number is rejected.
+/// If an allocation fails, nothing is written.
 pub fn explain_number<R: AllocGlobal, K: Sink>(
     rt: &R,
     topic: Topic,
@@ -79,7 +82,8 @@ pub fn explain_number<R: AllocGlobal, K: Sink>(
     writer: &mut K,
 ) -> End
     requires writer_works { K.failed writer.old ≡ false }
-    ensures { LeavesWriter K.Sink (WroteAtEnd (IsNumberPage topic number)) result writer.old writer.new }
+    ensures ends { LeavesWriter K.Sink (WroteAtEnd (IsNumberPage topic number)) result writer.old writer.new }
+    ensures kept { result ≡ Memory → AddsNone (bytes_of K.Sink writer.old) (bytes_of K.Sink writer.new) }
 {
     write_explanation(number_page(rt.alloc(), topic, number), writer)
 }

@@ -1,8 +1,11 @@
 //! The program `trlab`: executes the request of its arguments, with standard input and standard output.
 #![tactic(auto)]
 
-ghost use Rattle.std.specs.Prelude.{◌≡◌, ◌↔◌, ◌||◌, true, false, IfOk};
-ghost use Rattle.trlab_command_line.specs.Requests.{FitsEngines};
+ghost use Rattle.std.specs.Prelude.{◌≡◌, ◌↔◌, ◌||◌, true, false, IfErr, IfOk, OnErr, map, string_bytes};
+ghost use Rattle.clap.specs.Words.{FailsBy, kind_of, subcommand_of};
+ghost use Rattle.trlab_command_line.specs.CommandLine.{command_line};
+ghost use Rattle.trlab_command_line.specs.Ends.{EndsWithStatus, PrintEnds};
+ghost use Rattle.trlab_command_line.specs.Requests.{FitsEngines, IsRequestOf, arguments_fault, reads_input};
 
 use clap::Error;
 use std::alloc::Global;
@@ -102,7 +105,9 @@ fn progress_unit(request: Request) -> Option<&'static str> {
 }
 
 /// Whether a command reads standard input.
-fn reads_input(request: Request) -> bool {
+fn reads_input(request: Request) -> bool
+    ensures { result ≡ reads_input request }
+{
     !matches!(request, Request::Explain(ExplainRequest::Number(..)))
 }
 
@@ -116,11 +121,18 @@ fn act<R: AllocGlobal + Threads + Wait + Sync + Eprint, S: Source, K: Sink>(
     reader: &mut S,
     writer: &mut K,
 ) -> u8
+    // `read_words` gives this request for these arguments.
+    requires answer { IfOk request (IsRequestOf (subcommand_of command_line (map string_bytes arguments.now))) }
+    requires fault { FailsBy (arguments_fault (map string_bytes arguments.now)) request }
     requires counts { IfOk request FitsEngines }
     requires reader_works { S.failed reader.old ≡ false }
     requires writer_works { K.failed writer.old ≡ false }
+    ensures requested { IfOk request (λ request.
+        EndsWithStatus S.Source K.Sink request result reader.old reader.new writer.old writer.new) }
+    ensures rejected { IfErr request (λ error. PrintEnds K.Sink (kind_of error) result writer.old writer.new) }
+    ensures unread { OnErr request (reader.new ≡ reader.old) }
     // 4 exactly if a device has failed, for valid and invalid arguments alike.
-    ensures { (result ≡ 4) ↔ ((S.failed reader.new || K.failed writer.new) ≡ true) }
+    ensures device { (result ≡ 4) ↔ ((S.failed reader.new || K.failed writer.new) ≡ true) }
 {
     match request {
         Ok(request) => {

@@ -15,7 +15,7 @@ use Rattle.trlab_sequential_book.specs.declared.lease.ExecutedStep.{ExecutedStep
 use Rattle.trlab_step.proofs.RunLaws.{road_at_is_one}
 use Rattle.trlab_sequential_book.specs.Jobs.{progress_of, run_start}
 use Rattle.trlab_sequential_book.specs.Sheets.{RanUnderSheet}
-use Rattle.trlab_sequential_book.specs.Leases.{LeaseState}
+use Rattle.trlab_sequential_book.specs.Leases.{FitsOrder, LeaseState}
 use Rattle.trlab_sequential_book.specs.declared.fault.BookFault.{BookFault}
 use Rattle.trlab_sequential_book.specs.declared.fault.BookFault.TheVariants.{HistoryFull, NoSuchJob, StrangerLease}
 use Rattle.trlab_sequential_book.specs.declared.event.Reply.{Reply}
@@ -55,10 +55,10 @@ stays jobs i (Some j) e =
 pub reading_stays : (jobs : List JobState) (i : ℕ) → (on_job jobs i read_outcome).jobs ≡ jobs
 reading_stays jobs i = stays jobs i (slice_get jobs i) refl
 
-pub rule_found : (jobs : List JobState) (i : ℕ) (j : JobState) (r : Result Order BookFault) → i < length jobs → j ≡ slice_index_or jobs i j → IfOk r (λ o. o.job ≡ i) → IfOk r (λ o. in_force j.sheet o.step ≡ Some o.rule) → IfOk r (λ o. HasRuleInForce jobs o)
-rule_found jobs i j (Err f) h e at k = tt
-rule_found jobs i j (Ok o) h e at k =
-    let here : slice_get jobs o.job ≡ Some j = ap (slice_get jobs) at ∙ found jobs i j h e in
+pub rule_found : (jobs : List JobState) (lease : LeaseState) (j : JobState) (r : Result Order BookFault) → lease.job < length jobs → j ≡ slice_index_or jobs lease.job j → IfOk r (λ o. FitsOrder lease o) → IfOk r (λ o. in_force j.sheet o.step ≡ Some o.rule) → IfOk r (λ o. HasRuleInForce jobs o)
+rule_found jobs lease j (Err f) h e fits k = tt
+rule_found jobs lease j (Ok o) h e fits k =
+    let here : slice_get jobs o.job ≡ Some j = ap (slice_get jobs) fits.job ∙ found jobs lease.job j h e in
     let P : Option JobState → Type 0 = λ x. MatchOption x ⊥ (λ s. in_force s.sheet o.step ≡ Some o.rule) in
     subst P (sym here) k
 

@@ -1,22 +1,24 @@
 -- The steps that a lease has run lead a job's road and its tally on.
-use Rattle.std.proofs.Common.{◌≡◌, ℕ, suc, ◌+◌, ◌<◌, List, [], ◌∷◌, ◌++◌, refl, sym, ◌∙◌, ap, subst, length, length-append, arith, get_or, drop}
+use Rattle.std.proofs.Common.{◌≡◌, ℕ, suc, ◌+◌, ◌<◌, ◌==◌, not, true, Option, None, List, [], ◌∷◌, ◌++◌, refl, sym, ◌∙◌, ap, subst, length, length-append, arith, get_or, drop}
 use Rattle.std.proofs.lemmas.List.{drop_more}
-use Rattle.std.specs.Prelude.{Some, nat_le, if◌then◌else◌}
+use Rattle.std.specs.Prelude.{◌&&◌, IsSome, Some, is_some, nat_le, if◌then◌else◌}
 use Rattle.trlab_road.specs.Cells.{Cells}
 use Rattle.trlab_rules.specs.Rules.{Programs}
 use Rattle.trlab_machine.specs.declared.dice.Dice.{Dice}
+use Rattle.trlab_verify.specs.CheckedProgram.{CheckedProgram}
 use Rattle.trlab_step.proofs.AskedCars.{same_dice}
 use Rattle.trlab_words.specs.declared.key.Key.{Key}
 use Rattle.trlab_step.specs.Answers.{dice_of}
 use Rattle.trlab_step.specs.Next.{IsNext}
 use Rattle.trlab_step.specs.Run.{Seed, Sheet, ComesTo, in_force, tally_sum}
 use Rattle.trlab_step.specs.declared.tally.StepTally.{StepTally}
-use Rattle.trlab_step.proofs.RunLaws.{run_goes_on, road_at_is_one}
+use Rattle.trlab_step.specs.Laws.{IsRuleFor}
+use Rattle.trlab_step.proofs.RunLaws.{force_all, run_goes_on, road_at_is_one}
 use Rattle.trlab_step.specs.Progress.{IsReachedByRun}
 use Rattle.trlab_step.proofs.OnTheWay.{IsSmallSum, like_start, room_for}
 use Rattle.trlab_sequential_book.specs.declared.lease.ExecutedStep.{ExecutedStep}
 use Rattle.trlab_sequential_book.specs.Sheets.{RanUnderSheet}
-use Rattle.trlab_sequential_book.specs.Leases.{LeadsTo, LeaseState, IsLease, with_executed_step}
+use Rattle.trlab_sequential_book.specs.Leases.{LeadsTo, LeaseState, IsLease, suits, with_executed_step}
 use Rattle.trlab_sequential_book.specs.Comparison.{RunsRoadOfJob}
 use Rattle.trlab_sequential_book.specs.Jobs.{run_start, progress_of}
 use Rattle.trlab_sequential_book.specs.Machine.{JobState}
@@ -65,6 +67,25 @@ go_on seed sheet step sum ran more last way =
         rules = λ k other at. (let e : step + suc k ≡ step + 1 + k = omega arith in subst (λ s. in_force sheet s ≡ Some other.rule) e (way.rules (suc k) other at));
       };
     }
+
+-- the last road has as many lanes as the road at the start
+way_lanes : (seed : Seed) (sheet : Sheet) (step : ℕ) (sum : StepTally) (ran : List ExecutedStep) (last : Cells) → WayOn seed sheet step sum ran last → length last.lanes ≡ length seed.road.lanes
+way_lanes seed sheet step sum [] last way =
+    ap (λ (r : Cells). length r.lanes) way.leads ∙ (like_start seed sheet step way.road sum way.run.legal way.run.suits way.run.comes).same_lanes
+way_lanes seed sheet step sum (ran ∷ more) last way =
+    way_lanes seed sheet (step + 1) (if nat_le seed.warm step then tally_sum sum ran.tally else sum) more last (go_on seed sheet step sum ran more last way).way
+
+-- a rule for the lanes of a road suits the road
+rule_suits : (change : Option CheckedProgram) (lanes n : ℕ) → (IsSome change → lanes ≡ 2) → n ≡ lanes → not (is_some change && (n == 1)) ≡ true
+rule_suits None lanes n two same = refl
+rule_suits (Some change) lanes n two same = rw (same ∙ two refl) refl
+
+-- each rule of the sheet suits the last road
+pub way_suits : (seed : Seed) (sheet : Sheet) (step at : ℕ) (sum : StepTally) (ran : List ExecutedStep) (last : Cells) (rule : Programs) → WayOn seed sheet step sum ran last
+    → in_force sheet at ≡ Some rule → suits rule last ≡ true
+way_suits seed sheet step at sum ran last rule way under =
+    let lanes = length seed.road.lanes in
+    rule_suits rule.change lanes (length last.lanes) (force_all (IsRuleFor lanes) sheet at rule way.run.suits.rules under).two_lanes (way_lanes seed sheet step sum ran last way)
 
 -- a lease of a job's road, from the job's step on
 pub way_of_lease : (job : JobState) (lease : LeaseState) (road : Cells) (sum : StepTally) → IsReachedByRun (progress_of job.seed job.sheet job.done road sum) → IsLease lease → RunsRoadOfJob job lease → lease.base.step ≡ job.done

@@ -6,7 +6,7 @@ ghost use Rattle.trlab_road.specs.Legal.{IsLegal};
 ghost use Rattle.trlab_step.specs.Laws.{IsRuleFor};
 ghost use Rattle.trlab_sequential_book.specs.Answers.{LeadsAs, RepliesAs, give_back_reply, done_reply, is_memory, lease_reply, number_reply, order_reply, read_reply};
 ghost use Rattle.trlab_sequential_book.specs.Comparison.{IsFreshIfLent, HasRuleInForce, RunsRoadOfItsJob, ShowsJob, LeaseCall, OrderCall, offered};
-ghost use Rattle.trlab_sequential_book.specs.Leases.{suits};
+ghost use Rattle.trlab_sequential_book.specs.Leases.{FitsOrder, suits};
 ghost use Rattle.trlab_sequential_book.specs.Machine.{after, cancel_outcome, give_back_outcome, is_free, has_full_history, on_job, order_outcome, read_outcome, replace_outcome, reply_of, revoke_outcome, empty_book, submit_outcome};
 ghost use Rattle.trlab_sequential_book.specs.declared.event.Call.TheVariants.{Cancel, GiveBack, Read, Replace, Revoke, Submit};
 ghost use Rattle.trlab_sequential_book.specs.declared.event.Reply.TheVariants.{Refused};
@@ -215,6 +215,7 @@ impl Book {
             → LeadsAs (is_memory result) self.old (OrderCall (offered lease.now runs_its_road)) self.new }
         ensures full { has_full_history self.old ≡ true → result ≡ Err HistoryFull }
         ensures rule { IfOk result (λ order. HasRuleInForce self.old.jobs order) }
+        ensures fits { IfOk result (λ order. FitsOrder lease.now order) }
     {
         let runs_its_road = self.lease_runs_its_road(lease);
         self.order_as(lease, runs_its_road)
@@ -232,6 +233,7 @@ impl Book {
         ensures state { LeadsAs (is_memory result) self.old (OrderCall (offered lease.now runs_its_road)) self.new }
         ensures full { has_full_history self.old ≡ true → result ≡ Err HistoryFull }
         ensures rule { IfOk result (λ order. HasRuleInForce self.old.jobs order) }
+        ensures fits { IfOk result (λ order. FitsOrder lease.now order) }
     {
         if self.has_full_history() {
             return Err(BookFault::HistoryFull);
@@ -441,6 +443,7 @@ fn order_in(
     lease: &Lease,
     runs_its_road: bool,
 ) -> Result<Order, BookFault>
+    requires { IsTrue runs_its_road → RunsRoadOfItsJob jobs.old.items lease.now }
     ensures reply { MatchBool (is_memory result) (Unit {0})
         (order_reply result
         ≡ (on_job jobs.old.items lease.now.job (order_outcome (offered lease.now runs_its_road))).reply) }
@@ -449,6 +452,7 @@ fn order_in(
         ≡ (on_job jobs.old.items lease.now.job (order_outcome (offered lease.now runs_its_road))).jobs) }
     ensures len { length jobs.new.items ≡ length jobs.old.items }
     ensures rule { IfOk result (λ order. HasRuleInForce jobs.old.items order) }
+    ensures fits { IfOk result (λ order. FitsOrder lease.now order) }
 {
     let Some(found) = jobs.get_mut(lease.job() as usize) else {
         return Err(BookFault::NoSuchJob);

@@ -8,7 +8,7 @@ ghost use Rattle.trlab_step.specs.Run.{in_force};
 ghost use Rattle.trlab_sequential_book.specs.Answers.{give_back_reply, done_reply, is_memory, number_reply, order_reply};
 ghost use Rattle.trlab_sequential_book.specs.Comparison.{IsFresh, RunsRoadOfJob, IsSnapshotOf, offered};
 ghost use Rattle.trlab_sequential_book.specs.Jobs.{progress_of};
-ghost use Rattle.trlab_sequential_book.specs.Leases.{suits};
+ghost use Rattle.trlab_sequential_book.specs.Leases.{FitsOrder, suits};
 ghost use Rattle.trlab_sequential_book.specs.Machine.{cancel_outcome, give_back_outcome, is_free, accepts_lease, lease_outcome, new_job, order_outcome, refusal, replace_outcome, revoke_outcome};
 
 use crate::fault::BookFault;
@@ -237,11 +237,12 @@ impl JobRecord {
 
     /// Orders the next step of a lease.
     pub fn order(&mut self, lease: &Lease, runs_its_road: bool) -> Result<Order, BookFault>
+        requires { IsTrue runs_its_road → RunsRoadOfJob self.old lease.now }
         ensures reply { MatchBool (is_memory result) (Unit {0})
             (order_reply result ≡ (order_outcome (offered lease.now runs_its_road) self.old).reply) }
         ensures job { MatchBool (is_memory result) (self.new ≡ self.old)
             (self.new ≡ (order_outcome (offered lease.now runs_its_road) self.old).job) }
-        ensures index { IfOk result (λ order. order.job ≡ lease.now.job) }
+        ensures fits { IfOk result (λ order. FitsOrder lease.now order) }
         ensures rule { IfOk result (λ order. in_force self.old.sheet order.step ≡ Some order.rule) }
     {
         let step = lease.step();

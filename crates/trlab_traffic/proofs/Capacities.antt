@@ -98,7 +98,7 @@ next_cells rule dice road next tally is =
     ∙ middle_cells rule.change dice road is.0 tally.changes is.1.lane_change
 
 -- and so its empty cells
-same_empty : (road other : Cells) → cars other ≡ cars road → all_cells other ≡ all_cells road → empty_cells other ≡ empty_cells road
+pub same_empty : (road other : Cells) → cars other ≡ cars road → all_cells other ≡ all_cells road → empty_cells other ≡ empty_cells road
 same_empty road other count cells =
     let a = taken_or_empty road in
     let b = taken_or_empty other in

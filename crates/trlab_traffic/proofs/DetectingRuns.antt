@@ -1,5 +1,5 @@
 -- What detectors count in runs.
-use Rattle.std.proofs.Common.{◌≡◌, ℕ, zero, suc, ◌+◌, ◌<◌, ◌≤◌, Bool, true, false, cond, length, min, refl, sym, ◌∙◌, ap, subst, arith, ◌-◌, ◌*◌, inl, inr, if◌then◌else◌}
+use Rattle.std.proofs.Common.{◌≡◌, ℕ, zero, suc, ◌+◌, ◌<◌, ◌≤◌, Bool, true, false, cond, length, min, refl, sym, ◌∙◌, ap, subst, arith, ◌-◌, ◌*◌, ◌%◌, inl, inr, suc-mul, if◌then◌else◌}
 use Rattle.std.specs.Prelude.{nat_le, sum_by}
 use Rattle.std.specs.List.{range_with_len}
 use Rattle.std.proofs.lemmas.Bool.{le-leb, cases_lt, lt-leb}
@@ -13,19 +13,20 @@ use Rattle.trlab_step.specs.Next.{IsNext}
 use Rattle.trlab_step.specs.Run.{ComesTo, Seed, Sheet, dice_at, IsRoadAt}
 use Rattle.trlab_step.proofs.RunLaws.{force_all, road_at_is_one}
 use Rattle.trlab_traffic.specs.Triangle.{lane_empty_cells}
-use Rattle.trlab_traffic.specs.Detector.{all_passages, cars_ahead_of, passages, cells_ahead_to}
-use Rattle.trlab_traffic.specs.DetectorRuns.{DifferByAtMost, DetectorCountExists, DetectorHasCounted, DetectorMeasuresFlow, DetectorsAgree, DetectorsAgreeByCars, DetectorsCountRun, RunSatisfiesContinuity, min_of_cars_and_empty_cells}
+use Rattle.trlab_traffic.specs.Detector.{all_passages, cars_ahead_of, passages}
+use Rattle.trlab_traffic.specs.DetectorRuns.{DetectorsHaveCounted, DifferByAtMost, DetectorCountExists, DetectorHasCounted, DetectorMeasuresFlow, DetectorsAgree, DetectorsAgreeByCars, DetectorsCountRun, RunSatisfiesContinuity}
 use Rattle.trlab_traffic.specs.Rule184.{is_taken}
 use Rattle.trlab_traffic.specs.Runs.{EachRule, StaysInLane}
 use Rattle.trlab_traffic.proofs.Capacities.{distance_counted, distance_uncounted}
-use Rattle.trlab_traffic.proofs.Detecting.{detectors_count_distance, step_is_continuous, way_reaches}
+use Rattle.trlab_traffic.proofs.Detecting.{detectors_count_distance, step_is_continuous}
 use Rattle.trlab_traffic.proofs.FewCars.{empty_too, few, run_cars}
-use Rattle.trlab_traffic.proofs.Places.{ahead_below}
 use Rattle.trlab_traffic.proofs.LanesApart.{any_lane}
 use Rattle.trlab_traffic.proofs.NaschMoves.{motion_alone}
+use Rattle.trlab_traffic.proofs.Numbering.{total_le}
 use Rattle.trlab_traffic.proofs.OneLane.{one_sum}
+use Rattle.trlab_traffic.proofs.RoomAhead.{lane_taken_or_empty}
 use Rattle.trlab_traffic.proofs.RunLanes.{run_lanes}
-use Rattle.trlab_traffic.proofs.Sums.{sum_range, total_add, total_none, total_same}
+use Rattle.trlab_traffic.proofs.Sums.{below, below_not, below_so, sum_range, total, total_add, total_balance, total_below, total_last, total_none, total_same, total_turned}
 
 pub count_exists : DetectorCountExists
 count_exists seed sheet zero road sum l x comes = (0, refl)
@@ -224,38 +225,107 @@ detectors_count_run seed sheet (suc step) road sum count one comes counts =
           omega (arith, so_far, split, here, size, now, total)
     ]
 
--- numbers about a value, and their sum
-sum_no_more : (f : ℕ → ℕ) (c d s k : ℕ) → ((y : ℕ) → y < s + k → f y ≤ c + d) → sum_by f (range_with_len s k) ≤ k * c + k * d
-sum_no_more f c d s zero each = omega arith
-sum_no_more f c d s (suc k) each =
-    let first = each s (omega arith) in
-    let rest = sum_no_more f c d (s + 1) k (λ y low. each y (omega (arith, low))) in
-    let a = sum_by-cons f s (range_with_len (s + 1) k) in
-    omega (arith, first, rest, a)
+-- two detectors k cells apart differ by no more than the cars that can be in k cells less those that must be
+record AreClose (cars empty k first second : ℕ) : Type 0 where
+  no_less : first ≤ second + (min k cars - (k - empty))
+  no_more : second ≤ first + (min k cars - (k - empty))
 
-sum_no_less : (f : ℕ → ℕ) (c d s k : ℕ) → ((y : ℕ) → y < s + k → c ≤ f y + d) → k * c ≤ sum_by f (range_with_len s k) + k * d
-sum_no_less f c d s zero each = omega arith
-sum_no_less f c d s (suc k) each =
-    let first = each s (omega arith) in
-    let rest = sum_no_less f c d (s + 1) k (λ y low. each y (omega (arith, low))) in
-    let a = sum_by-cons f s (range_with_len (s + 1) k) in
-    omega (arith, first, rest, a)
+detectors_are_close : (seed : Seed) (sheet : Sheet) (step : ℕ) (road : Cells) (sum : StepTally) (l x k first second : ℕ) → EachRule StaysInLane sheet → ComesTo seed sheet step road sum
+    → k ≤ length (lane_of seed.road l) → DetectorsHaveCounted seed sheet step l x k first second → AreClose (lane_car_count (lane_of seed.road l)) (lane_empty_cells (lane_of seed.road l)) k first second
+detectors_are_close seed sheet step road sum l x k first second nobody comes round both =
+    let n = length (lane_of seed.road l) in
+    elim (cases_lt step seed.warm) [
+      | inl early ↦
+          let a = none_counted seed sheet l x step first (omega (arith, early)) both.here in
+          let b = none_counted seed sheet l (ahead n x k) step second (omega (arith, early)) both.there in
+          record { no_less = omega (arith, a, b); no_more = omega (arith, a, b) }
+      | inr late ↦
+          let start = road_before seed sheet seed.warm step road late (sum, comes) in
+          let all = run_is_continuous seed sheet step start.0 road l x k first second nobody late start.1 (sum, comes) both in
+          let keeps = run_cars seed sheet step road sum l nobody comes in
+          let kept = run_cars seed sheet seed.warm start.0 start.1.0 l nobody start.1.1 in
+          let size = keeps.size in
+          let first_size = kept.size in
+          let now = few (lane_of road l) x k (omega (arith, round, size)) in
+          let before = few (lane_of start.0 l) x k (omega (arith, round, first_size)) in
+          let a = now.most in
+          let b = now.least in
+          let c = before.most in
+          let d = before.least in
+          let e = few_cars (lane_of road l) x k in
+          let f = few_cars (lane_of start.0 l) x k in
+          let count = keeps.count in
+          let first_count = kept.count in
+          let free = empty_too seed.road road l keeps in
+          let first_free = empty_too seed.road start.0 l kept in
+          record { no_less = omega (arith, all, a, b, c, d, e, f, count, first_count, free, first_free); no_more = omega (arith, all, a, b, c, d, e, f, count, first_count, free, first_free) }
+    ]
 
-measured : (n count apart distance total : ℕ) → total ≡ distance → total ≤ n * count + n * apart → n * count ≤ total + n * apart → DifferByAtMost (n * apart) (n * count) distance
-measured n count apart distance total all most least = record { no_less = omega (arith, least, all); no_more = omega (arith, most, all) }
+-- how much these differences are, all together
+spread : ℕ → ℕ → ℕ → ℕ
+spread cars empty k = min k cars - (k - empty)
+
+ones : (n : ℕ) → total (λ k. 1) n ≡ n
+ones zero = refl
+ones (suc n) = let rest = ones n in omega (arith, rest)
+
+all_spread : (cars empty : ℕ) → total (spread cars empty) (cars + empty) ≡ cars * empty
+unfolding spread
+all_spread zero empty = total_none (spread 0 empty) (0 + empty) (λ k low. omega arith) ∙ (let e : 0 ≡ 0 * empty = omega arith in e)
+all_spread (suc cars) empty =
+    let n = cars + empty in
+    let size : suc cars + empty ≡ suc n = omega arith in
+    let rest = all_spread cars empty in
+    let one_more : (k : ℕ) → k < n → spread (suc cars) empty k + below k (suc cars) ≡ spread cars empty k + 1 = λ k low.
+    elim (cases_lt k (suc cars)) [
+      | inl under ↦ let e = below_so k (suc cars) under in omega (arith, e, under)
+      | inr past ↦ let e = below_not k (suc cars) past in omega (arith, e, past, low)
+    ] in
+    let balance = total_balance (spread (suc cars) empty) (λ k. below k (suc cars)) (spread cars empty) (λ k. 1) n one_more in
+    let few = total_below (suc cars) n in
+    let each = ones n in
+    let last = total_last (spread (suc cars) empty) n in
+    let end : spread (suc cars) empty n ≡ min n (suc cars) - cars = omega arith in
+    let product = suc-mul cars empty in
+    ap (total (spread (suc cars) empty)) size ∙ (let e : total (spread (suc cars) empty) (suc n) ≡ suc cars * empty = omega (arith, rest, balance, few, each, last, end, product) in e)
+
+pub same_each : (c n : ℕ) → total (λ k. c) n ≡ n * c
+same_each c zero = let e : 0 ≡ 0 * c = omega arith in e
+same_each c (suc n) = let rest = same_each c n in let product = suc-mul n c in omega (arith, rest, product)
+
+-- numbers near a value, and their sum
+sum_is_near : (w f : ℕ → ℕ) (c n : ℕ) → ((k : ℕ) → k < n → (c ≤ w k + f k) × (w k ≤ c + f k)) → DifferByAtMost (total f n) (n * c) (total w n)
+sum_is_near w f c n near =
+    let most = total_le w (λ k. c + f k) n (λ k low. (near k low).1) in
+    let least = total_le (λ k. c) (λ k. w k + f k) n (λ k low. (near k low).0) in
+    let a = total_add (λ k. c) f n in
+    let b = total_add w f n in
+    let each = same_each c n in
+    record { no_less = omega (arith, least, b, each); no_more = omega (arith, most, a, each) }
 
 pub detector_measures_flow : DetectorMeasuresFlow
+unfolding spread
 detector_measures_flow seed sheet step road sum x count nobody one comes low counted =
-    let n = length (lane_of seed.road 0) in
+    let lane = lane_of seed.road 0 in
+    let n = length lane in
+    let cars = lane_car_count lane in
+    let empty = lane_empty_cells lane in
+    let whole = lane_taken_or_empty lane in
     let counts : (y : ℕ) → (c : ℕ) × DetectorHasCounted seed sheet 0 y step c = λ y. count_exists seed sheet step road sum 0 y comes in
-    let all = detectors_count_run seed sheet step road sum (λ y. (counts y).0) one comes (λ y. (counts y).1) in
-    let near : (y : ℕ) → y < n → DifferByAtMost (min_of_cars_and_empty_cells (lane_of seed.road 0)) count (counts y).0 = λ y high.
-    let short : cells_ahead_to n x y < n = ahead_below n y (n - x) (omega (arith, low)) in
-    detectors_agree_by_cars seed sheet step road sum 0 x (cells_ahead_to n x y) count (counts y).0 nobody comes (let k : cells_ahead_to n x y ≤ n = omega (arith, short) in k) (record {
-      is_cell = low;
-      here = counted;
-      there = subst (λ z. DetectorHasCounted seed sheet 0 z step (counts y).0) (sym (way_reaches n x y low high)) (counts y).1;
-    }) in
-    let most = sum_no_more (λ y. (counts y).0) count (min_of_cars_and_empty_cells (lane_of seed.road 0)) 0 n (λ y high. (near y (omega (arith, high))).no_more) in
-    let least = sum_no_less (λ y. (counts y).0) count (min_of_cars_and_empty_cells (lane_of seed.road 0)) 0 n (λ y high. (near y (omega (arith, high))).no_less) in
-    measured n count (min_of_cars_and_empty_cells (lane_of seed.road 0)) sum.distance (sum_by (λ y. (counts y).0) (range_with_len 0 n)) all most least
+    let w : ℕ → ℕ = λ y. (counts y).0 in
+    let all = detectors_count_run seed sheet step road sum w one comes (λ y. (counts y).1) in
+    let from_zero = sum_range w 0 n ∙ total_same (λ y. w (0 + y)) w n (λ y high. let e : 0 + y ≡ y = omega arith in ap w e) in
+    let turned = total_turned w n x in
+    let near : (k : ℕ) → k < n → (count ≤ w (ahead n k x) + spread cars empty k) × (w (ahead n k x) ≤ count + spread cars empty k) = λ k high.
+    let e : k + x ≡ x + k = omega arith in
+    let place : ahead n k x ≡ ahead n x k = ap (λ j. j % n) e in
+    let close = detectors_are_close seed sheet step road sum 0 x k count (w (ahead n x k)) nobody comes (omega (arith, high)) (record { is_cell = low; here = counted; there = (counts (ahead n x k)).1 }) in
+    let same = ap w place in
+    let a = close.no_less in
+    let b = close.no_more in
+    (omega (arith, a, same), omega (arith, b, same)) in
+    let both = sum_is_near (λ k. w (ahead n k x)) (spread cars empty) count n near in
+    let no_less = both.no_less in
+    let no_more = both.no_more in
+    let area = ap (total (spread cars empty)) (sym whole) ∙ all_spread cars empty in
+    record { no_less = omega (arith, no_less, area, all, from_zero, turned); no_more = omega (arith, no_more, area, all, from_zero, turned) }

@@ -16,7 +16,7 @@ use Rattle.trlab_traffic.proofs.GapsAfter.{gap_after, next_taken}
 use Rattle.trlab_traffic.proofs.LaneGaps.{gaps_total}
 use Rattle.trlab_traffic.proofs.Places.{gap_below}
 use Rattle.trlab_traffic.proofs.OneLane.{one_sum, one_total, only_lane}
-use Rattle.trlab_traffic.proofs.Regimes.{Regime, flows}
+use Rattle.trlab_traffic.proofs.Regimes.{Regime, flows_by, nasch_moves_by, safe_by}
 use Rattle.trlab_traffic.proofs.RoomAhead.{lane_taken_or_empty}
 use Rattle.trlab_traffic.proofs.Sums.{sum_at_cars}
 
@@ -209,7 +209,7 @@ even_cars_flow_on_triangle cells limit n rule seed step road sum is fits even wa
             most = λ x number speed here. let a = gap_high cells n lane on_lane x number speed least here in omega (arith, a, least);
           } in
           let regime = dense limit n cells g (omega (arith, least, most)) some in
-          let way = flows rule seed is legal limit limit (λ l. cells - n) (λ l. n) even.same_limit each_count (λ l. regime)
+          let way = flows_by rule seed legal (safe_by limit) (nasch_moves_by rule seed limit is even.same_limit) limit (λ l. cells - n) (λ l. n) each_count (λ l. regime)
           (only_lane (λ l. regime.Holds 0 (lane_of seed.road l)) seed.road.lanes one (on_lane.same_length, record { starts = λ h. start; queues = λ h. as_queue lane 0 g h start })) step road sum comes in
           way.gone warm ∙ ap (λ k. (step - seed.warm) * k) (one_total (λ l. cells - n) seed.road.lanes one) ∙ (let e : cells - n ≡ min (limit * n) (cells - n) = fewer_holes cells n limit many in ap (λ k. (step - seed.warm) * k) (e ∙ all))
       | inr few ↦
@@ -223,7 +223,7 @@ even_cars_flow_on_triangle cells limit n rule seed step road sum is fits even wa
             most = λ x number speed here. let a = gap_below lane x x (number, speed) here in let b = on_lane.same_length in omega (arith, a, b);
           } in
           let regime = free limit n cells in
-          let way = flows rule seed is legal limit limit (λ l. limit * n) (λ l. n) even.same_limit each_count (λ l. regime)
+          let way = flows_by rule seed legal (safe_by limit) (nasch_moves_by rule seed limit is even.same_limit) limit (λ l. limit * n) (λ l. n) each_count (λ l. regime)
           (only_lane (λ l. regime.Holds 0 (lane_of seed.road l)) seed.road.lanes one start) step road sum comes in
           way.gone warm ∙ ap (λ k. (step - seed.warm) * k) (one_total (λ l. limit * n) seed.road.lanes one) ∙ (let e : limit * n ≡ min (limit * n) (cells - n) = fewer_cars cells n limit few in ap (λ k. (step - seed.warm) * k) (e ∙ all))
     ]

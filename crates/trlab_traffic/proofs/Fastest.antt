@@ -38,7 +38,7 @@ always_so P rule so zero d below = so
 always_so P rule so (suc k) d below = absurd (omega (arith, below))
 
 -- a car answers the speed of its rule
-answer_is : (speed : View → List ℕ → ℕ) (rule : Programs) (dice : Dice) (road : Cells) (car : Car) (v : ℕ) → ComputesSpeed speed rule.motion.program → IsLegal road → IsAt road car → AnswersSpeed rule.motion dice road car v
+pub answer_is : (speed : View → List ℕ → ℕ) (rule : Programs) (dice : Dice) (road : Cells) (car : Car) (v : ℕ) → ComputesSpeed speed rule.motion.program → IsLegal road → IsAt road car → AnswersSpeed rule.motion dice road car v
     → v ≡ speed (motion_view_of road car) (words_of dice car.number)
 answer_is speed rule dice road car v moves legal here answers =
     let view = motion_view_of road car in
@@ -46,7 +46,7 @@ answer_is speed rule dice road car v moves legal here answers =
     one_answer_each rule.motion dice road car v (speed view words) answers (moves view words (motion_view_is_view road car legal here))
 
 -- with the chance 0 no car brakes at random
-no_brake : (b : Bool) (v : ℕ) → b ≡ false → brake b v ≡ v
+pub no_brake : (b : Bool) (v : ℕ) → b ≡ false → brake b v ≡ v
 no_brake true v none = absurd cc
 no_brake false v none = refl
 

@@ -27,7 +27,7 @@ run_like seed sheet (suc step) road sum legal comes =
     like_next seed.road comes.0 road before (next_legal_like comes.2 (dice_at seed step) comes.0 road comes.3 before.legal comes.5.next)
 
 -- a number has one speed on a legal road
-one_speed : (road : Cells) (car other : Car) → IsLegal road → IsAt road car → IsAt road other → car.number ≡ other.number → car.speed ≡ other.speed
+pub one_speed : (road : Cells) (car other : Car) → IsLegal road → IsAt road car → IsAt road other → car.number ≡ other.number → car.speed ≡ other.speed
 one_speed road car other legal here there same =
     let place = legal.once car other here there same in
     let e : cell road car.lane car.place ≡ cell road other.lane other.place = ap (λ l. at (lane_of road l) car.place) place.0 ∙ ap (at (lane_of road other.lane)) place.1 in

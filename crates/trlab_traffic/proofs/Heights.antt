@@ -1,7 +1,7 @@
 -- Heights: the number of cars before a place, as seen by an observer who goes ahead one cell per step, plus
 -- the number of steps. If cars go up to s cells per step, a height becomes itself plus one or the height s
 -- cells ahead, whichever is larger. So after some steps it is the largest over the places that could reach it.
-use Rattle.std.proofs.Common.{◌≡◌, ℕ, zero, suc, ◌+◌, ◌-◌, ◌*◌, ◌<◌, ◌≤◌, max, refl, sym, ◌∙◌, ap, subst, inl, inr, arith, mul-add, mul-suc, suc-mul}
+use Rattle.std.proofs.Common.{◌≡◌, ℕ, zero, suc, ◌+◌, ◌-◌, ◌*◌, ◌<◌, ◌≤◌, max, refl, sym, ◌∙◌, ap, subst, inl, inr, arith, mul-add, mul-suc, mul-zero, suc-mul}
 use Rattle.std.proofs.lemmas.Bool.{cases_lt}
 use Rattle.trlab_traffic.proofs.Sums.{total, total_last, total_same}
 
@@ -66,20 +66,35 @@ module _ (w : ℕ → ℕ) (n : ℕ) (again : (x : ℕ) → w (x + n) ≡ w x) w
       let same = again x in
       ap (total w) e ∙ (let k : total w (suc (x + n)) ≡ total w (suc x) + total w n = omega (arith, a, b, rest, same) in k)
 
-  rounds : (k x : ℕ) → total w (x + k * n) ≡ total w x + k * total w n
-  rounds zero x =
-      let e : x + 0 * n ≡ x = omega arith in
-      ap (total w) e ∙ (let g : total w x ≡ total w x + 0 * total w n = omega arith in g)
-  rounds (suc k) x =
-      let more = suc-mul k n in
-      let more_all = suc-mul k (total w n) in
-      let e : x + suc k * n ≡ x + k * n + n = omega (arith, more) in
-      let a = one_round (x + k * n) in
-      let b = rounds k x in
-      ap (total w) e ∙ (let g : total w (x + k * n + n) ≡ total w x + suc k * total w n = omega (arith, a, b, more_all) in g)
+  -- as many cells as a round has no more than the cars of a round, and no less than all but the empty cells
+  grows : (a d : ℕ) → total w a ≤ total w (a + d)
+  grows a zero = let e : a + 0 ≡ a = omega arith in let f = ap (total w) e in omega (arith, f)
+  grows a (suc d) =
+      let e : a + suc d ≡ suc (a + d) = omega arith in
+      let f = ap (total w) e in
+      let last = total_last w (a + d) in
+      let rest = grows a d in
+      omega (arith, f, last, rest)
 
-  -- where there is room for so many cells a car, heights rise by no more than one over so many cells
-  pub rises_slowly : (s t x : ℕ) → s * total w n ≤ n → n ≤ t + 1 → 0 < n → height w s t (x + s) ≤ height w s t x + 1
+  within_round : (x c : ℕ) → c ≤ n → total w (x + c) ≤ total w x + total w n
+  within_round x c short =
+      let more = grows (x + c) (n - c) in
+      let e : x + c + (n - c) ≡ x + n = omega (arith, short) in
+      let f = ap (total w) e in
+      let all = one_round x in
+      omega (arith, more, f, all)
+
+  whole_round : (x c : ℕ) → n ≤ c → total w x + total w n ≤ total w (x + c)
+  whole_round x c long =
+      let more = grows (x + n) (c - n) in
+      let e : x + n + (c - n) ≡ x + c = omega (arith, long) in
+      let f = ap (total w) e in
+      let all = one_round x in
+      omega (arith, more, f, all)
+
+  -- where there is room for so many cells a car, heights rise by no more than one over so many cells, once each car
+  -- had a step
+  pub rises_slowly : (s t x : ℕ) → s * total w n ≤ n → total w n ≤ t + 1 → 1 ≤ total w n → height w s t (x + s) ≤ height w s t x + 1
   rises_slowly s t x few round some =
       let from = reached w s t (x + s) in
       let j = from.0 in
@@ -93,48 +108,98 @@ module _ (w : ℕ → ℕ) (n : ℕ) (again : (x : ℕ) → w (x + n) ≡ w x) w
             let there : total w (x + s + s * j) + (t - suc j) ≤ height w s t x = subst (λ k. total w k + (t - suc j) ≤ height w s t x) e least in
             omega (arith, is, there, less)
         | inr last ↦
-            let i = t + 1 - n in
+            let i = t + 1 - total w n in
             let least = no_less w s t x i (omega (arith, round, some)) in
-            let all = rounds s (x + s * i) in
-            let whole : i + n ≡ suc j = omega (arith, low, last, round) in
-            let a = mul-add s i n in
+            let short = within_round (x + s * i) (s * total w n) few in
+            let whole : i + total w n ≡ suc j = omega (arith, low, last, round) in
+            let a = mul-add s i (total w n) in
             let b = ap (λ k. s * k) whole in
             let step = mul-suc s j in
-            let e : x + s * i + s * n ≡ x + s + s * j = omega (arith, a, b, step) in
-            let there : total w (x + s + s * j) ≡ total w (x + s * i) + s * total w n = sym (ap (total w) e) ∙ all in
-            omega (arith, is, there, least, last, low, few, round)
+            let e : x + s * i + s * total w n ≡ x + s + s * j = omega (arith, a, b, step) in
+            let f = ap (total w) e in
+            omega (arith, is, f, short, least, last, low, round, some)
       ]
 
-  -- and where there is no more room, by no less than one
-  pub rises_fast : (s t x : ℕ) → n ≤ s * total w n → n ≤ t + 1 → 0 < n → height w s t x + 1 ≤ height w s t (x + s)
-  rises_fast s t x many round some =
-      let from = reached w s t x in
-      let j = from.0 in
-      let low = from.1.low in
-      let is = from.1.is in
-      elim (cases_lt 0 j) [
-        | inl more ↦
-            let least = no_less w s t (x + s) (j - 1) (omega (arith, low)) in
-            let whole : suc (j - 1) ≡ j = omega (arith, more) in
-            let a = mul-suc s (j - 1) in
-            let b = ap (λ k. s * k) whole in
-            let e : x + s + s * (j - 1) ≡ x + s * j = omega (arith, a, b) in
-            let there : total w (x + s * j) + (t - (j - 1)) ≤ height w s t (x + s) = subst (λ k. total w k + (t - (j - 1)) ≤ height w s t (x + s)) e least in
-            omega (arith, is, there, more, low)
-        | inr first ↦
-            let i = n - 1 in
-            let least = no_less w s t (x + s) i (omega (arith, round, some)) in
-            let all = rounds s x in
-            let whole : suc i ≡ n = omega (arith, some) in
-            let a = mul-suc s i in
-            let b = ap (λ k. s * k) whole in
-            let e : x + s + s * i ≡ x + s * n = omega (arith, a, b) in
-            let there : total w (x + s * n) + (t - i) ≤ height w s t (x + s) = subst (λ k. total w k + (t - i) ≤ height w s t (x + s)) e least in
-            let none : j ≡ 0 = omega (arith, first) in
-            let f : x + s * j ≡ x = ap (λ k. x + s * k) none ∙ (let g : x + s * 0 ≡ x = omega arith in g) in
-            let here : height w s t x ≡ total w x + (t - j) = is ∙ ap (λ k. total w k + (t - j)) f in
-            omega (arith, here, there, all, first, many, round, some)
-      ]
+  -- and where there is no more room, by no less than one, once a car at v could have gone over all empty cells
+  module _ (one : (x : ℕ) → w x ≤ 1) where
+    slow : (a d : ℕ) → total w (a + d) ≤ total w a + d
+    slow a zero = let e : a + 0 ≡ a = omega arith in let f = ap (total w) e in omega (arith, f)
+    slow a (suc d) =
+        let e : a + suc d ≡ suc (a + d) = omega arith in
+        let f = ap (total w) e in
+        let last = total_last w (a + d) in
+        let rest = slow a d in
+        let most = one (a + d) in
+        omega (arith, f, last, rest, most)
+
+    -- so many cells for each of some cars have as many cars
+    enough : (v q x : ℕ) → q ≤ total w n → n ≤ total w n + v * q → total w x + q ≤ total w (x + suc v * q)
+    enough v q x low soon =
+        elim (cases_lt (suc v * q) n) [
+          | inl short ↦
+              let c = suc v * q in
+              let more = slow (x + c) (n - c) in
+              let e : x + c + (n - c) ≡ x + n = omega (arith, short) in
+              let f = ap (total w) e in
+              let all = one_round x in
+              let product = suc-mul v q in
+              omega (arith, more, f, all, product, soon, short)
+          | inr long ↦ let all = whole_round x (suc v * q) long in omega (arith, all, low)
+        ]
+
+    -- the first cars of a round, or all of them
+    all_or_first : (v t x : ℕ) → n ≤ suc v * total w n → n ≤ total w n + v * (t + 1) → 0 < n → (i : ℕ) × ((i ≤ t) × (total w x + suc i ≤ total w (x + suc v * suc i)))
+    all_or_first v t x many soon some =
+        let none = mul-zero (suc v) in
+        elim (cases_lt (t + 1) (total w n)) [
+          | inl more ↦
+              let e : t + 1 ≡ suc t = omega arith in
+              let f = ap (λ k. v * k) e in
+              (t, (omega arith, enough v (suc t) x (omega (arith, more)) (omega (arith, soon, f))))
+          | inr last ↦
+              let filled : 1 ≤ total w n = (elim (cases_lt 0 (total w n)) [
+                | inl cars ↦ cars
+                | inr empty ↦
+                    let zeroth : total w n ≡ 0 = omega (arith, empty) in
+                    let e = ap (λ k. suc v * k) zeroth in
+                    absurd (omega (arith, e, none, many, some))
+              ]) in
+              let whole : suc (total w n - 1) ≡ total w n = omega (arith, filled) in
+              let product = suc-mul v (total w n) in
+              let all = enough v (total w n) x (omega arith) (omega (arith, many, product)) in
+              (total w n - 1, (omega (arith, last), subst (λ k. total w x + k ≤ total w (x + suc v * k)) (sym whole) all))
+        ]
+
+    pub rises_fast : (v t x : ℕ) → n ≤ suc v * total w n → n ≤ total w n + v * (t + 1) → 0 < n → height w (suc v) t x + 1 ≤ height w (suc v) t (x + suc v)
+    rises_fast v t x many soon some =
+        let s = suc v in
+        let from = reached w s t x in
+        let j = from.0 in
+        let low = from.1.low in
+        let is = from.1.is in
+        elim (cases_lt 0 j) [
+          | inl more ↦
+              let least = no_less w s t (x + s) (j - 1) (omega (arith, low)) in
+              let whole : suc (j - 1) ≡ j = omega (arith, more) in
+              let a = mul-suc s (j - 1) in
+              let b = ap (λ k. s * k) whole in
+              let e : x + s + s * (j - 1) ≡ x + s * j = omega (arith, a, b) in
+              let there : total w (x + s * j) + (t - (j - 1)) ≤ height w s t (x + s) = subst (λ k. total w k + (t - (j - 1)) ≤ height w s t (x + s)) e least in
+              omega (arith, is, there, more, low)
+          | inr first ↦
+              let found = all_or_first v t x many soon some in
+              let i = found.0 in
+              let within = found.1.0 in
+              let cars = found.1.1 in
+              let least = no_less w s t (x + s) i within in
+              let a = mul-suc s i in
+              let e : x + s + s * i ≡ x + s * suc i = omega (arith, a) in
+              let there : total w (x + s * suc i) + (t - i) ≤ height w s t (x + s) = subst (λ k. total w k + (t - i) ≤ height w s t (x + s)) e least in
+              let none : j ≡ 0 = omega (arith, first) in
+              let f : x + s * j ≡ x = ap (λ k. x + s * k) none ∙ (let g : x + s * 0 ≡ x = omega arith in g) in
+              let here : height w s t x ≡ total w x + (t - j) = is ∙ ap (λ k. total w k + (t - j)) f in
+              omega (arith, here, there, cars, first, within)
+        ]
 
 -- sums over some cells on
 abbrev pub window : (ℕ → ℕ) → ℕ → ℕ → ℕ

@@ -287,20 +287,21 @@ module _ (limit : ℕ) (first lane : Lane) (t y : ℕ) (l : Leaps limit first la
       ap (digit_at lane) f ∙ ap (λ k. digit (is_taken lane k)) (add-mul-mod_self_right (y + i) q n)) in
       slopes limit first lane t seen_from (suc limit) l ∙ ap (λ k. height (digit_at first) (suc limit) t seen_from + k) same
 
-  -- where there is room for the limit behind each car, no two cars are nearer, once as many steps as cells were gone
-  pub few_near : suc limit * lane_car_count first ≤ length first → length first ≤ t + 1 → window (digit_at lane) y (suc limit) ≤ 1
-  few_near few round =
-      let size = l.same_length in
+  -- where there is room for the limit behind each car, no two cars are nearer, once each car had a step
+  pub few_near : suc limit * lane_car_count first ≤ length first → lane_car_count first ≤ t + 1 → 1 ≤ lane_car_count first → window (digit_at lane) y (suc limit) ≤ 1
+  few_near few round cars =
+      let count = digits_total first in
       let all = ap (λ k. suc limit * k) (digits_total first) in
-      let slowly = rises_slowly (digit_at first) (length first) (digits_again first) (suc limit) t seen_from (omega (arith, all, few)) round (omega (arith, some, size)) in
+      let slowly = rises_slowly (digit_at first) (length first) (digits_again first) (suc limit) t seen_from (omega (arith, all, few)) (omega (arith, count, round)) (omega (arith, count, cars)) in
       let here = cells_from in
       omega (arith, slowly, here)
 
-  -- and where there is no more, none are further apart
-  pub some_near : length first ≤ suc limit * lane_car_count first → length first ≤ t + 1 → 1 ≤ window (digit_at lane) y (suc limit)
-  some_near many round =
+  -- and where there is no more room, none are further apart, once a car at the limit could have gone over all empty cells
+  pub some_near : length first ≤ suc limit * lane_car_count first → length first ≤ lane_car_count first + limit * (t + 1) → 1 ≤ window (digit_at lane) y (suc limit)
+  some_near many soon =
       let size = l.same_length in
+      let count = digits_total first in
       let all = ap (λ k. suc limit * k) (digits_total first) in
-      let fast = rises_fast (digit_at first) (length first) (digits_again first) (suc limit) t seen_from (omega (arith, all, many)) round (omega (arith, some, size)) in
+      let fast = rises_fast (digit_at first) (length first) (digits_again first) (λ x. digit_most (is_taken first (x % length first))) limit t seen_from (omega (arith, all, many)) (omega (arith, count, soon)) (omega (arith, some, size)) in
       let here = cells_from in
       omega (arith, fast, here)

@@ -26,6 +26,9 @@ pub mod Going
 pub mod Courses
 pub mod Races
 pub mod Fastest
+pub mod Newell
+-- lane changes
+pub mod SafeChanges
 -- what makes no difference
 pub mod Turning
 pub mod TurnedSums
@@ -39,6 +42,15 @@ pub mod Periods
 -- rules that go as others
 pub mod Reductions
 pub mod Wolfram
+-- the stationary state with the limit 1
+pub mod RingSums
+pub mod Chains
+pub mod RingSteps
+pub mod Stationary
+pub mod RingMotion
+pub mod RingWords
+pub mod Clusters
+pub mod ExactFlow
 -- the fundamental diagram without randomization
 pub mod Regimes
 pub mod EvenGaps
@@ -48,6 +60,8 @@ pub mod Digits
 pub mod Heights
 pub mod Leaping
 pub mod Readiness
+pub mod Waves
+pub mod Classification
 -- what detectors count
 pub mod Detecting
 pub mod OnePassage
@@ -55,3 +69,7 @@ pub mod FewCars
 pub mod DetectingRuns
 pub mod Headways
 pub mod Rows
+-- what random braking costs
+pub mod Braking
+-- how soon the triangle is reached
+pub mod Sooner

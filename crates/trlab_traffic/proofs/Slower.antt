@@ -96,7 +96,7 @@ sums_le f g (x ∷ xs) all =
     omega (arith, first, rest, a, b)
 
 -- who stops stops where he is slower
-stops_too : (slow fast : ℕ) → slow ≤ fast → cond (nat_eq fast 0) 1 0 ≤ cond (nat_eq slow 0) 1 0
+pub stops_too : (slow fast : ℕ) → slow ≤ fast → cond (nat_eq fast 0) 1 0 ≤ cond (nat_eq slow 0) 1 0
 stops_too slow fast less =
     let count : Bool → ℕ = λ b. cond b 1 0 in
     elim (cases_eq fast 0) [

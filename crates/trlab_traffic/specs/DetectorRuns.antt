@@ -76,11 +76,12 @@ DetectorsCountRun =
     → ((x : ℕ) → DetectorHasCounted seed sheet 0 x step (count x))
     → sum_by count (range_with_len 0 (length (lane_of seed.road 0))) ≡ sum.distance
 
--- `count` measures the flow on a ring of n cells: n times `count` differs from `distance` by at most n times
--- the number of cars or of empty cells, whichever is smaller
+-- `count` measures the flow on a ring of n cells: n times `count` differs from `distance` by at most the number
+-- of cars times the number of empty cells. (This is reached if all cars are in a row right behind the detector
+-- at first, and in a row right ahead of it in the end)
 abbrev pub MeasuresFlow : Lane → ℕ → ℕ → Type 0
 MeasuresFlow lane count distance =
-    DifferByAtMost (length lane * min_of_cars_and_empty_cells lane) (length lane * count) distance
+    DifferByAtMost (lane_car_count lane * lane_empty_cells lane) (length lane * count) distance
 
 -- in a run on one lane, under any sheet of rules without lane changes, each detector measures the flow: the
 -- bound of its error does not grow with the number of steps

@@ -1,51 +1,94 @@
 -- The fundamental diagram of the Nagel-Schreckenberg model without randomization is a triangle: the flow of
 -- one lane reaches min(v_max * density, 1 - density), and keeps this value.
-use Rattle.std.specs.Prelude.{◌≡◌, ℕ, ◌+◌, ◌*◌, ◌≤◌, length, sum_by}
+use Rattle.std.specs.Prelude.{◌≡◌, ℕ, ◌+◌, ◌-◌, ◌*◌, ◌<◌, ◌≤◌, length, min, sum_by}
+use Rattle.trlab_road.specs.declared.car.Car.{Car}
+use Rattle.trlab_road.specs.Gaps.{gap}
 use Rattle.trlab_road.specs.Legal.{IsLegal}
-use Rattle.trlab_road.specs.Cells.{Cells, lane_of}
+use Rattle.trlab_road.specs.Cells.{Cells, IsAt, cars, lane_of}
 use Rattle.trlab_road.specs.Spreading.{CanSpread, IsEvenlySpaced}
 use Rattle.trlab_rules.specs.Rules.{Programs}
 use Rattle.trlab_rules.specs.StandardRules.{IsNasch}
 use Rattle.trlab_step.specs.declared.tally.StepTally.{StepTally}
-use Rattle.trlab_step.specs.Run.{Seed, ComesTo}
-use Rattle.trlab_traffic.specs.Triangle.{all_cells, max_distance, lane_max_distance}
-use Rattle.trlab_traffic.specs.Runs.{always, counted_steps}
+use Rattle.trlab_step.specs.Run.{Seed, Sheet, ComesTo}
+use Rattle.trlab_traffic.specs.Triangle.{empty_cells, max_distance, lane_max_distance}
+use Rattle.trlab_traffic.specs.Fastest.{ReachesSpeedAtOnce}
+use Rattle.trlab_traffic.specs.Queues.{IsQueued}
+use Rattle.trlab_traffic.specs.Runs.{EachRule, StaysInLane, always, counted_steps}
 
 -- the flow of a run is on the triangle, min(v_max * density, 1 - density): per counted step its distance
 -- is v_max times the number of cars, or the number of empty cells, whichever is smaller
 abbrev pub FlowsOnTriangle : Seed → ℕ → StepTally → Type 0
 FlowsOnTriangle seed step sum = sum.distance ≡ counted_steps seed step * max_distance seed.road
 
--- in the Nagel-Schreckenberg model without randomization the flow of a run from any legal road of one lane
--- with L cells is min(v_max * density, 1 - density) if `warm` is at least v_max + L - 1: time to reach v_max,
--- and then to go once round the ring
+-- a lane or road whose cars go at most `most` cells per step, all together, has relaxed at step `step`, if cars
+-- need `delay` steps to reach v_max (`limit`): they had these steps, and in the steps since then one car at v_max
+-- goes as far as all can go in one step. So `step` is at least `delay`, and with N cars and E empty cells at least
+-- delay - 1 + min(N, E / v_max), which is at most delay - 1 + cells / (v_max + 1)
+pub record HasRelaxed (limit delay most step : ℕ) : Type 0 where
+  pub to_accelerate : delay ≤ step
+  pub to_spread : most ≤ limit * (step + 1 - delay)
+
+-- in the Nagel-Schreckenberg model without randomization the flow of a run from any legal road of one lane is
+-- min(v_max * density, 1 - density) if it has relaxed at step `warm`
 abbrev pub NaschReachesTriangle : Type 0
 NaschReachesTriangle =
     (rule : Programs) (seed : Seed) (step : ℕ) (road : Cells) (sum : StepTally)
     → IsNasch 0 rule → IsLegal seed.road → length seed.road.lanes ≡ 1
-    → seed.road.limit + all_cells seed.road ≤ seed.warm + 1 → ComesTo seed (always rule) step road sum
+    → HasRelaxed seed.road.limit seed.road.limit (max_distance seed.road) seed.warm
+    → ComesTo seed (always rule) step road sum
     → FlowsOnTriangle seed step sum
 
 -- in the Nagel-Schreckenberg model without randomization the distance of a run from a legal road is, per
 -- counted step, the sum over its lanes of v_max times the number of cars or the number of empty cells,
--- whichever is smaller on the lane, if `warm` is at least v_max + L - 1, with L cells per lane. This is less
--- than the minimum for the whole road if v_max bounds one lane and the empty cells bound the other
+-- whichever is smaller on the lane, if each lane has relaxed at step `warm`. This is less than the minimum for
+-- the whole road if v_max bounds one lane and the empty cells bound the other
 abbrev pub NaschReachesTriangleByLane : Type 0
 NaschReachesTriangleByLane =
     (rule : Programs) (seed : Seed) (step : ℕ) (road : Cells) (sum : StepTally)
-    → IsNasch 0 rule → IsLegal seed.road → seed.road.limit + length (lane_of seed.road 0) ≤ seed.warm + 1
+    → IsNasch 0 rule → IsLegal seed.road
+    → ((l : ℕ) → l < length seed.road.lanes
+    → HasRelaxed seed.road.limit seed.road.limit (lane_max_distance seed.road.limit (lane_of seed.road l)) seed.warm)
     → ComesTo seed (always rule) step road sum
     → sum.distance ≡ counted_steps seed step * sum_by (lane_max_distance seed.road.limit) seed.road.lanes
 
 -- in the Nagel-Schreckenberg model without randomization and with v_max = 1, which is Wolfram's rule 184, the
--- flow of a run from any legal road of one lane with L cells is min(density, 1 - density) if `warm` is at
--- least L - 1: time to go once round the ring
+-- flow of a run from any legal road of one lane with N cars and E empty cells is min(density, 1 - density) if
+-- `warm` is at least min(N, E) - 1
 abbrev pub Rule184ReachesTriangle : Type 0
 Rule184ReachesTriangle =
     (rule : Programs) (seed : Seed) (step : ℕ) (road : Cells) (sum : StepTally)
     → IsNasch 0 rule → IsLegal seed.road → length seed.road.lanes ≡ 1 → seed.road.limit ≡ 1
-    → all_cells seed.road ≤ seed.warm + 1 → ComesTo seed (always rule) step road sum
+    → min (cars seed.road) (empty_cells seed.road) ≤ seed.warm + 1 → ComesTo seed (always rule) step road sum
     → FlowsOnTriangle seed step sum
+
+-- under a rule that lets cars reach their speed at once, the flow of a run from any legal road of one lane is
+-- min(v_max * density, 1 - density) if one car at v_max goes as far in `warm` + 1 steps as all cars can go in one
+-- step; so with N cars and E empty cells, if `warm` is at least min(N, E / v_max) - 1
+abbrev pub GapReachesTriangle : Type 0
+GapReachesTriangle =
+    (rule : Programs) (seed : Seed) (step : ℕ) (road : Cells) (sum : StepTally)
+    → ReachesSpeedAtOnce rule → IsLegal seed.road → length seed.road.lanes ≡ 1
+    → max_distance seed.road ≤ seed.road.limit * (seed.warm + 1) → ComesTo seed (always rule) step road sum
+    → FlowsOnTriangle seed step sum
+
+-- all cars of a road of one lane are in one queue: `head` has all empty cells ahead of it, and `tail` is the last
+-- car of the queue. For example, the cars of `..000.` are, and so are those of `0...00`
+pub record AreInOneQueue (road : Cells) (head tail : Car) : Type 0 where
+  pub one_lane : length road.lanes ≡ 1
+  pub head_on_road : IsAt road head
+  pub all_room : gap (lane_of road head.lane) head.place ≡ empty_cells road
+  pub tail_is_last : IsQueued road head.place (cars road - 1) (cars road - 1) tail
+
+-- from one queue, no rules without lane changes reach the triangle sooner than a rule that lets cars reach their
+-- speed at once must by `GapReachesTriangle`: as long as one car at v_max has not had the time to go as far as all
+-- cars can go in one step, the distance of a step is below min(v_max * cars, empty cells). Only step `warm` is
+-- counted here
+abbrev pub QueueReachesTriangleNoSooner : Type 0
+QueueReachesTriangleNoSooner =
+    (sheet : Sheet) (seed : Seed) (road : Cells) (sum : StepTally) (head tail : Car)
+    → EachRule StaysInLane sheet → IsLegal seed.road → AreInOneQueue seed.road head tail
+    → seed.road.limit * (seed.warm + 1) < max_distance seed.road → ComesTo seed sheet (seed.warm + 1) road sum
+    → sum.distance < max_distance seed.road
 
 -- in the Nagel-Schreckenberg model without randomization the flow of a run from n evenly spaced, stopped cars
 -- on one lane is min(v_max * density, 1 - density) if `warm` is at least v_max - 1: time to reach v_max

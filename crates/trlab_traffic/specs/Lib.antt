@@ -16,6 +16,9 @@ pub mod Overtaking
 -- runs compared car by car
 pub mod Gone
 pub mod Fastest
+pub mod Newell
+-- lane changes and steps without them
+pub mod SafeChanges
 -- symmetries
 pub mod Homogeneity
 pub mod Symmetry
@@ -25,9 +28,17 @@ pub mod Periods
 -- rules that have the same steps as others
 pub mod Reduction
 pub mod Rule184
+-- v_max = 1 with randomization, over all random words
+pub mod Rings
+pub mod Stationary
+pub mod ExactFlow
 -- the fundamental diagram without randomization
 pub mod Diagram
+pub mod Waves
 -- the counts of detectors
 pub mod Detector
 pub mod DetectorRuns
 pub mod Rows
+pub mod Classification
+-- random braking
+pub mod Braking

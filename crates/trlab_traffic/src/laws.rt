@@ -6,13 +6,16 @@ ghost use Rattle.trlab_traffic.specs.Apart.{RunKeepsLanesApart, StepKeepsLanesAp
 ghost use Rattle.trlab_traffic.specs.Triangle.{CellsAreTakenOrEmpty, RunStaysUnderTriangle, StepStaysUnderTriangle};
 ghost use Rattle.trlab_traffic.specs.Triangle.{RunKeepsBelowPeak};
 ghost use Rattle.trlab_traffic.specs.Determinism.{NaschWithoutRandomizationIsDeterministic, RunIsDeterministic, StepIsDeterministic};
+ghost use Rattle.trlab_traffic.specs.Braking.{BrakingCostsRuns, BrakingCostsRunsWithSlowStarts, BrakingCostsSteps, EachRunHasBraked};
 ghost use Rattle.trlab_traffic.specs.Changing.{RunBoundsLaneChanges, StepBoundsLaneChanges};
+ghost use Rattle.trlab_traffic.specs.Classification.{Rule184ClassifiesDensity};
 ghost use Rattle.trlab_traffic.specs.Detector.{DetectorCountsAtMostOne, DetectorsCountDistance, StepSatisfiesContinuity};
 ghost use Rattle.trlab_traffic.specs.DetectorRuns.{DetectorCountExists, DetectorMeasuresFlow, DetectorsAgree};
 ghost use Rattle.trlab_traffic.specs.DetectorRuns.{DetectorCountsBelowPeak, DetectorsAgreeByCars};
 ghost use Rattle.trlab_traffic.specs.DetectorRuns.{DetectorsCountRun, RunSatisfiesContinuity};
-ghost use Rattle.trlab_traffic.specs.Diagram.{EvenCarsFlowOnTriangle, NaschReachesTriangle};
-ghost use Rattle.trlab_traffic.specs.Diagram.{NaschReachesTriangleByLane, Rule184ReachesTriangle};
+ghost use Rattle.trlab_traffic.specs.Diagram.{EvenCarsFlowOnTriangle, GapReachesTriangle, NaschReachesTriangle};
+ghost use Rattle.trlab_traffic.specs.Diagram.{NaschReachesTriangleByLane, QueueReachesTriangleNoSooner, Rule184ReachesTriangle};
+ghost use Rattle.trlab_traffic.specs.ExactFlow.{FlowIsExact, RingsAreClustered};
 ghost use Rattle.trlab_traffic.specs.Fastest.{GapProgramReachesSpeedAtOnce, NaschAcceleratesByAtMostOne, NobodyBeatsGap};
 ghost use Rattle.trlab_traffic.specs.Fastest.{NobodyBeatsNasch, RandomizationSlowsRuns, SlowStartsSlowRuns};
 ghost use Rattle.trlab_traffic.specs.Fastest.{VdrAcceleratesByAtMostOne};
@@ -25,15 +28,23 @@ ghost use Rattle.trlab_traffic.specs.LaneGaps.{GapsFillLane, RunKeepsLaneCars};
 ghost use Rattle.trlab_traffic.specs.Metastable.{SlowStartsKeepFreeFlow, SlowStartsKeepJams};
 ghost use Rattle.trlab_traffic.specs.Metastable.{SlowStartsMoveFreeFlowAsOne, TwoFlowsAtOneDensity};
 ghost use Rattle.trlab_traffic.specs.Moving.{RunBoundsMovingSpeed, StepBoundsMovingSpeed};
+ghost use Rattle.trlab_traffic.specs.Newell.{MinimumPrinciple, MinimumPrincipleGivesDistance, MinimumPrincipleLater};
+ghost use Rattle.trlab_traffic.specs.Newell.{NobodyBeatsMinimumPrinciple, Rule184MinimumPrinciple};
 ghost use Rattle.trlab_traffic.specs.Overtaking.{EachCarHasNext, NextCarIsUnique, RunKeepsNextCar, StepKeepsNextCar};
 ghost use Rattle.trlab_traffic.specs.Periods.{DeterministicRunsBecomePeriodic};
 ghost use Rattle.trlab_traffic.specs.Queues.{QueueStarts, QueueWaits};
 ghost use Rattle.trlab_traffic.specs.Randomization.{RandomizationSlowsSteps, SlowStartsSlowSteps};
 ghost use Rattle.trlab_traffic.specs.Reduction.{RickertReducesToNasch, SameStepsGiveSameRuns, VdrReducesToNasch};
+ghost use Rattle.trlab_traffic.specs.Rings.{NaschGoesByRings, NaschStepsRings, StepsKeepCars};
 ghost use Rattle.trlab_traffic.specs.Rows.{RowMeasuresFlow, RowsAgree};
 ghost use Rattle.trlab_traffic.specs.Rows.{RunSatisfiesContinuityByRows, StepIsContinuousByRows};
 ghost use Rattle.trlab_traffic.specs.Rule184.{Rule184HasParticleHoleSymmetry, NaschIsRule184};
+ghost use Rattle.trlab_traffic.specs.SafeChanges.{RickertChangesSafely, SafeChangesCostNobody, SafeChangesCostNobodyInVdr};
+ghost use Rattle.trlab_traffic.specs.Stationary.{DrawsAreCounted, StepWeightsAddUp, StepWeightsCountWords};
+ghost use Rattle.trlab_traffic.specs.Stationary.{WeightsAreStationary, WeightsAreStationaryOverWords};
 ghost use Rattle.trlab_traffic.specs.Symmetry.{RickertIgnoresLane, RunIsSymmetric, StepIsSymmetric};
+ghost use Rattle.trlab_traffic.specs.Waves.{AccelerationEnds, CongestedCarsCloseGaps, FreeFlowMovesAhead};
+ghost use Rattle.trlab_traffic.specs.Waves.{JamsMoveBack, PatternIsPeriodic};
 
 /// The distance of a step is at most the number of empty cells, and at most v_max times the number of cars, under every
 /// rule and on every legal road. So flow against density is always on or under the triangle min(v_max * density,
@@ -157,12 +168,34 @@ pub fn nobody_beats_gap()
     ensures program { GapProgramReachesSpeedAtOnce }
 {}
 
+/// The minimum principle gives the distance of each car in closed form (Newell 1993, Transp. Res. B 27, 281; Daganzo
+/// 2006, Transp. Res. B 40, 396): exactly if cars reach their speed at once, and in the Nagel-Schreckenberg model without
+/// randomization from step v_max on, or from the start if v_max = 1. Under all rules without lane changes it is an upper
+/// bound.
+pub fn minimum_principle()
+    ensures gap { MinimumPrinciple }
+    ensures distance { MinimumPrincipleGivesDistance }
+    ensures rule_184 { Rule184MinimumPrinciple }
+    ensures later { MinimumPrincipleLater }
+    ensures bound { NobodyBeatsMinimumPrinciple }
+{}
+
 /// If v_max is 1, a larger braking probability slows whole runs, car by car: runs of the Nagel-Schreckenberg model and
 /// of the VDR model of Barlovic et al. (1998), compared with the Nagel-Schreckenberg model with a probability that is
 /// not larger. If v_max is larger, this need not hold.
 pub fn randomization_slows_runs()
     ensures nasch { RandomizationSlowsRuns }
     ensures vdr { SlowStartsSlowRuns }
+{}
+
+/// Safe lane changes cost nobody. If cars change lanes only where the gap ahead on the other lane is larger than their
+/// speed and the gap behind at least v_max, then in one step of the Nagel-Schreckenberg model or of the VDR model of
+/// Barlovic et al. (1998) each car goes at least as far as without lane changes. The lane changes of Rickert et al. (1996)
+/// are such.
+pub fn safe_lane_changes_cost_nobody()
+    ensures nasch { SafeChangesCostNobody }
+    ensures vdr { SafeChangesCostNobodyInVdr }
+    ensures rickert { RickertChangesSafely }
 {}
 
 /// All places of a ring are alike: under any rule, if a legal road is rotated, its next road is rotated by the same
@@ -217,6 +250,34 @@ pub fn nasch_is_rule_184()
     ensures holes { Rule184HasParticleHoleSymmetry }
 {}
 
+/// With v_max = 1 a step of the Nagel-Schreckenberg model moves the cars of each lane as a ring of taken and empty
+/// cells: a car moves to the next cell if that is empty and the car does not brake on its random word. The distance is
+/// the number of these cars.
+pub fn nasch_steps_rings()
+    ensures step { NaschStepsRings }
+    ensures distance { NaschGoesByRings }
+    ensures cars { StepsKeepCars }
+{}
+
+/// With v_max = 1 the Nagel-Schreckenberg model has the stationary state of Schreckenberg, Schadschneider, Nagel and Ito
+/// (1995, Phys. Rev. E 51, 2939), for every braking probability p and on every ring: counted over all roads and all
+/// random words, a step leaves the weight of each road as it is. The weight has a factor 1 for each car with an empty
+/// cell ahead, and p for each other car.
+pub fn nasch_has_stationary_state()
+    ensures words { WeightsAreStationaryOverWords }
+    ensures weights { WeightsAreStationary }
+    ensures chances { StepWeightsAddUp }
+    ensures counts { StepWeightsCountWords }
+    ensures counted { DrawsAreCounted }
+{}
+
+/// The flow of this stationary state, exactly, on every finite ring: the weights of all roads with the same number of
+/// cars, and their weights times their mean distances, as sums of products of binomial coefficients.
+pub fn stationary_flow_is_exact()
+    ensures clusters { RingsAreClustered }
+    ensures flow { FlowIsExact }
+{}
+
 /// In the Nagel-Schreckenberg model without randomization the fundamental diagram of one lane is a triangle: from any
 /// initial state and for every v_max the flow reaches min(v_max * density, 1 - density). On several lanes each lane
 /// reaches its own triangle. (For cars that reach their speed at once: Fukui and Ishibashi 1996, J. Phys. Soc. Japan
@@ -226,10 +287,45 @@ pub fn nasch_reaches_triangle()
     ensures by_lane { NaschReachesTriangleByLane }
 {}
 
-/// With v_max = 1 a run on one lane reaches the triangle one step sooner: rule 184 relaxes within one lap of the ring
-/// (Krug and Spohn 1988, Phys. Rev. A 38, 4271).
+/// If cars reach their speed at once, a run on one lane with N cars and E empty cells is on the triangle from step
+/// min(N, E / v_max) - 1 on (Fukui and Ishibashi 1996, J. Phys. Soc. Japan 65, 1868). From one queue of all cars no rules
+/// without lane changes reach it sooner.
+pub fn gap_reaches_triangle()
+    ensures triangle { GapReachesTriangle }
+    ensures no_sooner { QueueReachesTriangleNoSooner }
+{}
+
+/// With v_max = 1 a run on one lane with N cars and E empty cells is on the triangle from step min(N, E) - 1 on (Krug and
+/// Spohn 1988, Phys. Rev. A 38, 4271).
 pub fn rule_184_reaches_triangle()
     ensures { Rule184ReachesTriangle }
+{}
+
+/// Rule 184 classifies densities (Capcarrere, Sipper and Tomassini 1996, Phys. Rev. Lett. 77, 4969): from step
+/// min(N, E) - 1 on no two of N cars are neighbours if there are at least as many empty cells, E, and no two empty cells
+/// are if there are at most as many.
+pub fn rule_184_classifies_density()
+    ensures { Rule184ClassifiesDensity }
+{}
+
+/// Kinematic waves (Lighthill and Whitham 1955, Proc. R. Soc. London A 229, 317): without randomization a lane that has
+/// relaxed only moves its pattern of taken and empty cells, ahead by v_max per step if it is dilute, and back by one
+/// cell per step if it is congested, for every v_max. So the pattern repeats after as many steps as cells.
+pub fn kinematic_waves()
+    ensures free { FreeFlowMovesAhead }
+    ensures jams { JamsMoveBack }
+    ensures period { PatternIsPeriodic }
+    ensures acceleration { AccelerationEnds }
+    ensures gaps { CongestedCarsCloseGaps }
+{}
+
+/// Each car that brakes at random costs at least one cell, in the Nagel-Schreckenberg model and in the VDR model of
+/// Barlovic et al. (1998): the distance plus the number of brakings is under the triangle.
+pub fn braking_costs_distance()
+    ensures step { BrakingCostsSteps }
+    ensures exists { EachRunHasBraked }
+    ensures nasch { BrakingCostsRuns }
+    ensures vdr { BrakingCostsRunsWithSlowStarts }
 {}
 
 /// Evenly spaced, stopped cars reach the triangle within v_max - 1 steps, the time to reach v_max.

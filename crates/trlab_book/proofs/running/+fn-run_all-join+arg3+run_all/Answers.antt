@@ -14,3 +14,8 @@ returns g t c =
     subst (λ (n : ℕ). HasEnded n c.first_fault.result c.args.desk c.gather.result) all
     (ended_both 1 (c.args.runners - 1) ran.result.0.1 ran.result.1.1 c.first_fault.result c.args.desk split.new.desk split.result ran.result.1.0 ran.result.0.0 c.gather.result
     parts.0 parts.1 events.0 events.1 least.0 least.1 ran.ensures.second ran.ensures.first c.gather.ensures.parts c.gather.ensures.events c.gather.ensures.least c.first_fault.ensures.fine c.first_fault.ensures.full)
+
+pub returns-then-others-eq0 : goal.returns-then-others-eq0
+returns-then-others-eq0 g t c =
+    let one : 1 ≡ c.args.runners = omega (arith, c.if-others-eq0.true, c.requires.runners.0) in
+    subst (λ (n : ℕ). HasEnded n c.run_one-ended.result c.args.desk c.run_one-ended.new.desk) one c.run_one-ended.ensures

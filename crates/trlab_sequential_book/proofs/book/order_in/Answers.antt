@@ -1,9 +1,14 @@
-use Rattle.std.proofs.Common.{rules}
+use Rattle.std.proofs.Common.{refl, rules}
 use Rattle.trlab_sequential_book.specs.Machine.{order_outcome}
 use Rattle.trlab_sequential_book.specs.Comparison.{offered}
 use Rattle.trlab_sequential_book.specs.Answers.{is_memory, order_reply}
-use Rattle.trlab_sequential_book.proofs.Booking.{jobs_made, reply_made, rule_found}
+use Rattle.trlab_sequential_book.proofs.Booking.{jobs_made, own_found, reply_made, rule_found}
 use Rattle.trlab_sequential_book.proofs.book.order_in.Goals as goal
+
+pub order-requires : goal.order-requires
+order-requires c = λ same.
+    own_found c.args.jobs.now.items c.args.lease.now.job c.in-Some.found.now c.args.lease.now
+    (search (rules, c.in-Some.ensures.variant, c.job.ensures)) (rw c.job.ensures at c.in-Some.ensures.value) refl (c.requires same)
 
 pub returns-clause-reply : goal.returns-clause-reply
 returns-clause-reply c =
@@ -17,5 +22,5 @@ returns-clause-jobs c =
 
 pub returns-clause-rule : goal.returns-clause-rule
 returns-clause-rule c =
-    rule_found c.args.jobs.now.items c.args.lease.now.job c.in-Some.found.now c.order.result
-    (search (rules, c.in-Some.ensures.variant, c.job.ensures)) (rw c.job.ensures at c.in-Some.ensures.value) c.order.ensures.index c.order.ensures.rule
+    rule_found c.args.jobs.now.items c.args.lease.now c.in-Some.found.now c.order.result
+    (search (rules, c.in-Some.ensures.variant, c.job.ensures)) (rw c.job.ensures at c.in-Some.ensures.value) c.order.ensures.fits c.order.ensures.rule

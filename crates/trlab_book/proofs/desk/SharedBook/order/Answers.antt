@@ -13,8 +13,8 @@ invariant_of-deref_mut g c =
     let told = order_reply c.order-answer.result in
     record { noted = (c.note_event.ensures call told (has_come kept c.order-answer.new.self call told _ c.order-answer.ensures.noted.2 c.deref_mut.result.now.noted) (full_after kept c.order-answer.new.self call told c.order-answer.ensures.noted.2 c.order-answer.ensures.full)).0 }
 
-pub returns : goal.returns
-returns g c =
+pub returns-clause-made : goal.returns-clause-made
+returns-clause-made g c =
     let kept = c.deref_mut.result.now.kept in
     let same = c.order-answer.ensures.noted.0 in
     let call = OrderCall (offered c.args.lease.now same) in

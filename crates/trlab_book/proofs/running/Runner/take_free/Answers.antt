@@ -1,33 +1,19 @@
-use Rattle.std.proofs.Common.{◌∙◌, refl}
-use Rattle.std.specs.Prelude.{Err}
+use Rattle.std.proofs.Common.{Ok, subst}
 use Rattle.trlab_sequential_book.specs.Answers.{lease_reply}
 use Rattle.trlab_sequential_book.specs.Comparison.{LeaseCall}
-use Rattle.trlab_book.specs.Desks.{LeaseIsFresh}
-use Rattle.trlab_book.proofs.GoingOn.{ended_after, full_seen, goes_on, makes_goes}
+use Rattle.trlab_book.specs.Desks.{LeaseIsFresh, MakesCallOn}
+use Rattle.trlab_book.specs.Turns.{Free, Has, turn_of}
+use Rattle.trlab_book.proofs.GoingOn.{goes_both, leased_goes, none_left}
 use Rattle.trlab_book.proofs.running.Runner.take_free.Goals as goal
 
 pub returns-in-Ok : goal.returns-in-Ok
 returns-in-Ok g c =
-    goes_on c.args.desk.now c.lease.new.desk c.take_turn.new.desk
-    (makes_goes (LeaseIsFresh c.lease.result) c.args.desk.now c.lease.new.desk LeaseCall (lease_reply c.lease.result) c.lease.ensures refl) c.take_turn.ensures.on
+    let lease = c.in-Ok-Some.lease in
+    let ended = c.in-Ok.ensures in
+    goes_both Free (Has (turn_of lease)) Free c.args.desk.now c.lease.new.desk c.take_turn.new.desk
+    (leased_goes c.args.desk.now c.lease.new.desk lease
+    (subst (λ lent. MakesCallOn (LeaseIsFresh (Ok lent)) c.args.desk.now LeaseCall (lease_reply (Ok lent)) c.lease.new.desk) c.in-Ok-Some.field-0-is c.in-Ok-Some.ensures)) (record { on = ended.on; stage = ended.stage })
 
-pub returns-in-Err-take_turn : goal.returns-in-Err-take_turn
-returns-in-Err-take_turn g c =
-    let after = ended_after 0 c.take_turn.result c.args.desk.now c.lease.new.desk c.take_turn.new.desk
-    (makes_goes (LeaseIsFresh c.lease.result) c.args.desk.now c.lease.new.desk LeaseCall (lease_reply c.lease.result) c.lease.ensures refl) c.take_turn.ensures in
-    record { on = after.on; no_job = tt; full = λ e. after.full (c.in-Err-take_turn.is ∙ e) }
-
-pub returns-in-Err : goal.returns-in-Err
-returns-in-Err g c = record {
-  on = makes_goes (LeaseIsFresh c.lease.result) c.args.desk.now c.lease.new.desk LeaseCall (lease_reply c.lease.result) c.lease.ensures refl;
-  no_job = tt;
-  full = λ e. absurd (cc e);
-}
-
-pub returns-in-Err-HistoryFull : goal.returns-in-Err-HistoryFull
-returns-in-Err-HistoryFull g c = record {
-  on = makes_goes (LeaseIsFresh c.lease.result) c.args.desk.now c.lease.new.desk LeaseCall (lease_reply c.lease.result) c.lease.ensures refl;
-  no_job = tt;
-  full = λ e. full_seen (LeaseIsFresh (Err c.in-Err-HistoryFull.field-0)) c.args.desk.now c.lease.new.desk LeaseCall c.in-Err-HistoryFull.field-0
-      c.in-Err-HistoryFull.ensures c.in-Err-HistoryFull.field-0-is;
-}
+pub returns-in-Ok-None : goal.returns-in-Ok-None
+returns-in-Ok-None g c = none_left c.args.desk.now c.lease.new.desk
+    (subst (λ lent. MakesCallOn (LeaseIsFresh (Ok lent)) c.args.desk.now LeaseCall (lease_reply (Ok lent)) c.lease.new.desk) c.in-Ok-None.field-0-is c.in-Ok-None.ensures)

@@ -1,8 +1,14 @@
-use Rattle.trlab_book.proofs.GoingOn.{goes_on, ended_after}
+use Rattle.trlab_book.specs.Turns.{Free, Through}
+use Rattle.trlab_book.proofs.GoingOn.{ended_after, goes_both, one_ended, rests}
 use Rattle.trlab_book.proofs.running.Runner.take_leases.Goals as goal
 
+pub loop-init : goal.loop-init
+loop-init g c = (tt, tt, rests Free c.args.desk.now)
+
 pub returns-in-Some-take_free : goal.returns-in-Some-take_free
-returns-in-Some-take_free g c = ended_after 1 c.in-Some-take_free.ended c.args.desk.now c.loop.desk c.take_free.new.desk c.loop.invariant.2 c.in-Some-take_free.ensures
+returns-in-Some-take_free g c =
+    one_ended c.in-Some-take_free.ended c.args.desk.now c.take_free.new.desk
+    (ended_after Free Free Through 1 c.in-Some-take_free.ended c.args.desk.now c.loop.desk c.take_free.new.desk c.loop.invariant.2 c.in-Some-take_free.ensures)
 
 pub loop-preserved : goal.loop-preserved
-loop-preserved g c = (tt, tt, goes_on c.args.desk.now c.loop.desk c.take_free.new.desk c.loop.invariant.2 c.in_default.ensures)
+loop-preserved g c = (tt, tt, goes_both Free Free Free c.args.desk.now c.loop.desk c.take_free.new.desk c.loop.invariant.2 c.in_default.ensures)

@@ -1,6 +1,7 @@
-use Rattle.trlab_book.specs.Desks.{AddsRunnerCalls}
+use Rattle.trlab_book.specs.Desks.{Goes}
+use Rattle.trlab_book.specs.Turns.{Free}
 use Rattle.trlab_book.proofs.running.Runner.take_leases.Given as goal
 
 abbrev pub invariant-loop : goal.invariant-loop
 invariant-loop g l =
-    (goal.iterator-loop g).can_next l.iterator' × (goal.iterator-loop g).is_finite l.iterator' × AddsRunnerCalls l.initial.desk l.desk
+    (goal.iterator-loop g).can_next l.iterator' × (goal.iterator-loop g).is_finite l.iterator' × Goes Free Free l.initial.desk l.desk

@@ -24,12 +24,12 @@ returns-in-Ok-verdict_of-clause-ends g c = λ input read.
     let check = c.in-Ok.check in
     let verdict = c.in-Ok-verdict_of.verdict in
     let says = read_says (λ (text : List ℕ). CheckLinesParseTo (lines_of text)) c.args.text.now input (Ok check) read c.in-Ok.ensures.told in
-    let ends = rw c.deref.ensures.value at c.write_output.ensures.answer in
+    let ends = rw c.deref.ensures.value at c.write_output.ensures.ends.answer in
     record {
       answer = said_ends ParsesAsCheck IsOutputForCheck c.write_output.result input check _ _ says
           (output_ends (IsOutputForCheck check) verdict.is_refusal verdict.text.items c.write_output.result _ _ c.in-Ok-verdict_of.ensures ends);
-      handed = c.write_output.ensures.handed;
-      device = c.write_output.ensures.device;
+      handed = c.write_output.ensures.ends.handed;
+      device = c.write_output.ensures.ends.device;
     }
 
 pub returns-in-Err-Memory-clause-ends : goal.returns-in-Err-Memory-clause-ends
@@ -42,7 +42,7 @@ pub returns-in-Err-At-clause-kept : goal.returns-in-Err-At-clause-kept
 returns-in-Err-At-clause-kept g c = λ at_once is. kept_at_memory true _ c.refuse.result _ _ c.refuse.ensures.answer is
 
 pub returns-in-Ok-verdict_of-clause-kept : goal.returns-in-Ok-verdict_of-clause-kept
-returns-in-Ok-verdict_of-clause-kept g c = λ at_once is. kept_at_memory _ _ c.write_output.result _ _ c.write_output.ensures.answer is
+returns-in-Ok-verdict_of-clause-kept g c = λ at_once is. kept_at_memory _ _ c.write_output.result _ _ c.write_output.ensures.ends.answer is
 
 pub returns-in-Err-Memory-clause-kept : goal.returns-in-Err-Memory-clause-kept
 returns-in-Err-Memory-clause-kept g c = λ at_once is. kept _

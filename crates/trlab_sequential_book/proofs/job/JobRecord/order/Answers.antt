@@ -1,10 +1,12 @@
-use Rattle.std.proofs.Common.{arith, ◌≡◌, ap, sym, ◌∙◌, subst, true, Some}
+use Rattle.std.proofs.Common.{arith, rules, ◌≡◌, ap, sym, ◌∙◌, subst, true, Some}
 use Rattle.trlab_step.specs.Run.{in_force}
 use Rattle.trlab_sequential_book.specs.Machine.{JobState, accepts_lease}
 use Rattle.trlab_sequential_book.proofs.Booking.{job_state}
 use Rattle.trlab_sequential_book.specs.Comparison.{offered}
 use Rattle.trlab_sequential_book.proofs.Booking.{own_parts}
 use Rattle.trlab_sequential_book.proofs.Entering.{begin_more}
+use Rattle.trlab_sequential_book.proofs.LeaseRuns.{way_begins, way_suits}
+use Rattle.trlab_sequential_book.specs.Jobs.{run_start}
 use Rattle.trlab_sequential_book.proofs.job.JobRecord.order.Goals as goal
 
 pub invariant_of-self : goal.invariant_of-self
@@ -33,3 +35,18 @@ pub returns-clause-rule : goal.returns-clause-rule
 returns-clause-rule c =
     let seen = ap (λ (s : JobState). in_force s.sheet c.step-step.result) c.self.view_is in
     sym seen ∙ c.entry_in_force-entry.ensures.rule ∙ ap Some (sym c.in_ok-rule.ensures)
+
+pub returns-clause-fits : goal.returns-clause-fits
+returns-clause-fits c =
+    let j = c.self.inside in
+    let l = c.args.lease.now in
+    let own : accepts_lease (offered l c.args.runs_its_road) c.args.self.now ≡ true = sym c.accepts_lease.ensures ∙ c.if-not-accepts_lease.false in
+    let parts = own_parts (offered l c.args.runs_its_road) c.args.self.now own in
+    let state = job_state j.seed j.sheet j.steps j.high j.done j.cancelled j.out in
+    let way = way_begins state c.args.self.now l _ j.tally c.self.view_is c.self.invariant.run c.step-step.ensures.lease (c.requires parts.2) parts.0 in
+    record {
+      job = search rules;
+      number = search rules;
+      step = search rules;
+      rule = way_suits (run_start c.args.self.now.seed) c.args.self.now.sheet j.done _ j.tally l.applied l.road _ way (returns-clause-rule c);
+    }

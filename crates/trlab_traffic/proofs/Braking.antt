@@ -1,0 +1,189 @@
+-- What random braking costs.
+use Rattle.std.proofs.Common.{◌≡◌, ℕ, zero, suc, ◌+◌, ◌-◌, ◌*◌, ◌≤◌, ◌&&◌, min, Bool, true, false, cond, List, [], ◌∷◌, length, get_or, refl, sym, ◌∙◌, ap, subst, inl, inr, arith, mul_comm, suc-mul, if◌then◌else◌}
+use Rattle.std.specs.Prelude.{All, nat_le, nat_lt, sum_by}
+use Rattle.std.proofs.lemmas.Bool.{cases_lt, le-leb, lt-leb}
+use Rattle.std.proofs.lemmas.List.Sums.{sum_by-cons, sum_by-le}
+use Rattle.trlab_words.specs.Chances.{happens_on}
+use Rattle.trlab_words.proofs.RandomWords.{slice_index-random_words}
+use Rattle.trlab_machine.specs.declared.dice.Dice.{Dice}
+use Rattle.trlab_road.specs.declared.car.Car.{Car}
+use Rattle.trlab_road.specs.Cells.{Cells, IsAt, cars, lane_of}
+use Rattle.trlab_road.specs.Gaps.{gap}
+use Rattle.trlab_road.specs.Legal.{IsLegal}
+use Rattle.trlab_road.specs.Motion.{IsClearAhead}
+use Rattle.trlab_road.specs.Standing.{standing}
+use Rattle.trlab_road.proofs.Ring.{car_in, clear_within_gap}
+use Rattle.trlab_road.proofs.StandingOrder.{length-standing_from_lane, standing_cell}
+use Rattle.trlab_rules.specs.Laws.{ComputesSpeed}
+use Rattle.trlab_rules.specs.Published.{brake, nasch_speed, safe_speed, vdr_braking_chance}
+use Rattle.trlab_rules.specs.Rules.{Programs}
+use Rattle.trlab_step.specs.declared.tally.StepTally.{StepTally}
+use Rattle.trlab_step.specs.Next.{IsNext}
+use Rattle.trlab_step.specs.Published.{happens_to}
+use Rattle.trlab_step.specs.Run.{ComesTo, IsRoadAt, Seed, Sheet, dice_at}
+use Rattle.trlab_step.proofs.RunLaws.{road_at_is_one}
+use Rattle.trlab_traffic.specs.Braking.{AddsUpTo, BrakingCosts, BrakingCostsRuns, BrakingCostsRunsWithSlowStarts, BrakingCostsSteps, EachRunHasBraked, HasBraked, braking_cars, braking_cars_with_gap}
+use Rattle.trlab_traffic.specs.Runs.{StaysInLane, always}
+use Rattle.trlab_traffic.specs.Triangle.{all_cells, empty_cells}
+use Rattle.trlab_traffic.proofs.AnyRule.{answers_fit}
+use Rattle.trlab_traffic.proofs.Capacities.{distance_counted, distance_uncounted, next_cells, same_empty, speeds_total}
+use Rattle.trlab_traffic.proofs.DetectingRuns.{counted_so, uncounted_so}
+use Rattle.trlab_traffic.proofs.Freely.{one_rule}
+use Rattle.trlab_traffic.proofs.Going.{run_like}
+use Rattle.trlab_traffic.proofs.NaschMoves.{answered, motion_alone}
+use Rattle.trlab_traffic.proofs.RoomAhead.{lanes_room}
+use Rattle.trlab_traffic.proofs.Sums.{below_not, below_so}
+
+-- a sum of sums
+sum_two : (f g : Car → ℕ) (xs : List Car) → sum_by (λ (c : Car). f c + g c) xs ≡ sum_by f xs + sum_by g xs
+sum_two f g [] = refl
+sum_two f g (x ∷ xs) =
+    let rest = sum_two f g xs in
+    let a = sum_by-cons (λ (c : Car). f c + g c) x xs in
+    let b = sum_by-cons f x xs in
+    let c = sum_by-cons g x xs in
+    omega (arith, rest, a, b, c)
+
+-- one car
+by_limit_each : (b : Bool) (s limit : ℕ) → 1 ≤ limit → s ≤ limit → brake b s + cond b 1 0 ≤ limit
+by_limit_each true s limit some low = omega (arith, some, low)
+by_limit_each false s limit some low = omega (arith, low)
+
+by_gap_each : (b : Bool) (s g : ℕ) → s ≤ g → brake b s + cond (b && nat_lt 0 g) 1 0 ≤ g
+by_gap_each true s g low =
+    elim (cases_lt 0 g) [
+      | inl room ↦ let e = below_so 0 g room in omega (arith, e, low, room)
+      | inr none ↦ let e = below_not 0 g none in omega (arith, e, low)
+    ]
+by_gap_each false s g low = omega (arith, low)
+
+-- a run keeps its cells
+pub run_cells : (seed : Seed) (sheet : Sheet) (step : ℕ) (road : Cells) (sum : StepTally) → ComesTo seed sheet step road sum → all_cells road ≡ all_cells seed.road
+run_cells seed sheet zero road sum comes = ap all_cells comes.1
+run_cells seed sheet (suc step) road sum comes = next_cells comes.2 (dice_at seed step) comes.0 road comes.3 comes.5.next ∙ run_cells seed sheet step comes.0 comes.1 comes.4
+
+-- one step
+record Costs (chance : ℕ → ℕ) (dice : Dice) (road : Cells) (distance : ℕ) : Type 0 where
+  by_limit : distance + braking_cars chance dice road ≤ road.limit * cars road
+  by_empty_cells : distance + braking_cars_with_gap chance dice road ≤ empty_cells road
+
+module _ (chance : ℕ → ℕ) (rule : Programs) (moves : ComputesSpeed (λ view words. nasch_speed (chance view.speed) view words) rule.motion.program) (stays : StaysInLane rule) where
+  step_costs : (dice : Dice) (old new : Cells) (tally : StepTally) → IsLegal old → IsNext rule dice old new tally → Costs chance dice old tally.distance
+  step_costs dice old new tally legal is =
+      let phase = motion_alone rule dice old new tally stays is in
+      let speeds = phase.0 in
+      let fits = answers_fit rule.motion dice old speeds phase.1 in
+      let total = is.1.distance ∙ speeds_total speeds old new fits phase.2 in
+      let b : Car → Bool = λ car. happens_to dice car 0 (chance car.speed) in
+      let g : Car → ℕ = λ car. gap (lane_of old car.lane) car.place in
+      let safe : Car → ℕ = λ car. safe_speed car.speed old.limit (g car) in
+      let goes : (car : Car) → IsAt old car → speeds car.lane car.place ≡ brake (b car) (safe car) = λ car here.
+      answered (λ view words. nasch_speed (chance view.speed) view words) rule.motion dice old speeds moves legal phase.1 car here
+      ∙ ap (λ (word : ℕ). brake (happens_on (chance car.speed) word) (safe car)) (slice_index-random_words dice.key dice.road car.number dice.step 0 (omega arith)) in
+      let speed : Car → ℕ = λ car. speeds car.lane car.place in
+      let braked : Car → ℕ = λ car. cond (b car) 1 0 in
+      let gone : Car → ℕ = λ car. speed car + braked car in
+      let count = length-standing_from_lane 0 old.lanes in
+      let some_limit = legal.shape.limit.some_limit in
+      let each : All (λ (car : Car). gone car ≤ old.limit) (standing old) = λ k d below.
+      let car = get_or (standing old) k d in
+      let here = standing_cell old k d (omega (arith, below, count)) in
+      let most = by_limit_each (b car) (safe car) old.limit some_limit (let k : min (min (car.speed + 1) old.limit) (g car) ≤ old.limit = omega arith in k) in
+      let e = goes car here in
+      omega (arith, most, e) in
+      let limits = sum_by-le gone old.limit (standing old) each in
+      let split = sum_two speed braked (standing old) in
+      let same : length (standing old) * old.limit ≡ old.limit * cars old = ap (λ k. k * old.limit) count ∙ mul_comm (cars old) old.limit in
+      let with_gap : Car → ℕ = λ car. cond (b car && nat_lt 0 (g car)) 1 0 in
+      let over : Car → ℕ = λ car. speed car + with_gap car in
+      let rooms = lanes_room over 0 old.lanes (λ l low x number v here.
+      let e : l ≡ 0 + l = omega arith in
+      let car = car_in l x number v in
+      let most = by_gap_each (b car) (safe car) (g car) (let k : min (min (v + 1) old.limit) (g car) ≤ g car = omega arith in k) in
+      let go = goes car here in
+      subst (λ k. IsClearAhead (lane_of old l) x (over (car_in k x number v))) e (clear_within_gap (lane_of old l) x (over car) (omega (arith, most, go)))) in
+      let split_gaps = sum_two speed with_gap (standing old) in
+      record { by_limit = omega (arith, total, limits, split, same); by_empty_cells = omega (arith, total, rooms, split_gaps) }
+
+  -- a run
+  run_costs : (seed : Seed) (step : ℕ) (road : Cells) (sum : StepTally) (braked with_gap : ℕ) → IsLegal seed.road → ComesTo seed (always rule) step road sum
+      → HasBraked chance seed (always rule) step braked with_gap → BrakingCosts seed.road (step - seed.warm) sum.distance braked with_gap
+  run_costs seed zero road sum braked with_gap legal comes has =
+      let none = ap (λ (t : StepTally). t.distance) comes.2 in
+      let a = has.all in
+      let b = has.those_with_gap in
+      record { by_limit = omega (arith, none, a); by_empty_cells = omega (arith, none, b) }
+  run_costs seed (suc step) road sum braked with_gap legal comes has =
+      let old = comes.0 in
+      let tally = comes.3 in
+      let go = comes.5 in
+      let all = has.all in
+      let those = has.those_with_gap in
+      let here : IsRoadAt seed (always rule) step old = (comes.1, comes.4) in
+      let all_here = road_at_is_one seed (always rule) step all.0 old all.2 here in
+      let those_here = road_at_is_one seed (always rule) step those.0 old those.2 here in
+      let before = run_costs seed step old comes.1 all.1 those.1 legal comes.4 (record { all = all.3; those_with_gap = those.3 }) in
+      let like = run_like seed (always rule) step old comes.1 legal comes.4 in
+      let same = one_rule rule comes.2 step go.under in
+      let next = subst (λ (r : Programs). IsNext r (dice_at seed step) old road tally) (sym same) go.next in
+      let now = step_costs (dice_at seed step) old road tally like.legal next in
+      let a = now.by_limit in
+      let b = now.by_empty_cells in
+      let a_before = before.by_limit in
+      let b_before = before.by_empty_cells in
+      let most : old.limit * cars old ≡ seed.road.limit * cars seed.road = ap (λ k. k * cars old) like.same_limit ∙ ap (λ k. seed.road.limit * k) like.same_count in
+      let empty = same_empty seed.road old like.same_count (run_cells seed (always rule) step old comes.1 comes.4) in
+      let brakes = ap (braking_cars chance (dice_at seed step)) all_here in
+      let brakes_with_gap = ap (braking_cars_with_gap chance (dice_at seed step)) those_here in
+      elim (cases_lt step seed.warm) [
+        | inl early ↦
+            let e : suc step - seed.warm ≡ step - seed.warm = omega (arith, early) in
+            let not_yet = lt-leb seed.warm step early in
+            let d = distance_uncounted (nat_le seed.warm step) sum comes.1 tally go.counted not_yet in
+            let c = uncounted_so (nat_le seed.warm step) braked all.1 (braking_cars chance (dice_at seed step) all.0) all.4 not_yet in
+            let f = uncounted_so (nat_le seed.warm step) with_gap those.1 (braking_cars_with_gap chance (dice_at seed step) those.0) those.4 not_yet in
+            subst (λ k. BrakingCosts seed.road k sum.distance braked with_gap) (sym e) (record { by_limit = omega (arith, a_before, d, c); by_empty_cells = omega (arith, b_before, d, f) })
+        | inr late ↦
+            let e : suc step - seed.warm ≡ suc (step - seed.warm) = omega (arith, late) in
+            let yet = le-leb seed.warm step late in
+            let d = distance_counted (nat_le seed.warm step) sum comes.1 tally go.counted yet in
+            let c = counted_so (nat_le seed.warm step) braked all.1 (braking_cars chance (dice_at seed step) all.0) all.4 yet in
+            let f = counted_so (nat_le seed.warm step) with_gap those.1 (braking_cars_with_gap chance (dice_at seed step) those.0) those.4 yet in
+            let limits = suc-mul (step - seed.warm) (seed.road.limit * cars seed.road) in
+            let empties = suc-mul (step - seed.warm) (empty_cells seed.road) in
+            subst (λ k. BrakingCosts seed.road k sum.distance braked with_gap) (sym e) (record {
+              by_limit = omega (arith, a, a_before, d, c, most, brakes, limits);
+              by_empty_cells = omega (arith, b, b_before, d, f, empty, brakes_with_gap, empties);
+            })
+      ]
+
+pub braking_costs_steps : BrakingCostsSteps
+braking_costs_steps p rule dice road next tally is legal step =
+    let costs = step_costs (λ speed. p) rule is.motion.moves is.change dice road next tally legal step in
+    let a = costs.by_limit in
+    let b = costs.by_empty_cells in
+    record { by_limit = once (tally.distance + braking_cars (λ speed. p) dice road) (road.limit * cars road) a; by_empty_cells = once (tally.distance + braking_cars_with_gap (λ speed. p) dice road) (empty_cells road) b }
+  where
+    once : (m n : ℕ) → m ≤ n → m ≤ 1 * n
+    once m n h = omega (arith, h)
+
+pub braking_costs_runs : BrakingCostsRuns
+braking_costs_runs p rule seed step road sum braked with_gap is legal comes has =
+    run_costs (λ speed. p) rule is.motion.moves is.change seed step road sum braked with_gap legal comes has
+
+pub braking_costs_runs_with_slow_starts : BrakingCostsRunsWithSlowStarts
+braking_costs_runs_with_slow_starts p p0 rule seed step road sum braked with_gap is legal comes has =
+    run_costs (vdr_braking_chance p p0) rule is.motion.moves is.change seed step road sum braked with_gap legal comes has
+
+adds_up : (braking : Dice → Cells → ℕ) (seed : Seed) (sheet : Sheet) (step : ℕ) (road : Cells) (sum : StepTally) → ComesTo seed sheet step road sum → (all : ℕ) × AddsUpTo braking seed sheet step all
+adds_up braking seed sheet zero road sum comes = (0, refl)
+adds_up braking seed sheet (suc step) road sum comes =
+    let before = adds_up braking seed sheet step comes.0 comes.1 comes.4 in
+    let all = if nat_le seed.warm step then before.0 + braking (dice_at seed step) comes.0 else before.0 in
+    (all, (comes.0, before.0, (comes.1, comes.4), before.1, refl))
+
+pub each_run_has_braked : EachRunHasBraked
+each_run_has_braked chance seed sheet step road sum comes =
+    let all = adds_up (braking_cars chance) seed sheet step road sum comes in
+    let those = adds_up (braking_cars_with_gap chance) seed sheet step road sum comes in
+    (all.0, those.0, record { all = all.1; those_with_gap = those.1 })

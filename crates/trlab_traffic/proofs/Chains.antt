@@ -1,0 +1,181 @@
+-- A ring as a chain of cells, cut open before its first cell: what one step makes of it, and the sums of all
+-- weights that lead to a chain.
+use Rattle.std.proofs.Common.{◌≡◌, ℕ, zero, suc, ◌+◌, ◌*◌, Bool, true, false, not, ◌&&◌, ◌||◌, [], ◌∷◌, length, get_or, refl, ap, arith}
+use Rattle.std.specs.Bool.{beq}
+use Rattle.trlab_traffic.specs.Rings.{Ring}
+use Rattle.trlab_traffic.proofs.RingSums.{draw_weight, rings, rings_add, sets, sets_times}
+
+abbrev pub bit : Bool → ℕ
+bit true = 1
+bit false = 0
+
+-- does a car leave its cell, where `next` says whether the cell ahead is taken?
+abbrev pub leaves : Bool → Bool → Bool → Bool
+leaves own next brake = own && not next && not brake
+
+-- is a cell taken after the step, if `came` says whether a car comes to it?
+abbrev pub kept : Bool → Bool → Bool → Bool
+kept own left came = (own && not left) || came
+
+module _ (t q : ℕ) where
+  -- what a cell weighs on the old ring
+  abbrev pub own_weight : Bool → Bool → ℕ
+  own_weight false next = 1
+  own_weight true false = t + q
+  own_weight true true = t
+
+  -- the weight of one cell of a step: 0 if the new cell is another
+  abbrev pub cell_weight : Bool → Bool → Bool → Bool → Bool → ℕ
+  cell_weight came own next brake new = bit (beq (kept own (leaves own next brake) came) new) * (own_weight own next * draw_weight t q own brake)
+
+  -- the weight of a step of a chain before which `came` says whether a car comes, and after which `first` is the cell ahead and `last`
+  -- says whether a car leaves
+  abbrev pub chain : Bool → Bool → Bool → Ring → Ring → Ring → ℕ
+  chain first last came [] [] [] = bit (beq came last)
+  chain first last came (own ∷ old) (brake ∷ braking) (cell ∷ new) =
+      cell_weight came own (get_or old 0 first) brake cell
+      * chain first last (leaves own (get_or old 0 first) brake) old braking new
+  chain first last came _ _ _ = 0
+
+  -- the sum over all chains that begin with `own`, by recursion: the cell after the last is `first`
+  abbrev pub sums : Bool → Bool → Bool → Bool → Ring → ℕ
+  sums first last came own [] = bit (beq own first) * bit (beq came last)
+  sums first last came false (cell ∷ new) =
+      cell_weight came false false false cell * sums first last false false new
+      + cell_weight came false true false cell * sums first last false true new
+  sums first last came true (cell ∷ new) =
+      cell_weight came true false false cell * sums first last true false new
+      + cell_weight came true false true cell * sums first last false false new
+      + (cell_weight came true true false cell * sums first last false true new
+      + cell_weight came true true true cell * sums first last false true new)
+
+  -- the sum over chains, as it is
+  abbrev pub all_chains : Bool → Bool → Bool → Bool → Bool → Ring → ℕ
+  all_chains first last came own cell new =
+      rings (length new) (λ (old : Ring). sets (own ∷ old) (λ (braking : Ring). chain first last came (own ∷ old) braking (cell ∷ new)))
+
+  -- the part of these sums in which the next cell and the braking are given
+  part : (first last came own next brake cell new_cell : Bool) (new : Ring)
+      → rings (length new) (λ (old : Ring). sets (next ∷ old) (λ (braking : Ring). chain first last came (own ∷ next ∷ old) (brake ∷ braking) (cell ∷ new_cell ∷ new)))
+      ≡ cell_weight came own next brake cell * all_chains first last (leaves own next brake) next new_cell new
+  part first last came own next brake cell new_cell new =
+      let k = cell_weight came own next brake cell in
+      let f : Ring → Ring → ℕ = λ old braking. chain first last (leaves own next brake) (next ∷ old) braking (new_cell ∷ new) in
+      rings_pull (length new) k (λ old. next ∷ old) f
+    where
+      rings_pull : (n k : ℕ) (g : Ring → Ring) (f : Ring → Ring → ℕ) → rings n (λ (old : Ring). sets (g old) (λ (braking : Ring). k * f old braking)) ≡ k * rings n (λ (old : Ring). sets (g old) (f old))
+      rings_pull zero k g f = sets_times (g []) k (f [])
+      rings_pull (suc n) k g f =
+          let a = rings_pull n k (λ (r : Ring). g (false ∷ r)) (λ (r : Ring). f (false ∷ r)) in
+          let b = rings_pull n k (λ (r : Ring). g (true ∷ r)) (λ (r : Ring). f (true ∷ r)) in
+          omega (arith, a, b)
+
+  -- both are the same
+  pub chains_sum : (first last came own cell : Bool) (new : Ring) → all_chains first last came own cell new ≡ sums first last came own (cell ∷ new)
+  chains_sum false last came false cell [] = omega arith
+  chains_sum true last came false cell [] = omega arith
+  chains_sum false last came true cell [] = omega arith
+  chains_sum true last came true cell [] = omega arith
+  chains_sum first last came false cell (c ∷ new) =
+      let a = part first last came false false false cell c new in
+      let b = part first last came false true false cell c new in
+      let d = chains_sum first last false false c new in
+      let e = chains_sum first last false true c new in
+      let f = ap (λ x. cell_weight came false false false cell * x) d in
+      let g = ap (λ x. cell_weight came false true false cell * x) e in
+      omega (arith, a, b, f, g)
+  chains_sum first last came true cell (c ∷ new) =
+      let next_no = rings_add (length new)
+      (λ (old : Ring). sets (false ∷ old) (λ (braking : Ring). chain first last came (true ∷ false ∷ old) (false ∷ braking) (cell ∷ c ∷ new)))
+      (λ (old : Ring). sets (false ∷ old) (λ (braking : Ring). chain first last came (true ∷ false ∷ old) (true ∷ braking) (cell ∷ c ∷ new))) in
+      let next_yes = rings_add (length new)
+      (λ (old : Ring). sets (true ∷ old) (λ (braking : Ring). chain first last came (true ∷ true ∷ old) (false ∷ braking) (cell ∷ c ∷ new)))
+      (λ (old : Ring). sets (true ∷ old) (λ (braking : Ring). chain first last came (true ∷ true ∷ old) (true ∷ braking) (cell ∷ c ∷ new))) in
+      let a = part first last came true false false cell c new in
+      let b = part first last came true false true cell c new in
+      let a' = part first last came true true false cell c new in
+      let b' = part first last came true true true cell c new in
+      let d = ap (λ x. cell_weight came true false false cell * x) (chains_sum first last true false c new) in
+      let e = ap (λ x. cell_weight came true false true cell * x) (chains_sum first last false false c new) in
+      let d' = ap (λ x. cell_weight came true true false cell * x) (chains_sum first last false true c new) in
+      let e' = ap (λ x. cell_weight came true true true cell * x) (chains_sum first last false true c new) in
+      omega (arith, next_no, next_yes, a, b, a', b', d, e, d', e')
+
+  -- the closed form: a factor for each taken cell, by the cell behind it
+  abbrev pub product : ℕ → ℕ → Bool → Ring → ℕ
+  product e0 e1 false [] = e0
+  product e0 e1 true [] = e1
+  product e0 e1 before (false ∷ new) = product e0 e1 false new
+  product e0 e1 false (true ∷ new) = (t + q) * (t + q) * product e0 e1 true new
+  product e0 e1 true (true ∷ new) = (t + q) * t * product e0 e1 true new
+
+  -- the sums from an empty cell to which no car comes, whatever the next cell is
+  abbrev pub open_sums : Bool → Bool → Ring → ℕ
+  open_sums first last new = sums first last false false new + sums first last false true new
+
+  pub record HasProduct (first last : Bool) (e0 e1 : ℕ) (new : Ring) : Type 0 where
+    pub after_taken : open_sums first last new ≡ product e0 e1 true new
+    pub after_empty : open_sums first last new + (t + q) * q * sums first last true false new ≡ product e0 e1 false new
+
+  pub has_product : (first last : Bool) (e0 e1 : ℕ) → HasProduct first last e0 e1 [] → (new : Ring) → HasProduct first last e0 e1 new
+  has_product first last e0 e1 end [] = end
+  has_product first last e0 e1 end (false ∷ new) =
+      let rest = has_product first last e0 e1 end new in
+      let a = rest.after_taken in
+      let b = rest.after_empty in
+      record { after_taken = omega (arith, a, b); after_empty = omega (arith, a, b) }
+  has_product first last e0 e1 end (true ∷ new) =
+      let rest = has_product first last e0 e1 end new in
+      let a = rest.after_taken in
+      let b = rest.after_empty in
+      let c = ap (λ x. (t + q) * t * x) a in
+      let d = ap (λ x. (t + q) * (t + q) * x) a in
+      record { after_taken = omega (arith, a, b, c); after_empty = omega (arith, a, b, c, d) }
+
+  -- the four ways to close the ring
+  moving_end : (last : Bool) → HasProduct true true 0 0 []
+  moving_end last = record { after_taken = omega arith; after_empty = omega arith }
+
+  open_end : (first : Bool) → HasProduct first false 1 1 []
+  open_end false = record { after_taken = omega arith; after_empty = omega arith }
+  open_end true = record { after_taken = omega arith; after_empty = omega arith }
+
+  left_end : HasProduct false true ((t + q) * q) 0 []
+  left_end = record { after_taken = omega arith; after_empty = omega arith }
+
+  product_none : (before : Bool) (new : Ring) → product 0 0 before new ≡ 0
+  product_none false [] = refl
+  product_none true [] = refl
+  product_none false (false ∷ new) = product_none false new
+  product_none true (false ∷ new) = product_none false new
+  product_none false (true ∷ new) = let e = ap (λ x. (t + q) * (t + q) * x) (product_none true new) in omega (arith, e)
+  product_none true (true ∷ new) = let e = ap (λ x. (t + q) * t * x) (product_none true new) in omega (arith, e)
+
+  -- all four together
+  abbrev pub closed : Ring → ℕ
+  closed new = sums false false false false new + sums true false false true new + (sums false true true false new + sums true true true true new)
+
+  -- closed rings whose first cell is empty, or taken
+  pub closed_empty : (new : Ring) → closed (false ∷ new) ≡ product 1 1 false new
+  closed_empty new =
+      let a = has_product false false 1 1 (open_end false) new in
+      let b = has_product true false 1 1 (open_end true) new in
+      let ta = a.after_taken in
+      let bt = b.after_taken in
+      let be = b.after_empty in
+      omega (arith, ta, bt, be)
+
+  pub closed_taken : (new : Ring) → closed (true ∷ new) ≡ (t + q) * t * product 1 1 true new + product ((t + q) * q) 0 true new
+  closed_taken new =
+      let b = has_product true false 1 1 (open_end true) new in
+      let c = has_product false true ((t + q) * q) 0 left_end new in
+      let d = has_product true true 0 0 (moving_end true) new in
+      let bt = ap (λ x. (t + q) * t * x) b.after_taken in
+      let ct = c.after_taken in
+      let dt = ap (λ x. (t + q) * t * x) d.after_taken in
+      let de = d.after_empty in
+      let d_t = d.after_taken in
+      let none = product_none true new in
+      let none' = product_none false new in
+      let zero_t = ap (λ x. (t + q) * t * x) none in
+      omega (arith, bt, ct, dt, de, d_t, none, none', zero_t)
