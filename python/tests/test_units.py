@@ -17,7 +17,7 @@ class Units(unittest.TestCase):
                     density=[0.11, 0.2], seed=range(2))
         frame = grid.run(call=lambda job: job.series(every=20))
         runs = trlab.per_run(frame)
-        for made in frame, runs, trlab.to_si(runs), trlab.means(runs, "seed"), job.detectors([3], 20), job.series().to_pandas():
+        for made in frame, runs, trlab.to_si(runs), trlab.means(runs, "seed"), job.detectors([3], every=20), job.series().to_pandas():
             for name in (*made, *made.index.names):
                 if name not in ("key", "road", "ensemble", "seed", "lane", None):
                     self.assertIn(str(name).replace("_sem", ""), trlab.UNITS)
