@@ -49,7 +49,8 @@ class Study(NamedTuple):
             self.write_inputs(inputs)
             tables = self.results(inputs, call)
             rows = [[name, *row] for name in inputs for row in tables[name]]
-            write_rows(self.folder / file, ["text", *Table(kind).text().strip().split(",")], rows)
+            # Files have flows in millionths of a car per step, and call the column flow.
+            write_rows(self.folder / file, ["text", *(name.replace("_millionths", "") for name in kind._fields)], rows)
         return frame_of(inputs, read_tables(self.folder / file, kind))
 
     def results(self, inputs: Mapping[str, Input], call: Callable[[Input], Result]) -> dict[str, Result]:
@@ -117,7 +118,7 @@ def read_tables(file: Path, kind: type[Row]) -> dict[str, Table[Row]]:
 def frame_of(inputs: Mapping[str, Input], tables: Mapping[str, Table[Any]]) -> pandas.DataFrame:
     """The frame of `Grid.run` for such inputs and their tables: a row for each road, with the name of its `input`."""
     grid = Grid(lambda input, key: input, input=inputs)
-    return grid.frame_of(dict(zip(grid.inputs, (tables[name] for name in inputs)))).reset_index()
+    return grid.frame(dict(zip(grid.named_inputs(), (tables[name] for name in inputs)))).reset_index()
 
 
 def means(frame: pandas.DataFrame, *parameters: str, of: Sequence[str] = ("flow",)) -> pandas.DataFrame:

@@ -151,7 +151,7 @@ job = Job(limit=5, length=9, cars=2, rule=Nasch(0), steps=40)
 snapshots, table = job.run(), job.series()
 for call in (
     snapshots.trajectories, snapshots.speeds, snapshots.occupied, snapshots.to_pandas, table.to_numpy, table.to_pandas,
-    lambda: job.detectors([0], 40), lambda: trlab.follow, lambda: trlab.detectors, lambda: trlab.passings,
+    lambda: job.detectors([0], every=40), lambda: trlab.follow, lambda: trlab.detectors, lambda: trlab.passings,
     lambda: trlab.Trajectories,
 ):
     try:

@@ -5,10 +5,12 @@ import importlib.util
 import io
 import itertools
 import os
+import re
 import subprocess
 import sys
 import tempfile
 import unittest
+from concurrent.futures import ThreadPoolExecutor
 from dataclasses import replace
 from functools import lru_cache
 from pathlib import Path
@@ -23,6 +25,9 @@ from trlab import Nasch, Point, Sweep, random_cells
 TOP = Path(__file__).resolve().parents[2]
 STUDIES = TOP / "studies"
 NAMES = "1992", "1996", "1998", "exact", "triangle"
+QUICK = "detectors", "hysteresis", "own_rule", "study_file", "trajectories"  # of the short scripts: seconds, not minutes
+PRINTED = re.compile(r"```sh\npython3 studies/paper/(\w+)\.py\n```\n\n```text\n(.*?)```", re.S)
+HEADING = "text,cars,cells,steps,distance,stopped,changes,flow"
 MISSING = [package for package in ("numpy", "pandas", "matplotlib") if not importlib.util.find_spec(package)]
 sys.path.append(str(TOP))
 if not MISSING:
@@ -46,6 +51,11 @@ def inputs(name):
     return {f"{asked}.sweep": sweep for asked, sweep in sweeps.items()}
 
 
+def lines(table):
+    """The rows of a result, as in a file."""
+    return [",".join(map(str, row)) for row in table]
+
+
 class Drawn(NamedTuple):
     """What a study draws and prints from its tables."""
 
@@ -53,15 +63,27 @@ class Drawn(NamedTuple):
     printed: list
 
 
+def ran(folder, *words):
+    """What Python prints in a folder with a copy of the studies without figures, and the figures that it draws there."""
+    copytree(STUDIES, Path(folder) / "studies", ignore=ignore_patterns("*.svg", "cache"))
+    environment = {**os.environ, "PYTHONPATH": str(TOP / "python"), "PYTHONIOENCODING": "utf-8", "MPLBACKEND": "agg"}
+    words = [sys.executable, "-B", *words]
+    printed = subprocess.run(words, cwd=folder, env=environment, check=True, stdout=subprocess.PIPE, encoding="utf-8").stdout
+    return Drawn({file.name: file.read_text(encoding="utf-8") for file in Path(folder).rglob("*.svg")}, printed.splitlines())
+
+
 @lru_cache(maxsize=None)
 def drawn(name):
     with tempfile.TemporaryDirectory() as folder:
-        copytree(STUDIES, Path(folder) / "studies", ignore=ignore_patterns("*.svg", "cache"))
-        words = [sys.executable, "-B", "-m", f"studies.{name}.reproduce", "--draw"]
-        environment = {**os.environ, "PYTHONPATH": str(TOP / "python"), "PYTHONIOENCODING": "utf-8"}
-        printed = subprocess.run(words, cwd=folder, env=environment, check=True, stdout=subprocess.PIPE, encoding="utf-8").stdout
-        figures = {file.name: file.read_text(encoding="utf-8") for file in (Path(folder) / "studies" / name).glob("*.svg")}
-        return Drawn(figures, printed.splitlines())
+        return ran(folder, "-m", f"studies.{name}.reproduce", "--draw")
+
+
+def is_rounded_alike(one, other):
+    """Whether two words are the same, or numbers that differ by one in the last digit: sums depend on the library."""
+    if one == other:
+        return True
+    places = len(one.partition(".")[2])
+    return "." in one and places == len(other.partition(".")[2]) and abs(float(one) - float(other)) < 1.5 * 10**-places
 
 
 def words_of(figure):
@@ -72,8 +94,8 @@ def words_of(figure):
 
 def rows(file):
     """The lines of a table after its heading, by the names of their inputs."""
-    lines = (line.split(",", 1) for line in file.read_text().splitlines()[1:])
-    return {name: [row for _, row in group] for name, group in itertools.groupby(lines, lambda line: line[0])}
+    found = (line.split(",", 1) for line in file.read_text().splitlines()[1:])
+    return {name: [row for _, row in group] for name, group in itertools.groupby(found, lambda line: line[0])}
 
 
 @unittest.skipIf(MISSING, f"{', '.join(MISSING)} not installed")
@@ -130,7 +152,7 @@ class Studies(unittest.TestCase):
             for asked, sweep in itertools.islice(script(name).inputs(False).items(), 2):
                 first = replace(sweep, cars=sweep.counts()[:2], densities=None)
                 with self.subTest(study=name, input=asked):
-                    self.assertEqual(Sweep.sweep(first).text().splitlines()[1:], table[asked][:2])
+                    self.assertEqual(lines(Sweep.sweep(first)), table[asked][:2])
 
     def test_first_points_of_random_initial_states_come_out_again(self):
         for name in "1992", "1996", "triangle":
@@ -139,8 +161,7 @@ class Studies(unittest.TestCase):
             self.assertEqual(list(table), list(jobs))
             for asked, job in itertools.islice(jobs.items(), 2):
                 with self.subTest(study=name, input=asked):
-                    (point,) = random_starts.last_steps(module.MEASURE)(job)
-                    self.assertEqual([",".join(map(str, point))], table[asked])
+                    self.assertEqual(lines(random_starts.last_steps(module.MEASURE)(job)), table[asked])
 
     def test_random_initial_states_are_those_of_a_sweep(self):
         sweep = Sweep(limit=5, length=30, rule=Nasch("1/4"), warm=10, measure=20, cars=[4, 4, 7], key=5)
@@ -153,7 +174,7 @@ class Studies(unittest.TestCase):
         module = script("1992")
         tables = shared.read_tables(STUDIES / "1992" / "table.csv", Point)
         denser = {name: replace(sweep, densities=[0.5] * 5) for name, sweep in module.inputs(False).items()}
-        with self.assertRaisesRegex(ValueError, "other roads"):
+        with self.assertRaisesRegex(ValueError, "0.02_key1"):
             shared.frame_of(denser, tables)
 
     def test_an_interrupted_study_continues(self):
@@ -180,9 +201,21 @@ class Studies(unittest.TestCase):
                         self.assertEqual(calls(beside, "sweep") - before, new_calls)
             self.assertEqual(list(found.cars), [1, 2, 3])
             self.assertLessEqual(done, 2)
-            self.assertEqual((Path(folder) / "table.csv").read_text().splitlines()[0], "text," + found_heading())
+            self.assertEqual((Path(folder) / "table.csv").read_text().splitlines()[0], HEADING)
             study.save(shared.plt.subplots()[1])
             self.assertEqual({file.name for file in Path(folder).iterdir()}, {"table.csv", "texts", "figure.svg"})
+
+    def test_short_scripts_print_their_page(self):
+        wanted = dict(PRINTED.findall((STUDIES / "paper" / "README.md").read_text(encoding="utf-8")))
+        self.assertEqual(set(wanted), {file.stem for file in (STUDIES / "paper").glob("*.py")})
+        with tempfile.TemporaryDirectory() as folder, ThreadPoolExecutor() as pool:
+            found = pool.map(lambda name: ran(Path(folder) / name, f"studies/paper/{name}.py"), QUICK)
+            for name, (figures, printed) in zip(QUICK, found):
+                with self.subTest(script=name):
+                    self.assertEqual(set(figures), {f"{name}.svg"})
+                    words, others = "\n".join(printed).split(), wanted[name].split()
+                    self.assertEqual(len(words), len(others))
+                    self.assertEqual([pair for pair in zip(words, others) if not is_rounded_alike(*pair)], [])
 
     def test_parts_are_not_in_git(self):
         if not (TOP / ".git").exists() or not which("git"):
@@ -195,12 +228,7 @@ class Studies(unittest.TestCase):
         jobs = module.branches(False)
         self.assertEqual(list(table), list(jobs))
         for name in "jam_0.03_key1", "moving_0.03_key2":
-            self.assertEqual(module.last_half(jobs[name]).text().splitlines()[1:], table[name])
+            self.assertEqual(lines(module.last_half(jobs[name])), table[name])
         lives = rows(STUDIES / "1998" / "lives.csv")
         for name, job in itertools.islice(module.lives(False).items(), 3):
             self.assertEqual([f"{job.length},{module.life(job)}"], lives[name])
-
-
-def found_heading():
-    """The heading of tables of points in the repository."""
-    return (STUDIES / "1992" / "table.csv").read_text().splitlines()[0].removeprefix("text,")

@@ -17,8 +17,10 @@ def make(density, seed, key):
 def hour(job):
     """One row of a detector for the whole measurement, with the mean speed on the road beside it."""
     detector, road = job.detectors(cells=[500], every=2400, first=1000).iloc[0], job.series(every=2400, first=1000)[0]
-    return {"occupancy": detector.occupancy, "time_mean": detector.time_mean_speed, "harmonic_mean": detector.harmonic_mean_speed,
-            "space_mean": road.speed, "flow_by_harmonic": detector.flow / detector.harmonic_mean_speed}
+    return {
+        "occupancy": detector.occupancy, "flow_by_harmonic": detector.flow / detector.harmonic_mean_speed,
+        "time_mean": detector.time_mean_speed, "harmonic_mean": detector.harmonic_mean_speed, "space_mean": road.speed,
+    }
 
 
 grid = Grid(make, density=[0.05, 0.1, 0.15, 0.2, 0.3, 0.5], seed=range(5))
@@ -26,6 +28,6 @@ minutes = grid.run(call=lambda job: job.detectors(cells=[500], every=60, first=1
 means = trlab.means(grid.run(call=hour), over="seed")
 
 axes = minutes.xs(0, level="seed").reset_index().plot.scatter("occupancy", "flow", c="density", cmap="viridis", s=8)
-axes.set(xlabel="occupancy (share of time)", ylabel="flow (cars per step)", title="one run per density, one point for each 60 steps")
+axes.set(xlabel="occupancy (share of time)", ylabel="flow (cars per step)", title="one run per density, a point for 60 steps")
 axes.figure.savefig(HERE / "detectors.svg", metadata={"Date": None, "Creator": None})
-print(means.round(3).to_string())
+print(means.round(4).T.to_string())

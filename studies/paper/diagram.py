@@ -23,10 +23,13 @@ frame = Grid(make, p=[0.1, 0.2, 0.3, 0.4, 0.5], seed=range(10)).run(cache=HERE /
 peaks = {p: trlab.peak(curve.droplevel("p"), over="seed", within=0.03 if p == 0.2 else 0.05)
          for p, curve in frame.groupby(level="p")}
 peaks = pandas.DataFrame(peaks.values(), index=pandas.Index(peaks, name="p"))
+means = trlab.means(frame, over="seed")
+peaks["largest_mean"] = means.flow.groupby("p").max()
+peaks["largest_of_a_run"] = frame.flow.groupby(["p", "seed"]).max().groupby("p").mean()
 
-axes = trlab.plot_means(trlab.means(frame, over="seed"), hue="p", capsize=0)
+axes = trlab.plot_means(means, hue="p", capsize=0)
 axes.errorbar(peaks.x, peaks.y, xerr=peaks.x_sem, yerr=peaks.y_sem, fmt="k+", label="peaks")
 axes.set(xlim=(0, 1), ylim=(0, 0.75), title="means ± standard error, 10 runs on 2000 cells")
-axes.legend()
+axes.legend(title="p")
 plt.savefig(HERE / "diagram.svg", metadata={"Date": None, "Creator": None})
-print(peaks[["x", "x_sem", "y", "y_sem", "points", "degree"]].round(4).to_string())
+print(peaks.drop(columns=["chi2", "dof"]).round(4).to_string())

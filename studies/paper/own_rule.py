@@ -38,6 +38,7 @@ def make(g, seed, key):
 means = trlab.means(Grid(make, g=range(8), seed=range(5)).run(cache=HERE / "cache"), over="seed")
 axes = trlab.plot_means(means, hue="g", capsize=0)
 axes.set(xlim=(0, 0.52), ylim=(0, 0.55), title="means ± standard error, 5 runs on 500 cells")
+axes.legend(title="g", ncol=2)
 plt.savefig(HERE / "own_rule.svg", metadata={"Date": None, "Creator": None})
-print(means.flow.unstack("g").round(3).to_string())
+print(means.flow.round(3).unstack("g").to_string())
 print(f"largest standard error: {means.flow_sem.max():.4f}")
