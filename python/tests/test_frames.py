@@ -164,6 +164,27 @@ class Means(unittest.TestCase):
         with self.assertRaisesRegex(FrameError, r"p=2 \(without seed=1\)"):
             trlab.means(frame.set_index(["p", "seed"]), "seed")
 
+    def test_counts_are_averaged_on_request(self):
+        frame = pandas.DataFrame({"seed": [0, 1], "key": list("ab"), "road": 0, "ensemble": "e", "distance": [4, 6], "distance0": [1, 3],
+                                  "windows": 2, "x": 1.0}).set_index("seed")
+        self.assertEqual(list(trlab.means(frame, "seed")), ["n", "x", "x_sem"])
+        self.assertEqual(trlab.means(frame, "seed", of="distance").iloc[0].to_dict(), {"n": 2, "distance": 5, "distance_sem": 1})
+
+    def test_runs_with_one_name(self):
+        frame = pandas.DataFrame({"seed": [0, 0], "key": list("ab"), "road": 0, "ensemble": "e", "x": [1.0, 2.0]}).set_index("seed")
+        self.assertRaisesRegex(FrameError, "two rows are seed=0", trlab.means, frame, "seed")
+
+    def test_a_level_may_have_missing_values(self):
+        frame = pandas.DataFrame({"p": [None, None, 1.0, 1.0], "seed": [0, 1] * 2, "key": list("abcd"), "road": 0, "ensemble": "e",
+                                  "x": [1.0, 3.0, 5.0, 7.0]}).set_index(["p", "seed"])
+        self.assertEqual(list(trlab.means(frame, "seed").x), [2, 6])
+
+    def test_a_frame_without_rows_or_numbers(self):
+        frame = pandas.DataFrame({"seed": [0, 1], "key": list("ab"), "road": 0, "ensemble": "e", "x": "a"}).set_index("seed")
+        self.assertRaisesRegex(FrameError, "no rows", trlab.means, frame[:0], "seed")
+        self.assertRaisesRegex(FrameError, "no column of numbers", trlab.means, frame, "seed")
+        self.assertRaisesRegex(FrameError, "`over` is the name", trlab.means, frame, [])
+
     def test_equal_values_have_no_error(self):
         mean, sem = mean_and_sem(numpy.array([0.1, 7.0, 0.1, 0.1]), numpy.array([0, 1, 0, 0]))
         self.assertEqual((list(mean), sem[0]), ([0.1, 7.0], 0.0))

@@ -195,6 +195,7 @@ class Frames(unittest.TestCase):
         self.assertEqual(len(frame), 3)
         self.assertRegex(frame.error.dropna()[1].iloc[0], "RejectedInputError: fault line 5 cause 4\n.*rickert")
         self.assertRaises(trlab.RejectedInputError, grid.run, call=lambda job: job.series())
+        self.assertRaisesRegex(FrameError, "a result must be", grid.run, call=lambda job: "text", errors="keep")
 
     def test_a_table_without_rows(self):
         grid = Grid(job, p=[0.25], density=[0.2], seed=[0, 1])

@@ -138,18 +138,17 @@ def _check_roads(rows: Rows, roads: KnownRoads) -> None:
     count = len(roads["cars"])
     if rows.is_of_points and len(rows.content) != count:
         raise FrameError(f"the result has {len(rows.content)} of {count} points: return the whole table of the sweep")
-    cars = numpy.asarray(roads["cars"], dtype=float)
-    known = {"cars": cars, "cells": numpy.full(count, float(roads["cells"])), "density": cars / roads["cells"]}
+    cars = numpy.array(roads["cars"], dtype=float)
     for name in [name for name in OF_THE_ROAD if name in columns_of(rows)]:
+        known = {"cars": cars, "cells": numpy.full(count, float(roads["cells"])), "density": cars / roads["cells"]}[name]
         found = _column(rows, name)
-        if rows.is_of_points:
-            is_known = numpy.isclose(found, known[name])
-        else:
-            is_known = numpy.isclose(found[:, None], numpy.unique(known[name])).any(axis=1)
-        if not is_known.all():
+        # A point is compared with its road, and another row with all roads. Densities may have been rounded.
+        differences = found - known if rows.is_of_points else found[:, None] - known
+        is_known = abs(differences) <= 1e-9 * max(1.0, known.max())
+        if not (is_known if rows.is_of_points else is_known.any(axis=1)).all():
             raise FrameError(
-                f"the result has a `{name}` of {found[~is_known][0]:g}, and a road of this input has {known[name][0]:g}: return "
-                "results of this input, and give measured values another name"
+                f"the result has the `{name}` {found[:5]}, and a road of this input has {known[0]:g}: return results of this "
+                "input, and give measured values another name"
             )
 
 
@@ -162,14 +161,15 @@ def _check_levels(rows: Rows) -> None:
             f"the result has {len(rows.content)} rows that nothing tells apart: return a frame with a named index, for example "
             '`frame.rename_axis("passing")`'
         )
-    if pandas.DataFrame({name: _values(rows, name) for name in rows.levels}).duplicated().any():
+    if len(set(zip(*(_values(rows, name) for name in rows.levels)))) < len(rows.content):
         raise FrameError(f"the result has several rows with the same {' and '.join(rows.levels)}: give it an index that differs")
 
 
-def _values(rows: Rows, name: str) -> Any:
+def _values(rows: Rows, name: str) -> list[Any]:
     if isinstance(rows.content, list):
         return [record.get(name) for record in rows.content]
-    return rows.content[name]
+    found: list[Any] = rows.content[name].tolist()
+    return found
 
 
 def _column(rows: Rows, name: str) -> Array:
