@@ -8,14 +8,12 @@ from typing import Any, NamedTuple, Union
 from .columns import COUNTS, IDENTITY, Array
 from .libraries import numpy, pandas
 from .._errors import FrameError
-from .._results.snapshots import Snapshot, Snapshots
+from .._results.snapshots import Snapshot
 from .._results.tables import Point, Table, Window
 from .._studies.grid import MEASURE
 from .._studies.roads import KnownRoads
 
 Record = dict[str, Any]
-
-KINDS: list[Any] = [Point, Window]
 
 RESERVED = [*IDENTITY, "error", "requested_density"]
 
@@ -28,8 +26,8 @@ class NoRows(FrameError):
 
 
 class Rows(NamedTuple):
-    """The rows of a result in the form that costs least: a table is an array, and joined with others before it is a frame.
-    `kind` is `Point`, `Window`, `dict` or `pandas.DataFrame`, and `levels` tell the rows apart, besides their road."""
+    """The rows of a result in the form that costs least: a table is an array, which becomes a frame together with others.
+    `kind` is `Point`, `Window`, `dict` or `pandas.DataFrame`; `levels` tell the rows apart, besides their road."""
 
     kind: type[Any]
     content: Union[Array, list[Record], pandas.DataFrame]
@@ -54,8 +52,6 @@ def rows_of(result: object, names: Sequence[str], roads: KnownRoads) -> Rows:
 
 
 def _read(result: object) -> Rows:
-    if isinstance(result, (Snapshot, Snapshots)):
-        raise FrameError(f"snapshots are not rows of a frame: say what to measure in each job, for example {MEASURE}")
     if isinstance(result, pandas.DataFrame):
         return _of_frame(result)
     if isinstance(result, (Mapping, pandas.Series)) or hasattr(result, "_fields"):
@@ -75,13 +71,11 @@ def _of_table(table: Table[Any]) -> Rows:
 
 def _of_list(items: Sequence[object]) -> Rows:
     """Rows of a table, or named tuples and mappings, which have a `step` each if there are several."""
-    for kind in KINDS:
+    kinds: list[Any] = [Point, Window]
+    for kind in kinds:
         if items and all(isinstance(item, kind) for item in items):
             return _of_table(Table(kind, items))
     records = [_record(item) for item in items]
-    for kind in KINDS:
-        if records and all(set(record) == set(kind._fields) for record in records):
-            return _of_table(Table(kind, [kind(**record) for record in records]))
     has_steps = bool(records) and all("step" in record for record in records)
     return Rows(dict, records, ["step"] if has_steps else [])
 
