@@ -12,7 +12,8 @@ def runs_of(rows, levels):
     frame = pandas.DataFrame(rows)
     if "key" not in frame:
         frame["key"] = [f"{number:064x}" for number in range(len(frame))]
-    return frame.assign(road=0, ensemble=frame[[name for name in levels if name != "seed"]].astype(str).agg("/".join, axis=1)).set_index(levels)
+    others = frame[[name for name in levels if name != "seed"]].astype(str)
+    return frame.assign(road=0, ensemble=others.agg("/".join, axis=1) if len(others.columns) else "e").set_index(levels)
 
 
 def autoregressive(noise, memory=0.9):
@@ -144,7 +145,8 @@ class Peaks(unittest.TestCase):
         more = frame.assign(limit=5, step=30).set_index(["limit", "step"], append=True)
         self.assertEqual(trlab.peak(more, over="seed"), found)
         scaled = trlab.peak(frame.assign(flow=frame.flow * 3600), over="seed")
-        numpy.testing.assert_allclose([scaled.x, scaled.x_sem, scaled.y, scaled.y_sem], [found.x, found.x_sem, 3600 * found.y, 3600 * found.y_sem],
+        numpy.testing.assert_allclose([scaled.x, scaled.x_sem, scaled.y, scaled.y_sem],
+                                      [found.x, found.x_sem, 3600 * found.y, 3600 * found.y_sem],
                                       rtol=1e-6)
 
     def test_curves_without_a_peak(self):
@@ -240,15 +242,19 @@ class Lifetimes(unittest.TestCase):
         lives = pandas.DataFrame({"time": [3, 5, 4, 4], "observed": [True, False, True, True]}, index=index)
         for call in trlab.lifetime, trlab.survival:
             self.assertRaisesRegex(EstimateError, r"several values of \['density', 'seed'\]", call, lives.time, lives.observed)
-            self.assertRaisesRegex(EstimateError, "of the same run", call, lives.droplevel("density").time, lives.droplevel("density").observed)
+            self.assertRaisesRegex(EstimateError, "of the same run", call, lives.droplevel("density").time,
+                                   lives.droplevel("density").observed)
             self.assertRaisesRegex(EstimateError, "same runs", call, lives.time, lives.observed[::-1])
             self.assertRaisesRegex(EstimateError, "one column", call, lives, lives.observed)
         means = {density: trlab.lifetime(runs.time, runs.observed).mean for density, runs in lives.groupby("density")}
         self.assertEqual(means, {0.1: 8, 0.2: 4})
 
     def test_of_runs(self):
-        lives = Grid(lambda seed, key: Job(limit=5, length=500, density=0.18, rule=SlowToStart("1/64", "3/4"), start=moving, steps=500,
-                                           key=key), seed=range(12)).run(call=lambda job: job.time_until(lambda it: it.stopped > 0, every=10))
+        lives = Grid(lambda seed, key: Job(limit=5, length=500, density=0.18, rule=SlowToStart("1/64", "3/4"), start=moving,
+                                           steps=500,
+                                           key=key),
+                                           seed=range(12)).run(call=lambda job: job.time_until(lambda it: it.stopped > 0,
+                                                                                               every=10))
         found = trlab.lifetime(lives.time, lives.observed)
         self.assertEqual((found.observed, found.mean), (lives.observed.sum(), lives.time.sum() / lives.observed.sum()))
         self.assertEqual(found.observed + found.censored, 12)

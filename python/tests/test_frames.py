@@ -12,6 +12,7 @@ import trlab
 from tests.libraries import hypothesis, numpy, pandas
 from tests.studies_for_tests import known, studies
 from trlab import FrameError, Grid, Job, Nasch, ParameterError, random_cells
+from trlab._analysis.columns import COUNTS, LANE_SUMS
 from trlab._analysis.frames import tidy
 from trlab._analysis.means import mean_and_sem
 
@@ -109,9 +110,11 @@ class Means(unittest.TestCase):
             "NA": (lambda: trlab.means(runs.assign(x=pandas.array(in_row(pandas.NA, 1), dtype="Int64")), "seed"), False),
             "own sem": (lambda: trlab.means(runs.assign(flow_sem=0.0), "seed"), False),
             "own n": (lambda: trlab.means(runs.assign(n=7), "seed"), False),
-            "missing run": (lambda: trlab.means(runs.iloc[others], "seed"), is_one_seed and not is_one or len(runs) == study.seeds > 1),
+            "missing run": (lambda: trlab.means(runs.iloc[others], "seed"),
+                            is_one_seed and not is_one or len(runs) == study.seeds > 1),
             "doubled": (lambda: trlab.means(pandas.concat([runs, runs.iloc[[row]]]), "seed"), False),
-            "doubled under another name": (lambda: trlab.means(pandas.concat({"a": runs, "b": runs}, names=["of"]), ["of", "seed"]), False),
+            "doubled under another name": (lambda: trlab.means(pandas.concat({"a": runs, "b": runs}, names=["of"]),
+                                                               ["of", "seed"]), False),
             "other length": (lambda: trlab.means(runs.assign(steps=in_row(1, 2)), "seed"), is_one_seed),
             "other cars": (lambda: trlab.means(runs.assign(cars=in_row(1, 2)), "seed"), is_one_seed),
             "no index": (lambda: trlab.means(flat, "seed"), False),
@@ -122,9 +125,11 @@ class Means(unittest.TestCase):
         is_lost_well = not group or len({place[0] for place in study.results}) == 1
         defects.update({
             "forgotten parameter": (lambda: trlab.means(flat.set_index([*group, "seed"][1:] or ["seed"]), "seed"), is_lost_well),
-            "dropped parameter": (lambda: trlab.means(runs.droplevel(group[0]) if group else runs, "seed", unequal=True), is_lost_well),
+            "dropped parameter": (lambda: trlab.means(runs.droplevel(group[0]) if group else runs, "seed", unequal=True),
+                                  is_lost_well),
             "a parameter is not a repetition": (lambda: trlab.means(runs, over=group[:1] + ["seed"]), is_lost_well),
-            "renumbered": (lambda: trlab.means(runs.assign(run=range(len(runs))).set_index("run"), "run"), len(runs) == study.seeds),
+            "renumbered": (lambda: trlab.means(runs.assign(run=range(len(runs))).set_index("run"), "run"),
+                           len(runs) == study.seeds),
         })
         for name, (defect, is_harmless) in defects.items():
             if is_harmless:
@@ -142,14 +147,14 @@ class Means(unittest.TestCase):
             (error,) = frame["error"].dropna()
             self.assertIn(error, ("OSError: gone", "no result yet"))
             for call in lambda: trlab.per_run(frame), lambda: trlab.means(frame, "seed"):
-                self.assertRaisesRegex(FrameError, f"1 choices have no result.*{error}", call)
+                self.assertRaisesRegex(FrameError, f"there is no result at .*{error}", call)
 
     @FEW
     @given(studies())
     def test_lanes_and_counts_are_added_up(self, study):
         runs = trlab.per_run(study.frame)
         for (_, run), rows in zip(runs.iterrows(), study.results.values()):
-            for name in "steps", "distance", "stopped", "changes", "cars0", "distance0", "stopped0", "cars1", "distance1", "stopped1":
+            for name in COUNTS[2:] + LANE_SUMS:
                 self.assertEqual(run[name], sum(getattr(row, name) for row in rows))
             self.assertEqual((run.windows, run.cars), (len(rows), rows[0].cars))
 
@@ -160,9 +165,34 @@ class Means(unittest.TestCase):
         self.assertEqual(list(trlab.per_run(frame.iloc[1:]).steps), [20])
 
     def test_the_missing_run_is_named(self):
-        frame = pandas.DataFrame({"p": [1, 1, 2], "seed": [0, 1, 0], "key": list("abc"), "road": 0, "ensemble": list("xxy"), "x": 0.0})
+        frame = pandas.DataFrame({"p": [1, 1, 2], "seed": [0, 1, 0], "key": list("abc"), "road": 0, "ensemble": list("xxy"),
+                                  "x": 0.0})
         with self.assertRaisesRegex(FrameError, r"p=2 \(without seed=1\)"):
             trlab.means(frame.set_index(["p", "seed"]), "seed")
+
+    def test_counts_are_averaged_on_request(self):
+        frame = pandas.DataFrame({"seed": [0, 1], "key": list("ab"), "road": 0, "ensemble": "e", "distance": [4, 6],
+                                  "distance0": [1, 3],
+                                  "windows": 2, "x": 1.0}).set_index("seed")
+        self.assertEqual(list(trlab.means(frame, "seed")), ["n", "x", "x_sem"])
+        self.assertEqual(trlab.means(frame, "seed", of="distance").iloc[0].to_dict(), {"n": 2, "distance": 5, "distance_sem": 1})
+
+    def test_runs_with_one_name(self):
+        frame = pandas.DataFrame({"seed": [0, 0], "key": list("ab"), "road": 0, "ensemble": "e",
+                                  "x": [1.0, 2.0]}).set_index("seed")
+        self.assertRaisesRegex(FrameError, "two rows are seed=0", trlab.means, frame, "seed")
+
+    def test_a_level_may_have_missing_values(self):
+        frame = pandas.DataFrame({"p": [None, None, 1.0, 1.0], "seed": [0, 1] * 2, "key": list("abcd"), "road": 0,
+                                  "ensemble": "e",
+                                  "x": [1.0, 3.0, 5.0, 7.0]}).set_index(["p", "seed"])
+        self.assertEqual(list(trlab.means(frame, "seed").x), [2, 6])
+
+    def test_a_frame_without_rows_or_numbers(self):
+        frame = pandas.DataFrame({"seed": [0, 1], "key": list("ab"), "road": 0, "ensemble": "e", "x": "a"}).set_index("seed")
+        self.assertRaisesRegex(FrameError, "no rows", trlab.means, frame[:0], "seed")
+        self.assertRaisesRegex(FrameError, "no column of numbers", trlab.means, frame, "seed")
+        self.assertRaisesRegex(FrameError, "`over` is the name", trlab.means, frame, [])
 
     def test_equal_values_have_no_error(self):
         mean, sem = mean_and_sem(numpy.array([0.1, 7.0, 0.1, 0.1]), numpy.array([0, 1, 0, 0]))
@@ -196,7 +226,8 @@ class Misreadings(unittest.TestCase):
         frame = self.frame(lambda job: {"count": 7, "x": 1.0, "x_sem": 0.001})
         self.assertEqual(list(frame["count"]), [7] * 4)
         self.assertRaisesRegex(FrameError, "`x_sem` would be overwritten", trlab.means, frame, "seed")
-        self.assertRaisesRegex(FrameError, "`n` would be overwritten", trlab.means, frame.rename(columns={"count": "n"}), "seed", of="n")
+        self.assertRaisesRegex(FrameError, "`n` would be overwritten", trlab.means, frame.rename(columns={"count": "n"}), "seed",
+                               of="n")
 
     def test_a_parameter_and_a_result_of_one_name(self):
         self.assertRaisesRegex(FrameError, "give measured values another name", self.frame, lambda job: {"density": 0.9999})
@@ -233,7 +264,7 @@ class Misreadings(unittest.TestCase):
         self.assertRaisesRegex(FrameError, "the result has no rows", self.frame, windows, seed=range(9))
         frame = Grid(self.job, density=[0.2], seed=range(9)).run(call=windows, errors="keep")
         self.assertEqual(set(frame.index.get_level_values("seed")), set(range(9)))
-        self.assertRaisesRegex(FrameError, "choices have no result", trlab.per_run, frame)
+        self.assertRaisesRegex(FrameError, "there is no result", trlab.per_run, frame)
 
     def test_repetitions_of_one_key(self):
         def forgets(seed, key):
@@ -249,7 +280,8 @@ class Misreadings(unittest.TestCase):
     def test_the_error_of_one_long_run(self):
         flows, naive, blocks = [], [], []
         for key in range(20):
-            table = Job(limit=5, length=100, density=0.12, rule=Nasch(0.25), steps=9000, key=key, start=random_cells(key)).series(5, 1000)
+            table = Job(limit=5, length=100, density=0.12, rule=Nasch(0.25), steps=9000, key=key,
+                        start=random_cells(key)).series(5, 1000)
             flow = table.to_pandas().flow
             flows.append(flow.mean())
             naive.append(flow.sem())

@@ -44,7 +44,8 @@ class Keys(unittest.TestCase):
         self.assertEqual(keys, {key_for(p=0.25, seed=3)})
 
     def test_other_parameters_have_other_keys(self):
-        others = [{}, {"a": 1}, {"b": 1}, {"a": "1"}, {"a": 2}, {"a": 0.1}, {"a": Fraction(1, 10)}, {"a": 1, "b": 1}, {"a": "x\nb=1"}]
+        others = [{}, {"a": 1}, {"b": 1}, {"a": "1"}, {"a": 2}, {"a": 0.1}, {"a": Fraction(1, 10)}, {"a": 1, "b": 1},
+                  {"a": "x\nb=1"}]
         self.assertEqual(len({key_for(**it) for it in others}), len(others))
 
     def test_values_without_a_key(self):
@@ -108,7 +109,8 @@ class Inputs(unittest.TestCase):
     def test_a_parameter_that_make_ignores(self):
         self.assertRaisesRegex(ParameterError, "p and seed change nothing but the key", Grid,
                                lambda p, density, seed, key: job(0.25, density, seed, key), **JOBS)
-        self.assertRaisesRegex(ParameterError, "p and seed change nothing", Grid, lambda p, seed, key: sweep(0.25, seed, key), **SWEEPS)
+        self.assertRaisesRegex(ParameterError, "p and seed change nothing", Grid, lambda p, seed, key: sweep(0.25, seed, key),
+                               **SWEEPS)
         # A parameter that is used for some values of another one is used.
         rules = {"nasch": lambda q: Nasch(0.25), "slow": lambda q: SlowToStart(0.25, q)}
         Grid(lambda rule, q, seed, key: Job(limit=5, length=20, cars=4, rule=rules[rule](q), steps=9, key=key),
@@ -117,18 +119,23 @@ class Inputs(unittest.TestCase):
     def test_densities_that_are_one_number_of_cars(self):
         self.assertRaisesRegex(ParameterError, "the densities 0.02 and 0.029 are both 1 cars on 50 cells", Grid, job,
                                p=[0.25], density=[0.02, 0.029], seed=[0])
-        self.assertRaisesRegex(ParameterError, "are both 1 cars", Grid, lambda density, key: job(0.25, density, 0, 1), density=[0.011, 0.02])
+        self.assertRaisesRegex(ParameterError, "are both 1 cars", Grid, lambda density, key: job(0.25, density, 0, 1),
+                               density=[0.011, 0.02])
         Grid(lambda length, density, key: Job(limit=5, length=length, density=density, rule=Nasch(0), steps=1, key=key),
              length=[50, 100], density=[0.02, 0.04])
 
     def test_a_density_that_is_not_that_of_the_road(self):
         for name, values in ("density", [0.1, 0.2]), ("cars", [5, 6]):
-            self.assertRaisesRegex(ParameterError, f"the parameter `{name}`", Grid, lambda key, **chosen: job(0.25, 0.5, 0, key), **{name: values})
-            self.assertRaisesRegex(ParameterError, f"the parameter `{name}`", Grid, lambda key, **chosen: sweep(0.25, 0, key), **{name: values})
-        self.assertRaisesRegex(ParameterError, "must have numbers", Grid, lambda density, key: job(0.25, density, 0, key), density={"low": 0.1})
+            self.assertRaisesRegex(ParameterError, f"the parameter `{name}`", Grid, lambda key, **chosen: job(0.25, 0.5, 0, key),
+                                   **{name: values})
+            self.assertRaisesRegex(ParameterError, f"the parameter `{name}`", Grid, lambda key, **chosen: sweep(0.25, 0, key),
+                                   **{name: values})
+        self.assertRaisesRegex(ParameterError, "must have numbers", Grid, lambda density, key: job(0.25, density, 0, key),
+                               density={"low": 0.1})
         # Rounded down or up is near enough, because frames have the density of the road.
         for cars in math.floor, math.ceil:
-            Grid(lambda density, key: Job(limit=5, length=50, cars=cars(50 * density), rule=Nasch(0), steps=1, key=key), density=[0.11, 0.33])
+            Grid(lambda density, key: Job(limit=5, length=50, cars=cars(50 * density), rule=Nasch(0), steps=1, key=key),
+                 density=[0.11, 0.33])
 
     def test_old_names(self):
         self.assertRaisesRegex(trlab.RenamedError, "named_inputs", lambda: Grid(sweep, **SWEEPS).texts())
@@ -185,16 +192,19 @@ class Frames(unittest.TestCase):
 
     def test_a_wrong_call_is_seen_at_the_first_result(self):
         seen = []
-        self.assertRaisesRegex(FrameError, "p=0.25, density=0.1, seed=0: a result must be", Grid(job, **JOBS).run, call=lambda job: "text",
+        self.assertRaisesRegex(FrameError, "p=0.25, density=0.1, seed=0: a result must be", Grid(job, **JOBS).run,
+                               call=lambda job: "text",
                                progress=lambda done, of: seen.append(done), at_once=1)
         self.assertEqual(seen, [1])
 
     def test_errors_that_are_kept(self):
-        grid = Grid(lambda p, key: Job(limit=5, length=9, cars=1, rule=Rickert(p, 0) if p else Nasch(0), steps=2, key=key), p=[0, 1])
+        grid = Grid(lambda p, key: Job(limit=5, length=9, cars=1, rule=Rickert(p, 0) if p else Nasch(0), steps=2, key=key),
+                    p=[0, 1])
         frame = grid.run(call=lambda job: job.series(), errors="keep")
         self.assertEqual(len(frame), 3)
         self.assertRegex(frame.error.dropna()[1].iloc[0], "RejectedInputError: fault line 5 cause 4\n.*rickert")
         self.assertRaises(trlab.RejectedInputError, grid.run, call=lambda job: job.series())
+        self.assertRaisesRegex(FrameError, "a result must be", grid.run, call=lambda job: "text", errors="keep")
 
     def test_a_table_without_rows(self):
         grid = Grid(job, p=[0.25], density=[0.2], seed=[0, 1])
@@ -237,7 +247,7 @@ class Clusters(unittest.TestCase):
         frame = grid.frame({**tables, "p_0.25_seed_0": OSError("cut off")})
         self.assertEqual(list(frame.error.dropna()), ["OSError: cut off", "no result yet"])
         self.same(trlab.means(frame[frame.error.isna()], "seed"), trlab.means(grid.run().drop([(0.25, 0), (0.5, 1)]), "seed"))
-        self.assertRaisesRegex(FrameError, "2 choices have no result", trlab.means, frame, "seed")
+        self.assertRaisesRegex(FrameError, "there is no result at .* and 1 more", trlab.means, frame, "seed")
         self.assertRaisesRegex(ParameterError, "'p_9' is not an input", grid.frame, {"p_9": late})
 
     def test_a_grid_that_was_stopped_goes_on(self):

@@ -26,8 +26,9 @@ ran = []
 calls = {
     "Grid.run": lambda: grid.run(call=lambda job: ran.append(1) or 1), "to_pandas": table.to_pandas,
     "Grid.frame": lambda: grid.frame({}), "plot_space_time": lambda: trlab.plot_space_time(job.run()),
-    **{name: lambda name=name: getattr(trlab, name) for name in ("means", "per_run", "peak", "blocking", "lifetime", "plot_means", "to_si")},
 }
+names = "means", "per_run", "peak", "blocking", "lifetime", "plot_means", "to_si"
+calls.update((name, lambda name=name: getattr(trlab, name)) for name in names)
 for name, call in calls.items():
     try:
         call()
@@ -55,7 +56,8 @@ class Libraries(unittest.TestCase):
             lines = said(*missing)
             self.assertEqual(len(lines), 11)
             for name, line in lines.items():
-                self.assertRegex(line, "^this needs (numpy|pandas), which is not installed: pip install numpy pandas matplotlib$", name)
+                wanted = "this needs (numpy|pandas), which is not installed: pip install numpy pandas matplotlib"
+                self.assertRegex(line, f"^{wanted}$", name)
 
     def test_only_plots_need_matplotlib(self):
         try:

@@ -16,7 +16,8 @@ def job(p, density, seed, key):
 class Plots(unittest.TestCase):
     @classmethod
     def setUpClass(cls):
-        cls.windows = Grid(job, p=[0.25, 0.5], density=[0.4, 0, 0.1, 0.2], seed=range(3)).run(call=lambda job: job.series(every=10))
+        cls.windows = Grid(job, p=[0.25, 0.5], density=[0.4, 0, 0.1, 0.2],
+                           seed=range(3)).run(call=lambda job: job.series(every=10))
         cls.runs = trlab.per_run(cls.windows)
         cls.means = trlab.means(cls.runs, "seed")
 
@@ -36,7 +37,8 @@ class Diagrams(Plots):
             numpy.testing.assert_array_equal(line.get_xdata(), curve.index)
             numpy.testing.assert_array_equal(line.get_ydata(), curve.flow)
             ends = numpy.array(bars.get_segments())[:, :, 1]
-            numpy.testing.assert_allclose(ends, numpy.transpose([curve.flow - curve.flow_sem, curve.flow + curve.flow_sem]), atol=1e-12)
+            numpy.testing.assert_allclose(ends, numpy.transpose([curve.flow - curve.flow_sem, curve.flow + curve.flow_sem]),
+                                          atol=1e-12)
         axes.figure.savefig(io.BytesIO())
 
     def test_units_of_roads(self):
@@ -60,14 +62,16 @@ class Diagrams(Plots):
         one = self.means.xs(0.25, level="p")
         axes = trlab.plot_means(one)
         self.assertRaisesRegex(FrameError, "show flow", trlab.plot_means, one, y="speed", ax=axes)
-        self.assertRaisesRegex(FrameError, "show density", trlab.plot_means, trlab.to_si(one), x="density_per_km", y="flow_per_h", ax=axes)
+        self.assertRaisesRegex(FrameError, "show density", trlab.plot_means, trlab.to_si(one), x="density_per_km",
+                               y="flow_per_h", ax=axes)
         self.assertRaisesRegex(FrameError, "show density", trlab.plot_space_time, TWO, ax=axes)
 
     def test_frames_that_are_not_means(self):
         for frame in (self.windows, self.runs, self.means[["flow"]], self.means.drop(columns="flow"),
                       self.runs.groupby(["p", "density"]).mean(numeric_only=True)):
             self.assertRaisesRegex(FrameError, r"trlab.means\(frame, over\)", trlab.plot_means, frame, hue="p")
-        self.assertRaisesRegex(FrameError, r"several means at one density: select one value of \['p'\]", trlab.plot_means, self.means)
+        self.assertRaisesRegex(FrameError, r"several means at one density: select one value of \['p'\]", trlab.plot_means,
+                               self.means)
         self.assertRaisesRegex(FrameError, "'q' is not a parameter", trlab.plot_means, self.means, hue="q")
         self.assertRaisesRegex(FrameError, "'length' is not a parameter", trlab.plot_means, self.means, x="length", hue="p")
         single = trlab.means(self.runs.xs(0, level="seed", drop_level=False), "seed")

@@ -19,7 +19,8 @@ def frame_of(result, names=("seed",), place=(0,), roads=None, keep=False):
 
 
 def frame_by_seed(results):
-    return tidy({(seed,): result for seed, result in enumerate(results)}, ["seed"], {(seed,): known(seed, 2) for seed in range(len(results))})
+    return tidy({(seed,): result for seed, result in enumerate(results)}, ["seed"],
+                {(seed,): known(seed, 2) for seed in range(len(results))})
 
 
 def job(density, seed, key):
@@ -46,14 +47,17 @@ class Results(unittest.TestCase):
     def test_numbers_flags_and_rows_with_names(self):
         Measured = namedtuple("Measured", "mean note")
         for result, column, value in (
-            (0.5, "value", 0.5), (3, "value", 3), (True, "value", True), (numpy.int64(3), "value", 3), (numpy.bool_(True), "value", True),
-            (Fraction(1, 4), "value", 0.25), ({"x": 7}, "x", 7), (Measured(2, "a"), "note", "a"), (pandas.Series({"x": 7}), "x", 7),
+            (0.5, "value", 0.5), (3, "value", 3), (True, "value", True), (numpy.int64(3), "value", 3),
+            (numpy.bool_(True), "value", True),
+            (Fraction(1, 4), "value", 0.25), ({"x": 7}, "x", 7), (Measured(2, "a"), "note", "a"),
+            (pandas.Series({"x": 7}), "x", 7),
             (trlab.Duration(30, False), "observed", False),
         ):
             self.assertEqual(frame_of(result)[column].iloc[0], value)
 
     def test_numbers_of_numpy_have_means(self):
-        results = [{"x": numpy.int64(seed), "y": numpy.float32(seed), "is_jammed": numpy.bool_(seed > 1), "flag": seed > 0} for seed in range(4)]
+        results = [{"x": numpy.int64(seed), "y": numpy.float32(seed), "is_jammed": numpy.bool_(seed > 1),
+                    "flag": seed > 0} for seed in range(4)]
         (row,) = trlab.means(frame_by_seed(results), "seed").itertuples()
         self.assertEqual((row.n, row.x, row.y, row.is_jammed, row.flag), (4, 1.5, 1.5, 0.5, 0.75))
 
@@ -70,7 +74,8 @@ class Results(unittest.TestCase):
         self.assertRaisesRegex(FrameError, "not numbers", trlab.means, frame_by_seed([{"x": "1"}, {"x": 1}]), "seed")
 
     def test_texts_are_not_averaged(self):
-        self.assertEqual(list(trlab.means(frame_by_seed([{"x": 1, "note": "a"}, {"x": 3, "note": "b"}]), "seed")), ["n", "x", "x_sem"])
+        self.assertEqual(list(trlab.means(frame_by_seed([{"x": 1, "note": "a"}, {"x": 3, "note": "b"}]), "seed")),
+                         ["n", "x", "x_sem"])
 
     def test_names_that_are_taken(self):
         for name in "seed", "key", "road", "ensemble", "error", "requested_density":
@@ -80,7 +85,8 @@ class Results(unittest.TestCase):
 
     def test_a_density_is_that_of_the_road(self):
         for names, place in (["density"], (0.2,)), (["seed"], (0,)):
-            for wrong in {"density": 0.9}, {"cars": 7}, {"cells": 50}, {"density": None}, pandas.DataFrame({"density": [0.2, 0.3], "step": [1, 2]}):
+            two = pandas.DataFrame({"density": [0.2, 0.3], "step": [1, 2]})
+            for wrong in {"density": 0.9}, {"cars": 7}, {"cells": 50}, {"density": None}, two:
                 self.assertRaises(FrameError, frame_of, wrong, names, place)
             frame = frame_of({"density": 0.2, "cars": 2, "x": 1}, names, place)
             self.assertEqual(frame.reset_index().density[0], 0.2)
@@ -191,10 +197,12 @@ class Survival(unittest.TestCase):
             self.assertRaises(FrameError, trlab.means, lost, "density")
 
     def test_two_studies(self):
-        other = Grid(lambda density, seed, key: Job(limit=3, length=50, density=density, rule=Nasch(0.25), start=random_cells(key), steps=30, key=key + 1),
+        other = Grid(lambda density, seed, key: Job(limit=3, length=50, density=density, rule=Nasch(0.25),
+                                                    start=random_cells(key), steps=30, key=key + 1),
                      density=[0.1, 0.2], seed=range(3))
         slow = trlab.per_run(other.run(call=windows))
-        for both in pandas.concat([self.frame, slow]), pandas.concat([self.frame, slow.rename(index=lambda seed: seed + 3, level="seed")]):
+        for both in pandas.concat([self.frame, slow]), pandas.concat([self.frame,
+                                                                      slow.rename(index=lambda seed: seed + 3, level="seed")]):
             self.assertRaises(FrameError, trlab.means, both, "seed")
         named = pandas.concat({5: self.frame, 3: slow}, names=["limit"])
         self.assertEqual(list(trlab.means(named, "seed").index.names), ["limit", "density"])
@@ -209,14 +217,18 @@ class Ensembles(unittest.TestCase):
         self.assertEqual(len(self.ensembles(job, density=[0.1], seed=range(5))), 1)
 
     def test_any_other_difference_is_another_one(self):
-        usual = {"limit": 5, "length": 20, "cars": 4, "rule": Rickert(0.25, 0), "steps": 9, "start": trlab.even, "lanes": 2, "at": {}}
-        others = [{}, {"limit": 4}, {"length": 21}, {"cars": 5}, {"rule": Rickert(0.25, 1)}, {"steps": 10}, {"start": trlab.moving},
-                  {"start": trlab.jammed}, {"start": random_cells(3)}, {"at": {3: Rickert(0, 0)}}, {"length": 40, "lanes": 1, "rule": Nasch(0.25)}]
+        usual = {"limit": 5, "length": 20, "cars": 4, "rule": Rickert(0.25, 0), "steps": 9, "start": trlab.even, "lanes": 2,
+                 "at": {}}
+        others = [{}, {"limit": 4}, {"length": 21}, {"cars": 5}, {"rule": Rickert(0.25, 1)}, {"steps": 10},
+                  {"start": trlab.moving},
+                  {"start": trlab.jammed}, {"start": random_cells(3)}, {"at": {3: Rickert(0, 0)}},
+                  {"length": 40, "lanes": 1, "rule": Nasch(0.25)}]
         made = self.ensembles(lambda at, seed, key: Job(**{**usual, **others[at]}, key=key), at=range(len(others)), seed=[0, 1])
         self.assertEqual(len(made), len(others))
         sweep = {"limit": 5, "length": 20, "rule": Nasch(0.25), "warm": 3, "measure": 6, "cars": [4]}
         changed = [{}, {"warm": 4}, {"measure": 7}, {"cars": [5]}, {"start": random_cells(1)}]
-        swept = self.ensembles(lambda at, seed, key: Sweep(**{**sweep, **changed[at]}, key=key), at=range(len(changed)), seed=[0, 1])
+        swept = self.ensembles(lambda at, seed, key: Sweep(**{**sweep, **changed[at]}, key=key), at=range(len(changed)),
+                               seed=[0, 1])
         self.assertEqual(len(swept | made), len(changed) + len(others))
 
 

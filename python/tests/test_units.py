@@ -23,10 +23,13 @@ class Units(unittest.TestCase):
                     self.assertIn(str(name).replace("_sem", ""), trlab.UNITS)
 
     def test_the_usual_values(self):
-        found = trlab.to_si(frame_of(density=1.0, flow=0.5, speed=1.0, flow_sem=0.01, time=60, change_rate=0.001, stopped_share=0.5))
-        self.assertEqual(set(found), {"density_per_km", "flow_per_h", "speed_km_per_h", "flow_per_h_sem", "time_s", "change_rate_per_h",
+        found = trlab.to_si(frame_of(density=1.0, flow=0.5, speed=1.0, flow_sem=0.01, time=60, change_rate=0.001,
+                                     stopped_share=0.5))
+        self.assertEqual(set(found), {"density_per_km", "flow_per_h", "speed_km_per_h", "flow_per_h_sem", "time_s",
+                                      "change_rate_per_h",
                                       "stopped_share"})
-        for name, value in {"density_per_km": 1000 / 7.5, "flow_per_h": 1800, "speed_km_per_h": 27, "flow_per_h_sem": 36, "time_s": 60,
+        for name, value in {"density_per_km": 1000 / 7.5, "flow_per_h": 1800, "speed_km_per_h": 27, "flow_per_h_sem": 36,
+                            "time_s": 60,
                             "change_rate_per_h": 3.6, "stopped_share": 0.5}.items():
             self.assertAlmostEqual(found[name][0], value)
 

@@ -5,7 +5,7 @@ columns. The last columns say whose row it is (see `columns.IDENTITY`), or why t
 from __future__ import annotations
 
 from collections.abc import Iterable, Mapping, Sequence
-from typing import Any, Union
+from typing import Any, Optional, Union
 
 from .columns import COUNTS, DERIVED, IDENTITY, as_numbers, derived, place_shown
 from .libraries import numpy, pandas
@@ -51,7 +51,7 @@ def tidy(
             errors[place] = f"FrameError: {fault}"
     missing = [place for place in runs if place not in found and place not in errors]
     if missing and not keep:
-        raise FrameError(f"{place_shown(names, missing[0])} has no result, and {len(missing) - 1} others")
+        raise FrameError(f"{len(missing)} of {len(runs)} choices have no result, first {place_shown(names, missing[0])}")
     errors.update((place, "no result yet") for place in missing)
     return _arranged(_measured(found, errors, list(runs)), _choices(names, runs), found, runs, names)
 
@@ -141,7 +141,7 @@ def _arranged(
     return frame.set_index(levels)[[*first, *others, *last]] if levels else frame[[*first, *others, *last]]
 
 
-def _roads(rows: Union[Rows, None], known: KnownRoads) -> list[tuple[int, str]]:
+def _roads(rows: Optional[Rows], known: KnownRoads) -> list[tuple[int, str]]:
     """The road and the ensemble of each row of a result, or of the row of its error."""
     ensembles = known["ensembles"]
     if rows is not None and rows.is_of_points:

@@ -65,9 +65,10 @@ def _need_results(frame: pandas.DataFrame) -> None:
     failed = frame[frame["error"].notna()] if "error" in frame else frame[:0]
     if len(failed):
         place = failed.index[0] if isinstance(failed.index[0], tuple) else (failed.index[0],)
+        more = f" and {len(failed) - 1} more" if len(failed) > 1 else ""
         raise FrameError(
-            f"{len(failed)} choices have no result, first {place_shown(frame.index.names, place)}: {failed['error'].iloc[0]}. "
-            "Run them again, or leave them out with `frame[frame.error.isna()]`"
+            f"there is no result at {place_shown(frame.index.names, place)}{more}: {failed['error'].iloc[0]}. Run it again, or "
+            "leave such rows out with `frame[frame.error.isna()]`"
         )
 
 

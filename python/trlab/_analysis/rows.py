@@ -8,14 +8,12 @@ from typing import Any, NamedTuple, Union
 from .columns import COUNTS, IDENTITY, Array
 from .libraries import numpy, pandas
 from .._errors import FrameError
-from .._results.snapshots import Snapshot, Snapshots
+from .._results.snapshots import Snapshot
 from .._results.tables import Point, Table, Window
 from .._studies.grid import MEASURE
 from .._studies.roads import KnownRoads
 
 Record = dict[str, Any]
-
-KINDS: list[Any] = [Point, Window]
 
 RESERVED = [*IDENTITY, "error", "requested_density"]
 
@@ -28,8 +26,8 @@ class NoRows(FrameError):
 
 
 class Rows(NamedTuple):
-    """The rows of a result in the form that costs least: a table is an array, and joined with others before it is a frame.
-    `kind` is `Point`, `Window`, `dict` or `pandas.DataFrame`, and `levels` tell the rows apart, besides their road."""
+    """The rows of a result in the form that costs least: a table is an array, which becomes a frame together with others.
+    `kind` is `Point`, `Window`, `dict` or `pandas.DataFrame`; `levels` tell the rows apart, besides their road."""
 
     kind: type[Any]
     content: Union[Array, list[Record], pandas.DataFrame]
@@ -54,8 +52,6 @@ def rows_of(result: object, names: Sequence[str], roads: KnownRoads) -> Rows:
 
 
 def _read(result: object) -> Rows:
-    if isinstance(result, (Snapshot, Snapshots)):
-        raise FrameError(f"snapshots are not rows of a frame: say what to measure in each job, for example {MEASURE}")
     if isinstance(result, pandas.DataFrame):
         return _of_frame(result)
     if isinstance(result, (Mapping, pandas.Series)) or hasattr(result, "_fields"):
@@ -75,13 +71,11 @@ def _of_table(table: Table[Any]) -> Rows:
 
 def _of_list(items: Sequence[object]) -> Rows:
     """Rows of a table, or named tuples and mappings, which have a `step` each if there are several."""
-    for kind in KINDS:
+    kinds: list[Any] = [Point, Window]
+    for kind in kinds:
         if items and all(isinstance(item, kind) for item in items):
             return _of_table(Table(kind, items))
     records = [_record(item) for item in items]
-    for kind in KINDS:
-        if records and all(set(record) == set(kind._fields) for record in records):
-            return _of_table(Table(kind, [kind(**record) for record in records]))
     has_steps = bool(records) and all("step" in record for record in records)
     return Rows(dict, records, ["step"] if has_steps else [])
 
@@ -138,18 +132,17 @@ def _check_roads(rows: Rows, roads: KnownRoads) -> None:
     count = len(roads["cars"])
     if rows.is_of_points and len(rows.content) != count:
         raise FrameError(f"the result has {len(rows.content)} of {count} points: return the whole table of the sweep")
-    cars = numpy.asarray(roads["cars"], dtype=float)
-    known = {"cars": cars, "cells": numpy.full(count, float(roads["cells"])), "density": cars / roads["cells"]}
+    cars = numpy.array(roads["cars"], dtype=float)
     for name in [name for name in OF_THE_ROAD if name in columns_of(rows)]:
+        known = {"cars": cars, "cells": numpy.full(count, float(roads["cells"])), "density": cars / roads["cells"]}[name]
         found = _column(rows, name)
-        if rows.is_of_points:
-            is_known = numpy.isclose(found, known[name])
-        else:
-            is_known = numpy.isclose(found[:, None], numpy.unique(known[name])).any(axis=1)
-        if not is_known.all():
+        # A point is compared with its road, and another row with all roads. Densities may have been rounded.
+        differences = found - known if rows.is_of_points else found[:, None] - known
+        is_known = abs(differences) <= 1e-9 * max(1.0, known.max())
+        if not (is_known if rows.is_of_points else is_known.any(axis=1)).all():
             raise FrameError(
-                f"the result has a `{name}` of {found[~is_known][0]:g}, and a road of this input has {known[name][0]:g}: return "
-                "results of this input, and give measured values another name"
+                f"the result has the `{name}` {found[:5]}, and a road of this input has {known[0]:g}: return results of this "
+                "input, and give measured values another name"
             )
 
 
@@ -162,14 +155,15 @@ def _check_levels(rows: Rows) -> None:
             f"the result has {len(rows.content)} rows that nothing tells apart: return a frame with a named index, for example "
             '`frame.rename_axis("passing")`'
         )
-    if pandas.DataFrame({name: _values(rows, name) for name in rows.levels}).duplicated().any():
+    if len(set(zip(*(_values(rows, name) for name in rows.levels)))) < len(rows.content):
         raise FrameError(f"the result has several rows with the same {' and '.join(rows.levels)}: give it an index that differs")
 
 
-def _values(rows: Rows, name: str) -> Any:
+def _values(rows: Rows, name: str) -> list[Any]:
     if isinstance(rows.content, list):
         return [record.get(name) for record in rows.content]
-    return rows.content[name]
+    found: list[Any] = rows.content[name].tolist()
+    return found
 
 
 def _column(rows: Rows, name: str) -> Array:

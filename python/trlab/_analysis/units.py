@@ -51,8 +51,8 @@ UNITS = {
     "time_headway_s": "s",
     "mean_time_headway_s": "s",
 }
-"""The unit of each column that trlab makes, "" for a share or a number of runs. `X_sem` has the unit of `X`. Flows and densities
-are those of one lane, also on two lanes: a mean over the lanes."""
+"""The unit of each column that trlab makes, "" for a share or a number of runs. `X_sem` has the unit of `X`. Flows and
+densities are those of one lane, also on two lanes: means over the lanes."""
 
 _ENDS = ["_per_km", "_per_h", "_km_per_h", "_s"]
 
@@ -82,9 +82,10 @@ def to_si(frame: pandas.DataFrame, cell: float = 7.5, step: float = 1.0) -> pand
     flat = frame.reset_index() if has_index else frame.copy()
     double = [name for name, _ in converted.values() if name in flat]
     found = [name for name in flat if name in converted]
-    if double or not found:
-        raise FrameError(f"{double[0]} was converted before: convert the original frame" if double else
-                         f"none of the columns {list(flat)} has a unit to convert")
+    if double:
+        raise FrameError(f"{double[0]} was converted before: convert the original frame")
+    if not found:
+        raise FrameError(f"none of the columns {list(flat)} has a unit to convert")
     for name in found:
         flat[name] = flat[name].astype(float) * converted[name][1]
     names = {name: converted[name][0] for name in found}

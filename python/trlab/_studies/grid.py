@@ -197,8 +197,8 @@ def _choice_of(names: Sequence[str]) -> Any:
 
 
 def _check_roads(chosen: Mapping[str, Any], roads: KnownRoads) -> None:
-    """Raises `ParameterError` if a parameter `density` or `cars` is not that of all roads of an input. A density may be rounded up
-    or down to a whole number of cars."""
+    """Raises `ParameterError` if a parameter `density` or `cars` is not that of all roads of an input. A density may be rounded
+    up or down to a whole number of cars."""
     for name in [name for name in ("cars", "density") if name in chosen]:
         try:
             wanted = as_fraction(chosen[name]) * (1 if name == "cars" else roads["cells"])

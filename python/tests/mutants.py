@@ -1,0 +1,222 @@
+"""Wrong edits of the analysis, each of which a test must notice. Run by hand, in `python/`, with the libraries of the analysis:
+
+    python3 -m tests.mutants            # all, which takes some minutes
+    python3 -m tests.mutants means.py   # those of one file
+
+It ends with status 1 if there is an edit that no test noticed."""
+import os
+import shutil
+import subprocess
+import sys
+import tempfile
+from concurrent.futures import ThreadPoolExecutor
+from pathlib import Path
+from queue import Queue
+
+from trlab import find_program
+
+TOP = Path(__file__).resolve().parents[1]
+
+TESTS = {
+    "_analysis/means.py": ["test_frames.Misreadings", "test_estimates.Lifetimes", "test_tidy", "test_frames.Means"],
+    "_analysis/repetitions.py": ["test_frames.Misreadings", "test_tidy", "test_frames.Means"],
+    "_analysis/columns.py": ["test_tidy", "test_frames.Means"],
+    "_analysis/frames.py": ["test_tidy", "test_grid", "test_frames.Means"],
+    "_analysis/rows.py": ["test_tidy", "test_grid"],
+    "_analysis/blocking.py": ["test_estimates.Blocking"],
+    "_analysis/peak.py": ["test_estimates.Peaks"],
+    "_analysis/lifetimes.py": ["test_estimates.Lifetimes"],
+    "_analysis/series.py": ["test_estimates.Lifetimes", "test_estimates.Blocking"],
+    "_analysis/units.py": ["test_units"],
+    "_analysis/plots.py": ["test_plots"],
+    "_studies/grid.py": ["test_grid", "test_tidy"],
+    "_studies/roads.py": ["test_tidy", "test_grid"],
+}
+"""The tests that have to notice an edit of a file, the fast ones first."""
+
+QUICK = """
+import unittest
+from hypothesis import Phase, settings
+settings.register_profile("quick", phases=[Phase.generate])
+settings.load_profile("quick")
+unittest.main(module=None)
+"""
+"""Runs tests, and does not look for the smallest example of a failure."""
+
+MUTANTS = [
+    # Means and their errors.
+    ("_analysis/means.py", "squares / (n - 1) / n", "squares / n / n"),
+    ("_analysis/means.py", "squares / (n - 1) / n", "squares / (n - 1)"),
+    ("_analysis/means.py", "numpy.bincount(group, values - first[group]) / n", "numpy.bincount(group, values - first[group])"),
+    ("_analysis/means.py", "first[group[::-1]] = values[::-1]", "pass"),
+    ("_analysis/means.py", "(values - mean[group]) ** 2", "abs(values - mean[group])"),
+    ("_analysis/means.py", "    _need_ends(frame, chosen)\n    columns", "    columns"),
+    ("_analysis/means.py", "if clash:", "if False:"),
+    ("_analysis/means.py", "{*IDENTITY, *COUNTS, *LANE_SUMS,", "{*IDENTITY,"),
+    ("_analysis/means.py", "groups[sums].sum()", "groups[sums].mean()"),
+    ("_analysis/means.py", "groups[sums].sum()", "groups[sums].first()"),
+    ("_analysis/means.py", "    _need_consecutive(found)\n    groups", "    groups"),
+    ("_analysis/means.py", "if own or not set(COUNTS)", "if not set(COUNTS)"),
+    ("_analysis/means.py", "grouped(rows, [*names, *IDENTITY])", "grouped(rows, [*names])"),
+    ("_analysis/means.py", "    for name in (\"step\", \"cars\", \"cells\", *sums):\n        numbers(found, name)\n", ""),
+    # Which rows are repetitions.
+    ("_analysis/repetitions.py", "if not {*IDENTITY} <= set(frame):", "if False:"),
+    ("_analysis/repetitions.py", "    _need_results(frame)\n    rows", "    rows"),
+    ("_analysis/repetitions.py", "if not all(are_texts) or rows[\"road\"].isna().any():", "if False:"),
+    ("_analysis/repetitions.py", "if not all(are_texts) or rows", "if rows"),
+    ("_analysis/repetitions.py", "if name == \"step\":", "if False:"),
+    ("_analysis/repetitions.py", "    if doubled.any():", "    if False:"),
+    ("_analysis/repetitions.py", "if rows[RUN].assign(group=found.group).duplicated().any():", "if False:"),
+    ("_analysis/repetitions.py", "rows[RUN].assign(group=found.group)", "rows[[\"road\"]].assign(group=found.group)"),
+    ("_analysis/repetitions.py", "    _need_same(found)\n", ""),
+    ("_analysis/repetitions.py", "(\"ensemble\", \"cars\", \"cells\", \"steps\")", "(\"cars\", \"cells\", \"steps\")"),
+    ("_analysis/repetitions.py", "(\"ensemble\", \"cars\", \"cells\", \"steps\")", "(\"ensemble\", \"cars\", \"cells\")"),
+    ("_analysis/repetitions.py", "(\"ensemble\", \"cars\", \"cells\", \"steps\")", "(\"ensemble\", \"cells\", \"steps\")"),
+    ("_analysis/repetitions.py", "if not unequal:", "if False:"),
+    ("_analysis/repetitions.py", "wrong = ~numpy.isfinite(values)", "wrong = numpy.isnan(values)"),
+    ("_analysis/repetitions.py", "wrong = ~numpy.isfinite(values)", "wrong = numpy.isinf(values)"),
+    ("_analysis/repetitions.py", "wrong &= ~(numpy.isnan(values) & _without_cars(found.rows))", "wrong &= ~numpy.isnan(values)"),
+    ("_analysis/repetitions.py", "    if name in PER_CAR:\n", "    if True:\n"),
+    ("_analysis/repetitions.py", "if name in PER_CAR:", "if False:"),
+    ("_analysis/repetitions.py", "dropna=False, observed=True).ngroup()", "observed=True).ngroup()"),
+    # Counts and the values that follow from them.
+    ("_analysis/columns.py", "counts[name].astype(float) for", "counts[name] for"),
+    ("_analysis/columns.py", "distance / (cells * steps)", "distance / (cars * steps)"),
+    ("_analysis/columns.py", "distance / (cells * steps)", "1e6 * distance / (cells * steps)"),
+    ("_analysis/columns.py", "\"density\": cars / cells", "\"density\": cars / cells / 2"),
+    ("_analysis/columns.py", "stopped / car_steps", "stopped / cells"),
+    ("_analysis/columns.py", " and not types.is_complex_dtype(column)", ""),
+    ("_analysis/columns.py", "isinstance(value, (Real, Decimal, numpy.bool_))",
+     "isinstance(value, (Real, Decimal, numpy.bool_, str))"),
+    # Results as frames.
+    ("_analysis/frames.py", "if not (keep and isinstance(fault, NoRows)):", "if not keep:"),
+    ("_analysis/frames.py", "    errors.update((place, \"no result yet\") for place in missing)\n", ""),
+    ("_analysis/frames.py", "roads[\"cars\"][0] / roads[\"cells\"] for roads",
+     "float(as_fraction(value)) for value, roads in zip(choices.density, runs.values()) for _ in [0] if True or roads"),
+    ("_analysis/frames.py", "    _check_units(frame)\n    return", "    return"),
+    ("_analysis/frames.py", "(values < 0) | (values > _RANGES[name])", "values > _RANGES[name]"),
+    ("_analysis/frames.py", "if name in frame and not numpy.allclose", "if False and not numpy.allclose"),
+    ("_analysis/frames.py", ".sort_index(kind=\"stable\")", ""),
+    ("_analysis/frames.py", "return list(enumerate(ensembles))", "return [(0, it) for it in ensembles]"),
+    ("_analysis/frames.py", "return list(enumerate(ensembles))", "return [(at, \"\") for at in range(len(ensembles))]"),
+    ("_analysis/frames.py", "numpy.array_equal(frame[\"requested_density\"], frame[\"density\"])", "True"),
+    ("_analysis/rows.py", "    _check_names(found, names)\n", ""),
+    ("_analysis/rows.py", "    _check_roads(found, roads)\n", ""),
+    ("_analysis/rows.py", "    _check_levels(found)\n", ""),
+    ("_analysis/rows.py", "if not len(found.content):", "if False:"),
+    ("_analysis/rows.py", "if rows.is_of_points and len(rows.content) != count:", "if False:"),
+    ("_analysis/rows.py", "differences = found - known if rows.is_of_points",
+     "differences = found - known[::-1] if rows.is_of_points"),
+    ("_analysis/rows.py", "    if isinstance(item, Snapshot):\n", "    if False:\n"),
+    ("_analysis/rows.py", "if items and all(isinstance(item, kind) for item in items):", "if False:"),
+    ("_analysis/rows.py", "value.item() if isinstance(value, numpy.generic) else value",
+     "None if isinstance(value, numpy.bool_) else value"),
+    # Estimates.
+    ("_analysis/blocking.py", "block**3 > 2 * n * (sem / naive) ** 4", "block**3 > 0"),
+    ("_analysis/blocking.py", "block**3 > 2 * n * (sem / naive) ** 4", "block**3 > 2 * n"),
+    ("_analysis/blocking.py", "sem / math.sqrt(2 * (len(level) - 1))", "sem / math.sqrt(len(level) - 1)"),
+    ("_analysis/blocking.py", "(sem / naive) ** 2)", "sem / naive)"),
+    ("_analysis/blocking.py", "LEAST_BLOCKS = 16", "LEAST_BLOCKS = 2"),
+    ("_analysis/blocking.py", "        _need_one_run(values)\n", "        pass\n"),
+    ("_analysis/blocking.py", "    if (series == series[0]).all():\n        return Blocking(mean, 0.0, 0.0, 1, 1.0)\n", ""),
+    ("_analysis/blocking.py", "if not (every[0] > 0 and numpy.allclose(every, every[0])):", "if not every[0] > 0:"),
+    ("_analysis/peak.py", "scale = (n - 3) / (n - 1)", "scale = (n - 1) / (n - 3)"),
+    ("_analysis/peak.py", "    if not rows.duplicated(RUN).any():\n", "    if True:\n"),
+    ("_analysis/peak.py", "numpy.cov(by_key.to_numpy().T)) / len(by_key)", "numpy.cov(by_key.to_numpy().T))"),
+    ("_analysis/peak.py", "part[f\"{y}_sem\"].to_numpy() ** 2", "part[f\"{y}_sem\"].to_numpy()"),
+    ("_analysis/peak.py", "or top_sem > 0.5:", "or False:"),
+    ("_analysis/peak.py", "LEAST_RUNS, LEAST_POINTS, MAX_DEGREE = 5, 5, 5", "LEAST_RUNS, LEAST_POINTS, MAX_DEGREE = 2, 5, 5"),
+    ("_analysis/peak.py", "if chi2 > dof + 3 * math.sqrt(2 * dof):", "if False:"),
+    ("_analysis/peak.py", "float(fitted(top)), math.sqrt(at",
+     "float(fitted(top)) + 3 * math.sqrt(at @ covariance @ at), math.sqrt(at"),
+    ("_analysis/peak.py", "/ abs(bend(top)) if", "if"),
+    ("_analysis/peak.py", "top_sem * width", "top_sem"),
+    ("_analysis/peak.py", "if (part[f\"{y}_sem\"] == 0).any():", "if False:"),
+    ("_analysis/lifetimes.py", "mean = float(time.sum() / ends)", "mean = float(time.mean())"),
+    ("_analysis/lifetimes.py", "mean / math.sqrt(ends)", "mean / math.sqrt(len(time))"),
+    ("_analysis/lifetimes.py", "if not ends:", "if False:"),
+    ("_analysis/lifetimes.py", "lives[\"size\"][::-1].cumsum()[::-1]", "lives[\"sum\"][::-1].cumsum()[::-1]"),
+    ("_analysis/lifetimes.py", "(at_risk * (at_risk - ends))", "(at_risk * at_risk)"),
+    ("_analysis/lifetimes.py", "terms.cumsum(skipna=False)", "terms"),
+    ("_analysis/lifetimes.py", "    _need_one_input(time)\n", ""),
+    ("_analysis/lifetimes.py", "if not (values > 0).all():", "if False:"),
+    ("_analysis/lifetimes.py", "if not numpy.isin(ends, [0, 1]).all():", "if False:"),
+    ("_analysis/lifetimes.py", "and not time.index.equals(end.index)", "and False"),
+    ("_analysis/series.py", "if not numpy.isfinite(values).all():", "if False:"),
+    # Units and plots.
+    ("_analysis/units.py", "    if double:\n", "    if False:\n"),
+    ("_analysis/units.py", "flow, speed = 3600 / step, 3.6 * cell / step", "flow, speed = 3600 * step, 3.6 * cell / step"),
+    ("_analysis/units.py", "flow, speed = 3600 / step, 3.6 * cell / step", "flow, speed = 3600 / step, 3.6 * cell"),
+    ("_analysis/units.py", "\"density_per_km\": 1000 / cell", "\"density_per_km\": 1000 * cell"),
+    ("_analysis/units.py", "for end in (\"\", \"_sem\")}", "for end in (\"\",)}"),
+    ("_analysis/plots.py", "yerr=curve[f\"{y}_sem\"]", "yerr=2 * curve[f\"{y}_sem\"]"),
+    ("_analysis/plots.py", "if flat.duplicated(shown).any():", "if False:"),
+    ("_analysis/plots.py", "if (numpy.isnan(errors) & ~numpy.isnan(values)).any():", "if False:"),
+    ("_analysis/plots.py", "if old not in (\"\", new):", "if False:"),
+    ("_analysis/plots.py", "curve = curve.sort_values(x, kind=\"stable\")", "pass"),
+    ("_analysis/plots.py", "steps[-1] + half, steps[0] - half", "steps[0] - half, steps[-1] + half"),
+    # Grids.
+    ("_studies/grid.py", "            self._check_densities()\n", "            pass\n"),
+    ("_studies/grid.py", "            if other is not place:\n                raise ParameterError(f\"`make`",
+     "            if False:\n                raise ParameterError(f\"`make`"),
+    ("_studies/grid.py", "if len(unused) > 1:", "if False:"),
+    ("_studies/grid.py", "            _check_roads(place._asdict(), self._runs[place])\n", "            pass\n"),
+    ("_studies/grid.py", "if name in _TAKEN or", "if"),
+    ("_studies/grid.py", "        if strange:\n", "        if False:\n"),
+    ("_studies/roads.py", "[input.limit, lanes, cells, start, rules, input.steps]", "[lanes, cells, start, rules, input.steps]"),
+    ("_studies/roads.py", "[input.limit, lanes, cells, start, rules, input.steps]",
+     "[input.limit, lanes, cells, start, input.steps]"),
+    ("_studies/roads.py", "[input.limit, lanes, cells, start, rules, input.steps]", "[input.limit, lanes, cells, start, rules]"),
+    ("_studies/roads.py", "[input.limit, lanes, cells, start, rules, input.steps]",
+     "[input.limit, lanes, cells, rules, input.steps]"),
+    ("_studies/roads.py", "[input.start.placement, input.start.speed]",
+     "[input.start.placement, input.start.speed, input.start.seed]"),
+    ("_studies/roads.py", "[is_sweep, count, *about]", "[is_sweep, *about]"),
+    ("_studies/roads.py", "key_digits(input.key).lower()", "\"0\" * 64"),
+]
+"""A file of the package, the text in it (once, or the first), and its replacement."""
+
+
+def is_noticed(folder: Path, file: str, old: str, new: str) -> bool:
+    """Whether the tests fail with this edit in a copy of the package."""
+    path = folder / "trlab" / file
+    right = path.read_text()
+    if old not in right:
+        raise SystemExit(f"{file} has no {old!r}: adapt the list of mutants")
+    path.write_text(right.replace(old, new, 1))
+    try:
+        tests = [f"tests.{name}" for name in TESTS[file]]
+        words = [sys.executable, "-B", "-c", QUICK, "-q", "-f", *tests]
+        place = {**os.environ, "PYTHONPATH": str(folder), "TRLAB": find_program(), "MPLBACKEND": "Agg"}
+        return subprocess.run(words, cwd=folder, env=place, capture_output=True).returncode != 0
+    finally:
+        path.write_text(right)
+
+
+def main() -> int:
+    chosen = [mutant for mutant in MUTANTS if not sys.argv[1:] or mutant[0].endswith(tuple(sys.argv[1:]))]
+    count = len(os.sched_getaffinity(0))
+    with tempfile.TemporaryDirectory() as top, ThreadPoolExecutor(count) as pool:
+        folders: "Queue[Path]" = Queue()
+        for number in range(count):
+            for part in "trlab", "tests":
+                shutil.copytree(TOP / part, Path(top) / str(number) / part, ignore=shutil.ignore_patterns("__pycache__"))
+            folders.put(Path(top) / str(number))
+
+        def tried(mutant: "tuple[str, str, str]") -> bool:
+            folder = folders.get()
+            try:
+                return is_noticed(folder, *mutant)
+            finally:
+                folders.put(folder)
+
+        missed = 0
+        for (file, old, new), is_seen in zip(chosen, pool.map(tried, chosen)):
+            missed += not is_seen
+            print(f"{'noticed' if is_seen else 'NOT NOTICED'}: {file}: {old!r} -> {new!r}", flush=True)
+    print(f"{len(chosen) - missed} of {len(chosen)} edits are noticed")
+    return 1 if missed else 0
+
+
+if __name__ == "__main__":
+    sys.exit(main())
