@@ -114,6 +114,10 @@ class Incomplete(unittest.TestCase):
         with fake(self.folder, r"printf '\377\n'"):
             self.assertRaises(OutputFormatError, check, "motion\ngo 0\n")
 
+    def test_an_answer_without_its_end(self):
+        with fake(self.folder, 'printf %s "$(real "$@")"'):
+            self.assertRaisesRegex(IncompleteOutputError, "without its end", check, "motion\nget r0, gap\nget r1, limit\nmin r0, r0, r1\ngo r0\n")
+
     def test_a_rejection_that_is_not_explained(self):
         with fake(self.folder, '[ "$1" = explain ] && real "$@" || { echo fault line 1 cause 1; exit 1; }'):
             self.assertRaisesRegex(ProgramError, "accepts", JOB.run)

@@ -9,6 +9,10 @@ class TrlabError(Exception):
     """The base class of all errors of trlab."""
 
 
+class TrlabWarning(UserWarning):
+    """An input that is valid, but may not be the one that you want. The message says what it does, and how to change it."""
+
+
 class ParameterError(TrlabError, ValueError, TypeError):
     """A parameter that has the wrong type, is out of range or contradicts another one. The message names it."""
 
