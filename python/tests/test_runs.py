@@ -11,7 +11,8 @@ from pathlib import Path
 from unittest import mock
 
 from tests.by_pictures import windows
-from trlab import ParameterError, ProgramError, Job, Nasch, Own, Snapshots, Point, RejectedInputError, RenamedError, Rickert, SlowToStart, Sweep, Table, Window
+from trlab import Job, Nasch, Own, ParameterError, Point, ProgramError, RejectedInputError, RenamedError, Rickert, SlowToStart
+from trlab import Snapshots, Sweep, Table, Window
 from trlab import check, even, find_program, jammed, moving, random_cells, read_tables, run_all, write_inputs
 from trlab._runs.calls import ask
 
