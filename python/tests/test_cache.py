@@ -162,14 +162,10 @@ class Kept(unittest.TestCase):
         whole = one.read_bytes()
         victim = self.folder / "victim"
         victim.write_text("untouched")
-        makers = {
-            "pipe": lambda: os.mkfifo(one), "full device": lambda: one.symlink_to("/dev/full"), "null": lambda: one.symlink_to("/dev/null"),
-            "itself": lambda: one.symlink_to(one.name), "nothing": lambda: one.symlink_to("nowhere"), "other": lambda: one.symlink_to(victim),
-        }
-        for name, make in makers.items():
+        for name in "pipe", "/dev/full", "/dev/null", one.name, "nowhere", str(victim):
             with self.subTest(name):
                 one.unlink()
-                make()
+                os.mkfifo(one) if name == "pipe" else one.symlink_to(name)
                 self.assertEqual(self.new_calls(), 1)
                 self.assertEqual((one.is_symlink(), one.read_bytes()), (False, whole))
         self.assertEqual(victim.read_text(), "untouched")
@@ -208,7 +204,8 @@ print(found == {name: sweep.sweep() for name, sweep in SWEEPS.items()}, *(it.mes
         self.cache.chmod(0o555)
         self.addCleanup(self.cache.chmod, 0o755)
         environment = {**os.environ, "PYTHONPATH": str(PYTHON)}
-        ran = subprocess.run([sys.executable, "-B", "-c", script, str(self.cache)], env=environment, stdout=subprocess.PIPE, text=True)
+        line = [sys.executable, "-B", "-c", script, str(self.cache)]
+        ran = subprocess.run(line, env=environment, stdout=subprocess.PIPE, text=True)
         equal, *told = ran.stdout.rstrip("\n").split("|")
         self.assertEqual((ran.returncode, equal, len(told)), (0, "True", 2))
         self.assertRegex(told[0], f"not kept, because {self.cache} cannot be written to")

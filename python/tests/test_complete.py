@@ -1,4 +1,5 @@
 """An output counts only if it has all lines that its input gives, whatever the exit status says; nothing else is kept."""
+import hashlib
 import os
 import signal
 import subprocess
@@ -11,8 +12,8 @@ from unittest import mock
 
 import trlab
 from tests.processes import MARK, PYTHON, child, end, marked, until
-from trlab import ExitStatusError, IncompleteOutputError, Job, Nasch, OutputFormatError, ProgramError, RejectedInputError, Rickert, Sweep
-from trlab import check, explain, find_program
+from trlab import ExitStatusError, IncompleteOutputError, Job, Nasch, OutputFormatError, ProgramError, RejectedInputError, Rickert
+from trlab import Sweep, check, explain, find_program
 from trlab._runs import cache as caching
 from trlab._runs.requests import Request
 
@@ -41,16 +42,16 @@ class Lines(unittest.TestCase):
     def test_the_number_of_lines_is_that_of_the_program(self):
         jobs = [JOB, TWO_LANES, Job(limit=1, length=1, cars=0, rule=Nasch(0), steps=0)]
         for text in (job.text() for job in jobs):
-            for options in [], ["--every", "2"], ["--from", "3"], ["--every=4", "--from", "1"], ["--every", "7"], ["--from", "9"]:
+            for options in [], ["--every", "2"], ["--from", "3"], ["--every=4", "--from=1"], ["--every", "7"], ["--from", "9"]:
                 for command in "run", "series":
                     words = (command, *options)
                     with self.subTest(words=words):
                         self.assertEqual(Request(words, text).lines(), self.lines(words, text))
-        self.assertEqual(Request(("sweep",), SWEEP.text()).lines(), self.lines(["sweep"], SWEEP.text()))
+        self.assertEqual(Request(("sweep",), SWEEP.text()).lines(), self.lines(("sweep",), SWEEP.text()))
         self.assertIsNone(Request(("check",), "motion\n").lines())
 
     def lines(self, words, text):
-        return subprocess.run([find_program(), *words], input=text.encode(), stdout=subprocess.PIPE, check=True).stdout.count(b"\n")
+        return subprocess_output(Request(words, text)).count("\n")
 
 
 class Incomplete(unittest.TestCase):
@@ -114,6 +115,11 @@ class Incomplete(unittest.TestCase):
         with fake(self.folder, r"printf '\377\n'"):
             self.assertRaises(OutputFormatError, check, "motion\ngo 0\n")
 
+    def test_an_answer_without_its_end(self):
+        with fake(self.folder, 'printf %s "$(real "$@")"'):
+            program = "motion\nget r0, gap\nget r1, limit\nmin r0, r0, r1\ngo r0\n"
+            self.assertRaisesRegex(IncompleteOutputError, "without its end", check, program)
+
     def test_a_rejection_that_is_not_explained(self):
         with fake(self.folder, '[ "$1" = explain ] && real "$@" || { echo fault line 1 cause 1; exit 1; }'):
             self.assertRaisesRegex(ProgramError, "accepts", JOB.run)
@@ -123,14 +129,15 @@ class Incomplete(unittest.TestCase):
         whole = JOB.series()
         cut = "".join(f"{line}\n" for line in subprocess_output(request).splitlines()[:3]).encode()
         self.cache.mkdir()
-        with open(caching.Cache(self.cache).path(caching.key_of(request)), "wb") as file:
-            file.write(caching._heading(caching.key_of(request), caching.hashlib.sha256(cut).hexdigest()) + cut)
+        key = caching.key_of(request)
+        caching.Cache(self.cache).path(key).write_bytes(caching._heading(key, hashlib.sha256(cut).hexdigest()) + cut)
         found = dict(trlab.results([JOB], call=Job.series, cache=self.cache))
         self.assertEqual(found, {0: whole})
 
 
 def subprocess_output(request):
-    return subprocess.run([find_program(), *request.words], input=request.text, stdout=subprocess.PIPE, text=True, check=True).stdout
+    line = [find_program(), *request.words]
+    return subprocess.run(line, input=request.text, stdout=subprocess.PIPE, text=True, check=True).stdout
 
 
 # Prints the class of what each call raises, or what it returns.
@@ -138,8 +145,9 @@ EACH_CALL = """
 import sys, trlab
 from trlab.lab import Lab
 job = trlab.Job(limit=5, length=10, cars=1, rule=trlab.Nasch(0), steps=1)
-calls = [job.run, job.series, lambda: list(job.snapshots()), lambda: list(trlab.results([job])), lambda: trlab.run_all([job], trlab.Job.run),
-         lambda: trlab.check("motion\\ngo 0\\n"), lambda: trlab.explain(job), trlab.version, Lab]
+calls = [job.run, job.series, lambda: list(job.snapshots()), lambda: list(trlab.results([job])),
+         lambda: trlab.run_all([job], trlab.Job.run), lambda: trlab.check("motion\\ngo 0\\n"), lambda: trlab.explain(job),
+         trlab.version, Lab]
 for call in calls:
     try:
         print(type(call()).__name__)
@@ -269,10 +277,11 @@ class Words(unittest.TestCase):
             "for program in 'motion\\ng\\u00e9t r0, speed\\n', 'motion\\nget \\u00e9\\u00e9 r0, speed\\n':\n"
             "    try:\n        trlab.check(program)\n"
             "    except trlab.RejectedInputError as error:\n"
-            "        print(json.dumps([error.line, error.first, error.last, error.answer, str(error), trlab.explain(program)]))"
+            "        print(json.dumps([error.line, error.first, error.last, str(error), trlab.explain(program)]))"
         )
         told = set()
-        for changes in {}, {"LC_ALL": "C", "PYTHONUTF8": "0", "PYTHONCOERCECLOCALE": "0"}, {"LC_ALL": "C.UTF-8", "PYTHONUTF8": "1"}:
+        plain = {"LC_ALL": "C", "PYTHONUTF8": "0", "PYTHONCOERCECLOCALE": "0"}
+        for changes in {}, plain, {"LC_ALL": "C.UTF-8", "PYTHONUTF8": "1"}:
             environment = {**os.environ, "PYTHONPATH": str(PYTHON), "TRLAB": find_program(), **changes}
             ran = subprocess.run([sys.executable, "-c", script], env=environment, stdout=subprocess.PIPE, text=True, check=True)
             self.assertEqual(len(ran.stdout.splitlines()), 2)

@@ -10,8 +10,9 @@ from dataclasses import replace
 from pathlib import Path
 
 from tests.processes import calls, child, end, logging_program, marked, until
-from trlab import Job, Nasch, ParameterError, Point, ProgramNotFoundError, ResultFilesError, Rickert, Sweep, Window
-from trlab import find_program, moving, random_cells, read_tables, write_inputs
+from tests.test_arrays import needs
+from trlab import Grid, Job, Nasch, ParameterError, Point, ProgramNotFoundError, ResultFilesError, Rickert, Sweep
+from trlab import Window, find_program, moving, random_cells, read_tables, write_inputs
 
 SHAPE = Sweep(limit=5, length=100, rule=Nasch(0.25), warm=10, measure=20, cars=[10, 20])
 SWEEPS = {f"key {key}": replace(SHAPE, key=key) for key in range(5)}
@@ -71,7 +72,8 @@ class Arrays(Folder):
 
     def test_an_output_that_is_cut_off_is_no_result(self):
         cuts = Path(self.place) / "cuts"
-        cuts.write_text(f'#!/bin/sh\n"{find_program()}" "$@" | head -c 60\n[ "$1" = --version ] || exit $(cat "{self.place}/status")\n')
+        ending = f'[ "$1" = --version ] || exit $(cat "{self.place}/status")'
+        cuts.write_text(f'#!/bin/sh\n"{find_program()}" "$@" | head -c 60\n{ending}\n')
         cuts.chmod(0o755)
         script = write_inputs(self.folder, SWEEPS, program=str(cuts))
         told = {3: "trlab ended with status 3: memory ran out", 0: "trlab wrote 1 of 3 lines"}
@@ -140,7 +142,7 @@ class Scripts(Folder):
     def test_a_percent_sign_is_one_for_slurm(self):
         self.folder /= "100%j 'quoted' $HOME \"é"
         script = write_inputs(self.folder, SWEEPS)
-        output = next(line for line in script.read_text("utf-8").splitlines() if line.startswith("#SBATCH")).partition("--output=")[2]
+        output = script.read_text("utf-8").splitlines()[1].partition("--output=")[2]
         self.assertEqual(shlex.split(output), [f"{self.folder}/slurm-%A_%a.out".replace("100%j", "100%%j")])
         self.assertEqual(self.task(script), (0, ""))
         self.assertEqual(read_tables(self.folder, Point, SWEEPS), {name: it.sweep() for name, it in SWEEPS.items()})
@@ -159,7 +161,8 @@ class Scripts(Folder):
         write_inputs(self.folder, SWEEPS, program=self.other_program())
         script = write_inputs(self.folder, SWEEPS)
         self.task(script, 1)
-        self.assertRaisesRegex(ResultFilesError, "another program", write_inputs, self.folder, SWEEPS, program=self.other_program())
+        with self.assertRaisesRegex(ResultFilesError, "another program"):
+            write_inputs(self.folder, SWEEPS, program=self.other_program())
         self.assertEqual(self.task(script), (0, ""))
         (self.folder / "array.program").unlink()
         self.assertRaisesRegex(ResultFilesError, "unknown program", write_inputs, self.folder, SWEEPS)
@@ -183,8 +186,10 @@ class Scripts(Folder):
         self.assertEqual((self.task(script, 2)[0], self.results()), (1, ["key 0.csv"]))
 
     def test_inputs_and_words_that_do_not_fit(self):
-        for words in ["sweep"], ["check"], ["series; touch INJECTED"], [], "series", ["series", "$(id)"], ["series", "--every", "3"], \
-                ["series", "--from", "10"], ["run", "--from", "11"], ["series", "--every", "x"]:
+        for words in (
+            ["sweep"], ["check"], ["series; touch INJECTED"], [], "series", ["series", "$(id)"], ["series", "--every", "3"],
+            ["series", "--from", "10"], ["run", "--from", "11"], ["series", "--every", "x"],
+        ):
             self.assertRaises(ParameterError, write_inputs, self.folder, {"a": JOB}, words)
         for words in ["series"], ["run"]:
             self.assertRaises(ParameterError, write_inputs, self.folder, SWEEPS, words)
@@ -212,7 +217,8 @@ class Parts(Folder):
         self.assertEqual(read_tables(self.folder, Point, self.SWEEPS), wanted)
         self.assertEqual(read_tables(self.folder, Point), wanted)
         files = sorted(file.name for file in self.folder.iterdir() if file.suffix in (".job", ".sweep"))
-        self.assertEqual(files, ["even.sweep", *(f"many~{n}of3.sweep" for n in (1, 2, 3)), "one.job", *(f"random~{n}of3.job" for n in (1, 2, 3))])
+        parts = [[f"{name}~{number}of3.{kind}" for number in (1, 2, 3)] for name, kind in (("many", "sweep"), ("random", "job"))]
+        self.assertEqual(files, ["even.sweep", *parts[0], "one.job", *parts[1]])
         self.assertIn("of the 8 inputs", self.script.read_text())
 
     def test_a_part_that_is_missing_is_named(self):
@@ -228,6 +234,21 @@ class Parts(Folder):
         other = {"random": replace(self.SWEEPS["random"], warm=11, measure=19)}
         self.assertRaisesRegex(ResultFilesError, "another input", write_inputs, self.folder, other)
         self.assertRaisesRegex(ResultFilesError, "other windows", read_tables, self.folder, Point, other)
+
+    @needs("pandas")
+    def test_a_frame_while_some_tasks_are_late(self):
+        from pandas.testing import assert_frame_equal
+
+        grid = Grid(lambda seed, key: replace(SHAPE, start=random_cells(key), key=key), seed=range(3))
+        self.folder /= "grid"
+        script = write_inputs(self.folder, grid.named_inputs())
+        for number in range(1, 6):
+            self.task(script, number)
+        frame = grid.frame(read_tables(self.folder, Point, grid.named_inputs(), errors="keep"))
+        self.assertEqual(frame["error"].isna().sum(), 4)
+        self.assertRegex(frame["error"].dropna().iloc[0], "seed_2~2of2.csv is missing")
+        self.task(script)
+        assert_frame_equal(grid.frame(read_tables(self.folder, Point, grid.named_inputs())), grid.run(), check_exact=True)
 
     def test_a_point_that_is_too_long_for_a_file(self):
         self.assertRaisesRegex(ParameterError, "500000", write_inputs, self.folder, {"long": replace(SHAPE, warm=500000)})
@@ -291,7 +312,8 @@ class Tables(Folder):
             self.assertEqual(self.fault({"key 0": other}), ["key 0.csv has other points than its sweep"])
 
     def test_the_others_are_usable(self):
-        jobs = {"late": JOB, "wrong": replace(JOB, rule=Rickert(0, 0)), "damaged": replace(JOB, key=1), "good": replace(JOB, key=2)}
+        wrong, damaged, good = replace(JOB, rule=Rickert(0, 0)), replace(JOB, key=1), replace(JOB, key=2)
+        jobs = {"late": JOB, "wrong": wrong, "damaged": damaged, "good": good}
         folder = self.folder / "jobs"
         self.task(write_inputs(folder, jobs, ["series"]))
         (folder / "late.csv").unlink()
@@ -314,7 +336,7 @@ class Tables(Folder):
         heading, first, second = (self.folder / "key 0.csv").read_text().splitlines()
         good = first.split(",")
         changes = {0: "101", 1: "0", 2: "0", 3: "99999", 4: "201", 6: "1000001"}
-        rows = [",".join(change if place == at else number for place, number in enumerate(good)) for at, change in changes.items()]
+        rows = [",".join([*good[:at], change, *good[at + 1:]]) for at, change in changes.items()]
         for row in [*rows, "0" + first, ",".join([*good[:-1], "9" * 5000])]:
             (self.folder / "key 0.csv").write_text(f"{heading}\n{row}\n{second}\n")
             with self.subTest(row=row[:60]):
@@ -333,7 +355,8 @@ class Tables(Folder):
         self.task(write_inputs(folder, {"a": JOB}, ["series", "--every", "5"]))
         lines = (folder / "a.csv").read_text().splitlines(True)
         (folder / "a.csv").write_text(lines[0] + lines[2])
-        self.assertRaisesRegex(ResultFilesError, "other windows than `trlab series --every 5`", read_tables, folder, Window, {"a": JOB})
+        with self.assertRaisesRegex(ResultFilesError, "other windows than `trlab series --every 5`"):
+            read_tables(folder, Window, {"a": JOB})
 
     def test_every_cut_of_a_series_is_found(self):
         for every, first in (1, 0), (5, 0), (3, 1), (4, 2), (10, 0):

@@ -39,7 +39,9 @@ class Named(Folder):
             for name in names:
                 with self.subTest(name), mock.patch.dict(os.environ, TRLAB=name):
                     self.assertRaisesRegex(ProgramNotFoundError, said, find_program)
-        for content in b"#!/bin/sh\necho other 0\n", b"#!/nowhere\n", b"\0\1\2", b"", b"#!/bin/sh\nexit 3\n", b"#!/bin/sh\ncat /dev/zero\n":
+        shell = b"#!/bin/sh\n"
+        others = [shell + line for line in (b"echo other 0\n", b"exit 3\n", b"cat /dev/zero\n")]
+        for content in *others, b"#!/nowhere\n", b"\0\1\2", b"":
             with self.subTest(content), mock.patch.dict(os.environ, TRLAB=self.script(content)):
                 self.assertRaisesRegex(ProgramNotFoundError, "is not trlab", find_program)
         self.assertTrue(issubclass(ProgramNotFoundError, (TrlabError, FileNotFoundError)))
@@ -71,7 +73,9 @@ class Packed(Folder):
         lines = [f"{level} {self.sum}\n" for level in ("x86-64-v2", "x86-64-v3")]
         (self.packed / "release.txt").write_text("# the released programs\n" + "".join(lines), encoding="utf-8")
         self.write(gzip.compress(self.content))
-        for change in mock.patch.dict(os.environ, XDG_CACHE_HOME=str(self.home)), mock.patch.object(location, "_PACKED", self.packed):
+        home = mock.patch.dict(os.environ, XDG_CACHE_HOME=str(self.home))
+        packed = mock.patch.object(location, "_PACKED", self.packed)
+        for change in home, packed:
             change.start()
             self.addCleanup(change.stop)
 
@@ -92,7 +96,8 @@ class Packed(Folder):
 
     def test_a_cut_download_is_an_error(self):
         whole = gzip.compress(self.content)
-        for content in whole[:-9], whole[:100], whole[:5], b"", b"no archive", whole[:50] + bytes(100) + whole[150:], gzip.compress(b"other"):
+        changed = whole[:50] + bytes(100) + whole[150:]
+        for content in whole[:-9], whole[:100], whole[:5], b"", b"no archive", changed, gzip.compress(b"other"):
             self.write(content)
             with self.subTest(length=len(content)):
                 self.assertRaisesRegex(ProgramNotFoundError, "is damaged.*install trlab again", self.find)

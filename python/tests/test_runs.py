@@ -11,7 +11,8 @@ from pathlib import Path
 from unittest import mock
 
 from tests.by_pictures import windows
-from trlab import ParameterError, ProgramError, Job, Nasch, Own, Snapshots, Point, RejectedInputError, Rickert, SlowToStart, Sweep, Table, Window
+from trlab import Job, Nasch, Own, ParameterError, Point, ProgramError, RejectedInputError, RenamedError, Rickert, SlowToStart
+from trlab import Snapshots, Sweep, Table, Window
 from trlab import check, even, find_program, jammed, moving, random_cells, read_tables, run_all, write_inputs
 from trlab._runs.calls import ask
 
@@ -176,6 +177,8 @@ class Refusals(unittest.TestCase):
             ask(["run", "--workers", "17"], Job(limit=5, length=10, cars=2, rule=Nasch(0), steps=1).text())
         self.assertEqual(caught.exception.status, 2)
         self.assertIn("--workers", caught.exception.message)
+        with self.assertRaisesRegex(RenamedError, "`message`"):
+            caught.exception.said
 
     def test_a_run_that_ends_early_is_no_result(self):
         with tempfile.TemporaryDirectory() as folder, stand_in(folder, "echo step 0; echo .; echo full >&2; exit 4\n"):

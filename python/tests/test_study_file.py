@@ -3,6 +3,7 @@ import hashlib
 import io
 import json
 import os
+import struct
 import subprocess
 import sys
 import tempfile
@@ -14,7 +15,8 @@ from pathlib import Path
 import trlab
 from tests.processes import PYTHON
 from tests.test_arrays import needs
-from trlab import Grid, Job, Nasch, ParameterError, Point, StudyFileError, Sweep, Table, Window, find_program, moving, random_cells, read_study
+from trlab import Grid, Job, Nasch, ParameterError, StudyFileError, Sweep, Table, Window, find_program, moving, random_cells
+from trlab import read_study
 
 WORDS = ["series", "--every", "15", "--from", "5"]
 
@@ -56,8 +58,8 @@ class Studies(Folder):
     def test_the_frame_is_the_same_to_the_last_bit(self):
         from pandas.testing import assert_frame_equal
 
-        grids = {"jobs": (Grid(job, **P), WORDS), **{it: (Grid(sweep_from(it), **P), []) for it in ("even", "random", "moving", "many")}}
-        for name, (grid, words) in grids.items():
+        grids = {name: (Grid(sweep_from(name), **P), []) for name in ("even", "random", "moving", "many")}
+        for name, (grid, words) in {**grids, "jobs": (Grid(job, **P), WORDS)}.items():
             with self.subTest(name):
                 grid.save(self.path, words)
                 wanted = grid.run(call=(lambda it: it.series(every=15, first=5)) if words else None)
@@ -77,9 +79,10 @@ class Studies(Folder):
     def test_tables_need_no_package(self):
         self.saved()
         script = "import sys\nfor name in 'numpy', 'pandas':\n    sys.modules[name] = None\n" \
-            "import trlab\nstudy = trlab.read_study(sys.argv[1])\nfor place, table in study.results():\n    print(place.p, len(table))"
+            "import trlab\nfor place, table in trlab.read_study(sys.argv[1]).results():\n    print(place.p, len(table))"
         environment = {**os.environ, "PYTHONPATH": str(PYTHON)}
-        ran = subprocess.run([sys.executable, "-B", "-c", script, str(self.path)], env=environment, stdout=subprocess.PIPE, text=True)
+        line = [sys.executable, "-B", "-c", script, str(self.path)]
+        ran = subprocess.run(line, env=environment, stdout=subprocess.PIPE, text=True)
         self.assertEqual(sorted(ran.stdout.splitlines()), sorted(f"{p} 2" for p in ("0.25", "1/3", "1/2") for _ in range(2)))
 
     def test_what_a_study_holds(self):
@@ -91,7 +94,8 @@ class Studies(Folder):
         for place, given in study.inputs.items():
             self.assertEqual((given.words, given.texts), (tuple(WORDS), (grid.inputs[place].text(),)))
         self.assertEqual(dict(study.results()), {place: it.series(every=15, first=5) for place, it in grid.inputs.items()})
-        self.assertEqual((study.version, study.program), (trlab.__version__, hashlib.sha256(Path(find_program()).read_bytes()).hexdigest()))
+        program = hashlib.sha256(Path(find_program()).read_bytes()).hexdigest()
+        self.assertEqual((study.version, study.program), (trlab.__version__, program))
 
     def test_the_same_study_is_the_same_bytes(self):
         content = self.saved()
@@ -123,10 +127,12 @@ class Studies(Folder):
         other = self.path.parent / "other"
         other.write_text(f'#!/bin/sh\n[ "$1" != --version ] || exec echo trlab 9\nexec "{find_program()}" "$@"\n')
         other.chmod(0o755)
-        script = "import sys, trlab\ntry:\n    trlab.read_study(sys.argv[1])\nexcept trlab.StudyFileError as error:\n    print(error)\n" \
+        script = "import sys, trlab\ntry:\n    trlab.read_study(sys.argv[1])\n" \
+            "except trlab.StudyFileError as error:\n    print(error)\n" \
             "print(len(dict(trlab.read_study(sys.argv[1], any_program=True).results())))"
         environment = {**os.environ, "PYTHONPATH": str(PYTHON), "TRLAB": str(other)}
-        ran = subprocess.run([sys.executable, "-B", "-c", script, str(self.path)], env=environment, stdout=subprocess.PIPE, text=True)
+        line = [sys.executable, "-B", "-c", script, str(self.path)]
+        ran = subprocess.run(line, env=environment, stdout=subprocess.PIPE, text=True)
         said, count = ran.stdout.splitlines()
         self.assertRegex(said, "was made with trlab .*, program [0-9a-f]{12}, and yours is trlab 9, program .* any_program=True$")
         self.assertEqual(count, "6")
@@ -176,45 +182,62 @@ class OtherFiles(Folder):
         os.mkfifo(self.path)
         self.assertRaises(StudyFileError, read_study, self.path)
 
-    def test_study_json(self):
-        def without(name):
-            return lambda about: about.pop(name) and None
+    def test_members_of_study_json(self):
+        """Each member is missing once, and has each of these values once."""
+        values = None, True, 1, "x", [], {}, [1], [None], [True], 1.5
+        for name in "format", "trlab", "program", "program_version", "parameters", "choices":
+            self.refused(self.rewritten(lambda about: about.pop(name) and None))
+            for value in values:
+                if (name, value) not in (("trlab", "x"), ("program_version", "x")):
+                    with self.subTest(name=name, value=value):
+                        self.refused(self.rewritten(lambda about: about.update({name: value})))
+        for name in "values", "roads", "words", "files", "is_sweep":
+            self.refused(self.rewritten(lambda about: about["choices"][0].pop(name) and None))
+            for value in values:
+                if (name, value) != ("is_sweep", True):
+                    with self.subTest(name=name, value=value):
+                        self.refused(self.rewritten(lambda about: about["choices"][0].update({name: value})))
+        for name in "key", "cells", "cars", "ensembles":
+            for value in None, True, "x", [], {}, [None], [True], 1.5:
+                with self.subTest(name=name, value=value):
+                    self.refused(self.rewritten(lambda about: about["choices"][0]["roads"].update({name: value})))
 
-        def of_choice(**changes):
-            return lambda about: about["choices"][0].update(changes)
+    def test_parameters(self):
+        for names in ["p"], ["p", "p"], ["p", "class"], ["p", "_x"], ["p", "import os"], ["p", "q", "seed"]:
+            self.refused(self.rewritten(lambda about: about.update(parameters=names)))
+        fractions = {"fraction": "1/0"}, {"fraction": 1}, {"fraction": "x"}, {"a": "1"}
+        for value in None, True, [], {}, *fractions, float("inf"), float("nan"):
+            with self.subTest(value=value):
+                self.refused(self.rewritten(lambda about: about["choices"][0].update(values=[value, 0])))
 
-        changes = [
-            lambda about: [about], lambda about: 1, lambda about: {"format": about["format"]}, lambda about: about.update(format="trlab study 2"),
-            *map(without, ("format", "trlab", "program", "program_version", "parameters", "choices")),
-            *(lambda about, name=name: about.update({name: value}) for name in ("trlab", "program", "parameters", "choices", "format")
-              for value in (None, 1, True, [], {}, [1], "x", [None])),
-            lambda about: about.update(parameters=["p"]), lambda about: about.update(parameters=["p", "p"]),
-            lambda about: about.update(parameters=["p", "class"]), lambda about: about.update(parameters=["p", "_x"]),
-            lambda about: about.update(parameters=["p", "import os"]), lambda about: about["choices"].pop(), lambda about: about["choices"].clear(),
-            lambda about: about["choices"].append(about["choices"][0]), lambda about: about["choices"][0].update(about["choices"][1]),
-            *(lambda about, name=name: about["choices"][0].pop(name) and None for name in ("values", "roads", "words", "files", "is_sweep")),
-            *(of_choice(**{name: value}) for name in ("values", "roads", "words", "files", "is_sweep") for value in (None, 1, {}, [], [1], "x")),
-            *(of_choice(values=[value, 0]) for value in (None, True, [], {}, {"fraction": "1/0"}, {"fraction": 1}, {"fraction": "x"}, {"a": "1"},
-                                                         float("inf"), float("nan"))),
-            *(of_choice(words=words) for words in (["run"], ["check"], ["series", "--every", "16"], ["series", "--every", "x"], ["sweep"],
-                                                   ["series", "--from", "35"], ["series", "; id"], ["--version"])),
-            of_choice(is_sweep=1), of_choice(files=["../../etc/passwd"]), of_choice(files=["/etc/passwd"]), of_choice(files=["study.json"]),
-            *(lambda about, name=name, value=value: about["choices"][0]["roads"].update({name: value})
-              for name in ("key", "cells", "cars", "ensembles") for value in (None, "x", [], [None], True, {}, 1.5, [True])),
-        ]
-        for number, change in enumerate(changes):
-            with self.subTest(number=number):
-                self.refused(self.rewritten(change))
-        self.refused(self.rewritten(lambda about: about.update(choices=json.loads("[" * 900 + "]" * 900))))
-        self.refused(self.rewritten(members=lambda texts: texts.update({"study.json": b"[" * 10**6})))
-        self.refused(self.rewritten(members=lambda texts: texts.update({"study.json": b'{"a": ' + b"9" * 10**5 + b"}"})))
-        self.refused(self.rewritten(members=lambda texts: texts.update({"study.json": b"\xff"})))
+    def test_words(self):
+        """Only tables, and no steps that the windows leave out."""
+        options = ["--every", "16"], ["--every", "x"], ["--from", "35"], ["; id"]
+        for words in ["run"], ["check"], ["sweep"], ["--version"], *(["series", *it] for it in options):
+            self.refused(self.rewritten(lambda about: about["choices"][0].update(words=words)))
+
+    def test_choices(self):
+        for change in (
+            lambda choices: choices.pop(), lambda choices: choices.clear(), lambda choices: choices.append(choices[0]),
+            lambda choices: choices[0].update(choices[1]), lambda choices: choices[0].update(values=choices[1]["values"]),
+        ):
+            self.refused(self.rewritten(lambda about: change(about["choices"]) and None))
+        for name in "../../etc/passwd", "/etc/passwd", "study.json":
+            self.refused(self.rewritten(lambda about: about["choices"][0].update(files=[name])))
+
+    def test_other_json(self):
+        for change in lambda about: [about], lambda about: 1, lambda about: {"format": about["format"]}:
+            self.refused(self.rewritten(change))
+        for text in b"[" * 10**6, b'{"a": ' + b"9" * 10**5 + b"}", b"\xff", b"":
+            self.refused(self.rewritten(members=lambda texts: texts.update({"study.json": text})))
         self.refused(self.rewritten(members=lambda texts: texts.pop("study.json") and None))
+        self.refused(self.rewritten(lambda about: about.update(format="trlab study 2")), "another version")
 
     def test_members(self):
         first = "inputs/000000.job"
         for change in (
-            lambda texts: texts.pop(first) and None, lambda texts: texts.update({"more": b""}), lambda texts: texts.update({"../evil": b""}),
+            lambda texts: texts.pop(first) and None, lambda texts: texts.update({"more": b""}),
+            lambda texts: texts.update({"../evil": b""}),
             lambda texts: texts.update({"/evil": b""}), lambda texts: texts.update({first: b"\xff\xfe"}),
             lambda texts: texts.update({first: b"0" * (4 * 1024 * 1024 + 1)}), lambda texts: texts.update({first: b""}),
         ):
@@ -233,7 +256,7 @@ class OtherFiles(Folder):
         begin = whole.index(b"PK\1\2")
         entry = bytearray(whole[begin:whole.index(b"PK\1\2", begin + 4)])
         many, end = bytes(entry) * 60000, whole[whole.rindex(b"PK\5\6"):]
-        tail = end[:8] + (60000).to_bytes(2, "little") * 2 + len(many).to_bytes(4, "little") + begin.to_bytes(4, "little") + end[20:]
+        tail = end[:8] + struct.pack("<HHII", 60000, 60000, len(many), begin) + end[20:]
         self.refused(whole[:begin] + many + tail)
 
     def test_two_members_of_one_name(self):

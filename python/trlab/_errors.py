@@ -37,6 +37,10 @@ class ProgramError(TrlabError):
         super().__init__(status, message)
         self.status, self.message = status, message
 
+    @property
+    def said(self) -> str:
+        raise RenamedError("a `ProgramError` has no `said` since version 0.6: use `message`")
+
     def __str__(self) -> str:
         return f"trlab ended with status {self.status}: {self.message.strip() or _MEANING.get(self.status, 'no message')}"
 

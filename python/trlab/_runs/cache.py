@@ -12,7 +12,7 @@ from typing import IO, Optional, Union
 
 from .location import asked, find_program, sha256_of_program
 from .ownership import new_path, owned, remove_left
-from .._errors import IncompleteOutputError, ParameterError, ResultFilesError
+from .._errors import IncompleteOutputError, ParameterError, ResultFilesError, TrlabWarning
 from .processes import run
 from .requests import Length, Request
 
@@ -118,7 +118,8 @@ def _say_that_nothing_is_kept(folder: Path, fault: OSError) -> None:
     """Warns that outputs are not kept in a folder that cannot be written to. Raises any other fault."""
     if fault.errno not in _READ_ONLY:
         raise fault
-    warnings.warn(f"new outputs are not kept, because {folder} cannot be written to: {fault.strerror}", stacklevel=2)
+    said = f"new outputs are not kept, because {folder} cannot be written to: {fault.strerror}"
+    warnings.warn(said, TrlabWarning, stacklevel=2)
 
 
 def _write(file: IO[bytes], key: str, request: Request) -> None:

@@ -149,8 +149,9 @@ def _place(folder: Union[str, Path]) -> Path:
 
 def _checked(name: str) -> str:
     """A name that is the beginning of a file name, and one line."""
-    if not isinstance(name, str) or not name or "/" in name or name.startswith(".") or not name.isprintable() or _PART.fullmatch(name):
-        raise ParameterError(f"{name!r} cannot be the name of a file: no slashes, control characters, leading dot or ending ~1of2")
+    is_name = isinstance(name, str) and name != "" and name.isprintable() and "/" not in name and name[0] != "."
+    if not is_name or _PART.fullmatch(name):
+        raise ParameterError(f"{name!r} cannot be the name of a file: no slash, control character, leading dot or end like ~1of2")
     return name
 
 
@@ -239,7 +240,7 @@ def _wanted(place: Path, kind: Any, inputs: Optional[Mapping[str, Union[Job, Swe
     found: dict[str, list[_File]] = {}
     for name, given in inputs.items():
         if kind is not (Point if isinstance(given, Sweep) else Window):
-            raise ParameterError(f"the tables of sweeps are of kind Point, those of jobs of kind Window: {name!r} is a {type(given).__name__}")
+            raise ParameterError(f"{name!r} is a {type(given).__name__}: sweeps have tables of kind Point, jobs of kind Window")
         files = _files(name, given, ["sweep"] if isinstance(given, Sweep) else ["series"])
         if isinstance(given, Job):
             # Only the folder knows which windows of a job were asked for.

@@ -56,4 +56,6 @@ def joined(kind: Any, tables: Sequence[Table[Any]]) -> Table[Any]:
     if len(tables) == 1 and tables[0].kind is kind:
         return tables[0]
     rows = [row for table in tables for row in table]
-    return Table(kind, [Point(*row[1:1 + len(Point._fields)]) if kind is Point and isinstance(row, Window) else row for row in rows])
+    if kind is Point:
+        rows = [Point(*row[1:1 + len(Point._fields)]) if isinstance(row, Window) else row for row in rows]
+    return Table(kind, rows)

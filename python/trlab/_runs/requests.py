@@ -80,7 +80,8 @@ class Length:
         self._bytes += len(block)
         self._is_open = not block.endswith(b"\n")
         if self._bytes > self._most or (self._wanted is not None and self._lines + self._is_open > self._wanted):
-            raise self._error(f"wrote more than {'an answer' if self._wanted is None else f'the {self._wanted} lines that its input gives'}")
+            wanted = "an answer has" if self._wanted is None else f"the {self._wanted} lines that its input gives"
+            raise self._error(f"wrote more than {wanted}")
 
     def end(self) -> None:
         """Judges the whole output."""

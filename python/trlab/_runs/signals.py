@@ -25,7 +25,8 @@ def need_exit_statuses() -> None:
 
 
 def exit_status(process: subprocess.Popen[bytes]) -> int:
-    """Waits until a process has ended; its exit status, or minus the signal that ended it. Raises `ExitStatusError` if it is lost."""
+    """Waits until a process has ended, and returns its exit status, or minus the signal that ended it. Raises `ExitStatusError`
+    if it is lost."""
     try:
         ended = os.waitid(os.P_PID, process.pid, os.WEXITED | os.WNOWAIT)
     except ChildProcessError:

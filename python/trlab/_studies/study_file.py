@@ -35,7 +35,8 @@ _FILE = re.compile(r"inputs/[0-9]{6}(?:~[0-9]{4})?\.(?:job|sweep)")
 _WORD = re.compile("[a-zA-Z0-9=-]+")
 _FIXED = (1980, 1, 1, 0, 0, 0)
 _DAMAGED = (
-    zipfile.BadZipFile, zlib.error, ArithmeticError, EOFError, LookupError, NotImplementedError, OSError, RuntimeError, TypeError, ValueError,
+    zipfile.BadZipFile, zlib.error, ArithmeticError, EOFError, LookupError, NotImplementedError, OSError, RuntimeError, TypeError,
+    ValueError,
 )
 
 
@@ -97,13 +98,15 @@ def save(grid: Any, path: Union[str, Path], words: Sequence[str]) -> None:
         parts = [f"~{part:04}" for part in range(len(requests))] if len(requests) > 1 else [""]
         names = [f"inputs/{number:06}{part}.{ending}" for part in parts]
         texts.update(zip(names, (request.text for request in requests)))
+        values = [_written(value) for value in place]
         choices.append({
-            "values": [_written(value) for value in place], "roads": grid._runs[place], "words": list(requests[0].words), "files": names,
-            "is_sweep": is_sweep,
+            "values": values, "roads": grid._runs[place], "words": list(requests[0].words), "files": names, "is_sweep": is_sweep,
         })
     version, sha256 = program_identity()
-    about = {"format": _FORMAT, "trlab": __version__, "program_version": version, "program": sha256, "parameters": list(grid.names),
-             "choices": choices}
+    about = {
+        "format": _FORMAT, "trlab": __version__, "program_version": version, "program": sha256, "parameters": list(grid.names),
+        "choices": choices,
+    }
     _write(Path(path).expanduser(), {**texts, "study.json": json.dumps(about, indent=1) + "\n"})
 
 
@@ -149,8 +152,8 @@ def read_study(path: Union[str, Path], any_program: bool = False) -> Study:
     version, here = program_identity()
     if study.program != here and not any_program:
         raise StudyFileError(
-            f"{place} was made with trlab {study.version}, program {study.program[:12]}, and yours is {version}, program {here[:12]}: "
-            "install that version, or say any_program=True"
+            f"{place} was made with trlab {study.version}, program {study.program[:12]}, and yours is {version}, program "
+            f"{here[:12]}: install that version, or say any_program=True"
         )
     return study
 
@@ -191,19 +194,23 @@ def _check_about(about: Mapping[str, Any]) -> None:
     _need(_is_list(about.get("parameters"), str), "it has no parameters")
     _need(_is_list(about.get("choices"), dict) and about["choices"], "it has no choices")
     for choice in about["choices"]:
-        words, roads = choice.get("words"), choice.get("roads")
-        _need(isinstance(choice.get("values"), list) and len(choice["values"]) == len(about["parameters"]), "a choice has other parameters")
-        _need(_is_list(words, str) and words[:1] in (["series"], ["sweep"]) and all(map(_WORD.fullmatch, words)), "a choice has other words")
-        _need(_is_list(choice.get("files"), str) and choice["files"], "a choice has no inputs")
-        _need(isinstance(choice.get("is_sweep"), bool) and (choice["is_sweep"] or words[0] == "series"), "a choice has another kind")
-        _need(
-            isinstance(roads, dict) and re.fullmatch("[0-9a-f]{64}", str(roads.get("key"))) is not None
-            and _is_list(roads.get("ensembles"), str) and _is_list(roads.get("cars"), int) and type(roads.get("cells")) is int
-            and 0 < len(roads["cars"]) == len(roads["ensembles"]), "a choice has no roads"
-        )
+        _check_choice(choice, len(about["parameters"]))
 
 
-def _is_list(value: object, kind: type) -> bool:
+def _check_choice(choice: Any, parameters: int) -> None:
+    values, words, files, is_sweep, roads = map(choice.get, ("values", "words", "files", "is_sweep", "roads"))
+    _need(isinstance(values, list) and len(values) == parameters, "a choice has other parameters")
+    _need(_is_list(words, str) and words[:1] in (["series"], ["sweep"]), "a choice has other words")
+    _need(all(map(_WORD.fullmatch, words)), "a choice has other words")
+    _need(_is_list(files, str) and files, "a choice has no inputs")
+    _need(isinstance(is_sweep, bool) and (is_sweep or words[0] == "series"), "a choice has another kind")
+    _need(isinstance(roads, dict) and re.fullmatch("[0-9a-f]{64}", str(roads.get("key"))), "a choice has no key")
+    cars, ensembles = roads.get("cars"), roads.get("ensembles")
+    _need(_is_list(cars, int) and _is_list(ensembles, str) and 0 < len(cars) == len(ensembles), "a choice has no roads")
+    _need(type(roads.get("cells")) is int, "a choice has no cells")
+
+
+def _is_list(value: Any, kind: type) -> bool:
     """Whether a value of JSON is a list of this kind. True and False are no whole numbers."""
     return isinstance(value, list) and all(type(item) is kind for item in value)
 
