@@ -31,7 +31,7 @@ def program():
 
 
 def fastest():
-    """The program that TRLAB names; otherwise that of the release, which is for this processor; otherwise the one that was built."""
+    """The program that TRLAB names; otherwise that of the release, which is for this processor; otherwise the built one."""
     return checked(os.environ.get("TRLAB") or of_release() or BUILT)
 
 

@@ -38,7 +38,7 @@ TELLS = "#!/bin/sh\necho flags : fpu {}\n"
 
 
 class Checkout:
-    """A small checkout in a path with a blank, and a stand-in for rt beside it. Nothing is built, and no program is released."""
+    """A small checkout in a path with a space, and a stand-in for rt. Nothing is built, and no program is released."""
 
     def __init__(self, folder):
         self.folder, self.top, self.bin = folder, os.path.join(folder, "a checkout"), os.path.join(folder, "bin")
@@ -70,7 +70,8 @@ class Checkout:
     def release(self, program=RELEASED, for_v3=None):
         """Releases a program of the sources that are there; the one for x86-64-v3 may be another."""
         programs = [it.encode() for it in (program, for_v3 or program)]
-        sources = subprocess.run([os.path.join(self.top, "release", "sources")], capture_output=True, check=True, text=True).stdout
+        asked = os.path.join(self.top, "release", "sources")
+        sources = subprocess.run([asked], capture_output=True, check=True, text=True).stdout
         with open(os.path.join(self.top, "release", "release.txt"), "w", encoding="utf-8") as file:
             file.write(f"sources {sources}kit that-kit\n")
             file.writelines(f"{level} {hashlib.sha256(it).hexdigest()}\n" for level, it in zip(LEVELS, programs))
@@ -99,14 +100,15 @@ class Checkout:
         """./trlab, begun with some words and a short text, by a shell that may set something before."""
         paths = os.environ["PATH"].split(os.pathsep)
         beside = [path for path in paths if not os.path.exists(os.path.join(path, "rt"))]
-        env = {**os.environ, "PATH": os.pathsep.join([self.bin, *beside]), "ASKED": self.asked, "BUILT": os.path.join(self.bin, "built")}
+        env = {**os.environ, "PATH": os.pathsep.join([self.bin, *beside])}
+        env = {**env, "ASKED": self.asked, "BUILT": os.path.join(self.bin, "built")}
         env = {**env, "HOME": self.home, "XDG_CACHE_HOME": "", **more}
         called = ["bash", "-c", how, "", call or os.path.join(self.top, "trlab"), *words]
         pipe = subprocess.PIPE
         return subprocess.Popen(called, cwd=cwd, env=env, stdin=pipe, stdout=pipe, stderr=pipe, user=user)
 
     def call(self, **how):
-        """The output and the status of ./trlab, and what it told meanwhile."""
+        """The output, the status and the messages of ./trlab."""
         return end(self.start(**how))
 
     def calls_of_rt(self):

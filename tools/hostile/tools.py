@@ -13,7 +13,7 @@ sys.dont_write_bytecode = True
 sys.path.insert(0, os.path.dirname(os.path.dirname(os.path.abspath(__file__))))
 from finder import TOP, program as the_program
 
-LONGEST = 60  # seconds after which a run is called a hang
+LONGEST = 300  # seconds after which a run is called a hang, because other work may slow everything down
 MAX_TOLD = 20
 
 DONE, REFUSED, WORDS, MEMORY, DEVICE = range(5)
