@@ -281,7 +281,7 @@ class Misreadings(unittest.TestCase):
         flows, naive, blocks = [], [], []
         for key in range(20):
             table = Job(limit=5, length=100, density=0.12, rule=Nasch(0.25), steps=9000, key=key,
-                        start=random_cells(key)).series(5, 1000)
+                        start=random_cells(key)).series(every=5, first=1000)
             flow = table.to_pandas().flow
             flows.append(flow.mean())
             naive.append(flow.sem())
