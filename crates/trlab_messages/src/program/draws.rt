@@ -74,7 +74,7 @@ fn uses(draws: &[Draw], word: u8) -> bool {
 }
 
 /// Adds the draws of a program that use a random word, and that a car may run in the same step as another one that
-/// uses it. `is_used_elsewhere` tells whether the other program of the rule uses it.
+/// uses it. `is_used_elsewhere`: whether the other program of the rule uses the word.
 fn add_repeated(
     repeated: &mut Vec<Draw>,
     draws: &[Draw],
