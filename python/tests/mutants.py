@@ -4,15 +4,15 @@
     python3 -m tests.mutants means.py   # those of one file
 
 It ends with status 1 if there is an edit that no test noticed."""
+import multiprocessing
 import os
 import shutil
-import subprocess
 import sys
 import tempfile
-from concurrent.futures import ThreadPoolExecutor
+import unittest
 from pathlib import Path
-from queue import Queue
 
+from tests.libraries import hypothesis
 from trlab import find_program
 
 TOP = Path(__file__).resolve().parents[1]
@@ -33,15 +33,6 @@ TESTS = {
     "_studies/roads.py": ["test_tidy", "test_grid"],
 }
 """The tests that have to notice an edit of a file, the fast ones first."""
-
-QUICK = """
-import unittest
-from hypothesis import Phase, settings
-settings.register_profile("quick", phases=[Phase.generate])
-settings.load_profile("quick")
-unittest.main(module=None)
-"""
-"""Runs tests, and does not look for the smallest example of a failure."""
 
 MUTANTS = [
     # Means and their errors.
@@ -124,12 +115,11 @@ MUTANTS = [
     ("_analysis/peak.py", "    if not rows.duplicated(RUN).any():\n", "    if True:\n"),
     ("_analysis/peak.py", "numpy.cov(by_key.to_numpy().T)) / len(by_key)", "numpy.cov(by_key.to_numpy().T))"),
     ("_analysis/peak.py", "part[f\"{y}_sem\"].to_numpy() ** 2", "part[f\"{y}_sem\"].to_numpy()"),
-    ("_analysis/peak.py", "or top_sem > 0.5:", "or False:"),
+    ("_analysis/peak.py", "LEAST_BEND = 3", "LEAST_BEND = 0"),
     ("_analysis/peak.py", "LEAST_RUNS, LEAST_POINTS, MAX_DEGREE = 5, 5, 5", "LEAST_RUNS, LEAST_POINTS, MAX_DEGREE = 2, 5, 5"),
     ("_analysis/peak.py", "if chi2 > dof + 3 * math.sqrt(2 * dof):", "if False:"),
-    ("_analysis/peak.py", "float(fitted(top)), math.sqrt(at",
-     "float(fitted(top)) + 3 * math.sqrt(at @ covariance @ at), math.sqrt(at"),
-    ("_analysis/peak.py", "/ abs(bend(top)) if", "if"),
+    ("_analysis/peak.py", "float(fitted(top)), height_sem", "float(fitted(top)) + 3 * height_sem, height_sem"),
+    ("_analysis/peak.py", "slope_sem / abs(float(bend(top))) if", "slope_sem if"),
     ("_analysis/peak.py", "top_sem * width", "top_sem"),
     ("_analysis/peak.py", "if (part[f\"{y}_sem\"] == 0).any():", "if False:"),
     ("_analysis/lifetimes.py", "mean = float(time.sum() / ends)", "mean = float(time.mean())"),
@@ -177,41 +167,39 @@ MUTANTS = [
 """A file of the package, the text in it (once, or the first), and its replacement."""
 
 
-def is_noticed(folder: Path, file: str, old: str, new: str) -> bool:
-    """Whether the tests fail with this edit in a copy of the package."""
-    path = folder / "trlab" / file
-    right = path.read_text()
-    if old not in right:
-        raise SystemExit(f"{file} has no {old!r}: adapt the list of mutants")
-    path.write_text(right.replace(old, new, 1))
-    try:
-        tests = [f"tests.{name}" for name in TESTS[file]]
-        words = [sys.executable, "-B", "-c", QUICK, "-q", "-f", *tests]
-        place = {**os.environ, "PYTHONPATH": str(folder), "TRLAB": find_program(), "MPLBACKEND": "Agg"}
-        return subprocess.run(words, cwd=folder, env=place, capture_output=True).returncode != 0
-    finally:
-        path.write_text(right)
+def is_noticed(mutant: "tuple[str, str, str]") -> bool:
+    """Whether the tests fail with this edit in a copy of the package. Only for a process of its own."""
+    file, old, new = mutant
+    with tempfile.TemporaryDirectory() as folder:
+        for part in "trlab", "tests":
+            shutil.copytree(TOP / part, Path(folder) / part, ignore=shutil.ignore_patterns("__pycache__"))
+        path = Path(folder) / "trlab" / file
+        path.write_text(path.read_text().replace(old, new, 1))
+        for name in [name for name in sys.modules if name.split(".")[0] in ("trlab", "tests")]:
+            del sys.modules[name]
+        sys.path.insert(0, folder)
+        os.chdir(folder)
+        # A failure is enough: nobody needs the smallest example of it.
+        hypothesis.settings.register_profile("quick", phases=[hypothesis.Phase.generate])
+        hypothesis.settings.load_profile("quick")
+        with open(os.devnull, "w") as nowhere:
+            tests = unittest.defaultTestLoader.loadTestsFromNames(f"tests.{name}" for name in TESTS[file])
+            return not unittest.TextTestRunner(nowhere, failfast=True).run(tests).wasSuccessful()
 
 
 def main() -> int:
     chosen = [mutant for mutant in MUTANTS if not sys.argv[1:] or mutant[0].endswith(tuple(sys.argv[1:]))]
-    count = len(os.sched_getaffinity(0))
-    with tempfile.TemporaryDirectory() as top, ThreadPoolExecutor(count) as pool:
-        folders: "Queue[Path]" = Queue()
-        for number in range(count):
-            for part in "trlab", "tests":
-                shutil.copytree(TOP / part, Path(top) / str(number) / part, ignore=shutil.ignore_patterns("__pycache__"))
-            folders.put(Path(top) / str(number))
-
-        def tried(mutant: "tuple[str, str, str]") -> bool:
-            folder = folders.get()
-            try:
-                return is_noticed(folder, *mutant)
-            finally:
-                folders.put(folder)
-
-        missed = 0
-        for (file, old, new), is_seen in zip(chosen, pool.map(tried, chosen)):
+    for file, old, _ in chosen:
+        if old not in (TOP / "trlab" / file).read_text():
+            raise SystemExit(f"{file} has no {old!r}: adapt the list of mutants")
+    os.environ["TRLAB"] = find_program()
+    missed = 0
+    # Each edit has its own process, which need not import the libraries again.
+    with multiprocessing.get_context("fork").Pool(maxtasksperchild=1) as pool:
+        unedited = [(file, "", "") for file in dict.fromkeys(file for file, _, _ in chosen)]
+        if any(pool.imap(is_noticed, unedited, chunksize=1)):
+            raise SystemExit("the tests fail without any edit")
+        for (file, old, new), is_seen in zip(chosen, pool.imap(is_noticed, chosen, chunksize=1)):
             missed += not is_seen
             print(f"{'noticed' if is_seen else 'NOT NOTICED'}: {file}: {old!r} -> {new!r}", flush=True)
     print(f"{len(chosen) - missed} of {len(chosen)} edits are noticed")

@@ -1,4 +1,5 @@
 """Estimates and their errors: how often the truth is within two of them, and what is refused."""
+import contextlib
 import math
 import unittest
 
@@ -137,6 +138,24 @@ class Peaks(unittest.TestCase):
             except EstimateError:
                 continue
         self.assertGreater(highest - 0.318, 2 * abs(numpy.mean(fitted) - 0.318))
+
+    def peaks(self, count, *curve, **how):
+        """The peaks of so many curves, without those that are refused."""
+        found = []
+        for _ in range(count):
+            with contextlib.suppress(EstimateError):
+                found.append(trlab.peak(self.curve(*curve, **how), over="seed"))
+        return found
+
+    def test_chi2_is_about_the_degrees_of_freedom(self):
+        found = self.peaks(60, self.parabola, runs=5)
+        self.assertGreater(len(found), 48)
+        # Less than 1, because the degree is the best of four.
+        self.assertTrue(0.4 < numpy.mean([it.chi2 / it.dof for it in found]) < 1.2)
+
+    def test_a_flat_curve_has_no_peak(self):
+        found = self.peaks(40, lambda x: 0.318 - (x - 0.09) ** 2, runs=5, noise=0.01)
+        self.assertLess(len(found), 2)
 
     def test_what_it_returns(self):
         frame = self.curve(self.parabola, runs=7, noise=1e-4)

@@ -164,6 +164,25 @@ class Means(unittest.TestCase):
         self.assertRaisesRegex(FrameError, "do not follow each other at step 30", trlab.per_run, frame.iloc[[0, 2]])
         self.assertEqual(list(trlab.per_run(frame.iloc[1:]).steps), [20])
 
+    def test_windows_that_cannot_be_added_up(self):
+        rows = [trlab.Window(10 * at, 1, 10, 10, 5, 0, 0, 0, *[0] * 6) for at in (1, 2, 3, 4)]
+        frame = tidy({(0,): trlab.Table(trlab.Window, rows)}, ["seed"], {(0,): known(0)})
+        self.assertRaisesRegex(FrameError, r"cannot add up \['gap'\]", trlab.per_run, frame.assign(gap=1))
+        self.assertRaisesRegex(FrameError, "cannot add up", trlab.per_run, frame.drop(columns="distance"))
+        for name in "distance", "stopped0", "cars":
+            self.assertRaisesRegex(FrameError, f"`{name}` has 1 values that are missing", trlab.per_run,
+                                   frame.assign(**{name: [1, math.nan, 1, 1]}))
+        two = frame.assign(key=["a", "a", "b", "b"])
+        self.assertEqual(list(trlab.per_run(two).steps), [20, 20])
+        self.assertRaisesRegex(FrameError, "two rows are seed=0", trlab.means, trlab.per_run(two), "seed")
+
+    def test_without_cars_only_values_per_car_are_missing(self):
+        frame = pandas.DataFrame({"seed": [0, 1], "key": list("ab"), "road": 0, "ensemble": "e", "cars": 0,
+                                  "flow": [0.0, math.nan],
+                                  "speed": math.nan}).set_index("seed")
+        self.assertRaisesRegex(FrameError, "`flow` has 1 values", trlab.means, frame, "seed")
+        self.assertTrue(math.isnan(trlab.means(frame, "seed", of="speed").speed[0]))
+
     def test_the_missing_run_is_named(self):
         frame = pandas.DataFrame({"p": [1, 1, 2], "seed": [0, 1, 0], "key": list("abc"), "road": 0, "ensemble": list("xxy"),
                                   "x": 0.0})

@@ -12,6 +12,11 @@ from .._errors import EstimateError
 
 LEAST_RUNS, LEAST_POINTS, MAX_DEGREE = 5, 5, 5
 
+LEAST_BEND = 3
+"""The least bend of a parabola through the points, in standard errors: a flat curve has a highest point, too."""
+
+_FLAT = "the curve is not bent significantly around its highest point: take more runs, or a larger `within`"
+
 
 class Peak(NamedTuple):
     """The maximum `y` of a curve at `x`, with standard errors, in the units of the columns. It is from at least `n` runs at
@@ -40,7 +45,7 @@ def peak(frame: pandas.DataFrame, over: str, x: str = "density", y: str = "flow"
     `y_sem` and `x_sem` are one standard error: the covariance of the means, from the scatter of the n runs (with n - 1), is
     propagated to first order, also if runs share keys between points, which correlates their means. What depends on `within`
     is not in the errors: results for different `within` scatter by about as much, so try several. `chi2` is scaled for the
-    uncertainty of errors from n runs, so that it is about `dof`.
+    uncertainty of errors from n runs, so that it is about `dof` or less.
 
     Raises `EstimateError` if there are less than 5 runs at a point or less than 5 points, if the peak is at an end of the
     curve, if no such polynomial fits because the curve has a kink (take points closer to the peak, and a smaller `within`),
@@ -114,6 +119,7 @@ def _fit(t: Array, mean: Array, covariance: Array, n: int) -> tuple[int, float, 
     """The degree of the best polynomial, its chi2, and the matrix that gives its coefficients from the means."""
     # With few runs the errors are uncertain too: the mean of Student's t**2 is (n - 1) / (n - 3) for n - 1 degrees of freedom.
     scale = (n - 3) / (n - 1)
+    _need_bend(t, mean, covariance)
     fits = []
     for degree in range(2, min(MAX_DEGREE, len(t) - 2) + 1):
         design = numpy.vander(t, degree + 1, increasing=True)
@@ -130,6 +136,13 @@ def _fit(t: Array, mean: Array, covariance: Array, n: int) -> tuple[int, float, 
     return degree, chi2, solve
 
 
+def _need_bend(t: Array, mean: Array, covariance: Array) -> None:
+    """Raises `EstimateError` unless a parabola through the means is bent down significantly."""
+    row = numpy.linalg.pinv(numpy.vander(t, 3, increasing=True))[2]
+    if row @ mean > -LEAST_BEND * math.sqrt(row @ covariance @ row):
+        raise EstimateError(_FLAT)
+
+
 def _maximum(coefficients: Array, covariance: Array) -> tuple[float, float, float, float]:
     """The place and the height of the maximum of a polynomial between -1 and 1, each with its standard error."""
     fitted: Any = numpy.polynomial.Polynomial(coefficients)
@@ -137,8 +150,10 @@ def _maximum(coefficients: Array, covariance: Array) -> tuple[float, float, floa
     roots = [float(root.real) for root in slope.roots() if abs(root.imag) < 1e-12 and abs(root.real) < 1]
     top = max(roots, key=fitted, default=1.0)
     powers = numpy.arange(len(coefficients))
+    # The derivatives of the powers at the maximum: with the covariance they give the errors of its height and slope.
     at, slopes = top**powers, powers * top ** numpy.maximum(powers - 1, 0)
-    top_sem = math.sqrt(slopes @ covariance @ slopes) / abs(bend(top)) if bend(top) else math.inf
+    height_sem, slope_sem = (math.sqrt(row @ covariance @ row) for row in (at, slopes))
+    top_sem = slope_sem / abs(float(bend(top))) if bend(top) else math.inf
     if not roots or bend(top) >= 0 or fitted(top) < max(fitted(-1), fitted(1)) or top_sem > 0.5:
-        raise EstimateError("the curve is not bent significantly around its highest point: take more runs, or a larger `within`")
-    return top, top_sem, float(fitted(top)), math.sqrt(at @ covariance @ at)
+        raise EstimateError(_FLAT)
+    return top, top_sem, float(fitted(top)), height_sem
