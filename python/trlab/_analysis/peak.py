@@ -45,7 +45,8 @@ def peak(frame: pandas.DataFrame, over: str, x: str = "density", y: str = "flow"
     `y_sem` and `x_sem` are one standard error: the covariance of the means, from the scatter of the n runs (with n - 1), is
     propagated to first order, also if runs share keys between points, which correlates their means. What depends on `within`
     is not in the errors: results for different `within` scatter by about as much, so try several. `chi2` is scaled for the
-    uncertainty of errors from n runs, so that it is about `dof` or less.
+    uncertainty of errors from n runs, so that it is about `dof` or less. If it is more, the polynomial fits badly, and both
+    errors are multiplied by the square root of chi2 / dof.
 
     Raises `EstimateError` if there are less than 5 runs at a point or less than 5 points, if the peak is at an end of the
     curve, if no such polynomial fits because the curve has a kink (take points closer to the peak, and a smaller `within`),
@@ -60,7 +61,8 @@ def peak(frame: pandas.DataFrame, over: str, x: str = "density", y: str = "flow"
     degree, chi2, solve = _fit((at - middle) / width, part[y].to_numpy(), covariance, n)
     top, top_sem, height, height_sem = _maximum(solve @ part[y].to_numpy(), solve @ covariance @ solve.T)
     dof = len(part) - degree - 1
-    return Peak(middle + top * width, top_sem * width, height, height_sem, n, len(part), degree, chi2, dof)
+    scatter = math.sqrt(max(1.0, chi2 / dof))
+    return Peak(middle + top * width, scatter * top_sem * width, height, scatter * height_sem, n, len(part), degree, chi2, dof)
 
 
 def _one_curve(frame: pandas.DataFrame, over: str, x: str, y: str) -> pandas.DataFrame:
