@@ -163,7 +163,7 @@ class Peaks(unittest.TestCase):
         self.assertEqual((found.n, found.points - found.degree - 1), (7, found.dof))
         more = frame.assign(limit=5, step=30).set_index(["limit", "step"], append=True)
         self.assertEqual(trlab.peak(more, over="seed"), found)
-        scaled = trlab.peak(frame.assign(flow=frame.flow * 3600), over="seed")
+        scaled = trlab.peak(frame.assign(scaled=frame.flow * 3600), over="seed", y="scaled")
         numpy.testing.assert_allclose([scaled.x, scaled.x_sem, scaled.y, scaled.y_sem],
                                       [found.x, found.x_sem, 3600 * found.y, 3600 * found.y_sem],
                                       rtol=1e-6)
@@ -173,7 +173,7 @@ class Peaks(unittest.TestCase):
         for words, frame in (
             ("kink", self.curve(lambda x: min(5 * x, 1 - x), at, 8, 0.0005)),
             ("points are within", self.curve(lambda x: x, at, 8, 0.0005)),
-            ("points are within", self.curve(lambda x: -x, at, 8, 0.0005)),
+            ("points are within", self.curve(lambda x: 1 - x, at, 8, 0.0005)),
             ("points are within", self.curve(self.parabola, self.AT[:4])),
             ("not bent significantly|kink|points are within", self.curve(lambda x: 0.3, noise=0.001)),
             ("at least 5 runs", self.curve(self.parabola, runs=4)),

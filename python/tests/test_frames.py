@@ -1,7 +1,9 @@
 """Means against plain Python: they are equal, or there is an error."""
 import contextlib
+import io
 import math
 import os
+import random
 import statistics
 import subprocess
 import sys
@@ -324,6 +326,56 @@ class NumpyTwo(unittest.TestCase):
         place = {**os.environ, "NPY_PROMOTION_STATE": "weak"}
         found = subprocess.run(words, cwd=Path(__file__).parents[1], env=place, capture_output=True, text=True)
         self.assertEqual(found.returncode, 0, found.stderr)
+
+
+class Strangers(unittest.TestCase):
+    """Misreadings that a first-time user made."""
+
+    def roads(self, start, seed, key):
+        road = {"jam": "0" * 8 + "." * 92, "free": ("5" + "." * 9) * 8 + "." * 20}[start]
+        return Job(limit=5, rule=Nasch(0.25), start=road, steps=40, key=key)
+
+    def test_roads_with_different_cells_are_no_repetitions(self):
+        frame = Grid(self.roads, start=["jam", "free"], seed=range(3)).run(call=lambda job: job.series(every=40))
+        runs = trlab.per_run(frame)
+        self.assertEqual(list(trlab.means(runs, over="seed").n), [3, 3])
+        with self.assertRaisesRegex(FrameError, "roads with different cells .* drawn=True"):
+            trlab.means(runs, over=["start", "seed"])
+
+    def test_roads_that_were_drawn_are_repetitions(self):
+        def make(seed, key):
+            cells = [None] * 100
+            for cell in random.Random(seed).sample(range(100), 20):
+                cells[cell] = 0
+            return Job(limit=5, rule=Nasch(0.25), start=cells, steps=40, key=key)
+
+        runs = trlab.per_run(Grid(make, seed=range(4)).run(call=lambda job: job.series(every=40)))
+        self.assertRaisesRegex(FrameError, "drawn=True", trlab.means, runs, over="seed")
+        self.assertEqual(list(trlab.means(runs, over="seed", drawn=True).n), [4])
+
+    def test_a_file_that_pandas_reads_is_in_other_units(self):
+        table = Job(limit=5, length=100, cars=20, rule=Nasch(0.25), steps=40).series(every=40)
+        read = pandas.read_csv(io.StringIO(table.text()))
+        self.assertRaisesRegex(FrameError, "`flow` .* millionths", trlab.to_si, read)
+        self.assertEqual(list(trlab.to_si(table.to_pandas()).flow_per_h), [3600 * table[0].flow])
+
+    def test_values_that_contradict_their_counts(self):
+        def make(seed, key):
+            return Job(limit=5, length=100, cars=20, rule=Nasch(0.25), steps=40, key=key)
+
+        frame = Grid(make, seed=range(3)).run(call=lambda job: job.series(every=20))
+        wrong = frame.assign(speed=frame.speed * 3)
+        for call in trlab.to_si, trlab.per_run:
+            self.assertRaisesRegex(FrameError, "`speed` is not what the counts", call, wrong)
+        one = frame.loc[frame.groupby("seed").flow.idxmax()]
+        if one.index.get_level_values("step").nunique() > 1:
+            self.assertRaisesRegex(FrameError, "windows of different steps", trlab.per_run, one)
+
+    def test_a_parameter_that_is_not_that_of_the_input(self):
+        def make(limit, seed, key):
+            return Job(limit=5, length=100, cars=20, rule=Nasch(0.25), steps=40, key=key)
+
+        self.assertRaisesRegex(ParameterError, "`limit` is 3, and the input has 5", Grid, make, limit=[3], seed=range(2))
 
 
 if __name__ == "__main__":

@@ -119,13 +119,13 @@ class Paths(unittest.TestCase):
         self.assertEqual([list(row) for row in paths.gaps()], [[1, 7], [1, 7], [2, 6], [3, 5], [4, 4]])
         self.assertEqual((passed(paths, 4), passed(paths, 9)), ([0, 1, 0, 1], [0, 0, 0, 1]))
         self.assertEqual(paths.travel_times(1, 3), [(0, 2, 1)])
-        self.assertEqual(paths.jams(), [(0, 1, 1, 1, True), (0, 1, 1, 1, True)])
+        self.assertEqual(paths.jams(), [(0, 1, 1, 1, True, False), (0, 1, 1, 1, True, False)])
         self.assertEqual((repr(paths), len(paths), paths.cars), ("<trajectories of 2 cars, steps 0 to 4>", 5, 2))
 
     def test_a_jam_dissolves(self):
         # Three cars start one after the other, each two steps after the car ahead of it.
         paths = Job(limit=5, start=[0, 0, 0] + 20 * [None], rule=Nasch(0), steps=9).run().trajectories()
-        self.assertEqual(paths.jams(), [(0, 3, 2 + 1, 3 + 2 + 1, True)])
+        self.assertEqual(paths.jams(), [(0, 3, 2 + 1, 3 + 2 + 1, True, False)])
         self.assertEqual(Job(limit=5, start=[5] + 9 * [None], rule=Nasch(0), steps=9).run().trajectories().jams(), [])
 
     def test_paths_are_those_of_the_pictures(self):
@@ -209,10 +209,10 @@ class Paths(unittest.TestCase):
                 areas = []
                 for area in components(snapshots):
                     rows = [row for row, _, _ in area]
-                    is_cut = min(rows) == 0 or max(rows) == len(snapshots) - 1
-                    areas.append((snapshots[min(rows)].step, max(rows) - min(rows) + 1, len(area), is_cut))
+                    is_older, is_censored = min(rows) == 0, max(rows) == len(snapshots) - 1
+                    areas.append((snapshots[min(rows)].step, max(rows) - min(rows) + 1, len(area), is_older, is_censored))
                 found = snapshots.trajectories().jams()
-                self.assertEqual(sorted((it.first, it.lifetime, it.size, it.is_cut) for it in found), sorted(areas))
+                self.assertEqual(sorted((it.first, it.lifetime, it.size, it.is_older, it.is_censored) for it in found), sorted(areas))
                 self.assertEqual([it.first for it in found], sorted(it.first for it in found))
 
     def test_cars_of_jams(self):

@@ -14,8 +14,8 @@ RUN = ["key", "road"]
 """The columns that identify a run: the key of its input, and the number of its road in the input (0 in a job)."""
 
 IDENTITY = [*RUN, "ensemble"]
-"""`ensemble` is the same for repetitions: inputs that differ only in their key and in the seed of their random start. These
-columns survive everything that can be done to a frame, except for means, which have none of them."""
+"""`ensemble` is the same for repetitions: inputs that differ only in their key and in the seed of their random start. If the
+road was given cell by cell, a hyphen and a digest of its cells follow. These columns survive everything that can be done to a frame, except for means, which have none of them."""
 
 COUNTS = ["cars", "cells", "steps", "distance", "stopped", "changes"]
 """The exact counts of a run or window, from which its other values follow."""
@@ -24,6 +24,10 @@ LANE_SUMS = [f"{name}{lane}" for lane in (0, 1) for name in ("cars", "distance",
 """Sums over the steps of a window, by lane."""
 
 DERIVED = ["density", "flow", "speed", "stopped_share", "change_rate"]
+
+RANGES = {"density": 1, "requested_density": 1, "flow": 1, "speed": 35, "stopped_share": 1, "change_rate": 1, "occupancy": 1,
+          "time_mean_speed": 35, "harmonic_mean_speed": 35}
+"""The greatest value that a column of this name can have in the units of trlab. The least is 0."""
 
 PER_CAR = ["speed", "stopped_share", "change_rate"]
 """The values that do not exist without cars: NaN there."""
@@ -54,6 +58,27 @@ def as_numbers(column: pandas.Series) -> Array:
     is_extended = types.is_extension_array_dtype(column)
     found: Array = column.to_numpy(dtype=float, na_value=numpy.nan) if is_extended else column.to_numpy(dtype=float)
     return found
+
+
+def wrong_unit(name: Hashable, values: Array) -> str:
+    """Why numbers cannot be in the unit of trlab that their column has; nothing if they can."""
+    most = RANGES.get(str(name))
+    wrong = values[(values < 0) | (values > most)] if most is not None else values[:0]
+    if not len(wrong):
+        return ""
+    cure = ": `flow` of a file is in millionths, so read it with `trlab.Table.read`" if name == "flow" else ""
+    return f"`{name}` is between 0 and {most} in the units of trlab (see `trlab.UNITS`), not {wrong[0]:g}{cure}"
+
+
+def strange_value(frame: pandas.DataFrame) -> str:
+    """Which value of a frame is not the one that its counts give; nothing if all are."""
+    if not {*COUNTS} <= set(frame):
+        return ""
+    values = derived(frame)
+    for name in [name for name in DERIVED if name in frame]:
+        if not numpy.allclose(as_numbers(frame[name]), values[name], rtol=1e-9, equal_nan=True):
+            return str(name)
+    return ""
 
 
 def place_shown(names: Iterable[Hashable], values: Iterable[object]) -> str:

@@ -7,7 +7,7 @@ from __future__ import annotations
 from collections.abc import Iterable, Mapping, Sequence
 from typing import Any, Optional, Union
 
-from .columns import COUNTS, DERIVED, IDENTITY, as_numbers, derived, place_shown
+from .columns import COUNTS, DERIVED, IDENTITY, RANGES, as_numbers, derived, strange_value, place_shown, wrong_unit
 from .libraries import numpy, pandas
 from .rows import OF_THE_ROAD, NoRows, Rows, rows_of
 from .._errors import FrameError
@@ -16,11 +16,6 @@ from .._studies.keys import as_fraction
 from .._studies.roads import KnownRoads
 
 Place = tuple[Any, ...]
-
-# What a column of these names can be, in the units of trlab: other numbers are in other units.
-_RANGES = {"density": 1, "flow": 1, "speed": 35, "stopped_share": 1, "change_rate": 1, "occupancy": 1, "time_mean_speed": 35,
-           "harmonic_mean_speed": 35}
-
 
 def frame_of_table(table: Table[Any]) -> pandas.DataFrame:
     """The rows of a table: its exact counts, and the values that follow from them."""
@@ -85,27 +80,21 @@ def _joined(kind: Any, parts: Sequence[tuple[int, Any]]) -> pandas.DataFrame:
 
 def _check_units(frame: pandas.DataFrame) -> None:
     """Raises `FrameError` if a measured column has the name of a value in the units of trlab, and cannot be one."""
-    for name in [name for name in _RANGES if name in frame]:
+    for name in [name for name in RANGES if name in frame]:
         try:
             values = as_numbers(frame[name])
         except ValueError as fault:
             raise FrameError(f"{fault}: give such a column another name") from None
-        wrong = values[(values < 0) | (values > _RANGES[name])]
-        if len(wrong):
-            raise FrameError(
-                f"`{name}` is between 0 and {_RANGES[name]} in the units of trlab (see `trlab.UNITS`), not {wrong[0]:g}: give a "
-                "column in other units another name"
-            )
+        if wrong := wrong_unit(name, values):
+            raise FrameError(f"{wrong}. Give a column in other units another name")
 
 
 def _with_derived(counts: pandas.DataFrame) -> pandas.DataFrame:
     """Counts and the values that follow from them. If these are there already, they must be the same."""
     frame = counts.drop(columns=["flow_millionths"], errors="ignore")
-    values = derived(frame)
-    for name in DERIVED:
-        if name in frame and not numpy.allclose(as_numbers(frame[name]), values[name], rtol=1e-9, equal_nan=True):
-            raise FrameError(f"`{name}` of the result is not what its counts say: give a measured value another name")
-    return pandas.concat([frame.drop(columns=DERIVED, errors="ignore"), values], axis=1)
+    if name := strange_value(frame):
+        raise FrameError(f"`{name}` of the result is not what its counts say: give a measured value another name")
+    return pandas.concat([frame.drop(columns=DERIVED, errors="ignore"), derived(frame)], axis=1)
 
 
 def _choices(names: Sequence[str], runs: Mapping[Place, KnownRoads]) -> pandas.DataFrame:

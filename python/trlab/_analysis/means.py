@@ -4,7 +4,7 @@ from __future__ import annotations
 from collections.abc import Sequence
 from typing import Union
 
-from .columns import COUNTS, DERIVED, IDENTITY, LANE_SUMS, Array, derived
+from .columns import COUNTS, DERIVED, IDENTITY, LANE_SUMS, Array, derived, strange_value
 from .libraries import numpy, pandas
 from .repetitions import Repetitions, grouped, need_runs, numbers, repetitions
 from .._errors import FrameError
@@ -24,7 +24,11 @@ def mean_and_sem(values: Array, group: Array) -> tuple[Array, Array]:
 
 
 def means(
-    frame: pandas.DataFrame, over: Union[str, Sequence[str]], of: Union[None, str, Sequence[str]] = None, unequal: bool = False
+    frame: pandas.DataFrame,
+    over: Union[str, Sequence[str]],
+    of: Union[None, str, Sequence[str]] = None,
+    unequal: bool = False,
+    drawn: bool = False,
 ) -> pandas.DataFrame:
     """The means over independent repetitions, for example `means(frame, over="seed")`.
 
@@ -42,8 +46,9 @@ def means(
 
     Raises `FrameError` instead of a number that is not this: for a frame of means, for several windows of one run (see
     `per_run` and `blocking`), for runs with the same key or of different inputs, for missing values, for times that are
-    censored (see `lifetime`), and for groups of different size unless `unequal`."""
-    found = repetitions(frame, over, unequal)
+    censored (see `lifetime`), for groups of different size unless `unequal`, and for roads that you have given cell by cell
+    and that differ, unless you say with `drawn` that you have drawn them at random."""
+    found = repetitions(frame, over, unequal, drawn)
     chosen = _measured(frame) if of is None else [of] if isinstance(of, str) else list(of)
     _check_columns(frame, chosen)
     _need_ends(frame, chosen)
@@ -102,6 +107,8 @@ def per_run(frame: pandas.DataFrame) -> pandas.DataFrame:
     found = grouped(rows, [*names, *IDENTITY])
     for name in ("step", "cars", "cells", *sums):
         numbers(found, name)
+    if name := strange_value(rows):
+        raise FrameError(f"`{name}` is not what the counts of its window say: take the frame that `Grid.run` returned")
     _need_consecutive(found)
     groups = rows.groupby(found.group)
     counts = pandas.concat([groups[["cars", "cells"]].first(), groups[sums].sum()], axis=1)
@@ -122,3 +129,6 @@ def _need_consecutive(found: Repetitions) -> None:
     if len(wrong):
         place, step = found.place(wrong["group"].iloc[0]), wrong["step"].iloc[0]
         raise FrameError(f"the windows of {place} do not follow each other at step {step}: is one missing, or there twice?")
+    spans = rows.groupby(["ensemble", "group"])[["begin", "step"]].agg({"begin": "min", "step": "max"})
+    if (spans.groupby(level="ensemble").nunique() > 1).any(axis=None):
+        raise FrameError("runs of one input have windows of different steps, so that they cannot be compared: keep all windows")

@@ -4,7 +4,7 @@ from __future__ import annotations
 from collections.abc import Sequence
 from typing import NamedTuple, Union
 
-from .columns import IDENTITY, PER_CAR, RUN, Array, as_numbers, place_shown
+from .columns import IDENTITY, PER_CAR, RUN, Array, as_numbers, place_shown, wrong_unit
 from .libraries import numpy, pandas
 from .._errors import FrameError
 
@@ -80,10 +80,14 @@ def grouped(rows: pandas.DataFrame, names: list[str]) -> Repetitions:
     return Repetitions(rows, names, pandas.factorize(number)[0])
 
 
-def repetitions(frame: pandas.DataFrame, over: Union[str, Sequence[str]], unequal: bool = False) -> Repetitions:
+def repetitions(
+    frame: pandas.DataFrame, over: Union[str, Sequence[str]], unequal: bool = False, drawn: bool = False
+) -> Repetitions:
     """The groups of runs that differ only in the levels `over`. Raises `FrameError` unless they are independent
-    repetitions, as many in each group unless `unequal`."""
+    repetitions, as many in each group unless `unequal`, and of the same cells unless `drawn`."""
     rows = need_runs(frame)
+    if drawn:
+        rows["ensemble"] = rows["ensemble"].str.replace("-[0-9a-f]{12}", "-drawn", regex=True)
     levels = [over] if isinstance(over, str) else list(over)
     if not levels:
         raise FrameError('`over` is the name of the parameter that repeats the runs, for example over="seed"')
@@ -120,6 +124,11 @@ def _need_same(found: Repetitions) -> None:
         if (count > 1).any():
             group = int(count.idxmax())
             values = list(dict.fromkeys(found.rows[name][found.group == group]))[:3]
+            if name == "ensemble" and len({value.partition("-")[0] for value in values}) == 1:
+                raise FrameError(
+                    f"roads with different cells would be averaged at {found.place(group)}. If you have drawn them at random, "
+                    "say drawn=True; otherwise keep the parameter in which they differ as a level"
+                )
             raise FrameError(
                 f"runs with different `{name}` are not repetitions, and would be averaged at {found.place(group)}: {values}. "
                 "Keep the parameter in which they differ as a level, or select one value of it"
@@ -152,6 +161,8 @@ def numbers(found: Repetitions, name: str) -> Array:
     wrong = ~numpy.isfinite(values)
     if name in PER_CAR:
         wrong &= ~(numpy.isnan(values) & _without_cars(found.rows))
+    if unit := wrong_unit(name, values[numpy.isfinite(values)]):
+        raise FrameError(unit)
     if wrong.any():
         place = found.place(found.group[int(wrong.argmax())])
         raise FrameError(

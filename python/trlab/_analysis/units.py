@@ -2,8 +2,9 @@
 from __future__ import annotations
 
 import math
-from collections.abc import Hashable
+from collections.abc import Hashable, Sequence
 
+from .columns import as_numbers, strange_value, wrong_unit
 from .libraries import pandas
 from .._errors import FrameError, ParameterError
 
@@ -66,8 +67,9 @@ def to_si(frame: pandas.DataFrame, cell: float = 7.5, step: float = 1.0) -> pand
     - `change_rate_per_h` = change_rate x 3600 / step;
     - `time_s`, `time_headway_s` and `mean_time_headway_s` = steps x step.
 
-    Counts, shares and `step` stay as they are. Raises `FrameError` if the frame was converted before, or has nothing to
-    convert, and `ParameterError` unless `cell` and `step` are finite and above 0."""
+    Counts, shares and `step` stay as they are. Raises `FrameError` if the frame was converted before, has nothing to convert,
+    or is not in the units of trlab, as the file of a table that pandas has read. Raises `ParameterError` unless `cell` and
+    `step` are finite and above 0."""
     for name, value in {"cell": cell, "step": step}.items():
         if isinstance(value, bool) or not 0 < value < math.inf:
             raise ParameterError(f"`{name}` must be a finite number above 0, not {value!r}")
@@ -86,11 +88,21 @@ def to_si(frame: pandas.DataFrame, cell: float = 7.5, step: float = 1.0) -> pand
         raise FrameError(f"{double[0]} was converted before: convert the original frame")
     if not found:
         raise FrameError(f"none of the columns {list(flat)} has a unit to convert")
+    _need_units(flat, found)
     for name in found:
         flat[name] = flat[name].astype(float) * converted[name][1]
     names = {name: converted[name][0] for name in found}
     flat = flat.rename(columns=names)
     return flat.set_index([names.get(name, name) for name in frame.index.names]) if has_index else flat
+
+
+def _need_units(frame: pandas.DataFrame, names: Sequence[str]) -> None:
+    """Raises `FrameError` if a column is not in the unit that its name has in trlab."""
+    for name in names:
+        if wrong := wrong_unit(name, as_numbers(frame[name])):
+            raise FrameError(f"{wrong}, and `to_si` converts from these units")
+    if name := strange_value(frame):
+        raise FrameError(f"`{name}` is not what the counts of its row say: convert the frame that trlab made")
 
 
 def _native(name: str) -> str:

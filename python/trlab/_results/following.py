@@ -76,8 +76,9 @@ class Cars(OnRoad):
 def follow(snapshots: Iterable[Snapshot]) -> Iterator[Cars]:
     """Iterate over the cars in consecutive snapshots of one run, and keep only one step, for runs of any length:
 
-        for cars in trlab.follow(job.snapshots(first=1000)):
-            total += cars.speed.sum()
+        cars = trlab.follow(job.snapshots(first=1000))
+        next(cars)  # nobody has driven yet
+        distance = sum(now.speed.sum() for now in cars)
 
     A car at speed v came from the cell v behind it, of its own lane or of the other one. If both cells were taken, it came
     from its own lane, because a car changes lanes only if its side cell is empty. Raises `SnapshotsError` if steps are

@@ -12,14 +12,19 @@ class Jam(NamedTuple):
     their stopped time in car-steps.
 
     Two stopped cars (speed 0) belong to one jam if they are in neighbouring cells of a lane after the same step, or are the
-    same car after consecutive steps. If `is_cut`, the jam is in the first or last snapshot, so that its lifetime, cars and
-    size are lower bounds: the lifetime is censored (see `trlab.lifetime`)."""
+    same car after consecutive steps. If `is_older`, the jam is in the first snapshot, so that its beginning was not seen; if
+    `is_censored`, it is in the last one, so that its end was not seen. Its lifetime, cars and size are then lower bounds. For
+    the mean lifetime leave out older jams, and count censored ones as not observed:
+
+        jams = [jam for jam in trajectories.jams() if not jam.is_older]
+        trlab.lifetime([jam.lifetime for jam in jams], [not jam.is_censored for jam in jams])"""
 
     first: int
     lifetime: int
     cars: int
     size: int
-    is_cut: bool
+    is_older: bool
+    is_censored: bool
 
 
 def jams_of(first: int, speed: Array, ahead: Array, gap: Array) -> list[Jam]:
@@ -43,7 +48,7 @@ def jams_of(first: int, speed: Array, ahead: Array, gap: Array) -> list[Jam]:
     columns = [column[order].tolist() for column in (begin[heads], lasts, _different(jam, car, heads), sizes)]
     last_row = len(speed) - 1
     return [
-        Jam(first + row, last - row + 1, cars, size, row == 0 or last == last_row) for row, last, cars, size in zip(*columns)
+        Jam(first + row, last - row + 1, cars, size, row == 0, last == last_row) for row, last, cars, size in zip(*columns)
     ]
 
 

@@ -97,8 +97,7 @@ class Trajectories(OnRoad):
         return trips
 
     def jams(self) -> list[Jam]:
-        """The jams (see `Jam`) by first step and car. Leave jams with `is_cut` out of a mean only if the run is much longer
-        than a jam, because long jams are cut more often than short ones."""
+        """The jams (see `Jam`, also for their mean lifetime) by first step and car."""
         return jams_of(self.first, self.speed, self.ahead(), self.gaps())
 
     def speed_correlation(self, places: int = 0, later: int = 0) -> float:

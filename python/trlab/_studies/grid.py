@@ -53,7 +53,7 @@ class Grid:
 
     Raises `ParameterError` if two choices give the same input, because `make` ignores a parameter or its `key`; if two
     parameters change nothing but the key; if two requested densities are the same number of cars; and if a parameter
-    `density` (within one car) or `cars` is not that of the road."""
+    `density` (within one car), `cars`, `limit`, `length`, `lanes`, `warm` or `measure` is not that of the input."""
 
     def __init__(self, make: Callable[..., Input], /, **parameters: Union[Iterable[Any], Mapping[str, Any]]) -> None:
         values = {name: _named_values(name, given) for name, given in parameters.items()}
@@ -65,8 +65,9 @@ class Grid:
             key = int(key_for(**dict(zip(self.names, names))), 16)
             self.inputs[choice(*names)] = _checked(make(**chosen, key=key))
         self._runs = {place: known_roads(input) for place, input in self.inputs.items()}
-        for place in self.inputs:
+        for place, input in self.inputs.items():
             _check_roads(place._asdict(), self._runs[place])
+            _check_numbers(place._asdict(), input)
         self._check_inputs()
 
     def _check_inputs(self) -> None:
@@ -127,7 +128,7 @@ class Grid:
 
         To read a frame that was written with `frame.to_csv(file)`, keep texts as texts:
 
-            pandas.read_csv(file, dtype={"key": str, "ensemble": str}).set_index(["p", "seed"])
+            pandas.read_csv(file, dtype={"key": str, "ensemble": str}).set_index(list(frame.index.names))
 
         Raises `FrameError` for a result that gives no rows or other roads than its input, or has a column with the name of a
         parameter; and `MissingLibraryError`, before anything runs, if pandas is not installed."""
@@ -154,8 +155,11 @@ class Grid:
         itself. The same study gives the same file."""
         from .study_file import save
 
-        if (not words) == any(isinstance(text, Job) for text in self.inputs.values()):
-            raise ParameterError("`words` say what is measured in jobs; a grid of sweeps has none")
+        has_jobs = any(isinstance(input, Job) for input in self.inputs.values())
+        if has_jobs and (isinstance(words, str) or list(words[:1]) != ["series"]):
+            raise ParameterError('say what to measure in each job, for example words=["series", "--every", "100", "--from", "1000"]')
+        if words and not has_jobs:
+            raise ParameterError("a sweep says itself what is measured: leave out `words`")
         save(self, path, words)
 
     def named_inputs(self) -> dict[str, Input]:
@@ -209,6 +213,15 @@ def _check_roads(chosen: Mapping[str, Any], roads: KnownRoads) -> None:
         if len(set(roads["cars"])) > 1 or abs(wanted - roads["cars"][0]) > allowed:
             there = f"{roads['cars'][:5]} cars on {roads['cells']} cells"
             wrong = f"the parameter `{name}` is {chosen[name]}, and the input has {there}"
+            raise ParameterError(f"{wrong}: use it in `make`, or give it another name")
+
+
+def _check_numbers(chosen: Mapping[str, Any], input: Input) -> None:
+    """Raises `ParameterError` if a parameter has the name of a number of the input, and another value."""
+    for name in [name for name in ("limit", "length", "lanes", "warm", "measure") if name in chosen]:
+        used = getattr(input, name, None)
+        if chosen[name] != used:
+            wrong = f"the parameter `{name}` is {chosen[name]}, and the input has {used}"
             raise ParameterError(f"{wrong}: use it in `make`, or give it another name")
 
 

@@ -27,13 +27,25 @@ def known_roads(input: Union[Job, Sweep]) -> KnownRoads:
     cars = input.counts() if isinstance(input, Sweep) else [input.count()]
     cells = input.length * input.lanes if isinstance(input, Sweep) else input.cells()
     about = _about(input, cells)
-    ensembles = [sha256(json.dumps([is_sweep, count, *about]).encode()).hexdigest()[:12] for count in cars]
+    ensembles = [_digest([is_sweep, count, *about]) + own for count, own in zip(cars, _own_roads(input))]
     return {"key": key_digits(input.key).lower(), "cells": cells, "cars": cars, "ensembles": ensembles}
 
 
+def _digest(content: object) -> str:
+    return sha256(json.dumps(content).encode()).hexdigest()[:12]
+
+
+def _own_roads(input: Union[Job, Sweep]) -> list[str]:
+    """What the ensemble of each road says of cells that were given one by one: nothing for an initial state of trlab."""
+    if isinstance(input.start, InitialState):
+        return [""] * (len(input.counts()) if isinstance(input, Sweep) else 1)
+    roads = input.start if isinstance(input, Sweep) else [input.start]
+    return [f"-{_digest(road)}" for road in cast(list[object], roads)]
+
+
 def _about(input: Union[Job, Sweep], cells: int) -> list[object]:
-    """All that repetitions of an input have in common, besides the number of cars: everything but the key and the seed of
-    random cells. Roads that are given cell by cell count as drawn by their author, like random cells."""
+    """All that repetitions of an input have in common, besides the number of cars and the cells of roads that are given cell
+    by cell: everything but the key and the seed of random cells."""
     start = [input.start.placement, input.start.speed] if isinstance(input.start, InitialState) else "roads"
     if isinstance(input, Sweep):
         return [input.limit, input.lanes, cells, start, input.rule.lines(), [input.warm, input.measure]]
