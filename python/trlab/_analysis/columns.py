@@ -1,4 +1,4 @@
-"""The columns of frames: whose row it is, the exact counts, and the values that follow from them."""
+"""The columns of frames: the identity of the row, the exact counts, and the values that follow from them."""
 from __future__ import annotations
 
 from collections.abc import Hashable, Iterable
@@ -15,7 +15,7 @@ RUN = ["key", "road"]
 
 IDENTITY = [*RUN, "ensemble"]
 """`ensemble` is the same for repetitions: inputs that differ only in their key and in the seed of their random start. These
-columns survive everything that can be done to a frame, except for means, which have none of them."""
+columns survive a filter, a merge or a file; means have none of them."""
 
 COUNTS = ["cars", "cells", "steps", "distance", "stopped", "changes"]
 """The exact counts of a run or window, from which its other values follow."""
@@ -26,7 +26,7 @@ LANE_SUMS = [f"{name}{lane}" for lane in (0, 1) for name in ("cars", "distance",
 DERIVED = ["density", "flow", "speed", "stopped_share", "change_rate"]
 
 PER_CAR = ["speed", "stopped_share", "change_rate"]
-"""The values that do not exist without cars: NaN there."""
+"""The values per car, which are NaN without cars."""
 
 
 def derived(counts: pandas.DataFrame) -> pandas.DataFrame:
