@@ -62,7 +62,7 @@ def plot_space_time(snapshots: Snapshots, lane: int = 0, ax: Any = None, limit: 
     steps = [snapshot.step for snapshot in snapshots]
     every = {after - before for before, after in zip(steps, steps[1:])} or {1}
     if not steps or len(every) > 1 or min(every) < 1:
-        raise ParameterError("a space-time diagram needs snapshots at equal intervals of steps, for example of `job.run(every=10)`")
+        raise ParameterError("a space-time diagram needs snapshots at equal intervals of steps, as of `job.run(every=10)`")
     lanes = snapshots.speeds(dtype=numpy.float32)
     speeds = lanes[:, whole("lane", lane, 0, lanes.shape[1] - 1)]
     fastest = max(1, int(numpy.nanmax(speeds, initial=0)))
