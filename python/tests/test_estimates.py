@@ -246,8 +246,8 @@ class Lifetimes(unittest.TestCase):
                 ("True or False", [1, 2], [1, 3]),
                 ("`observed` has 1 values that are missing", [1, 2], [True, None]),
                 ("`observed` must be one list of numbers", [1, 2], ["yes", "no"]),
-                ("as many", [1, 2], [True]),
-                ("as many", [], []),
+                ("equally many", [1, 2], [True]),
+                ("equally many", [], []),
                 ("one list", numpy.ones((2, 2)), [True, True]),
                 ("must be a list", 5, True),
             ):

@@ -175,8 +175,7 @@ class Means(unittest.TestCase):
             self.assertRaisesRegex(FrameError, f"`{name}` has 1 values that are missing", trlab.per_run,
                                    frame.assign(**{name: [1, math.nan, 1, 1]}))
         two = frame.assign(key=["a", "a", "b", "b"])
-        self.assertEqual(list(trlab.per_run(two).steps), [20, 20])
-        self.assertRaisesRegex(FrameError, "two rows are seed=0", trlab.means, trlab.per_run(two), "seed")
+        self.assertRaisesRegex(FrameError, "windows of different steps", trlab.per_run, two)
 
     def test_without_cars_only_values_per_car_are_missing(self):
         frame = pandas.DataFrame({"seed": [0, 1], "key": list("ab"), "road": 0, "ensemble": "e", "cars": 0,

@@ -107,9 +107,9 @@ class Inputs(unittest.TestCase):
         Grid(lambda p, density, seed, key: job(p, density, seed, seed), **JOBS)
 
     def test_a_parameter_that_make_ignores(self):
-        self.assertRaisesRegex(ParameterError, "p and seed change nothing but the key", Grid,
+        self.assertRaisesRegex(ParameterError, "p and seed change only the key", Grid,
                                lambda p, density, seed, key: job(0.25, density, seed, key), **JOBS)
-        self.assertRaisesRegex(ParameterError, "p and seed change nothing", Grid, lambda p, seed, key: sweep(0.25, seed, key),
+        self.assertRaisesRegex(ParameterError, "p and seed change only the key", Grid, lambda p, seed, key: sweep(0.25, seed, key),
                                **SWEEPS)
         # A parameter that is used for some values of another one is used.
         rules = {"nasch": lambda q: Nasch(0.25), "slow": lambda q: SlowToStart(0.25, q)}

@@ -104,7 +104,7 @@ class SpaceTimes(Plots):
 
     def test_what_has_no_diagram(self):
         for wrong in Snapshots(), Snapshots([TWO[0], TWO[1], TWO[3]]), TWO[::-1]:
-            self.assertRaisesRegex(ParameterError, "equal distances", trlab.plot_space_time, wrong)
+            self.assertRaisesRegex(ParameterError, "equal intervals", trlab.plot_space_time, wrong)
         for words in {"lane": 2}, {"lane": -1}, {"limit": 1}, {"limit": 36}:
             self.assertRaises(ValueError, trlab.plot_space_time, TWO, **words)
 

@@ -84,7 +84,7 @@ class Impossible(unittest.TestCase):
     def reject(self, kind, text, line, said):
         for is_without in True, False:
             with without_numpy() if is_without else with_numpy():
-                with self.assertRaisesRegex(OutputFormatError, f"^line {line} of the table cannot be: .*{said}"):
+                with self.assertRaisesRegex(OutputFormatError, f"^line {line} of the table is impossible: .*{said}"):
                     Table.read(kind, text)
 
     def test_points(self):

@@ -66,7 +66,7 @@ class InitialStates(unittest.TestCase):
 
     def test_it_has_no_sweep_text(self):
         for sweep in replace(SWEEP, start=random_cells(1)), replace(SWEEP, start=moving), ROADS:
-            self.assertRaisesRegex(ValueError, r"another start: use `jobs\(\)`", sweep.text)
+            self.assertRaisesRegex(ValueError, r"this sweep does not: use `jobs\(\)`", sweep.text)
             self.assertRaisesRegex(ValueError, r"use `jobs\(\)`", sweep.parts)
 
     def test_sweeps_compare_and_hash_by_value(self):

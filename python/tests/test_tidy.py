@@ -42,7 +42,7 @@ class Results(unittest.TestCase):
         frame = frame_of({**WINDOW._asdict(), "gap": 4.5})
         self.assertEqual((frame.flow[0, 10], frame.gap[0, 10]), (0.05, 4.5))
         self.assertNotIn("flow_millionths", frame)
-        self.assertRaisesRegex(FrameError, "`flow` of the result is not", frame_of, {**WINDOW._asdict(), "flow": 0.06})
+        self.assertRaisesRegex(FrameError, "`flow` of the result contradicts", frame_of, {**WINDOW._asdict(), "flow": 0.06})
 
     def test_numbers_flags_and_rows_with_names(self):
         Measured = namedtuple("Measured", "mean note")

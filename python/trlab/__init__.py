@@ -9,10 +9,10 @@
     job = Job(limit=5, length=100, density=0.2, start=random_cells(1), rule=Nasch(0.25), steps=50, key=7)
     print(job.run()[-1].lanes[0])
 
-Lengths are in cells, times in steps, speeds in cells per step; probabilities and densities (cars per cell) are
-between 0 and 1; a flow is in cars per step and lane. Results depend only on the input file of a job or a sweep, which
-`.text()` returns. Inputs, runs and their rows need no package; frames, arrays, estimates and plots need numpy, pandas and
-matplotlib: `pip install "trlab[analysis]"`. `TRLAB` may name the program (see `find_program`)."""
+Lengths are in cells, times in steps, speeds in cells per step; probabilities and densities (cars per cell) are between 0 and 1; a
+flow is in cars per step and lane. Results depend only on the input file of a job or a sweep, which `.text()` returns. Inputs,
+runs and their rows need no other package; frames, arrays, estimates and plots need numpy, pandas and matplotlib:
+`pip install "trlab[analysis]"`. The environment variable `TRLAB` may hold the path of the program (see `find_program`)."""
 from importlib import import_module as _import_module
 
 from ._errors import (

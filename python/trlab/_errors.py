@@ -10,7 +10,7 @@ class TrlabError(Exception):
 
 
 class TrlabWarning(UserWarning):
-    """An input that is valid, but may not be the one that you want. The message says what it does, and how to change it."""
+    """An input that is valid, but may not do what you want. The message describes its effect, and how to change it."""
 
 
 class ParameterError(TrlabError, ValueError, TypeError):
@@ -18,7 +18,7 @@ class ParameterError(TrlabError, ValueError, TypeError):
 
 
 class RenamedError(TrlabError):
-    """A name of an older version. The message has its replacement."""
+    """A name of an older version. The message gives its replacement."""
 
 
 class MissingLibraryError(TrlabError, ImportError):
@@ -26,7 +26,7 @@ class MissingLibraryError(TrlabError, ImportError):
 
 
 class ProgramNotFoundError(TrlabError, FileNotFoundError):
-    """The program `trlab` was not found, or is damaged, foreign or not executable."""
+    """The program `trlab` was not found, is damaged or not executable, or is another program."""
 
 
 class ProgramError(TrlabError):
@@ -55,8 +55,8 @@ class RejectedInputError(TrlabError):
     - `answer`: the output of the command, for example `fault line 5 cause 2`;
     - `line`, from 1 (0: the input is too long), and its rejected bytes `first` to `last`, from 1 (None: the whole
       line);
-    - `cause`: the error number of an input, or None; `reason`: the verifier's, also for a program within an input, or
-      None;
+    - `cause`: the error number of an input, or None; `reason`: the error number of the verifier, also for a program within an
+      input, or None;
     - `pc`: the rejected instruction of a program, from 0, or None;
     - `meaning`, and `found` and `advice`, which may be None;
     - `expected`: a list of strings; `facts`: a list of the facts known before the rejected instruction;
@@ -87,7 +87,7 @@ class RejectedInputError(TrlabError):
 
 
 class IncompleteOutputError(TrlabError):
-    """An output of the program that ends too early or too late for its input, whatever the exit status says."""
+    """An output of the program that is shorter or longer than its input allows, whatever the exit status is."""
 
 
 class ExitStatusError(TrlabError):
@@ -99,16 +99,16 @@ class OutputFormatError(TrlabError, ValueError):
 
 
 class SnapshotsError(TrlabError, ValueError):
-    """Snapshots that cannot give the requested result: they are not of consecutive steps, or not of one run. The message
-    says which, and what to do."""
+    """Snapshots that cannot give the requested result: they are not of consecutive steps, or not of one run. The message says
+    why, and what to do."""
 
 
 class ResultFilesError(TrlabError, ValueError):
-    """Files of results that are missing, cut off, damaged or of other inputs. The message names each."""
+    """Result files that are missing, cut off, damaged or of other inputs. The message names each file."""
 
 
 class StudyFileError(TrlabError, ValueError):
-    """A file that is not a study, or one that another program made."""
+    """A file that is not a study, or that another version of the program wrote."""
 
 
 class FrameError(TrlabError, ValueError):
@@ -116,4 +116,4 @@ class FrameError(TrlabError, ValueError):
 
 
 class EstimateError(TrlabError, ValueError):
-    """Data from which the requested estimate does not follow. The message says what to do."""
+    """Data that do not allow the requested estimate. The message says what to do."""

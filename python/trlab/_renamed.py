@@ -1,4 +1,4 @@
-"""Names of older versions, and their replacements: an old name raises an error that says the new one."""
+"""Names of older versions, and their replacements: an old name raises an error with the new name."""
 from __future__ import annotations
 
 from collections.abc import Mapping

@@ -27,19 +27,19 @@ class Blocking(NamedTuple):
 
 
 def blocking(values: Union[Iterable[float], Array, pandas.Series]) -> Blocking:
-    """The mean of the windows of one run in its steady state, and its standard error although they are correlated, by the
-    blocks of Flyvbjerg and Petersen (J. Chem. Phys. 91, 461, 1989):
+    """The mean of the windows of one run in its steady state, and the standard error of this mean for correlated windows, by the
+    blocking method of Flyvbjerg and Petersen (J. Chem. Phys. 91, 461, 1989):
 
         trlab.blocking(job.series(every=10, first=1000).to_pandas().flow)
 
-    Neighbours are averaged in pairs, and these again, until the error of the mean no longer grows. The block is the smallest
-    one whose length B fulfils B**3 > 2 n (sem_B / sem_1)**4, with n values in the series (Lee and others, Phys. Rev. E 83,
-    066706, 2011). This needs about 90 times as many values as the inefficiency. Values that do not fill a block are left out
-    of the error, never out of the mean. The error of a series of equal values is 0.
+    Neighbours are averaged in pairs, again and again, until the error of the mean no longer grows. The block is the smallest one
+    whose length B fulfils B**3 > 2 n (sem_B / sem_1)**4, with n values in the series (Lee and others, Phys. Rev. E 83, 066706,
+    2011). This needs about 90 times as many values as the inefficiency. Values that do not fill a block are left out of the
+    error, never out of the mean. The error of a series of equal values is 0.
 
-    `values` is a column of a frame or any list of at least 32 numbers. If its index has the parameters of a study, they must
-    be those of one run. Raises `EstimateError` if it is no such series, and if less than 16 blocks would be left, because the
-    series is too short for its correlations then, or drifts (see `Table.drift`)."""
+    `values` is a column of a frame or any list of at least 32 numbers. If its index has the parameters of a study, they must be
+    those of one run. Raises `EstimateError` if it is not such a series, or if fewer than 16 blocks would be left, because the
+    series is then too short for its correlations, or drifts (see `Table.drift`)."""
     series = _series(values)
     n, block, level = len(series), 1, series
     mean, naive = _mean_and_sem(series)
@@ -71,7 +71,7 @@ def _series(values: Union[Iterable[float], Array, pandas.Series]) -> Array:
 
 
 def _need_one_run(values: pandas.Series) -> None:
-    """Raises `EstimateError` if the index of a series shows that it is not one run from its begin to its end."""
+    """Raises `EstimateError` if the index of a series shows that it is not one run from beginning to end."""
     levels = list(values.index.names)
     step = "step" if "step" in levels else levels[-1]
     various = [name for name in various_levels(values) if name not in (step, 0)]

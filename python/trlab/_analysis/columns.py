@@ -1,4 +1,4 @@
-"""The columns of frames: whose row it is, the exact counts, and the values that follow from them."""
+"""The columns of frames: the identity of the row, the exact counts, and the values that follow from them."""
 from __future__ import annotations
 
 from collections.abc import Hashable, Iterable
@@ -15,7 +15,8 @@ RUN = ["key", "road"]
 
 IDENTITY = [*RUN, "ensemble"]
 """`ensemble` is the same for repetitions: inputs that differ only in their key and in the seed of their random start. If the
-road was given cell by cell, a hyphen and a digest of its cells follow. These columns survive everything that can be done to a frame, except for means, which have none of them."""
+road was given cell by cell, a hyphen and a digest of its cells follow. These columns survive a filter, a merge or a file;
+means have none of them."""
 
 COUNTS = ["cars", "cells", "steps", "distance", "stopped", "changes"]
 """The exact counts of a run or window, from which its other values follow."""
@@ -30,7 +31,7 @@ RANGES = {"density": 1, "requested_density": 1, "flow": 1, "speed": 35, "stopped
 """The greatest value that a column of this name can have in the units of trlab. The least is 0."""
 
 PER_CAR = ["speed", "stopped_share", "change_rate"]
-"""The values that do not exist without cars: NaN there."""
+"""The values per car, which are NaN without cars."""
 
 
 def derived(counts: pandas.DataFrame) -> pandas.DataFrame:

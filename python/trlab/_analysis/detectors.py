@@ -1,4 +1,4 @@
-"""Detectors on the road, as traffic engineers know them, from snapshots one at a time: nothing is kept of a long run.
+"""Detectors on the road, as traffic engineers know them, from one snapshot at a time, so that a long run needs little memory.
 
 Definitions: J. G. Wardrop, Some theoretical aspects of road traffic research, Proc. Inst. Civ. Eng. 1, 325-362 (1952); L. C.
 Edie, Discussion of traffic stream measurements and definitions, Proc. 2nd Int. Symp. on the Theory of Traffic Flow,
@@ -29,8 +29,8 @@ def passings(snapshots: Iterable[Snapshot], cells: Sequence[int]) -> pandas.Data
     a stopped car passes nothing, and at most one car passes the end of a cell of a lane in a step, because a car drives at
     most its gap.
 
-    `snapshots` are those of consecutive steps, for example `job.snapshots(first=1000)`; the first only says where the cars
-    begin. Raises `SnapshotsError` if they are not, and `ParameterError` for cells that the road does not have."""
+    `snapshots` are those of consecutive steps, for example `job.snapshots(first=1000)`; the first only gives the initial places
+    of the cars. Raises `SnapshotsError` if they are not, and `ParameterError` for cells that the road does not have."""
     rows = [
         (step, cell, lane, speed) for step, seen in _seen(snapshots, cells) for cell, lane, _, speed in seen if speed
     ]
@@ -41,22 +41,22 @@ def passings(snapshots: Iterable[Snapshot], cells: Sequence[int]) -> pandas.Data
 
 
 def detectors(snapshots: Iterable[Snapshot], cells: Sequence[int], every: int) -> pandas.DataFrame:
-    """What detectors (loops) at the ends of the `cells` count in each window of `every` steps: a row for each `cell`, `lane` and
-    `step`, which is the last step of the window, as in `Job.series`. With n cars that pass in the window at the speeds v
-    (see `trlab.passings`):
+    """The counts of detectors (loops) at the ends of the `cells` in each window of `every` steps: a row for each `cell`, `lane`
+    and `step`, which is the last step of the window, as in `Job.series`. With n cars that pass in the window at the speeds v (see
+    `trlab.passings`):
 
     - `count` = n, in cars;
     - `flow` = n / every, in cars per step and lane;
     - `time_mean_speed` = sum(v) / n, in cells per step: the arithmetic mean of the speeds at a point (Wardrop 1952);
     - `harmonic_mean_speed` = n / sum(1 / v), in cells per step: it estimates the space-mean speed, which is never above the
-      time-mean speed (Wardrop 1952). A stopped car passes nothing and does not enter, so in jams both are too high, and
-      flow / speed is too low a density;
+      time-mean speed (Wardrop 1952). A stopped car passes no detector and is not counted, so in jams both are too high, and flow
+      / speed is too low a density;
     - `occupancy`, 0 to 1: the share of the steps after which a car is in the cell. It is Edie's (1963) density in cars per
       cell of the region of one cell and `every` steps, if a car is in the cell for whole steps, and counts stopped cars;
     - `mean_time_headway`, in steps: the mean of the `time_headway` of these n cars; the car before may have passed before
       the window.
 
-    Speeds are NaN if n is 0, and the headway if no car has one. The means of several windows or lanes follow from `count`,
+    Speeds are NaN if n is 0, and the headway is NaN if no car has one. The means of several windows or lanes follow from `count`,
     not from averaging speeds. Raises `SnapshotsError` unless the snapshots are those of consecutive steps of one run, and
     `ParameterError` if they are not whole windows, or for cells that the road does not have."""
     whole("every", every, 1)
@@ -134,7 +134,7 @@ def _cars_on(snapshot: Snapshot) -> int:
 
 
 def _seen(snapshots: Iterable[Snapshot], cells: Sequence[int]) -> Iterator[tuple[int, list[tuple[int, int, bool, int]]]]:
-    """Step by step from the second snapshot on, what each detector sees: its cell and lane, whether a car is in the cell
+    """Step by step from the second snapshot on, the observation of each detector: its cell and lane, whether a car is in the cell
     after the step, and the speed of the car that passed the end of the cell, or 0."""
     road: Optional[_Road] = None
     for snapshot in snapshots:

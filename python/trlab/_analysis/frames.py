@@ -1,7 +1,7 @@
 """Tidy frames of pandas: one row for each run, or for each window of it.
 
-The parameters of a study are the levels of the index, so that means know what they average over; measured values are the
-columns. The last columns say whose row it is (see `columns.IDENTITY`), or why there is none."""
+The parameters of a study are the levels of the index, so that means know what they average over; measured values are the columns.
+The last columns identify the run of the row (see `columns.IDENTITY`), or give the reason why there is none."""
 from __future__ import annotations
 
 from collections.abc import Iterable, Mapping, Sequence
@@ -17,6 +17,7 @@ from .._studies.roads import KnownRoads
 
 Place = tuple[Any, ...]
 
+
 def frame_of_table(table: Table[Any]) -> pandas.DataFrame:
     """The rows of a table: its exact counts, and the values that follow from them."""
     return _with_derived(pandas.DataFrame(table.to_numpy()))
@@ -30,8 +31,8 @@ def tidy(
 ) -> pandas.DataFrame:
     """One frame of the results of these inputs, by the values of the parameters `names`, in the order of `runs`.
 
-    A result that is an exception, and with `keep` one that is missing or has no rows, is a row of NaN with its text in the
-    column `error`. Each result is checked when it comes, so that a wrong `call` is seen at once."""
+    A result that is an exception, and with `keep` one that is missing or has no rows, is a row of NaN with its text in the column
+    `error`. Each result is checked when it arrives, so that a wrong `call` is noticed at once."""
     found: dict[Place, Rows] = {}
     errors: dict[Place, str] = {}
     for place, result in results.items() if isinstance(results, Mapping) else results:
@@ -93,7 +94,7 @@ def _with_derived(counts: pandas.DataFrame) -> pandas.DataFrame:
     """Counts and the values that follow from them. If these are there already, they must be the same."""
     frame = counts.drop(columns=["flow_millionths"], errors="ignore")
     if name := strange_value(frame):
-        raise FrameError(f"`{name}` of the result is not what its counts say: give a measured value another name")
+        raise FrameError(f"`{name}` of the result contradicts its counts: give a measured value another name")
     return pandas.concat([frame.drop(columns=DERIVED, errors="ignore"), derived(frame)], axis=1)
 
 

@@ -32,9 +32,9 @@ def means(
 ) -> pandas.DataFrame:
     """The means over independent repetitions, for example `means(frame, over="seed")`.
 
-    `frame` is that of `Grid.run`, with one row for each run: its levels are the parameters, and `over` names those that
-    repeat the runs. The result has a row for each choice of the other parameters, and for each column `X` that holds
-    numbers, or each one of `of`:
+    `frame` is a frame of `Grid.run` with one row for each run: the levels of its index are the parameters, and `over` names those
+    that repeat the runs. The result has a row for each choice of the other parameters, with these columns for each column `X` of
+    numbers, or each name in `of`:
 
     - `n`: the number of runs;
     - `X`: their arithmetic mean, in the unit of `X` (see `UNITS`);
@@ -44,10 +44,10 @@ def means(
 
     Counts such as `distance` are averaged only on request. Without cars a speed is NaN, and so is its mean.
 
-    Raises `FrameError` instead of a number that is not this: for a frame of means, for several windows of one run (see
-    `per_run` and `blocking`), for runs with the same key or of different inputs, for missing values, for times that are
-    censored (see `lifetime`), for groups of different size unless `unequal`, and for roads that you have given cell by cell
-    and that differ, unless you say with `drawn` that you have drawn them at random."""
+    Raises `FrameError` if the result would not be such a mean: for a frame of means, for several windows of one run (see
+    `per_run` and `blocking`), for runs with the same key or of different inputs, for missing values, for times that are censored
+    (see `lifetime`), for groups of different size unless `unequal`, and for different roads that you gave cell by cell, unless
+    you confirm with `drawn` that you drew them at random."""
     found = repetitions(frame, over, unequal, drawn)
     chosen = _measured(frame) if of is None else [of] if isinstance(of, str) else list(of)
     _check_columns(frame, chosen)
@@ -79,7 +79,7 @@ def _check_columns(frame: pandas.DataFrame, chosen: Sequence[str]) -> None:
     made = ["n", *(f"{name}_sem" for name in chosen)]
     clash = [name for name in made if name in (*frame, *frame.index.names)]
     if clash:
-        raise FrameError(f"the column `{clash[0]}` would be overwritten by that of the means: give it another name")
+        raise FrameError(f"the column `{clash[0]}` would be overwritten by a column of the means: give it another name")
 
 
 def _need_ends(frame: pandas.DataFrame, chosen: Sequence[str]) -> None:
@@ -88,13 +88,13 @@ def _need_ends(frame: pandas.DataFrame, chosen: Sequence[str]) -> None:
 
 
 def per_run(frame: pandas.DataFrame) -> pandas.DataFrame:
-    """One row for each run, from the windows of it: exact counts are added up over the level `step`, and density, flow, speed
-    and shares follow from the sums, in the units of `UNITS`. `windows` is the number of windows, `steps` that of their steps.
+    """One row for each run, from its windows: exact counts are added up over the level `step`, and density, flow, speed and
+    shares follow from the sums, in the units of `UNITS`. `windows` is the number of windows, `steps` the number of their steps.
 
         trlab.means(trlab.per_run(frame), over="seed")
 
-    Raises `FrameError` if the windows of a run do not follow each other, because one is missing then, and for columns that
-    are not counts, because nobody knows how to add them: measure these in one window per run."""
+    Raises `FrameError` if the windows of a run do not follow each other, because then one is missing, and for columns that are
+    not counts, because these cannot be added up: measure them in one window per run."""
     rows = need_runs(frame)
     names = [name for name in frame.index.names if name != "step"]
     if len(names) == len(frame.index.names):
@@ -128,7 +128,7 @@ def _need_consecutive(found: Repetitions) -> None:
     wrong = rows[(rows["group"] == before["group"]) & ~is_next]
     if len(wrong):
         place, step = found.place(wrong["group"].iloc[0]), wrong["step"].iloc[0]
-        raise FrameError(f"the windows of {place} do not follow each other at step {step}: is one missing, or there twice?")
+        raise FrameError(f"the windows of {place} do not follow each other at step {step}: is one missing or repeated?")
     spans = rows.groupby(["ensemble", "group"])[["begin", "step"]].agg({"begin": "min", "step": "max"})
     if (spans.groupby(level="ensemble").nunique() > 1).any(axis=None):
         raise FrameError("runs of one input have windows of different steps, so that they cannot be compared: keep all windows")

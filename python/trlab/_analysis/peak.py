@@ -13,7 +13,7 @@ from .._errors import EstimateError
 LEAST_RUNS, LEAST_POINTS, MAX_DEGREE = 5, 5, 5
 
 LEAST_BEND = 3
-"""The least bend of a parabola through the points, in standard errors: a flat curve has a highest point, too."""
+"""The minimum bend of a parabola through the points, in standard errors, because a flat curve has a highest point too."""
 
 _FLAT = "the curve is not bent significantly around its highest point: take more runs, or a larger `within`"
 
@@ -38,19 +38,19 @@ def peak(frame: pandas.DataFrame, over: str, x: str = "density", y: str = "flow"
 
         trlab.peak(frame.xs(0.25, level="p"), over="seed")
 
-    The largest of noisy means is too high. So a polynomial is fitted, by least squares, to the means next to the highest one
-    that are at most the share `within` lower than it, and its maximum is returned. The degree, 2 to 5, is that of the least
-    chi2 + 2 degree (Akaike, IEEE Trans. Autom. Control 19, 716, 1974).
+    The largest of several noisy means is usually too high. So a polynomial is fitted, by least squares, to the means next to the
+    highest one that are lower by at most the share `within`, and its maximum is returned. The degree, 2 to 5, is that with the
+    smallest chi2 + 2 degree (Akaike, IEEE Trans. Autom. Control 19, 716, 1974).
 
     `y_sem` and `x_sem` are one standard error: the covariance of the means, from the scatter of the n runs (with n - 1), is
-    propagated to first order, also if runs share keys between points, which correlates their means. What depends on `within`
-    is not in the errors: results for different `within` scatter by about as much, so try several. `chi2` is scaled for the
+    propagated to first order, also if runs share keys between points, which correlates their means. The errors do not include the
+    choice of `within`: results for different values scatter by about as much, so you should try several. `chi2` is scaled for the
     uncertainty of errors from n runs, so that it is about `dof` or less. If it is more, the polynomial fits badly, and both
     errors are multiplied by the square root of chi2 / dof.
 
-    Raises `EstimateError` if there are less than 5 runs at a point or less than 5 points, if the peak is at an end of the
-    curve, if no such polynomial fits because the curve has a kink (take points closer to the peak, and a smaller `within`),
-    and if the curve is not bent significantly (take more runs, or a larger `within`). Raises `FrameError` as `means` does."""
+    Raises `EstimateError` if there are fewer than 5 runs at a point or fewer than 5 points, if the peak is at an end of the
+    curve, if no such polynomial fits because the curve has a kink (take points closer to the peak, and a smaller `within`), and
+    if the curve is not bent significantly (take more runs, or a larger `within`). Raises `FrameError` as `means` does."""
     if isinstance(within, bool) or not 0 < within < 1:
         raise EstimateError(f"`within` is a share between 0 and 1, not {within!r}")
     runs = _one_curve(frame, over, x, y)
@@ -97,7 +97,7 @@ def _top(curve: pandas.DataFrame, y: str, within: float) -> pandas.DataFrame:
     if part["n"].min() < LEAST_RUNS:
         raise EstimateError(f"`peak` needs at least {LEAST_RUNS} runs at each point, and there are {part['n'].min()}")
     if (part[f"{y}_sem"] == 0).any():
-        raise EstimateError("the runs at a point are all equal, so that the error of the peak does not follow from them")
+        raise EstimateError("the runs at a point are all equal, so they give no error of the peak")
     return part
 
 

@@ -22,8 +22,8 @@ def plot_means(
         ax = trlab.plot_means(trlab.means(frame, over="seed"), hue="p")
         ax.figure.savefig("diagram.pdf")
 
-    There is one curve for each value of the parameter `hue`. `ax` are axes of matplotlib, by default those of a new figure,
-    and `style` goes to `Axes.errorbar`, for example `marker="s"` or `linestyle="none"`. Labels have the units of `UNITS`.
+    There is one curve for each value of the parameter `hue`. `ax` are axes of matplotlib, by default those of a new figure, and
+    `style` is passed to `Axes.errorbar`, for example `marker="s"` or `linestyle="none"`. Labels have the units of `UNITS`.
 
     Raises `FrameError` if the frame has no errors (see `means`), if there are several means at one `x` without a `hue`, and
     if `ax` shows something else already."""
@@ -52,17 +52,17 @@ def plot_space_time(snapshots: Snapshots, lane: int = 0, ax: Any = None, limit: 
         ax = trlab.plot_space_time(job.run(every=10, first=1000))
         ax.figure.savefig("jams.png", dpi=200)
 
-    `limit` is the highest speed of the scale, by default that of the snapshots: give the limit of the job to compare
-    diagrams. `ax` are axes of matplotlib, by default those of a new figure, and `style` goes to `Axes.imshow`. The image is
-    `ax.images[-1]`, and its scale `ax.images[-1].colorbar`. A diagram shows every cell only if it has as many pixels:
-    choose the size of the figure and `dpi` for it.
+    `limit` is the highest speed of the scale, by default the highest speed of the snapshots: to compare diagrams, pass the limit
+    of the job. `ax` are axes of matplotlib, by default those of a new figure, and `style` is passed to `Axes.imshow`. The image
+    is `ax.images[-1]`, and its scale `ax.images[-1].colorbar`. A diagram shows every cell only if it has at least as many pixels:
+    choose the figure size and `dpi` accordingly.
 
-    Raises `ParameterError` unless the snapshots are at equal distances of steps, which the time axis needs, and for a lane
-    that the road does not have."""
+    Raises `ParameterError` unless the snapshots are at equal intervals of steps, which the time axis needs, and for a lane that
+    the road does not have."""
     steps = [snapshot.step for snapshot in snapshots]
     every = {after - before for before, after in zip(steps, steps[1:])} or {1}
     if not steps or len(every) > 1 or min(every) < 1:
-        raise ParameterError("a space-time diagram needs snapshots at equal distances of steps")
+        raise ParameterError("a space-time diagram needs snapshots at equal intervals of steps, as of `job.run(every=10)`")
     lanes = snapshots.speeds(dtype=numpy.float32)
     speeds = lanes[:, whole("lane", lane, 0, lanes.shape[1] - 1)]
     fastest = max(1, int(numpy.nanmax(speeds, initial=0)))

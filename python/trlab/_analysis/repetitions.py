@@ -1,4 +1,4 @@
-"""The rows of a frame in groups of independent repetitions, or an error that says why they are none."""
+"""The rows of a frame in groups of independent repetitions, or an error that says why they are not independent."""
 from __future__ import annotations
 
 from collections.abc import Sequence
@@ -10,8 +10,8 @@ from .._errors import FrameError
 
 
 class Repetitions(NamedTuple):
-    """The rows with their parameters as columns, the names of the columns that tell the groups apart, and the group of each
-    row: 0, 1 and so on in the order in which they appear."""
+    """The rows with their parameters as columns, the names of the columns that distinguish the groups, and the group of each row:
+    0, 1 and so on in the order in which they appear."""
 
     rows: pandas.DataFrame
     names: list[str]
@@ -109,7 +109,7 @@ def _need_independent(found: Repetitions, levels: Sequence[str]) -> None:
     doubled = rows.duplicated([*levels, "road"])
     if doubled.any():
         place = place_shown(levels, rows.loc[doubled, levels].iloc[0])
-        raise FrameError(f"two rows are {place}: is a parameter missing in the index, or a run in the frame twice?")
+        raise FrameError(f"two rows are {place}: is a parameter missing in the index, or a run repeated?")
     if rows[RUN].assign(group=found.group).duplicated().any():
         raise FrameError(
             "some repetitions have the same key, so they are not independent: let `make` use the `key` that it gets, and "
@@ -146,8 +146,8 @@ def _need_complete(found: Repetitions, levels: Sequence[str]) -> None:
     missing = [row for row in whose[found.group == most].itertuples(index=False, name=None) if row not in there]
     example = f" (without {place_shown(whose, missing[0])})" if missing and missing[0] else ""
     raise FrameError(
-        f"groups have {n.min()} to {n.max()} runs; the fewest are at {found.place(least)}{example}. Run the missing ones, or say "
-        "unequal=True if the reason why they are missing does not matter"
+        f"groups have {n.min()} to {n.max()} runs; the fewest are at {found.place(least)}{example}. Run the missing ones, or "
+        "pass unequal=True if it does not matter why they are missing"
     )
 
 

@@ -26,8 +26,8 @@ class NoRows(FrameError):
 
 
 class Rows(NamedTuple):
-    """The rows of a result in the form that costs least: a table is an array, which becomes a frame together with others.
-    `kind` is `Point`, `Window`, `dict` or `pandas.DataFrame`; `levels` tell the rows apart, besides their road."""
+    """The rows of a result in the cheapest form: a table is an array, which becomes a frame together with others. `kind` is
+    `Point`, `Window`, `dict` or `pandas.DataFrame`; `levels` distinguish the rows of a road."""
 
     kind: type[Any]
     content: Union[Array, list[Record], pandas.DataFrame]
@@ -152,7 +152,7 @@ def _check_levels(rows: Rows) -> None:
         return
     if not rows.levels:
         raise FrameError(
-            f"the result has {len(rows.content)} rows that nothing tells apart: return a frame with a named index, for example "
+            f"the result has {len(rows.content)} rows that cannot be told apart: return a frame with a named index, for example "
             '`frame.rename_axis("passing")`'
         )
     if len(set(zip(*(_values(rows, name) for name in rows.levels)))) < len(rows.content):

@@ -52,15 +52,15 @@ UNITS = {
     "time_headway_s": "s",
     "mean_time_headway_s": "s",
 }
-"""The unit of each column that trlab makes, "" for a share or a number of runs. `X_sem` has the unit of `X`. Flows and
-densities are those of one lane, also on two lanes: means over the lanes."""
+"""The unit of each column that trlab makes, "" for a share or a number of runs. `X_sem` has the unit of `X`. Flows and densities
+are per lane: on two lanes they are means over the lanes."""
 
 _ENDS = ["_per_km", "_per_h", "_km_per_h", "_s"]
 
 
 def to_si(frame: pandas.DataFrame, cell: float = 7.5, step: float = 1.0) -> pandas.DataFrame:
     """The frame with vehicles per km, vehicles per h, km/h and s, if a cell is `cell` metres long and a step takes `step`
-    seconds. Converted columns and index levels, with their errors, get names that say so:
+    seconds. Converted columns and index levels, with their errors, get names with the new unit:
 
     - `density_per_km` = density x 1000 / cell, `flow_per_h` = flow x 3600 / step, both per lane;
     - `speed_km_per_h` = speed x 3.6 x cell / step, also for the two mean speeds of detectors;

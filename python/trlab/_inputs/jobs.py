@@ -31,20 +31,20 @@ if TYPE_CHECKING:
 class Job:
     """A road, a rule and a number of steps.
 
-    The road has `lanes` lanes of `length` cells (at most 100,000). `cars` cars in total, or the number nearest to
-    `density`, are placed in the initial state `start`. Or leave out these four and let `start` be the road:
+    The road has `lanes` lanes of `length` cells (at most 100,000). `cars` cars in total, or the number nearest to `density`, are
+    placed in the initial state `start`. Or leave out these four, and pass the road itself as `start`:
 
-    - the speeds by cell (cells per step; None, NaN or -1 for an empty cell), as a list or an array, or two of them;
-    - the characters of a file, for example `"0..3."`, or a list with those of two lanes, as the `lanes` of a snapshot.
+    - the speeds by cell (cells per step; None, NaN or -1 for an empty cell), as a list or an array, or two of them for two lanes;
+    - the characters of a file, for example `"0..3."`, or a list of two such strings, such as the `lanes` of a snapshot.
 
-    A list of only 0 and 1 raises an error, because it may be meant as the number of cars by cell, while 0 is a stopped car.
+    A list of only 0 and 1 raises an error, because you may mean the number of cars by cell, while here 0 is a stopped car.
 
     `limit` is the maximum speed in cells per step, 1 to 35. `at` maps steps to the rules that take over then. A job
     of more than 500,000 steps runs as several inputs, each of which continues the previous input.
 
-    Numbers of other libraries, for example numpy's, are stored as Python's own, and a road as the characters of its lanes,
-    with its `length` and `lanes`. Raises `ParameterError` if a parameter is wrong; booleans and members of an enumeration are
-    not numbers. If the program rejects the job, `RejectedInputError` is raised when it runs."""
+    Numbers of other libraries, such as numpy, are stored as Python numbers, and a road as the characters of its lanes, with its
+    `length` and `lanes`. Raises `ParameterError` if a parameter is wrong; booleans and members of an enumeration are not numbers.
+    If the program rejects the job, `RejectedInputError` is raised when it runs."""
 
     limit: int
     rule: Rule
@@ -97,7 +97,7 @@ class Job:
 
     @classmethod
     def from_text(cls, text: str) -> Job:
-        """The job of a text that `.text()` returned, or of the content of a job file. Raises the errors of `read`."""
+        """Make a job from a text that `.text()` returned, or from the content of a job file. Raises the errors of `read`."""
         reading.need_accepted("run", text)
         return reading.need_same(cls(**reading.job_of(text)), text)
 
@@ -112,7 +112,7 @@ class Job:
         return cast(Sequence[str], self.start)
 
     def cells(self) -> int:
-        """The cells of all lanes."""
+        """The number of cells of all lanes."""
         return cast(int, self.length) * self.lanes
 
     def count(self) -> int:
@@ -126,7 +126,7 @@ class Job:
         if self.steps > MAX_STEPS:
             raise ParameterError(
                 f"a job file has at most {MAX_STEPS} steps, and this job has {self.steps}: "
-                "`run`, `snapshots` and `series` run it as several"
+                "`run`, `snapshots` and `series` run it as several inputs"
             )
         lines = ["road 1", f"key {key_digits(self.key)}", f"limit {self.limit}", *(f"lane {lane}" for lane in self._lanes())]
         lines += [*self.rule.lines(), f"steps {self.steps}"]
@@ -156,9 +156,9 @@ class Job:
         return snapshots_in(ask_by_line(["run", *asked.words()], self.text()))
 
     def series(self, *, every: int = 1, first: int = 0, workers: int = 1) -> Table[Window]:
-        """The counts of each window of `every` steps, from step `first` on, as `trlab series` writes them. The windows must
-        fill the run: if `steps - first` is not a positive multiple of `every`, `ParameterError` names numbers that fit. A job of
-        more than 500,000 steps takes about twice as long per step."""
+        """The counts of each window of `every` steps, from step `first` on, as `trlab series` writes them. The windows must fill
+        the run: if `steps - first` is not a positive multiple of `every`, it raises `ParameterError` with numbers that fit. A job
+        of more than 500,000 steps takes about twice as long per step."""
         asked = Asked.windows(self.steps, every, first, workers)
         if self.steps > MAX_STEPS:
             return Table(Window, long_jobs.windows(self, asked))
@@ -169,9 +169,9 @@ class Job:
 
             job.time_until(lambda window: window.stopped > 0, every=10)
 
-        `time` is the number of steps from step `first` to the end of this window, so that `every` is its resolution. If the
-        condition is false for every window, `time` is `steps - first`, and `observed` is False: the event takes longer than this
-        run. `trlab.lifetime` estimates the mean of such times.
+        `time` is the number of steps from step `first` to the end of this window, so its resolution is `every`. If the condition
+        is false for every window, `time` is `steps - first`, and `observed` is False: the event takes longer than this run.
+        `trlab.lifetime` estimates the mean of such times.
 
         The windows are those of `series`, and must fill the run. `condition` returns True or False; any other answer raises
         `ParameterError`. The output is cut off, and is therefore never kept in a cache of `trlab.results`."""
@@ -236,7 +236,7 @@ class Job:
 
 
 class Duration(NamedTuple):
-    """How many steps it took until an event, and whether the event was observed. If not, the run ended before it: the time is
+    """The number of steps until an event, and whether the event was observed. If not, the run ended before it: the time is
     censored, and the event takes longer."""
 
     time: int
@@ -244,7 +244,8 @@ class Duration(NamedTuple):
 
 
 def _without_cache() -> AbstractContextManager[None]:
-    """Calls of the program in this block run at once, and their outputs are not kept: one that is left early is not whole."""
+    """Calls of the program in this block run at once, and their outputs are not kept, because an output that is left early is
+    incomplete."""
     now = setting()
     return nullcontext() if now is None else set_to(now._replace(cache=None))
 

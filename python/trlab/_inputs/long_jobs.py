@@ -1,6 +1,6 @@
-"""The runs of jobs of more steps than one input has: several inputs, each of which goes on where the one before it ended.
+"""Runs of jobs with more steps than one input can have: several inputs, each of which continues where the previous one ended.
 
-Each input begins with the last snapshot of the one before it, under the key that `Job.continued` derives. So the snapshots
+Each input begins with the last snapshot of the previous input, under the key that `Job.continued` derives. So the snapshots
 depend only on the job, and never on the windows in which they are counted."""
 from __future__ import annotations
 
@@ -29,7 +29,7 @@ class _Part(NamedTuple):
 
 
 def _parts(job: Job, last_of: Callable[[Job], Snapshot]) -> Iterator[_Part]:
-    """The inputs of a job in their order; `last_of` returns the last snapshot of one, and is asked after its turn."""
+    """The inputs of a job in order; `last_of` returns the last snapshot of an input, and is called after it has run."""
     offset = 0
     while job.steps > MAX_STEPS:
         part = replace(job, steps=MAX_STEPS, at={step: rule for step, rule in job.at.items() if step < MAX_STEPS})
@@ -40,7 +40,7 @@ def _parts(job: Job, last_of: Callable[[Job], Snapshot]) -> Iterator[_Part]:
 
 
 def snapshots(job: Job, asked: Asked) -> Iterator[Snapshot]:
-    """The snapshots that were asked for, one by one.
+    """Iterate over the requested snapshots.
 
     The last snapshot of each input is needed too. So the program prints every snapshot whose step is a multiple of a number
     that divides `every`, `first` and the steps of an input."""
@@ -56,7 +56,7 @@ def snapshots(job: Job, asked: Asked) -> Iterator[Snapshot]:
 
 
 def windows(job: Job, asked: Asked) -> Iterator[Window]:
-    """The windows that were asked for, one by one.
+    """Iterate over the requested windows.
 
     Windows may begin in one input and end in the next one, so they are put together from narrower windows, whose width
     divides `every`, `first` and the steps of an input."""
@@ -92,7 +92,7 @@ def _last_snapshot(job: Job, workers: int) -> Snapshot:
 
 
 def _joined(narrow: Iterator[Window], count: int) -> Iterator[Window]:
-    """The windows of `count` that follow each other, each as one."""
+    """Join every `count` consecutive windows into one."""
     for last in narrow:
         sums, found = list(last), 1
         for found, last in enumerate(islice(narrow, count - 1), 2):

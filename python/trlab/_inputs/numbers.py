@@ -29,25 +29,24 @@ ALWAYS = 2**31
 """The number in input files for the probability 1."""
 
 MAX_CELLS, MAX_SPEED, MAX_STEPS, MAX_POINTS = 100000, 35, 500000, 200
-"""The greatest length of a lane in cells, maximum speed in cells per step, number of steps and number of points of one
-input."""
+"""The maximum length of a lane in cells, speed in cells per step, number of steps and number of points of one input."""
 
 MAX_ALL_STEPS = 10**15
-"""The greatest number of steps of a job, whose inputs have at most `MAX_STEPS`; it would take months."""
+"""The maximum number of steps of a job, whose inputs have at most `MAX_STEPS` each; it would take months."""
 
 MAX_KEY = 2**256 - 1
-"""The greatest key, and the greatest seed of random cells."""
+"""The maximum key, and the maximum seed of random cells."""
 
 MAX_THREADS = 16
-"""The greatest number of workers and of runners."""
+"""The maximum number of workers and of runners."""
 
-# Longer numbers, and greater exponents, would take minutes to be turned into a fraction.
+# Longer numbers, and larger exponents, would take minutes to convert into a fraction.
 _WRITTEN = re.compile(r"\s*[-+]?(?:\d+/\d+|(?:\d+\.?\d*|\.\d+)(?:e[-+]?\d{1,3})?)\s*", re.ASCII | re.IGNORECASE)
 _LONGEST = 4000
 
 
 def whole(name: str, number: object, least: int, most: Optional[int] = None) -> int:
-    """A whole number in its range, as Python's `int`. Raises `ParameterError` with its name if it is anything else: floats,
+    """A whole number in its range, as Python's `int`. Raises `ParameterError`, which names it, if it is anything else: floats,
     booleans and members of an enumeration are not whole numbers."""
     value = _index(number)
     greatest = "2**256 - 1" if most == MAX_KEY else most
@@ -62,8 +61,8 @@ def whole(name: str, number: object, least: int, most: Optional[int] = None) -> 
 
 
 def share(name: str, number: Probability) -> Union[int, float, Fraction]:
-    """A number from 0 to 1, as Python's own. Raises `ParameterError` with its name if it is anything else. A string and a
-    `Decimal` are stored as the fraction that they say."""
+    """A number from 0 to 1, as Python's own. Raises `ParameterError`, which names it, if it is anything else. A string or a
+    `Decimal` is stored as a fraction of the same value."""
     found = _real(number)
     if found is None:
         raise ParameterError(f"{name} must be a number between 0 and 1, not {shown(number)}")
@@ -150,8 +149,8 @@ def key_digits(key: object) -> str:
 def derived_key(purpose: str, key: Key, number: int) -> str:
     """The key that follows from another key, a purpose and a number: 64 hexadecimal digits.
 
-    It is the SHA-256 of the ASCII bytes of `trlab PURPOSE KEY NUMBER`, with KEY as 64 lower-case hexadecimal digits and
-    NUMBER in decimal. Different purposes and numbers give keys that have nothing to do with each other."""
+    It is the SHA-256 of the ASCII bytes of `trlab PURPOSE KEY NUMBER`, with KEY as 64 lower-case hexadecimal digits and NUMBER in
+    decimal. Different purposes and numbers give independent keys."""
     return hashlib.sha256(f"trlab {purpose} {key_digits(key).lower()} {number}".encode("ascii")).hexdigest()
 
 

@@ -26,8 +26,8 @@ def check(program: str) -> AcceptedProgram:
 
 
 def explain(input: Union[str, Job, Sweep]) -> str:
-    """The output of `trlab explain`: the error in an input and how to fix it, or the work of a valid input. `input` is a job, a
-    sweep, or the text of a job, a sweep or a driver program."""
+    """The output of `trlab explain`: the error in an input and how to fix it, or a description of a valid input. `input` is a
+    job, a sweep, or the text of a job, a sweep or a driver program."""
     if not isinstance(input, (str, Job, Sweep)):
         raise ParameterError(f"an input is a Job, a Sweep or a text, not {shown(input)}")
     return explained(input if isinstance(input, str) else input.text()).stdout.rstrip("\n")

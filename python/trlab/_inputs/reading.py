@@ -25,7 +25,7 @@ Input = TypeVar("Input", bound=_Input)
 def content_of(path: Union[str, os.PathLike[str]], kind: str) -> str:
     """The text of an input file, with its line ends as they are."""
     if isinstance(path, str) and "\n" in path:
-        raise ParameterError(f"`read` has the path of a file as its parameter: for a text use {kind}.from_text(text)")
+        raise ParameterError(f"`read` takes the path of a file: for a text use {kind}.from_text(text)")
     try:
         return Path(path).read_bytes().decode()
     except UnicodeDecodeError:
@@ -42,11 +42,11 @@ def need_accepted(command: str, text: str) -> None:
 
 
 def need_same(read: Input, text: str) -> Input:
-    """The input that was read; raises `ParameterError` if it would not be written as it was."""
+    """The input that was read; raises `ParameterError` if its `.text()` is different."""
     if not text.endswith("\n"):
         raise ParameterError("the last line of the file does not end with a line feed: add one")
     if read.text() != text:
-        raise ParameterError("this file cannot be written again as it is")
+        raise ParameterError("trlab would write this file differently, so it cannot be read: make the input in Python instead")
     return read
 
 
@@ -112,7 +112,7 @@ class Lines:
         return digits if any(sign in "ABCDEF" for sign in digits) else _number(digits, 16)
 
     def rule(self, rest: Optional[str] = None) -> Rule:
-        """A rule, whose words after `at S` are given, or which begins with the next line."""
+        """A rule: the given words after `at S`, or the rule that begins with the next line."""
         word, _, written = (self.line() if rest is None else rest).partition(" ")
         if word == "rule" and written == "own":
             motion = self.program("motion")
@@ -123,7 +123,7 @@ class Lines:
         try:
             rule: Rule = _MODELS[model](*(Fraction(_number(it), ALWAYS) for it in numbers))
         except TypeError:
-            raise ParameterError(f"line {self._next} of the file has another number of probabilities") from None
+            raise ParameterError(f"line {self._next} of the file has the wrong number of probabilities") from None
         return rule
 
     def program(self, kind: str) -> str:

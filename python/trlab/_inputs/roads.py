@@ -1,4 +1,4 @@
-"""Roads as you write them, and as input files do: a string for each lane."""
+"""Roads as you write them, and as they are in input files: a string for each lane."""
 from __future__ import annotations
 
 import math

@@ -75,8 +75,8 @@ Rule = Union[Nasch, SlowToStart, Rickert, Own]
 
 
 class Schedule(Mapping[int, Rule]):
-    """Rules by the step from which on they are in force, in the order of steps. It compares as a dict does, and has a hash
-    because nobody can change it."""
+    """Rules by the step at which they take over, in the order of steps. It compares like a dict, and has a hash because it cannot
+    be changed."""
 
     def __init__(self, rules: Mapping[int, Rule], steps: int) -> None:
         """Raises `ParameterError` if a step is not a whole number from 0 to less than `steps`."""
@@ -114,8 +114,8 @@ def need_rule(rule: object) -> Rule:
 
 
 def _judged(kind: str, program: object) -> str:
-    """The program as Python's own string; raises `ParameterError` if this cannot be the text of a program of this kind.
-    Whether it is a safe program is the verifier's to say: see `check`."""
+    """The program as Python's own string; raises `ParameterError` if this cannot be the text of a program of this kind. Only the
+    verifier decides whether the program is safe: see `check`."""
     if not isinstance(program, str) or isinstance(program, Enum):
         raise ParameterError(f"a {kind} program is a text, not {shown(program)}")
     lines = program.strip("\n").split("\n")

@@ -73,8 +73,8 @@ class InitialState:
 
 even = InitialState("even")
 """Evenly spaced and stopped, the default. On two lanes the cells are counted across the lanes, so that more cars may be on lane 0
-than on lane 1: all of them if their number divides the lane length. If they differ by more than one car, the job or sweep gives a
-`TrlabWarning` with the numbers."""
+than on lane 1: all of them if their number divides the lane length. If the lanes differ by more than one car, the job or sweep
+issues a `TrlabWarning` with the numbers."""
 
 moving = InitialState("even", None)
 """Evenly spaced, at the maximum speed, on the same cells as with `even`."""
@@ -99,8 +99,8 @@ def surplus(cars: int, length: int) -> int:
 
 
 def halved(cars: int, length: int) -> list[int]:
-    """The numbers of cars next to this one, below and above it, of which evenly spaced on two lanes at most one more car is on
-    lane 0."""
+    """The nearest numbers of cars below and above this one for which, evenly spaced on two lanes, at most one more car is on lane
+    0."""
     below = next(count for count in range(cars, -1, -1) if surplus(count, length) <= 1)
     above = next((count for count in range(cars, 2 * length + 1) if surplus(count, length) <= 1), below)
     return sorted({below, above})
@@ -111,7 +111,8 @@ _IS_TOLD: ContextVar[bool] = ContextVar("trlab_lanes_are_told", default=False)
 
 @contextmanager
 def lanes_are_told() -> Iterator[None]:
-    """Inputs that are made in this block give no warning about their lanes: the input that they are made from gave it."""
+    """Inputs that are made in this block give no warning about their lanes, because the input that they are made from has given
+    it."""
     before = _IS_TOLD.set(True)
     try:
         yield

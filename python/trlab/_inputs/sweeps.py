@@ -87,12 +87,12 @@ class Sweep:
 
     @classmethod
     def from_text(cls, text: str) -> Sweep:
-        """The sweep of a text that `.text()` returned, or of the content of a sweep file. Raises the errors of `read`."""
+        """Make a sweep from a text that `.text()` returned, or from the content of a sweep file. Raises the errors of `read`."""
         reading.need_accepted("sweep", text)
         return reading.need_same(cls(**reading.sweep_of(text)), text)
 
     def cells(self) -> int:
-        """The cells of all lanes of a road."""
+        """The number of cells of all lanes of a road."""
         return self.length * self.lanes
 
     def counts(self) -> list[int]:
@@ -104,7 +104,7 @@ class Sweep:
         return [cars_at(density, self.cells()) for density in cast(Sequence[Density], self.densities)]
 
     def is_of_jobs(self) -> bool:
-        """Whether no sweep file can say the points, so that each of them is a job of `.jobs()`."""
+        """Whether the points do not fit in sweep files, so that each of them is a job of `.jobs()`."""
         return self.start != even or self.warm + self.measure > MAX_STEPS
 
     def text(self) -> str:
@@ -117,7 +117,7 @@ class Sweep:
     def _need_one_input(self) -> None:
         steps, count = self.warm + self.measure, len(self.counts())
         if self.start != even:
-            raise ParameterError("a sweep file begins with evenly spaced cars, and this sweep has another start: use `jobs()`")
+            raise ParameterError("a sweep file begins with evenly spaced cars, but this sweep does not: use `jobs()`")
         if steps > MAX_STEPS:
             raise ParameterError(f"a point of a sweep file has at most {MAX_STEPS} steps, and this has {steps}: use `jobs()`")
         if count > self._points_of_input():
@@ -155,7 +155,7 @@ class Sweep:
             ]
 
     def _initial_states(self) -> Iterator[dict[str, Any]]:
-        """What a job says of the road of each point."""
+        """The parameters of a job that describe the road of each point."""
         if not isinstance(self.start, InitialState):
             yield from ({"start": road} for road in self.start)
             return
@@ -173,7 +173,7 @@ class Sweep:
         return Table(Point, [point for table in tables for point in table])
 
     def _table_of_jobs(self, runners: int, workers: int) -> Table[Point]:
-        # Runs know jobs and sweeps, so that they are imported when they are needed.
+        # `many` imports jobs and sweeps, so it is imported only when it is needed.
         from .._runs.many import run_all
 
         def point(job: Job) -> Point:

@@ -33,7 +33,7 @@ class Asked(NamedTuple):
 
     @classmethod
     def windows(cls, steps: int, every: object, first: object, workers: object) -> Asked:
-        """The same for windows. Raises `ParameterError` with numbers that fit if the steps from `first` on are not whole
+        """As `snapshots`, for windows. Raises `ParameterError` with numbers that fit if the steps from `first` on are not whole
         windows."""
         found = cls.snapshots(steps, every, first, workers)
         counted = steps - found.first

@@ -93,7 +93,7 @@ def drift_of(values: Sequence[float]) -> Drift:
 
 
 def _sigma(values: Sequence[float]) -> float:
-    """The standard deviation of one value that has nothing to do with the others, by batch means of these."""
+    """The standard deviation that a value would have if all were independent, from batch means."""
     length = len(values) // BATCHES
     last = values[-BATCHES * length :]
     return sqrt(length * variance([fmean(last[first : first + length]) for first in range(0, len(last), length)]))

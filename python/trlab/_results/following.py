@@ -38,8 +38,8 @@ class OnRoad:
         return found
 
     def gaps(self) -> Array:
-        """The gap of each car: the empty cells up to the next car ahead on its lane, (x' - x - 1) mod `length` for the cells
-        x and x' of both, 0 to `length` - 1. A car alone on its lane has all other cells."""
+        """The gap of each car: the empty cells up to the next car ahead on its lane, (x' - x - 1) mod `length` for the cells x
+        and x' of both, 0 to `length` - 1. The gap of the only car on a lane is all other cells."""
         cell = self.cell.astype(numpy.int64)
         return (numpy.take_along_axis(cell, self.ahead(), axis=-1) - cell - 1) % self.length
 
@@ -54,9 +54,9 @@ class Cars(OnRoad):
     """All cars after a step, in arrays of 64-bit integers, one number for each car. Cars keep their numbers from step to
     step; they are numbered from 0 by lane and cell in the first snapshot.
 
-    `lane` is 0 or 1, and `cell` 0 to `length` - 1. `speed` is the number of cells that the car drove in this step (in the
-    first snapshot: the number that is there). `distance` is the cell in the first snapshot plus all speeds since, so
-    that it is not wrapped round the ring."""
+    `lane` is 0 or 1, and `cell` 0 to `length` - 1. `speed` is the number of cells that the car drove in this step (in the first
+    snapshot: its speed there). `distance` is the cell in the first snapshot plus all speeds since, so that it is not wrapped
+    round the ring."""
 
     step: int
     length: int
@@ -80,10 +80,9 @@ def follow(snapshots: Iterable[Snapshot]) -> Iterator[Cars]:
         next(cars)  # nobody has driven yet
         distance = sum(now.speed.sum() for now in cars)
 
-    A car at speed v came from the cell v behind it, of its own lane or of the other one. If both cells were taken, it came
-    from its own lane, because a car changes lanes only if its side cell is empty. Raises `SnapshotsError` if steps are
-    missing, if the cars of a snapshot do not come from those of the one before it, or if a car drove further than its
-    gap."""
+    A car at speed v came from the cell v behind it, of its own lane or of the other one. If both cells were occupied, it came
+    from its own lane, because a car changes lanes only if its side cell is empty. Raises `SnapshotsError` if steps are missing,
+    if the cars of a snapshot do not come from those of the one before it, or if a car drove further than its gap."""
     cars: Optional[Cars] = None
     for snapshot in snapshots:
         cars = _first(snapshot) if cars is None else _next(cars, snapshot)

@@ -10,7 +10,7 @@ Me = TypeVar("Me", bound="ResultList[Any]")
 
 
 class ResultList(MutableSequence[Item]):
-    """A list whose items are made when they are needed, and which is the same as a list otherwise.
+    """A list whose items are made when they are needed, and which otherwise behaves like a list.
 
     It compares equal to a list of the same items; parts, copies and sums have its type. It is not a `list` itself: use
     `list(results)` if a function needs one, for example `json.dumps`."""

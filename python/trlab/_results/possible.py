@@ -1,4 +1,4 @@
-"""Which rows of a table can be: counts that contradict each other are no result of the program.
+"""Which rows of a table are possible: counts that contradict each other are not a result of the program.
 
 The rules are expressions that hold for whole numbers and, row by row, for columns of numpy."""
 from __future__ import annotations
@@ -73,8 +73,8 @@ _FEW = 1000
 
 
 def first_fault(numbers: array[int], columns: int) -> Optional[tuple[int, str]]:
-    """The number of the first row that cannot be, from 0, and its contradiction; None if all rows can be. Tables of 14
-    columns are series. If numpy is imported, it accepts long tables ten times as fast."""
+    """The number of the first impossible row, from 0, and its contradiction; None if all rows are possible. Tables of 14 columns
+    are series. If numpy is imported, it accepts long tables ten times as fast."""
     rules, sentences = (_window, _OF_POINT + _OF_LANES) if columns == 14 else (_point, _OF_POINT)
     if _are_possible(numbers, columns, rules):
         return None

@@ -52,9 +52,9 @@ class Snapshots(ResultList[Snapshot]):
         return "".join(f"step {it.step}\n" + "".join(lane + "\n" for lane in it.lanes) for it in self)
 
     def speeds(self, dtype: Any = float, empty: Optional[int] = None) -> numpy.ndarray[Any, Any]:
-        """An array by snapshot, lane and cell: the speed of the car in cells per step, 0 to 35, or NaN for an empty cell, so
-        that a mean over empty cells cannot pass for a mean speed: use `numpy.nanmean`. The snapshot of step 0 has the speeds
-        of the initial state, which no car drove: leave it out of means (`job.run(first=1)`).
+        """An array by snapshot, lane and cell: the speed of the car in cells per step, 0 to 35, or NaN for an empty cell, so that
+        a mean over empty cells cannot pass for a mean speed: use `numpy.nanmean` for the mean speed. The snapshot of step 0 has
+        the speeds of the initial state, which no car drove: leave it out of means (`job.run(first=1)`).
 
         `dtype` may be a type of floats from float32 on, or of signed whole numbers from int16 on, in which `v * v` does not
         overflow. Whole numbers need a negative number for empty cells: `speeds("int16", empty=-1)`. Raises `ParameterError`
@@ -93,7 +93,7 @@ class Snapshots(ResultList[Snapshot]):
 
     def to_pandas(self) -> pandas.DataFrame:
         """A frame with one row per car and snapshot: `step`, `lane` (0 or 1), `cell` (from 0) and `speed` in cells per step, as
-        64-bit integers. Rows of different snapshots do not belong to the same cars: see `trajectories`."""
+        64-bit integers. The order of the rows does not follow the cars from snapshot to snapshot: see `trajectories`."""
         from .._analysis.libraries import numpy, pandas
 
         # The step, the number and the length of each lane of all snapshots.
@@ -110,9 +110,9 @@ class Snapshots(ResultList[Snapshot]):
         return pandas.DataFrame(frame.T, columns=["step", "lane", "cell", "speed"], copy=False)
 
     def html(self, limit: Optional[int] = None, title: str = "") -> str:
-        """A web page that plays these snapshots: one file, without server and network. Colours range from speed 0 to
-        `limit`, by default the highest speed. Raises `SnapshotsError` unless the snapshots are those of all steps from 0 on,
-        and `ValueError` if they are longer than 256 MiB."""
+        """A web page that plays these snapshots: one file that needs no server or network. Colours range from speed 0 to `limit`,
+        by default the highest speed. Raises `SnapshotsError` unless the snapshots are those of all steps from 0 on, and
+        `ValueError` if they are longer than 256 MiB."""
         from ..lab.export import page_of
 
         for step, snapshot in enumerate(self):

@@ -78,7 +78,7 @@ class Point(_PointColumns, _Counted):
     - `distance`: the sum of the new speeds of all cars in all steps, in cells;
     - `stopped`: how often a car had the speed 0 after a step, in car-steps;
     - `changes`: how often a car changed lanes;
-    - `flow_millionths`: the flow of the file, distance * 1000000 / (cells * steps), rounded down. The exact one is `flow`."""
+    - `flow_millionths`: the flow of the file, distance * 1000000 / (cells * steps), rounded down. The exact value is `flow`."""
 
     __slots__ = ()
 
@@ -141,15 +141,15 @@ class Table(ResultList[Row]):
 
     @classmethod
     def read(cls, kind: type[Row], text: Union[str, bytes]) -> Table[Row]:
-        """Read the output of `trlab sweep` (`kind` is `Point`) or `trlab series` (`Window`). Raises `OutputFormatError` with
-        the line if it is anything else, is cut off, or has a row that cannot be: for example no cells, more cars than
-        cells, a distance that these cars cannot drive, another flow than that of the counts, or a missing window."""
+        """Read the output of `trlab sweep` (`kind` is `Point`) or `trlab series` (`Window`). Raises `OutputFormatError` with the
+        line if it is anything else, is cut off, or has an impossible row, for example no cells, more cars than cells, a distance
+        that these cars cannot drive, a flow that contradicts the counts, or a missing window."""
         plain = text if isinstance(text, str) else text.decode("latin-1")
         return cls(kind, read_rows(kind, plain.replace("\r\n", "\n") if "\r" in plain else plain))
 
     def text(self) -> str:
-        """The table as the program writes it, which `Table.read` reads if it is that of one sweep or series. There the column
-        `flow` is in millionths; for a file of other programs write `table.to_pandas().to_csv()`."""
+        """The table as the program writes it, which `Table.read` reads if it is that of one sweep or series. In it the column
+        `flow` is in millionths; to write a file for other programs, you should use `table.to_pandas().to_csv()`."""
         return heading_of(self.kind) + "".join(",".join(map(str, row)) + "\n" for row in self)
 
     def to_numpy(self) -> numpy.ndarray[Any, Any]:

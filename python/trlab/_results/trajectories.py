@@ -26,7 +26,7 @@ class Trip(NamedTuple):
 
 @dataclass(frozen=True, eq=False, repr=False)
 class Trajectories(OnRoad):
-    """The trajectory of every car: `Snapshots.trajectories()` makes it.
+    """The trajectory of every car, which `Snapshots.trajectories()` returns.
 
     Arrays are indexed `[step, car]`. Row 0 is the snapshot of step `first`, and row k that of step `first` + k. Cars are
     numbered from 0 by lane and cell in row 0.

@@ -125,7 +125,7 @@ def _cell_fault(lines: list[str], lanes: int) -> str:
 
 
 def _regular(text: bytes) -> Optional[WrittenSnapshots]:
-    """The snapshots if all have one shape, and follow each other at equal distances of steps; None if they do not."""
+    """The snapshots if all have one shape, and follow each other at equal intervals of steps; None if they do not."""
     first = HEADING.match(text)
     if not first:
         return None

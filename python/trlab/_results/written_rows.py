@@ -53,8 +53,8 @@ def heading_of(kind: Any) -> str:
 
 
 def read_rows(kind: Any, text: str) -> WrittenRows:
-    """The rows in the text of a table. Raises `OutputFormatError`, with the line, if the text has another heading, a line that
-    is not a row, a last line without an end, or a row that cannot be (see `possible`)."""
+    """The rows in the text of a table. Raises `OutputFormatError`, with the line, if the text has another heading, a line that is
+    not a row, a last line without an end, or an impossible row (see `possible`)."""
     heading = heading_of(kind)
     if not text.startswith(heading):
         wrong = "the table is cut off in" if heading.startswith(text) else f"this is not the heading of {kind.__name__}s:"
@@ -67,7 +67,7 @@ def read_rows(kind: Any, text: str) -> WrittenRows:
     fault = first_fault(found.numbers, found.columns)
     if fault is not None:
         line = text.split("\n")[fault[0] + 1]
-        raise OutputFormatError(f"line {fault[0] + 2} of the table cannot be: {_shown(line)}: {fault[1]}")
+        raise OutputFormatError(f"line {fault[0] + 2} of the table is impossible: {_shown(line)}: {fault[1]}")
     return found
 
 

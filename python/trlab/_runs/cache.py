@@ -1,4 +1,4 @@
-"""Outputs of the program, kept in a folder: each is there as a whole or not at all, whenever a process is killed."""
+"""Outputs of the program, kept in a folder: each is complete or absent, whenever a process is killed."""
 from __future__ import annotations
 
 import errno
@@ -24,10 +24,10 @@ _READ_ONLY = (errno.EACCES, errno.EPERM, errno.EROFS)
 class Cache:
     """A folder with one file for each call of the program.
 
-    A file is named after its key, the SHA-256 of the program's arguments, the input and the program. Its first line has
-    the key and the SHA-256 of the output, which follows and is complete. A file that does not match its first line, its name
-    or its input is never used, and is replaced. Several processes, on several machines too, can use one folder at the same
-    time. Outputs that are missing in a folder that cannot be written to are not kept."""
+    A file is named after its key, the SHA-256 of the program's arguments, the input and the program. Its first line has the key
+    and the SHA-256 of the output, which follows and is complete. A file that does not match its first line, its name or its input
+    is never used, and is replaced. Several processes, on several machines too, can use one folder at the same time. If a folder
+    cannot be written to, no new outputs are kept in it."""
 
     def __init__(self, folder: Union[str, Path]) -> None:
         if not str(folder):

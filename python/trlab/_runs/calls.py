@@ -60,7 +60,7 @@ def _explanation(request: Request, rejection: ProgramError) -> Exception:
 
 
 class Explanation(NamedTuple):
-    """What `trlab explain` writes, and its exit status, which is 1 for a rejected input."""
+    """The output of `trlab explain`, and its exit status, which is 1 for a rejected input."""
 
     stdout: str
     returncode: int
@@ -85,4 +85,4 @@ def _decoded(output: bytes) -> str:
     try:
         return output.decode("utf-8")
     except UnicodeDecodeError as fault:
-        raise OutputFormatError(f"the program wrote bytes that are no text: {fault}") from None
+        raise OutputFormatError(f"the program wrote bytes that are not text: {fault}") from None

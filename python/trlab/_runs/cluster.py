@@ -63,13 +63,13 @@ def write_inputs(
 
         seq N | parallel SLURM_ARRAY_TASK_ID={} sh folder/array.sh
 
-    A sweep that is no single file, because it is long or from another state than `even`, is written as several, such as
-    `folder/NAME~3of20.job`, from whose results `read_tables` makes its table.
+    A sweep that does not fit in a single file, because it is long or starts from another state than `even`, is written as several
+    files, such as `folder/NAME~3of20.job`, and `read_tables` joins their results to one table.
 
-    `program` is the path of trlab on the tasks' machines, by default its path here. All results of a folder are of one
-    program: `array.program` has its version and SHA-256, and a task ends with an error if it finds another one. Raises
-    `ResultFilesError` if the folder has a result of another program, of another input or of other words under one of the
-    names, and `ParameterError` for names that no file can have."""
+    `program` is the path of trlab on the tasks' machines, by default its path here. All results of a folder come from one
+    program: `array.program` has its version and SHA-256, and a task that finds another program ends with an error. Raises
+    `ResultFilesError` if the folder has a result of another program, of another input or of other words under one of the names,
+    and `ParameterError` for invalid file names."""
     place = _place(folder)
     count = whole("per_task", per_task, 1, 10**9)
     found = program or find_program()
@@ -116,8 +116,8 @@ def read_tables(
     errors: str = "raise",
 ) -> dict[str, Any]:
     """Read the tables of a folder of `write_inputs`, by name; `kind` is `Point` for sweeps and `Window` for series. With the
-    `inputs` of `write_inputs` the tables come in their order, and each must be the complete table of its input. Without
-    them every table of the folder is read, and one that ends after a whole row counts as complete.
+    `inputs` of `write_inputs` the tables are in their order, and each must be the complete table of its input. Without them every
+    table of the folder is read, and one that ends after a whole row counts as complete.
 
     One `ResultFilesError` names every table that is missing, empty, short, damaged, impossible or of another input. With
     `errors="keep"` each of these tables is a `ResultFilesError` in the result, so that the others can be used, for
@@ -243,14 +243,14 @@ def _wanted(place: Path, kind: Any, inputs: Optional[Mapping[str, Union[Job, Swe
             raise ParameterError(f"{name!r} is a {type(given).__name__}: sweeps have tables of kind Point, jobs of kind Window")
         files = _files(name, given, ["sweep"] if isinstance(given, Sweep) else ["series"])
         if isinstance(given, Job):
-            # Only the folder knows which windows of a job were asked for.
+            # Only the folder records which windows of a job were requested.
             files = [_File(it.name, it.request._replace(words=before.get(it.name, it.request.words))) for it in files]
         found[name] = files
     return found
 
 
 def _all_in(place: Path, kind: Any, before: Mapping[str, tuple[str, ...]]) -> dict[str, list[_File]]:
-    """The same for all tables of a folder, whose inputs nobody knows."""
+    """As `_wanted`, for all tables of a folder, whose inputs are unknown."""
     found: dict[str, list[_File]] = {}
     for name in sorted(file.stem for file in place.glob("[!.]*.csv")):
         part = _PART.fullmatch(name)
@@ -261,7 +261,7 @@ def _all_in(place: Path, kind: Any, before: Mapping[str, tuple[str, ...]]) -> di
 
 
 def _read(place: Path, file: _File) -> Table[Any]:
-    """A table; raises `ResultFilesError` with its fault. An empty text stands for an input that nobody knows."""
+    """A table; raises `ResultFilesError` with its fault. An empty text stands for an unknown input."""
     content = _content_of_result(place, file)
     try:
         table: Table[Any] = Table.read(kind_of(file.request.words), content)

@@ -25,7 +25,7 @@ _SCRIPT = _HERE.parents[1] / "trlab"
 _V3 = set("cx16 lahf_lm pni popcnt sse4_1 sse4_2 ssse3 abm avx avx2 bmi1 bmi2 f16c fma movbe xsave".split())
 _LONGEST_ANSWER = 65536
 _PATIENCE = 60.0
-"""How long a program may take to tell its version, in seconds."""
+"""How long a program may take to print its version, in seconds."""
 # Set while the command `trlab` runs a program that it found on the PATH, which may be this command again.
 _ON_PATH = "TRLAB_FOUND_ON_PATH"
 
@@ -39,14 +39,14 @@ def find_program() -> str:
     3. the program of the checkout, as `./trlab` finds it;
     4. `trlab` on the `PATH`.
 
-    Raises `ProgramNotFoundError` if none is found, if it is damaged, or if `TRLAB` names something else."""
+    Raises `ProgramNotFoundError` if none is found, if it is damaged, or if `TRLAB` names another file."""
     named = os.environ.get("TRLAB")
     return _named(named) if named else _packed() or _of_checkout() or _on_path() or _nowhere()
 
 
 def sha256_of_program(path: str) -> str:
-    """The SHA-256 of a program, 64 hexadecimal digits. That of a script such as `./trlab` is the one of the program which
-    the script runs."""
+    """The SHA-256 of a program, 64 hexadecimal digits. For a script such as `./trlab` it is that of the program which the script
+    runs."""
     return hashlib.sha256(_program_behind(path).read_bytes()).hexdigest()
 
 
@@ -60,7 +60,7 @@ def _program_behind(path: str) -> Path:
 
 
 def asked(path: str, word: str) -> Optional[str]:
-    """What a program writes for `--version` or `--where`, or None if it cannot be run, ends with an error or does not end."""
+    """The output of a program for `--version` or `--where`, or None if it cannot be run, ends with an error or does not end."""
     try:
         process = subprocess.Popen([path, word], stdin=subprocess.DEVNULL, stdout=subprocess.PIPE, stderr=subprocess.DEVNULL)
     except OSError:
@@ -106,11 +106,11 @@ def _packed() -> Optional[str]:
         path = folder / f"trlab-{level}-{released[level]}"
         if _has_sum(path, released[level]) or _unpacked(_PACKED / f"trlab-{level}.gz", path, released[level]):
             return str(path)
-    raise ProgramNotFoundError(f"the program in {_PACKED} is damaged, or can be kept nowhere: install trlab again")
+    raise ProgramNotFoundError(f"the program in {_PACKED} is damaged, or no folder can hold its copy: install trlab again")
 
 
 def _features() -> set[str]:
-    """What this processor has, in the words of Linux."""
+    """The features of this processor, in the words of Linux."""
     try:
         lines = Path("/proc/cpuinfo").read_text("utf-8", "replace").splitlines()
     except OSError:

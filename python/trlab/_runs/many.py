@@ -67,7 +67,7 @@ def results(
     errors: str = "raise",
     at_once: Optional[int] = None,
 ) -> Iterator[tuple[Any, Any]]:
-    """Run many inputs in parallel, and yield the name and result of each as it finishes:
+    """Run many inputs in parallel, and yield the name and the result of each input as it finishes:
 
         for name, table in trlab.results(sweeps, cache="study/cache", progress=True):
             print(name, table[0].flow)
@@ -117,7 +117,7 @@ def run_all(inputs: Iterable[Input], call: Callable[[Input], Result], at_once: O
 
 
 def _cache_for(folder: Union[None, str, Path]) -> Optional[Cache]:
-    """The cache in a folder; without one that of the task in which this runs, if it does."""
+    """The cache in a folder; without a folder, the cache of the task in which this runs, if there is one."""
     if folder is None:
         now = setting()
         return None if now is None else now.cache
@@ -165,7 +165,7 @@ def _results(
 def _running(
     executor: Optional[Executor], cache: Optional[Cache], at_once: Optional[int], futures: dict[Future[Any], Any]
 ) -> Iterator[tuple[Executor, Lease, Optional[int]]]:
-    """The executor, the lease of the run, and how many inputs it gets at first. At the end nothing of it goes on."""
+    """The executor, the lease of the run, and how many inputs it gets at first. At the end nothing of it continues."""
     now = setting()
     # A run inside a task of another run leaves the other processors to the other tasks.
     count = at_once or (len(os.sched_getaffinity(0)) if now is None else 1)

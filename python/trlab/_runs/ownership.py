@@ -1,4 +1,4 @@
-"""Files that belong to a process: those of a killed one are removed, and those of a running one say that it runs."""
+"""Files that belong to a process: those of a killed process are removed, and those of a running process show that it runs."""
 from __future__ import annotations
 
 import functools
@@ -71,7 +71,7 @@ def _is_running(number: int) -> bool:
 
 
 class Lease(NamedTuple):
-    """A file that exists as long as a run goes on, which tasks in other processes look at.
+    """A file that exists as long as a run continues, so that tasks in other processes can check it.
 
     Tasks on other machines see it if it is in a folder that both have."""
 
@@ -87,7 +87,7 @@ class Lease(NamedTuple):
 
     @contextmanager
     def held(self) -> Iterator[None]:
-        """The run goes on until the block ends."""
+        """The run continues until the block ends."""
         with owned(Path(self.path)) as path:
             path.touch()
             yield

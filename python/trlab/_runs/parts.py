@@ -1,4 +1,4 @@
-"""Inputs as files: the requests that an input is, one or several, and the table that their outputs are together."""
+"""Inputs as files: the request or requests of an input, and the table that joins their outputs."""
 from __future__ import annotations
 
 from collections.abc import Sequence
@@ -14,8 +14,8 @@ from .requests import Request
 
 
 def requests_of(given: Union[Job, Sweep], words: Sequence[str]) -> list[Request]:
-    """The requests of a job for these words, or of a sweep. A sweep that is no single file is several: its parts, or the jobs
-    of its points, whose series have a single window each."""
+    """The requests of a job for these words, or of a sweep. A sweep that is not a single file gives several: its parts, or the
+    jobs of its points, whose series have a single window each."""
     if isinstance(given, Job):
         return [_request_of(given, words)]
     if not isinstance(given, Sweep):

@@ -142,16 +142,16 @@ def set_to(new: Setting) -> Iterator[None]:
 def output_of(request: Request) -> Iterator[bytes]:
     """The complete output of the program in blocks, from a cache if it is there, or while the program runs.
 
-    After the last block, these are raised: `RejectionError`, in place of the output, if the program rejects the input;
-    `ProgramError` if it ended with another error; `IncompleteOutputError`, whatever its exit status is, if the output has
-    not as many lines as the input gives. If the iterator is closed early, the program is killed. With a cache the program
-    has ended before the first block."""
+    After the last block, these are raised: `RejectionError`, instead of the output, if the program rejects the input;
+    `ProgramError` if it ended with another error; `IncompleteOutputError`, whatever its exit status is, if the output does not
+    have the number of lines that follows from the input. If the iterator is closed early, the program is killed. With a cache the
+    program has ended before the first block."""
     now = setting()
     return run(request) if now is None or now.cache is None else now.cache.output_of(request)
 
 
 def run(request: Request) -> Generator[bytes, None, int]:
-    """The same output, from no cache. The value at the end is the exit status, which is 0 unless it is an explanation."""
+    """The same output, but not from a cache. The value at the end is the exit status, which is 0 unless it is an explanation."""
     need_exit_statuses()
     with _processes_now() as processes, tempfile.TemporaryFile() as source, tempfile.TemporaryFile() as said:
         source.write(request.content())

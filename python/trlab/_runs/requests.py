@@ -20,7 +20,7 @@ class Request(NamedTuple):
     text: str
 
     def content(self) -> bytes:
-        """The input as the program reads it. Bytes that were no UTF-8 when Python read them are the same bytes again."""
+        """The input as the program reads it. Bytes that were not UTF-8 when Python read them are restored."""
         try:
             return self.text.encode("utf-8", "surrogateescape")
         except UnicodeEncodeError as fault:
@@ -92,5 +92,5 @@ class Length:
 
     def _error(self, did: str) -> IncompleteOutputError:
         return IncompleteOutputError(
-            f"`{self._request}` {did}, so its output is no result. Run it again; if that does not help, the program is damaged"
+            f"`{self._request}` {did}, so its output is not a result. Run it again; if that does not help, install trlab again"
         )

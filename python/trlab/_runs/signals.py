@@ -19,7 +19,7 @@ def need_exit_statuses() -> None:
     """Raises `ExitStatusError` if SIGCHLD is ignored: Linux then forgets how a program ended, and Python calls it success."""
     if signal.getsignal(signal.SIGCHLD) == signal.SIG_IGN:
         raise ExitStatusError(
-            "SIGCHLD is ignored, possibly since before Python started, so that nobody could notice a failed run: "
+            "SIGCHLD is ignored, possibly since before Python started, so that a failed run would go unnoticed: "
             "call signal.signal(signal.SIGCHLD, signal.SIG_DFL) first"
         )
 
@@ -42,7 +42,7 @@ def exit_status(process: subprocess.Popen[bytes]) -> int:
 
 
 class Ending:
-    """Has SIGTERM and SIGHUP call a function before they end this process, as long as somebody needs it.
+    """Has SIGTERM and SIGHUP call a function before they end this process, as long as there is a run.
 
     Only signals that have their default action are caught, and only if the main thread asks for it, because Python runs
     their handlers in that thread."""

@@ -41,19 +41,20 @@ class Grid:
         frame = grid.run(call=lambda job: job.series(every=2000, first=1000), cache="study/cache")
         trlab.means(trlab.per_run(frame), over="seed")
 
-    `make` gets each parameter by name, and `key`, a number below 2**256. Values are numbers or strings. Other values,
-    such as rules, need names, which frames show: `rule={"nasch": Nasch(0.25), "slow": SlowToStart("1/64", 0.75)}`.
+    `make` gets each parameter by name, and also `key`, a number below 2**256, which you should pass to the input. Values are
+    numbers or strings. Other values, such as rules, need names, which frames show:
+    `rule={"nasch": Nasch(0.25), "slow": SlowToStart("1/64", 0.75)}`.
 
-    The key depends only on the names and values of the parameters (`key_for`). A choice keeps its key if the grid
-    grows, and different choices have independent random numbers. With another key in `make`, for example `key=seed`,
-    choices with the same seed share their random numbers, and differences are less noisy.
+    The key depends only on the names and values of the parameters (`key_for`). A choice keeps its key if the grid grows, and
+    different choices have independent random numbers. With another key in `make`, for example `key=seed`, choices with the same
+    seed share their random numbers, so that differences between them are less noisy.
 
-    `inputs` has the input of each choice, a named tuple such as `(p=0.25, density=0.1, seed=3)`, and `names` those of the
-    parameters.
+    `inputs` maps each choice, a named tuple such as `(p=0.25, density=0.1, seed=3)`, to its input, and `names` has the names of
+    the parameters.
 
-    Raises `ParameterError` if two choices give the same input, because `make` ignores a parameter or its `key`; if two
-    parameters change nothing but the key; if two requested densities are the same number of cars; and if a parameter
-    `density` (within one car), `cars`, `limit`, `length`, `lanes`, `warm` or `measure` is not that of the input."""
+    Raises `ParameterError` if two choices give the same input, because `make` ignores a parameter or its `key`; if two parameters
+    change only the key; if two requested densities give the same number of cars; and if a parameter `density` (within one car),
+    `cars`, `limit`, `length`, `lanes`, `warm` or `measure` is not that of the input."""
 
     def __init__(self, make: Callable[..., Input], /, **parameters: Union[Iterable[Any], Mapping[str, Any]]) -> None:
         values = {name: _named_values(name, given) for name, given in parameters.items()}
@@ -82,10 +83,10 @@ class Grid:
         unused = [name for name in self.names if self._changes_only_the_key(name)]
         if len(unused) > 1:
             unused_names = " and ".join(unused)
-            raise ParameterError(f"{unused_names} change nothing but the key: use them in `make`, and repeat by one parameter")
+            raise ParameterError(f"{unused_names} change only the key: use them in `make`, and only one to repeat")
 
     def _check_densities(self) -> None:
-        """Raises `ParameterError` if two densities are the same number of cars."""
+        """Raises `ParameterError` if two densities give the same number of cars."""
         first: dict[Hashable, Any] = {}
         for place, roads in self._runs.items():
             other = first.setdefault((place._replace(density=0), *roads["cars"], roads["cells"]), place)
@@ -117,14 +118,14 @@ class Grid:
     def run(self, **options: Any) -> pandas.DataFrame:
         """Run all inputs, with the options of `trlab.results`, and return one tidy frame of pandas.
 
-        Its index has the parameters, and what tells the rows of one result apart: the `step` of windows, the `density` of the
-        points of a sweep, or the index of a frame. The columns are the measured values (see `trlab.UNITS`), and three that say
-        whose row it is: the `key` of the input, the number of the `road` in it, and the `ensemble`, equal for inputs that
-        differ only in their key and in the seed of their random start. `density` and `cars` are those of the road that ran;
+        Its index has the parameters, and levels that distinguish the rows of one result: the `step` of windows, the `density` of
+        the points of a sweep, or the index of a frame. The columns are the measured values (see `trlab.UNITS`), and three that
+        identify the run of the row: the `key` of the input, the number of the `road` in it, and the `ensemble`, equal for inputs
+        that differ only in their key and in the seed of their random start. `density` and `cars` are those of the road that ran;
         `requested_density` is there if it differs.
 
-        `call` returns a table, a frame with a named index, a number, or a row: a mapping or named tuple. For jobs it must be
-        given. With `errors="keep"` a choice without a result is a row of NaN with its text in the column `error`.
+        `call` returns a table, a frame with a named index, a number, or a row: a mapping or named tuple. For jobs you must pass
+        it. With `errors="keep"` a choice without a result is a row of NaN with its text in the column `error`.
 
         To read a frame that was written with `frame.to_csv(file)`, keep texts as texts:
 
@@ -149,10 +150,10 @@ class Grid:
         return {"trlab": __version__, "program": sha256_of_program(find_program()), "parameters": list(self.names)}
 
     def save(self, path: Union[str, Path], words: Sequence[str] = ()) -> None:
-        """Write the study as one file, from which `read_study(path).run()` or a colleague gets the same bytes: a zip archive of
-        the inputs, as the program reads them, and `study.json` with parameters, keys, version and SHA-256 of the program.
-        `words` say what is measured in jobs, for example `["series", "--every", "2000", "--from", "1000"]`; a sweep says it
-        itself. The same study gives the same file."""
+        """Write the study as one file, from which you or a colleague get the same frame with `read_study(path).run()`: a zip
+        archive of the inputs, as the program reads them, and `study.json` with parameters, keys, version and SHA-256 of the
+        program. `words` set the measurement in jobs, for example `["series", "--every", "2000", "--from", "1000"]`; a sweep needs
+        none. The same study gives the same file."""
         from .study_file import save
 
         has_jobs = any(isinstance(input, Job) for input in self.inputs.values())

@@ -1,4 +1,4 @@
-"""One file for a study: its inputs as trlab reads them, what was measured, and by which program."""
+"""One file for a study: its inputs as trlab reads them, the measurement, and the program."""
 from __future__ import annotations
 
 import json
@@ -54,8 +54,8 @@ class StudyInput(NamedTuple):
 
 
 class Study:
-    """A study that `read_study` read. `names` are those of the parameters and `inputs` the inputs of each choice, a named tuple
-    of their values; `version` and `program`, its SHA-256, say what wrote the study."""
+    """A study that `read_study` read. `names` has the names of the parameters, and `inputs` maps each choice, a named tuple of
+    their values, to its input; `version` and `program`, its SHA-256, identify the program that wrote the study."""
 
     def __init__(self, about: Mapping[str, Any], inputs: Mapping[Any, StudyInput]) -> None:
         self.version: str = about["trlab"]
@@ -70,7 +70,7 @@ class Study:
     def results(self, **options: Any) -> Iterator[tuple[Any, Table[Any]]]:
         """Yield each choice and its table, with the options of `trlab.results`. This needs no package."""
         if options.get("call") is not None:
-            raise ParameterError("a study says itself what is measured: leave out `call`")
+            raise ParameterError("a study file sets the measurement: leave out `call`")
         all_options: dict[str, Any] = {**options, "call": StudyInput.table}
         found: Iterator[tuple[Any, Table[Any]]] = results_of(self.inputs, **all_options)
         return found
@@ -136,7 +136,7 @@ def _write(path: Path, texts: Mapping[str, str]) -> None:
 
 def read_study(path: Union[str, Path], any_program: bool = False) -> Study:
     """Read a file that `Grid.save` wrote. Raises `StudyFileError` if the file is damaged, incomplete or something else, or if it
-    is of another program than yours, whose results may differ: `any_program=True` reads it all the same."""
+    was written with another program than yours, whose results may differ: `any_program=True` reads it anyway."""
     place = Path(path).expanduser()
     if place.exists() and not place.is_file():
         raise StudyFileError(f"{place} is not a file")
@@ -153,7 +153,7 @@ def read_study(path: Union[str, Path], any_program: bool = False) -> Study:
     if study.program != here and not any_program:
         raise StudyFileError(
             f"{place} was made with trlab {study.version}, program {study.program[:12]}, and yours is {version}, program "
-            f"{here[:12]}: install that version, or say any_program=True"
+            f"{here[:12]}: install that version, or pass any_program=True"
         )
     return study
 
@@ -188,7 +188,7 @@ def _study_in(file: zipfile.ZipFile, size: int) -> Study:
 
 
 def _check_about(about: Mapping[str, Any]) -> None:
-    """Raises `StudyFileError` if study.json has not the members that `save` writes."""
+    """Raises `StudyFileError` if study.json does not have the members that `save` writes."""
     _need(isinstance(about.get("trlab"), str) and isinstance(about.get("program_version"), str), "it has no version")
     _need(re.fullmatch("[0-9a-f]{64}", str(about.get("program"))) is not None, "it has no SHA-256 of the program")
     _need(_is_list(about.get("parameters"), str), "it has no parameters")
@@ -211,7 +211,7 @@ def _check_choice(choice: Any, parameters: int) -> None:
 
 
 def _is_list(value: Any, kind: type) -> bool:
-    """Whether a value of JSON is a list of this kind. True and False are no whole numbers."""
+    """Whether a value of JSON is a list of this kind. True and False are not whole numbers."""
     return isinstance(value, list) and all(type(item) is kind for item in value)
 
 
