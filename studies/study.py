@@ -121,9 +121,9 @@ def frame_of(inputs: Mapping[str, Input], tables: Mapping[str, Table[Any]]) -> p
     return grid.frame(dict(zip(grid.named_inputs(), (tables[name] for name in inputs)))).reset_index()
 
 
-def means(frame: pandas.DataFrame, *parameters: str, of: Sequence[str] = ("flow",)) -> pandas.DataFrame:
+def means(frame: pandas.DataFrame, *parameters: str, of: Sequence[str] = ("flow",), drawn: bool = False) -> pandas.DataFrame:
     """The means over all roads with the same parameters, and their standard errors, by rising parameters."""
-    return trlab.means(frame.set_index([*parameters, "input"]), over=["input", "road"], of=of).sort_index()
+    return trlab.means(frame.set_index([*parameters, "input"]), over=["input", "road"], of=of, drawn=drawn).sort_index()
 
 
 def difference(ones: pandas.DataFrame, others: pandas.DataFrame, of: str = "flow") -> pandas.DataFrame:

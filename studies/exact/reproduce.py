@@ -62,7 +62,7 @@ def run_long_rings(study, asked, prefix=""):
     found = {}
     for state, frame in points.items():
         sweep = frame.input if state == "even" else frame.input.map(sweep_of)
-        found[state] = means(frame.assign(sweep=sweep), "sweep", "density").reset_index("density").loc[list(asked)]
+        found[state] = means(frame.assign(sweep=sweep), "sweep", "density", drawn=True).reset_index("density").loc[list(asked)]
     return found
 
 
