@@ -122,7 +122,8 @@ def frame_of(inputs: Mapping[str, Input], tables: Mapping[str, Table[Any]]) -> p
 
 
 def means(frame: pandas.DataFrame, *parameters: str, of: Sequence[str] = ("flow",), drawn: bool = False) -> pandas.DataFrame:
-    """The means over all roads with the same parameters, and their standard errors, by rising parameters."""
+    """The means over all roads with the same parameters, and their standard errors, by rising parameters. `drawn` confirms that
+    roads that are given cell by cell were drawn at random."""
     return trlab.means(frame.set_index([*parameters, "input"]), over=["input", "road"], of=of, drawn=drawn).sort_index()
 
 
