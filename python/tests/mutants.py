@@ -18,21 +18,26 @@ from trlab import find_program
 TOP = Path(__file__).resolve().parents[1]
 
 TESTS = {
-    "_analysis/means.py": ["test_frames.Misreadings", "test_estimates.Lifetimes", "test_tidy", "test_frames.Means"],
-    "_analysis/repetitions.py": ["test_frames.Misreadings", "test_tidy", "test_frames.Means"],
-    "_analysis/columns.py": ["test_tidy", "test_frames.Means"],
+    "_analysis/means.py": [
+        "test_frames.Misreadings", "test_frames.Strangers", "test_estimates.Lifetimes", "test_tidy", "test_frames.Means",
+    ],
+    "_analysis/repetitions.py": ["test_frames.Misreadings", "test_frames.Strangers", "test_tidy", "test_frames.Means"],
+    "_analysis/columns.py": ["test_tidy", "test_frames.Strangers", "test_frames.Means"],
     "_analysis/frames.py": ["test_tidy", "test_grid", "test_frames.Means"],
     "_analysis/rows.py": ["test_tidy", "test_grid"],
     "_analysis/blocking.py": ["test_estimates.Blocking"],
     "_analysis/peak.py": ["test_estimates.Peaks"],
     "_analysis/lifetimes.py": ["test_estimates.Lifetimes"],
     "_analysis/series.py": ["test_estimates.Lifetimes", "test_estimates.Blocking"],
-    "_analysis/units.py": ["test_units"],
+    "_analysis/units.py": ["test_units", "test_frames.Strangers"],
     "_analysis/plots.py": ["test_plots"],
-    "_studies/grid.py": ["test_grid", "test_tidy"],
-    "_studies/roads.py": ["test_tidy", "test_grid"],
+    "_studies/grid.py": ["test_grid", "test_tidy", "test_frames.Strangers"],
+    "_studies/roads.py": ["test_tidy", "test_grid", "test_frames.Strangers"],
 }
 """The tests that have to notice an edit of a file, the fast ones first."""
+
+ABOUT = "[input.limit, input.lanes, cells, start, rules, input.steps]"
+"""What repetitions of a job have in common."""
 
 MUTANTS = [
     # Means and their errors.
@@ -85,8 +90,17 @@ MUTANTS = [
     ("_analysis/frames.py", "roads[\"cars\"][0] / roads[\"cells\"] for roads",
      "float(as_fraction(value)) for value, roads in zip(choices.density, runs.values()) for _ in [0] if True or roads"),
     ("_analysis/frames.py", "    _check_units(frame)\n    return", "    return"),
-    ("_analysis/frames.py", "(values < 0) | (values > _RANGES[name])", "values > _RANGES[name]"),
-    ("_analysis/frames.py", "if name in frame and not numpy.allclose", "if False and not numpy.allclose"),
+    ("_analysis/columns.py", "(values < 0) | (values > most)", "values > most"),
+    ("_analysis/columns.py", "(values < 0) | (values > most)", "values < 0"),
+    ("_analysis/columns.py", "if not numpy.allclose(", "if False and not numpy.allclose("),
+    ("_analysis/units.py", "    _need_units(flat, found)\n", ""),
+    ("_analysis/means.py", "if name := strange_value(rows)", "if name := \"\""),
+    ("_analysis/means.py", "(level=\"ensemble\").nunique() > 1)", "(level=\"ensemble\").nunique() > 9)"),
+    ("_analysis/repetitions.py", "if drawn:", "if True:"),
+    ("_analysis/repetitions.py", "if unit := wrong_unit(", "if unit := \"\" and wrong_unit("),
+    ("_studies/roads.py", "return [f\"-{_digest(road)}\" for road", "return [\"-\" for road"),
+    ("_studies/grid.py", "        if chosen[name] != used:", "        if False:"),
+    ("_analysis/peak.py", "max(1.0, chi2 / dof)", "1.0"),
     ("_analysis/frames.py", ".sort_index(kind=\"stable\")", ""),
     ("_analysis/frames.py", "return list(enumerate(ensembles))", "return [(0, it) for it in ensembles]"),
     ("_analysis/frames.py", "return list(enumerate(ensembles))", "return [(at, \"\") for at in range(len(ensembles))]"),
@@ -153,12 +167,12 @@ MUTANTS = [
     ("_studies/grid.py", "            _check_roads(place._asdict(), self._runs[place])\n", "            pass\n"),
     ("_studies/grid.py", "if name in _TAKEN or", "if"),
     ("_studies/grid.py", "        if strange:\n", "        if False:\n"),
-    ("_studies/roads.py", "[input.limit, lanes, cells, start, rules, input.steps]", "[lanes, cells, start, rules, input.steps]"),
-    ("_studies/roads.py", "[input.limit, lanes, cells, start, rules, input.steps]",
-     "[input.limit, lanes, cells, start, input.steps]"),
-    ("_studies/roads.py", "[input.limit, lanes, cells, start, rules, input.steps]", "[input.limit, lanes, cells, start, rules]"),
-    ("_studies/roads.py", "[input.limit, lanes, cells, start, rules, input.steps]",
-     "[input.limit, lanes, cells, rules, input.steps]"),
+    ("_studies/roads.py", ABOUT, "[input.lanes, cells, start, rules, input.steps]"),
+    ("_studies/roads.py", ABOUT,
+     "[input.limit, input.lanes, cells, start, input.steps]"),
+    ("_studies/roads.py", ABOUT, "[input.limit, input.lanes, cells, start, rules]"),
+    ("_studies/roads.py", ABOUT,
+     "[input.limit, input.lanes, cells, rules, input.steps]"),
     ("_studies/roads.py", "[input.start.placement, input.start.speed]",
      "[input.start.placement, input.start.speed, input.start.seed]"),
     ("_studies/roads.py", "[is_sweep, count, *about]", "[is_sweep, *about]"),

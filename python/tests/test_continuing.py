@@ -6,6 +6,7 @@ from dataclasses import replace
 from unittest import mock
 
 from tests.by_pictures import windows
+from tests.test_arrays import needs
 from trlab import Job, Nasch, Own, Snapshot, Rickert, SlowToStart, Sweep, Table, Window, jammed, random_cells
 from trlab._inputs import long_jobs
 from trlab._inputs.words import Asked
@@ -36,6 +37,7 @@ class Continued(unittest.TestCase):
                 self.assertEqual((first.step, first.lanes), (0, snapshot.lanes))
                 self.assertEqual(len(later), job.steps)
 
+    @needs("numpy")
     def test_cars_keep_their_order_and_number(self):
         snapshots = ONE.run()
         both = snapshots + [it._replace(step=50 + it.step) for it in ONE.continued(snapshots[-1]).run()[1:]]

@@ -2,6 +2,7 @@
 import contextlib
 import math
 import unittest
+from unittest import mock
 
 import trlab
 from tests.libraries import numpy, pandas
@@ -167,6 +168,22 @@ class Peaks(unittest.TestCase):
         numpy.testing.assert_allclose([scaled.x, scaled.x_sem, scaled.y, scaled.y_sem],
                                       [found.x, found.x_sem, 3600 * found.y, 3600 * found.y_sem],
                                       rtol=1e-6)
+
+    def test_a_bad_fit_has_larger_errors(self):
+        from trlab._analysis.peak import _fit as fit
+
+        frame = self.curve(self.parabola, runs=7, noise=1e-4)
+
+        def errors(ratio):
+            def fitted(t, mean, covariance, n):
+                degree, _, solve = fit(t, mean, covariance, n)
+                return degree, ratio * (len(t) - degree - 1), solve
+
+            with mock.patch("trlab._analysis.peak._fit", fitted):
+                found = trlab.peak(frame, over="seed")
+            return found.x_sem, found.y_sem
+
+        numpy.testing.assert_allclose(errors(4.0), numpy.multiply(2, errors(0.5)))
 
     def test_curves_without_a_peak(self):
         at = numpy.linspace(0.13, 0.21, 12)

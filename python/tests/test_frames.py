@@ -366,6 +366,8 @@ class Strangers(unittest.TestCase):
         wrong = frame.assign(speed=frame.speed * 3)
         for call in trlab.to_si, trlab.per_run:
             self.assertRaisesRegex(FrameError, "`speed` is not what the counts", call, wrong)
+        runs = trlab.per_run(frame)
+        self.assertRaisesRegex(FrameError, "`flow` is between 0 and 1", trlab.means, runs.assign(flow=runs.flow * 1e6), "seed")
         one = frame.loc[frame.groupby("seed").flow.idxmax()]
         if one.index.get_level_values("step").nunique() > 1:
             self.assertRaisesRegex(FrameError, "windows of different steps", trlab.per_run, one)
