@@ -293,7 +293,7 @@ class Misreadings(unittest.TestCase):
         def starts(seed, key):
             return Job(limit=5, length=50, density=0.2, rule=Nasch(0.25), steps=40, start=random_cells(seed))
 
-        self.assertRaisesRegex(ParameterError, "the same input", Grid, forgets, seed=range(5))
+        self.assertRaisesRegex(ParameterError, "the same run", Grid, forgets, seed=range(5))
         frame = Grid(starts, seed=range(5)).run(call=lambda job: job.series(every=40))
         self.assertRaisesRegex(FrameError, "the same key", trlab.means, frame, "seed")
 
@@ -371,6 +371,18 @@ class Strangers(unittest.TestCase):
         one = frame.loc[frame.groupby("seed").flow.idxmax()]
         if one.index.get_level_values("step").nunique() > 1:
             self.assertRaisesRegex(FrameError, "windows of different steps", trlab.per_run, one)
+
+    def test_repetitions_without_random_numbers_are_all_the_same(self):
+        def make(rule, start, seed, key):
+            state = trlab.even if start == "even" else random_cells(key)
+            used = {"0": Nasch(0), "1": Nasch(1), "p": Nasch(0.5)}[rule]
+            return Job(limit=5, length=100, cars=20, rule=used, steps=9, key=key, start=state)
+
+        for rule in "0", "1":
+            with self.assertRaisesRegex(ParameterError, "a rule without random numbers"):
+                Grid(make, rule=[rule], start=["even"], seed=range(2))
+            self.assertEqual(len(Grid(make, rule=[rule], start=["random"], seed=range(2)).inputs), 2)
+        self.assertEqual(len(Grid(make, rule=["p"], start=["even"], seed=range(2)).inputs), 2)
 
     def test_a_parameter_that_is_not_that_of_the_input(self):
         def make(limit, seed, key):

@@ -258,7 +258,7 @@ class Clusters(unittest.TestCase):
             self.assertEqual(len(list(Path(folder).iterdir())), 24)
 
     def test_names_that_are_equal_in_files(self):
-        grid = Grid(lambda p, key: sweep(0, 0, key), p=["1/4", "1_4"])
+        grid = Grid(lambda p, key: sweep(0.25, 0, key), p=["1/4", "1_4"])
         self.assertRaisesRegex(ParameterError, "same file name", grid.named_inputs)
 
 

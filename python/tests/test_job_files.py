@@ -181,7 +181,7 @@ except ImportError:
     pass
 else:
     PARTS = st.integers(0, 2**31).map(lambda it: Fraction(it, 2**31))
-    SHARES = st.one_of(PARTS, st.floats(0, 1), st.sampled_from(["1/3", "0.1", 0, 1]))
+    SHARES = st.one_of(PARTS, st.floats(1e-9, 1 - 1e-9), st.sampled_from(["1/3", "0.1", 0, 1]))
     MOTIONS = st.sampled_from(["motion\n" + STOP, STOP, "\n\n" + STOP[:-1], STOP + "\n\n", "; a note\n" + STOP, GO])
     CHANGES = st.sampled_from([None, "change\nstay\n", "stay", "stay\n\n", STAY])
     KEYS = st.one_of(st.integers(0, 2**256 - 1), st.integers(0, 2**256 - 1).map(lambda it: f"{it:064X}"))

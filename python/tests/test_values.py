@@ -16,7 +16,7 @@ from unittest import mock
 import trlab
 from tests.test_arrays import needs
 from trlab import Job, Nasch, Own, Snapshot, Snapshots, Point, RejectedInputError, RenamedError, Rickert, SlowToStart, Sweep, Table, Window
-from trlab import ProgramError, InitialState, check, explain, find_program, jammed, random_cells, version
+from trlab import InitialState, ParameterError, ProgramError, check, explain, find_program, jammed, random_cells, version
 from trlab._runs.calls import ask
 
 JOB = Job(limit=5, length=20, density=0.2, start=random_cells(1), rule=Nasch(0.25), steps=9, at={4: Nasch(0)})
@@ -84,6 +84,11 @@ class Values(unittest.TestCase):
 
 
 class Construction(unittest.TestCase):
+    def test_a_probability_that_files_would_round_to_0_or_1(self):
+        for number, nearest in (1e-12, 0), (1 - 1e-12, 1):
+            self.assertRaisesRegex(ParameterError, f"brake is .*, which is {nearest} in multiples", Nasch, number)
+        self.assertEqual(Nasch(2**-31).lines(), ["rule nasch 1"])
+
     def rejects(self, error, name, call, *others, **values):
         with self.assertRaisesRegex(error, name):
             call(*others, **values)

@@ -124,6 +124,16 @@ def shown(value: object) -> str:
     return text if len(text) <= 80 else f"{text[:77]}..."
 
 
+def probability(name: str, number: Probability) -> Union[int, float, Fraction]:
+    """A probability, as Python's own number. Raises `ParameterError` with its name if it is anything else, or so close to 0 or 1
+    that files, which have multiples of 1 / 2**31, would have 0 or 1."""
+    found = share(name, number)
+    nearest = Fraction(parts(found), ALWAYS)
+    if nearest in (0, 1) and nearest != found:
+        raise ParameterError(f"{name} is {shown(number)}, which is {nearest} in multiples of 1 / 2**31: write {nearest}")
+    return found
+
+
 def parts(chance: Probability) -> int:
     """A probability times 2**31, to the nearest whole number."""
     return round(Fraction(share("a probability", chance)) * ALWAYS)

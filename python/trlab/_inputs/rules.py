@@ -7,7 +7,7 @@ from collections.abc import Iterator, Mapping
 from typing import Optional, Union
 
 from .._errors import ParameterError
-from .numbers import Probability, parts, share, shown, store, whole
+from .numbers import Probability, parts, probability, shown, store, whole
 
 
 @dataclass(frozen=True)
@@ -17,7 +17,7 @@ class Nasch:
     brake: Probability
 
     def __post_init__(self) -> None:
-        store(self, brake=share("brake", self.brake))
+        store(self, brake=probability("brake", self.brake))
 
     def lines(self) -> list[str]:
         return [f"rule nasch {parts(self.brake)}"]
@@ -32,7 +32,7 @@ class SlowToStart:
     stopped: Probability
 
     def __post_init__(self) -> None:
-        store(self, brake=share("brake", self.brake), stopped=share("stopped", self.stopped))
+        store(self, brake=probability("brake", self.brake), stopped=probability("stopped", self.stopped))
 
     def lines(self) -> list[str]:
         return [f"rule vdr {parts(self.brake)} {parts(self.stopped)}"]
@@ -47,7 +47,7 @@ class Rickert:
     change: Probability
 
     def __post_init__(self) -> None:
-        store(self, brake=share("brake", self.brake), change=share("change", self.change))
+        store(self, brake=probability("brake", self.brake), change=probability("change", self.change))
 
     def lines(self) -> list[str]:
         return [f"rule rickert {parts(self.brake)} {parts(self.change)}"]

@@ -79,7 +79,10 @@ class Grid:
         for place, input in self.inputs.items():
             other = first.setdefault(all_of(input, self._runs[place]), place)
             if other is not place:
-                raise ParameterError(f"`make` gives the same input for {other} and {place}: use all parameters, and `key`")
+                raise ParameterError(
+                    f"`make` gives the same run for {other} and {place}: use all parameters and `key`; a rule without random "
+                    "numbers needs another initial state for each repetition, for example `random_cells(key)`"
+                )
         unused = [name for name in self.names if self._changes_only_the_key(name)]
         if len(unused) > 1:
             unused_names = " and ".join(unused)

@@ -3,11 +3,13 @@ from __future__ import annotations
 
 import json
 from collections.abc import Hashable
+from dataclasses import astuple
 from hashlib import sha256
 from typing import TypedDict, Union, cast
 
 from .._inputs.jobs import Job
 from .._inputs.numbers import key_digits
+from .._inputs.rules import Own, Rule
 from .._inputs.states import InitialState
 from .._inputs.sweeps import Sweep
 
@@ -61,7 +63,13 @@ def without_key(input: Union[Job, Sweep], roads: KnownRoads) -> Hashable:
     return tuple(roads["ensembles"]), start
 
 
+def _draws(rule: Rule) -> bool:
+    """Whether a rule may draw random numbers: not if all its probabilities are 0 or 1."""
+    return isinstance(rule, Own) or any(value not in (0, 1) for value in astuple(rule))
+
+
 def all_of(input: Union[Job, Sweep], roads: KnownRoads) -> Hashable:
-    """Equal for inputs with these roads that give the same output."""
-    start = cast(Hashable, input.start)
-    return tuple(roads["ensembles"]), roads["key"], start
+    """Equal for inputs with these roads that give the same output: without random numbers the key makes no difference."""
+    rules = [input.rule] if isinstance(input, Sweep) else [input.rule, *input.at.values()]
+    key = roads["key"] if any(map(_draws, rules)) else ""
+    return tuple(roads["ensembles"]), key, cast(Hashable, input.start)
