@@ -415,6 +415,7 @@ class Pages:
     def test_a_rejected_program(self):
         self.page.set("example", "keep_distance.rule")
         self.hold(lambda: "at most 10 instructions" in self.page.text("motionverdict"))
+        self.has_line("rule own\nmotion\n")
         program, good = server.examples()["keep_distance.rule"], self.page.job()
         lines = program.splitlines()
         bad = "\n".join(line for line in lines if "jle" not in line and "go r2" not in line)
