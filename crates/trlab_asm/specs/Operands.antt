@@ -64,7 +64,7 @@ is_label text =
     && (not (is_ascii_digit (slice_index text 0)) && all_label_bytes text)
 
 -- the target that `@` and the digits of a pc name, for example `@12`; the fault `Operand` for other words,
--- and `Number` if the pc is above MAX_NUMBER
+-- and `Number` if the pc is above MAX_NUMBER or has more than MAX_DIGITS digits, as in `@00000000012`
 abbrev pub pc_named : List ℕ → Result WrittenTarget Why
 pc_named text = do
   digits ← ok_or (without_prefix (codes "@") text) Operand

@@ -57,13 +57,13 @@ abbrev pub without_lease : Call → Reply → Stage
 without_lease call.Lease told = after_leasing told
 without_lease _ told = Astray
 
--- the stage after the next step of the lease was ordered: if the book refuses it, the lease is no longer out
+-- the stage after the next step of the lease was ordered: if the book refuses it, the runner drops the lease
 abbrev pub after_ordering : Turn → Reply → Stage
 after_ordering turn (reply.Ordered job number step from) = Has (record turn { step = turn.step + 1 })
 after_ordering turn (reply.Refused fault) = Free
 after_ordering turn _ = Astray
 
--- the stage after the lease was given back: it is no longer out, also if the book refuses it
+-- the stage after the lease was given back: the runner no longer has it, also if the book refuses it
 abbrev pub after_giving_back : Reply → Stage
 after_giving_back reply.Done = Free
 after_giving_back (reply.Refused fault) = Free

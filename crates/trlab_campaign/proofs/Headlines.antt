@@ -1,7 +1,8 @@
 -- One worker drives the roads of each text that is not refused.
-use Rattle.std.proofs.Common.{ℕ, Bool, List, false, true≢false, sym, subst, length}
+use Rattle.std.proofs.Common.{◌∙◌, ℕ, Bool, List, ap, false, true≢false, sym, subst, length}
 use Rattle.std.specs.Prelude.{Result, Ok, Err, IfOk}
 use Rattle.trlab_diagram.specs.declared.point.Point.{Point}
+use Rattle.trlab_diagram.specs.Series.{series_text}
 use Rattle.trlab_road.specs.Cells.{Cells}
 use Rattle.trlab_road.specs.Legal.{IsLegal}
 use Rattle.trlab_road.specs.Spreading.{IsEvenlySpaced}
@@ -18,9 +19,10 @@ use Rattle.trlab_jobs.proofs.OneText as jobs
 use Rattle.trlab_jobs.proofs.OneSweep as sweeps
 use Rattle.trlab_jobs.proofs.OneSweep.{says_stored}
 use Rattle.trlab_jobs.proofs.OneText.{says_plain}
-use Rattle.trlab_campaign.specs.Headline.{IsDrivenJob, IsDrivenPoint, IsDrivenSweep, JobTextsAreDriven, SweepTextsAreDriven}
+use Rattle.trlab_campaign.specs.Headline.{IsDrivenJob, IsDrivenPoint, IsDrivenSeries, IsDrivenSweep, JobTextsAreDriven, SeriesTextsAreDriven, SweepTextsAreDriven}
 use Rattle.trlab_campaign.specs.Output.{IsOutputForJob}
 use Rattle.trlab_campaign.specs.Refusal.{IsOutputForResult}
+use Rattle.trlab_campaign.specs.SeriesOutput.{IsSeriesOutputForJob}
 use Rattle.trlab_campaign.specs.SweepOutput.{IsPoint, IsOutputForSweep}
 use Rattle.trlab_campaign.specs.SweepOutput as sweep
 use Rattle.trlab_campaign.proofs.Points.{suits}
@@ -45,6 +47,29 @@ job_texts_are_driven shown text out is =
     let found = says_plain text in
     let same = jobs.one_thing text is.0 found.0 is.1.0 found.1.0 in
     drives_job shown text out found.0 found.1.0 found.1.1 (subst (λ (parsed_as : Result Job Fault). IsOutputForResult (IsOutputForJob shown) parsed_as false out) same is.1.1)
+
+drives_series : (every from : ℕ) (text out : List ℕ) (parsed_as : Result Job Fault) → ParsesAsJob text parsed_as → IfOk parsed_as IsStoredJob → IsOutputForResult (IsSeriesOutputForJob every from) parsed_as false out → IsDrivenSeries every from text out
+drives_series every from text out (Ok job) parsed_as stored output =
+    let windows = output.1.0 in
+    let series = output.1.1.0 in
+    record {
+      job = job;
+      parsed_as = parsed_as;
+      roads = series.roads;
+      tallies = series.tallies;
+      driven = runs_are_driven (seed_of job) (sheet_of job) job.steps series.roads stored.legal (plain_sheet job stored) (λ step _. series.course.road_at step);
+      tallied = λ step _. series.course.step_at step;
+      count = series.count;
+      whole = series.whole;
+      table = output.1.1.1 ∙ ap series_text series.told;
+    }
+drives_series every from text out (Err fault) parsed_as stored output = absurd (true≢false (sym output.0))
+
+pub series_texts_are_driven : SeriesTextsAreDriven
+series_texts_are_driven every from text out is =
+    let found = says_plain text in
+    let same = jobs.one_thing text is.0 found.0 is.1.0 found.1.0 in
+    drives_series every from text out found.0 found.1.0 found.1.1 (subst (λ (parsed_as : Result Job Fault). IsOutputForResult (IsSeriesOutputForJob every from) parsed_as false out) same is.1.1)
 
 -- the road on which cars are evenly spread is legal
 even_is_legal : (setup : Setup) (cars : ℕ) (road : Cells) → CanSpreadOn setup.shape cars → IsEvenlySpaced setup.shape.lanes setup.shape.length setup.shape.limit cars road → IsLegal road

@@ -1,6 +1,7 @@
 -- The output for a text that is not rejected: one worker drives its roads.
 use Rattle.std.specs.Prelude.{◌≡◌, ◌+◌, ◌<◌, ℕ, Bool, false, List, Ok, length, slice_index_or}
 use Rattle.trlab_diagram.specs.declared.point.Point.{Point}
+use Rattle.trlab_diagram.specs.Series.{series_text}
 use Rattle.trlab_diagram.specs.Table.{points_text}
 use Rattle.trlab_road.specs.Cells.{Cells}
 use Rattle.trlab_road.specs.Spreading.{IsEvenlySpaced}
@@ -11,6 +12,7 @@ use Rattle.trlab_jobs.specs.Job.{Job, ParsesAsJob, seed_of, sheet_of}
 use Rattle.trlab_jobs.specs.Shapes.{all_steps}
 use Rattle.trlab_jobs.specs.Sweep.{Setup, Sweep, ParsesAsSweep}
 use Rattle.trlab_campaign.specs.Output.{IsShownOutput, steps_text}
+use Rattle.trlab_campaign.specs.SeriesOutput.{CompletesWindows, IsSeriesOutput, IsStepAt, first_windows}
 use Rattle.trlab_campaign.specs.SweepOutput.{IsSweepOutput, point_of}
 use Rattle.trlab_campaign.specs.SweepOutput as sweep
 
@@ -29,6 +31,27 @@ abbrev pub JobTextsAreDriven : Type 0
 JobTextsAreDriven =
     (shown : ℕ → Bool) (text out : List ℕ)
     → IsShownOutput shown text false out → IsDrivenJob shown text out
+
+-- `out` is the table of a series for the job text `text`, with windows of `every` steps from the step `from` on: one
+-- worker drives the job's road, and the table has each window that the run completes, with the counts of this run
+pub record IsDrivenSeries (every from : ℕ) (text out : List ℕ) : Type 0 where
+  pub job : Job
+  pub parsed_as : ParsesAsJob text (Ok job)
+  pub roads : ℕ → Cells
+  pub tallies : ℕ → StepTally
+  pub driven : IsDriven (seed_of job) (sheet_of job) job.steps roads
+  pub tallied : (step : ℕ) → step < job.steps
+      → IsStepAt (seed_of job) (sheet_of job) step (roads step) (roads (step + 1)) (tallies step)
+  pub count : ℕ
+  pub whole : CompletesWindows every from job.steps count
+  pub table : out ≡ series_text (first_windows roads tallies every from count)
+
+-- for windows of any length, from any step on, every output of `series` for a job text that is not a refusal is the
+-- table of a driven series
+abbrev pub SeriesTextsAreDriven : Type 0
+SeriesTextsAreDriven =
+    (every from : ℕ) (text out : List ℕ)
+    → IsSeriesOutput every from text false out → IsDrivenSeries every from text out
 
 -- a point of a sweep with this common part: one worker drives road `number`, whose `cars` cars are evenly
 -- spaced at the start, and the point has the counts of this run

@@ -6,7 +6,7 @@
 ghost use Rattle.trlab_campaign.specs.Triangle.{DiagramIsTriangle, SweepsBoundMovingSpeed, SweepsDoNotExceedPeak};
 ghost use Rattle.trlab_campaign.specs.Triangle.{SweepsStayUnderTriangle};
 ghost use Rattle.trlab_campaign.specs.CheckOutput.{IsCheckOutput};
-ghost use Rattle.trlab_campaign.specs.Headline.{JobTextsAreDriven, SweepTextsAreDriven};
+ghost use Rattle.trlab_campaign.specs.Headline.{JobTextsAreDriven, SeriesTextsAreDriven, SweepTextsAreDriven};
 ghost use Rattle.trlab_campaign.specs.Laws.{HasAtMostOneOutput, HasSomeOutput};
 ghost use Rattle.trlab_campaign.specs.SeriesLaws.{LanesOfSeriesAddUp, SeriesHasAtMostOneOutput, SeriesHasSomeOutput};
 ghost use Rattle.trlab_campaign.specs.ShownLaws.{EveryNthStepIsShown, EveryStepFromStartIsEach, ShownHasAtMostOneOutput, ShownHasSomeOutput};
@@ -17,6 +17,12 @@ ghost use Rattle.trlab_campaign.specs.SweepOutput.{IsSweepOutput};
 /// their budgets, no car goes onto or through another, and none is lost or added.
 pub fn job_texts_are_driven()
     ensures { JobTextsAreDriven }
+{}
+
+/// The table of a series for a job text that is not rejected counts a driven run. It has each window that the run
+/// completes, in order, with the sums of the steps of this window.
+pub fn series_texts_are_driven()
+    ensures { SeriesTextsAreDriven }
 {}
 
 /// The table for a sweep text that is not rejected has a point for each number of cars, in the order of the text. Each

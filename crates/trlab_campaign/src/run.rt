@@ -243,7 +243,7 @@ pub fn run_job_text<R: AllocGlobal + Threads + Wait + Sync, S: Source, K: Sink>(
 }
 
 /// Reads a job text, and writes the picture of its road at each step that is `shown`, or the line of the text's
-/// first fault. Steps after the last shown step are not taken. `progress` observes the steps.
+/// first fault. The run ends with the last shown step, which no clause says. `progress` observes the steps.
 ///
 /// The whole text is read and checked before a byte is written. If an allocation fails, or a call of the reader or
 /// writer fails, a prefix of the whole output has been written. `workers`, 1 to 16, is the maximum number of threads

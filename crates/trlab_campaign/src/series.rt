@@ -213,8 +213,8 @@ impl<'a> Account for Series<'a> {
     }
 }
 
-/// Reads a job text, and writes the table of its windows, or the line of the text's first fault. Steps after
-/// the last window are not taken. `progress` observes the steps.
+/// Reads a job text, and writes the table of its windows, or the line of the text's first fault. The run ends with
+/// the last window, which no clause says. `progress` observes the steps.
 ///
 /// The whole text is read and checked before a byte is written, and the line of a window is written once the steps of
 /// the window are taken. If an allocation fails, or a call of the reader or writer fails, a prefix of the whole output

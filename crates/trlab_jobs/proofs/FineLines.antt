@@ -1,5 +1,6 @@
 -- What lines say: numbers in their ranges, chances that a program may have, and steps in order.
-use Rattle.std.proofs.Common.{◌≡◌, ℕ, ◌<◌, ◌≤◌, Bool, true, false, List, refl, leb-true, ltb-true}
+use Rattle.std.proofs.Common.{◌≡◌, ℕ, ◌<◌, ◌≤◌, Bool, true, false, List, refl, arith, leb-true, ltb-true}
+use Rattle.std.proofs.lemmas.Bool.{eqb-false}
 use Rattle.std.specs.Prelude.{◌==◌, ◌&&◌, ok_or, Result, Ok, Err, nat_le, nat_lt, codes, if◌then◌else◌}
 use Rattle.std.specs.Str.{bytes_eq}
 use Rattle.hex.specs.Hex.{decode_sized}
@@ -38,8 +39,9 @@ Chances (Vdr p p0) = (p ≤ CERTAIN) × (p0 ≤ CERTAIN)
 Chances (Rickert p c) = (p ≤ CERTAIN) × (c ≤ CERTAIN)
 Chances Own = Unit {0}
 
--- a later rule is in force from a step on that is in order
-pub record InOrder (steps least : ℕ) (at : ℕ × RuleLine ℕ) : Type 0 where
+-- a later rule is in force from a step on that is in order, and there is room for it
+pub record InOrder (room steps least : ℕ) (at : ℕ × RuleLine ℕ) : Type 0 where
+  pub room_left : 0 < room
   pub rises : least ≤ at.0
   pub below : at.0 < steps
   pub chances : Chances at.1
@@ -63,24 +65,27 @@ pub rule_line_fine : (text : List ℕ) → Fine Chances (rule_line text)
 rule_line_fine text =
     bind_fine Anything Chances (ok_or (rule_words text) Line) rule_with_probabilities (found_fine (rule_words text)) (λ words any. rule_numbers_fine words)
 
-abbrev Admits : ℕ → ℕ → ℕ → Type 0
-Admits steps least step = (least ≤ step) × (step < steps)
+abbrev Admits : ℕ → ℕ → ℕ → ℕ → Type 0
+Admits room steps least step = (0 < room) × ((least ≤ step) × (step < steps))
 
-both_hold : (steps least step : ℕ) (above below : Bool) → (above ≡ true → least ≤ step) → (below ≡ true → step < steps) → above && below ≡ true → Admits steps least step
-both_hold steps least step true true h k e = (h refl, k refl)
-both_hold steps least step true false h k e = absurd (cc e)
-both_hold steps least step false below h k e = absurd (cc e)
+both_hold : (room steps least step : ℕ) → 0 < room → (above below : Bool) → (above ≡ true → least ≤ step) → (below ≡ true → step < steps) → above && below ≡ true → Admits room steps least step
+both_hold room steps least step some true true h k e = (some, (h refl, k refl))
+both_hold room steps least step some true false h k e = absurd (cc e)
+both_hold room steps least step some false below h k e = absurd (cc e)
 
-admit_step_fine : (room steps least step : ℕ) → Fine (Admits steps least) (admit_step room steps least step)
+room_left : (room : ℕ) → (room == 0) ≡ false → 0 < room
+room_left room e = let apart = eqb-false room 0 e in omega arith
+
+admit_step_fine : (room steps least step : ℕ) → Fine (Admits room steps least) (admit_step room steps least step)
 admit_step_fine room steps least step =
-    choose (Admits steps least) (room == 0) (Err TooMany) (if nat_le least step && nat_lt step steps then Ok step else Err Order) (λ e. too_many_other) (λ e.
-    choose (Admits steps least) (nat_le least step && nat_lt step steps) (Ok step) (Err Order)
-    (both_hold steps least step (nat_le least step) (nat_lt step steps) (leb-true least step) (ltb-true step steps)) (λ e. order_other))
+    choose (Admits room steps least) (room == 0) (Err TooMany) (if nat_le least step && nat_lt step steps then Ok step else Err Order) (λ e. too_many_other) (λ e.
+    choose (Admits room steps least) (nat_le least step && nat_lt step steps) (Ok step) (Err Order)
+    (both_hold room steps least step (room_left room e) (nat_le least step) (nat_lt step steps) (leb-true least step) (ltb-true step steps)) (λ e. order_other))
 
-pub later_line_fine : (room steps least : ℕ) (text : List ℕ) → Fine (InOrder steps least) (later_line room steps least text)
+pub later_line_fine : (room steps least : ℕ) (text : List ℕ) → Fine (InOrder room steps least) (later_line room steps least text)
 later_line_fine room steps least text =
-    bind_fine Anything (InOrder steps least) (ok_or (later_words text) Line) _ (found_fine (later_words text)) (λ words any.
-    bind_fine (InRange 0 LONGEST_NUMBER) (InOrder steps least) (step_of words.0) _ (within_fine 0 LONGEST_NUMBER (number_of words.0)) (λ step any.
-    bind_fine Chances (InOrder steps least) (rule_with_probabilities words.1) _ (rule_numbers_fine words.1) (λ rule fit.
-    bind_fine (Admits steps least) (InOrder steps least) (admit_step room steps least step) _ (admit_step_fine room steps least step) (λ from in_order.
-    record { rises = in_order.0; below = in_order.1; chances = fit }))))
+    bind_fine Anything (InOrder room steps least) (ok_or (later_words text) Line) _ (found_fine (later_words text)) (λ words any.
+    bind_fine (InRange 0 LONGEST_NUMBER) (InOrder room steps least) (step_of words.0) _ (within_fine 0 LONGEST_NUMBER (number_of words.0)) (λ step any.
+    bind_fine Chances (InOrder room steps least) (rule_with_probabilities words.1) _ (rule_numbers_fine words.1) (λ rule fit.
+    bind_fine (Admits room steps least) (InOrder room steps least) (admit_step room steps least step) _ (admit_step_fine room steps least step) (λ from in_order.
+    record { room_left = in_order.0; rises = in_order.1.0; below = in_order.1.1; chances = fit }))))

@@ -1,5 +1,5 @@
 -- Rules of texts say exactly one thing: a rule for the lanes of the road, or a first fault.
-use Rattle.std.proofs.Common.{◌≡◌, ◌≢◌, ℕ, zero, suc, ◌+◌, ◌<◌, ◌≤◌, Bool, true, false, List, [], ◌∷◌, refl, sym, ◌∙◌, ap, arith}
+use Rattle.std.proofs.Common.{◌≡◌, ◌≢◌, ℕ, zero, suc, ◌+◌, ◌<◌, ◌≤◌, Bool, true, false, List, [], ◌∷◌, length, refl, sym, ◌∙◌, ap, arith}
 use Rattle.std.proofs.lemmas.Bool.{eqb-false}
 use Rattle.std.specs.Prelude.{Option, None, Some, IfSome, MatchOption, Result, Ok, Err, codes, nat_eq}
 use Rattle.std.specs.Str.{bytes_eq}
@@ -174,31 +174,35 @@ rule_one lanes few place =
     then_one (line (exactly rule_line)) (rule_from lanes place.number) (exact_line rule_line rule_line_fine)
     (λ words fit. rule_from_one lanes place.number words few fit) place
 
--- a later rule for the lanes of the road, from a step on that is in order
-abbrev Later : ℕ → ℕ → ℕ → ℕ × Programs → Type 0
-Later lanes steps least entry = (least ≤ entry.0) × ((entry.0 < steps) × IsRuleFor lanes entry.1)
+-- a later rule for the lanes of the road, from a step on that is in order, and for which there is room
+abbrev Later : ℕ → ℕ → ℕ → ℕ → ℕ × Programs → Type 0
+Later room lanes steps least entry = (0 < room) × ((least ≤ entry.0) × ((entry.0 < steps) × IsRuleFor lanes entry.1))
 
-later_rule_one : (room lanes steps least : ℕ) → FewLanes lanes → OneReading (Later lanes steps least) (later_rule room lanes steps least)
+-- later rules, for which there is room
+abbrev pub FitRoom : ℕ → ℕ → ℕ → ℕ → Sheet → Type 0
+FitRoom room lanes steps least later = AreLaterRules lanes steps least later × (length later ≤ room)
+
+later_rule_one : (room lanes steps least : ℕ) → FewLanes lanes → OneReading (Later room lanes steps least) (later_rule room lanes steps least)
 later_rule_one room lanes steps least few place =
     then_one (line (exactly (later_line room steps least))) _ (exact_line (later_line room steps least) (later_line_fine room steps least)) (λ at in_order.
     then_one (rule_from lanes place.number at.1) _ (rule_from_one lanes place.number at.1 few in_order.chances) (λ rule suits.
-    said_one (at.0, rule) (in_order.rises, (in_order.below, suits)))) place
+    said_one (at.0, rule) (in_order.room_left, (in_order.rises, (in_order.below, suits))))) place
 
 to_the_end_one : {P : Sheet → Type 0} (left : List (List ℕ)) (reading : Reading Sheet) → P [] → OneReading P reading → OneReading P (to_the_end left reading)
 to_the_end_one [] reading none one = said_one [] none
 to_the_end_one (text ∷ left) reading none one = one
 
-later_from_one : (room lanes steps least : ℕ) → FewLanes lanes → OneReading (AreLaterRules lanes steps least) (later_rules_from room lanes steps least)
+later_from_one : (room lanes steps least : ℕ) → FewLanes lanes → OneReading (FitRoom room lanes steps least) (later_rules_from room lanes steps least)
 unfolding later_rules_from
 later_from_one zero lanes steps least few place =
-    to_the_end_one place.left (later_rule 0 lanes steps least >>= λ entry. give (entry ∷ [])) tt
+    to_the_end_one place.left (later_rule 0 lanes steps least >>= λ entry. give (entry ∷ [])) (tt, omega arith)
     (then_one (later_rule 0 lanes steps least) (λ entry. give (entry ∷ [])) (later_rule_one 0 lanes steps least few)
-    (λ entry is. said_one (entry ∷ []) (is.0, (is.1.0, (is.1.1, tt))))) place
+    (λ entry is. absurd (omega (arith, is.0)))) place
 later_from_one (suc room) lanes steps least few place =
-    to_the_end_one place.left (later_rule (suc room) lanes steps least >>= λ entry. later_rules_from room lanes steps (entry.0 + 1) >>= λ later. give (entry ∷ later)) tt
+    to_the_end_one place.left (later_rule (suc room) lanes steps least >>= λ entry. later_rules_from room lanes steps (entry.0 + 1) >>= λ later. give (entry ∷ later)) (tt, omega arith)
     (then_one (later_rule (suc room) lanes steps least) (λ entry. later_rules_from room lanes steps (entry.0 + 1) >>= λ later. give (entry ∷ later)) (later_rule_one (suc room) lanes steps least few) (λ entry is.
     then_one (later_rules_from room lanes steps (entry.0 + 1)) (λ later. give (entry ∷ later)) (later_from_one room lanes steps (entry.0 + 1) few) (λ later more.
-    said_one (entry ∷ later) (is.0, (is.1.0, (is.1.1, more)))))) place
+    said_one (entry ∷ later) ((is.1.0, (is.1.1.0, (is.1.1.1, more.0))), (let few = more.1 in omega (arith, few)))))) place
 
-pub later_rules_one : (lanes steps : ℕ) → FewLanes lanes → OneReading (AreLaterRules lanes steps 0) (later_rules lanes steps)
+pub later_rules_one : (lanes steps : ℕ) → FewLanes lanes → OneReading (FitRoom MAX_LATER lanes steps 0) (later_rules lanes steps)
 later_rules_one lanes steps few = later_from_one MAX_LATER lanes steps 0 few

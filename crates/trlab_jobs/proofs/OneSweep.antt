@@ -1,5 +1,5 @@
 -- A sweep text says exactly one thing: a sweep that can be run, or a first fault.
-use Rattle.std.proofs.Common.{◌≡◌, ℕ, ◌-◌, ◌≤◌, List, length, sym, subst, arith}
+use Rattle.std.proofs.Common.{◌≡◌, ℕ, ◌+◌, ◌-◌, ◌*◌, ◌≤◌, List, length, sym, subst, arith}
 use Rattle.std.specs.Prelude.{All, Result, Ok, Err, IfOk, codes}
 use Rattle.trlab_bounds.specs.declared.roads.TheConstants.{MAX_LENGTH, MAX_LANES}
 use Rattle.trlab_bounds.specs.declared.runs.TheConstants.{MAX_STEPS}
@@ -10,6 +10,7 @@ use Rattle.trlab_texts.specs.Lines.{Rest, all_lines}
 use Rattle.trlab_texts.specs.Reading.{Fault, line, exactly}
 use Rattle.trlab_texts.proofs.Fine.{Anything, FineText, numbered}
 use Rattle.trlab_texts.proofs.OneAnswer.{OneText, OneReading, agree, said, fails, values, made, exact_line, then_one, said_one, text_one}
+use Rattle.trlab_jobs.specs.declared.limits.TheConstants.{MAX_WORK}
 use Rattle.trlab_jobs.specs.declared.sweep.Shape.{Shape}
 use Rattle.trlab_jobs.specs.declared.sweep.Span.{Span}
 use Rattle.trlab_jobs.specs.RuleParts.{rule}
@@ -80,12 +81,16 @@ stored : (common : Setup) (cars : List ℕ) → IsSetup common → AllHaveRoom (
 stored common cars is all =
     let last = all.room.points (length cars - 1) (omega (arith, all.some)) in
     let first = all.room.work 0 (omega (arith, all.some)) in
+    let all_points : 1 + (length cars - 1) ≡ length cars = omega (arith, all.some) in
+    let worked = all.room.work (length cars - 1) (omega (arith, all.some)) in
     record {
       rule = is.rule;
       spreads = all_spread common.shape cars is.shape all.room.cars;
+      some = all.some;
       few = omega (arith, all.some);
       counted = is.counted;
       short = omega (arith, first);
+      work = subst (λ (k : ℕ). k * all_steps common.span ≤ MAX_WORK) all_points worked;
     }
 
 counts_stored : (common : Setup) (cars : Result (List ℕ) Fault) → IsSetup common → FineText (AllHaveRoom (cell_count common.shape) (all_steps common.span)) cars

@@ -5,10 +5,12 @@ use Rattle.trlab_bounds.specs.declared.roads.TheConstants.{MAX_LIMIT}
 use Rattle.trlab_bounds.specs.declared.runs.TheConstants.{MAX_STEPS}
 use Rattle.trlab_road.specs.Cells.{Cells}
 use Rattle.trlab_road.specs.Legal.{IsLegal}
+use Rattle.trlab_rules.specs.Rules.{Programs}
+use Rattle.trlab_step.specs.Run.{Sheet}
 use Rattle.trlab_texts.specs.Lines.{Rest, all_lines}
 use Rattle.trlab_texts.specs.Reading.{Fault, Reading, line, exactly}
 use Rattle.trlab_texts.proofs.Fine.{Anything, FineText, InRange, numbered}
-use Rattle.trlab_texts.proofs.OneAnswer.{OnePart, OneText, OneReading, agree, said, fails, exact_line, then_one, said_one, text_one}
+use Rattle.trlab_texts.proofs.OneAnswer.{OnePart, OneText, OneReading, agree, said, fails, values, exact_line, then_one, said_one, text_one}
 use Rattle.trlab_jobs.specs.Lanes.{lanes}
 use Rattle.trlab_jobs.specs.RuleParts.{rule}
 use Rattle.trlab_jobs.specs.Later.{later_rules}
@@ -36,7 +38,25 @@ lanes_on key road legal =
     then_one (rule (length road.lanes)) (after_rule key road) (rule_one (length road.lanes) few) (λ first suits.
     then_one (line (exactly steps_line)) (after_steps key road first) (exact_line steps_line (λ text. numbered (codes "steps ") text 0 MAX_STEPS)) (λ steps any.
     then_one (later_rules (length road.lanes) steps) (after_all key road first steps) (later_rules_one (length road.lanes) steps few) (λ later kept.
-    said_one (record { key = key; road = road; first = first; later = later; steps = steps }) (record { legal = legal; first = suits; later = kept }))))
+    said_one (record { key = key; road = road; first = first; later = later; steps = steps })
+    (record { legal = legal; first = suits; later = kept.0; steps = any.high; few = kept.1 }))))
+
+-- once the rules and the number of steps were read, the job can be run
+pub rules_stored : (key : List ℕ) (road : Cells) (first : Programs) (later : Sheet) (steps : ℕ) (place after_rule after_steps end : Rest) → IsLegal road
+    → rule (length road.lanes) place (Ok (first, after_rule)) → line (exactly steps_line) after_rule (Ok (steps, after_steps))
+    → later_rules (length road.lanes) steps after_steps (Ok (later, end))
+    → IsStoredJob (record { key = key; road = road; first = first; later = later; steps = steps })
+rules_stored key road first later steps place after_rule after_steps end legal suits counted kept =
+    let few = few_lanes road legal in
+    let range = values (steps, after_steps) (exact_line steps_line (λ text. numbered (codes "steps ") text 0 MAX_STEPS) after_rule).one counted in
+    let fit = values (later, end) (later_rules_one (length road.lanes) steps few after_steps).one kept in
+    record {
+      legal = legal;
+      first = values (first, after_rule) (rule_one (length road.lanes) few place).one suits;
+      later = fit.0;
+      steps = range.high;
+      few = fit.1;
+    }
 
 job_one : OneReading IsStoredJob job
 unfolding job

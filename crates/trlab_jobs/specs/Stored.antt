@@ -1,5 +1,6 @@
 -- The guarantees of the code about jobs and sweeps.
-use Rattle.std.specs.Prelude.{ℕ, ◌+◌, ◌<◌, ◌≤◌, [], ◌∷◌, All, length}
+use Rattle.std.specs.Prelude.{ℕ, ◌+◌, ◌*◌, ◌<◌, ◌≤◌, [], ◌∷◌, All, length}
+use Rattle.trlab_bounds.specs.declared.runs.TheConstants.{MAX_STEPS, MAX_LATER}
 use Rattle.trlab_road.specs.Legal.{IsLegal}
 use Rattle.trlab_step.specs.Laws.{IsRuleFor}
 use Rattle.trlab_step.specs.Run.{Sheet}
@@ -17,12 +18,15 @@ AreLaterRules lanes steps least (entry ∷ later) =
     (least ≤ entry.0) × ((entry.0 < steps)
     × (IsRuleFor lanes entry.1 × AreLaterRules lanes steps (entry.0 + 1) later))
 
--- a job as the code keeps it: its road is legal, its rules are for the number of its lanes, and the steps of
--- its later rules increase and are below its number of steps
+-- a job as the code keeps it: its road is legal, its rules are for the number of its lanes, the steps of its
+-- later rules increase and are below its number of steps, and there are at most MAX_STEPS steps and at most
+-- MAX_LATER later rules
 pub record IsStoredJob (job : Job) : Type 0 where
   pub legal : IsLegal job.road
   pub first : IsRuleFor (length job.road.lanes) job.first
   pub later : AreLaterRules (length job.road.lanes) job.steps 0 job.later
+  pub steps : job.steps ≤ MAX_STEPS
+  pub few : length job.later ≤ MAX_LATER
 
 -- `count` cars can be spread evenly over a road of this shape: it has a cell for each, and a valid size and
 -- limit
@@ -30,10 +34,13 @@ abbrev pub CanSpreadOn : Shape → ℕ → Type 0
 CanSpreadOn shape count = CanSpread shape.lanes shape.length shape.limit count
 
 -- a sweep as the code keeps it: a rule for its number of lanes, cars that can be spread evenly at each point,
--- at most MAX_POINTS points, at least one counted step, and at most MAX_WORK steps per point
+-- 1 to MAX_POINTS points, at least one counted step per point, and at most MAX_WORK steps per point and of all
+-- points together
 pub record IsStoredSweep (sweep : Sweep) : Type 0 where
   pub rule : IsRuleFor sweep.setup.shape.lanes sweep.setup.rule
   pub spreads : All (CanSpreadOn sweep.setup.shape) sweep.cars
+  pub some : 1 ≤ length sweep.cars
   pub few : length sweep.cars ≤ MAX_POINTS
   pub counted : 1 ≤ sweep.setup.span.measure
   pub short : all_steps sweep.setup.span ≤ MAX_WORK
+  pub work : length sweep.cars * all_steps sweep.setup.span ≤ MAX_WORK

@@ -3,3 +3,4 @@ pub mod Cutting
 pub mod Numbers
 pub mod Plain
 pub mod Oddities
+pub mod Places

@@ -1,5 +1,5 @@
 -- The oddities of a line: characters that lines outside programs may not have, or no characters at all.
-use Rattle.std.specs.Prelude.{◌≡◌, ◌⊎◌, ℕ, ◌-◌, ◌==◌, IsTrue, List, [], ◌∷◌, length, Some, slice_get}
+use Rattle.std.specs.Prelude.{◌≡◌, ◌⊎◌, ℕ, ◌-◌, ◌<◌, ◌==◌, IsTrue, List, [], ◌∷◌, length, Some, slice_get}
 use Rattle.std.specs.List.{list_any}
 use Rattle.std.specs.Option.{is_some}
 use Rattle.trlab_lines.specs.Cutting.{without_prefix}
@@ -20,3 +20,18 @@ HasOddity line Tab = Contains line 9
 HasOddity line FirstSpace = slice_get line 0 ≡ Some 32
 HasOddity line FinalSpace = slice_get line (length line - 1) ≡ Some 32
 HasOddity line Comment = Contains line 59 ⊎ Contains line 35
+
+-- the rank of an oddity: if a line has several, the one of the smallest rank is reported
+abbrev pub oddity_rank : Oddity → ℕ
+oddity_rank ByteOrderMark = 0
+oddity_rank CarriageReturn = 1
+oddity_rank Empty = 2
+oddity_rank Tab = 3
+oddity_rank FirstSpace = 4
+oddity_rank FinalSpace = 5
+oddity_rank Comment = 6
+
+-- the first oddity of a line: the line has it, and no oddity of a smaller rank
+abbrev pub IsFirstOddity : List ℕ → Oddity → Type 0
+IsFirstOddity line oddity =
+    HasOddity line oddity × ((other : Oddity) → oddity_rank other < oddity_rank oddity → ¬ (HasOddity line other))

@@ -1,8 +1,8 @@
 //! Oddities: characters that lines outside programs may not have.
 
-ghost use Rattle.std.specs.Prelude.{MatchOption};
+ghost use Rattle.std.specs.Prelude.{IfSome, MatchOption};
 ghost use Rattle.trlab_lines.specs.declared.oddity.Oddity.{Oddity as AnOddity};
-ghost use Rattle.trlab_lines.specs.Oddities.{HasOddity};
+ghost use Rattle.trlab_lines.specs.Oddities.{HasOddity, IsFirstOddity};
 
 /// A character that is not allowed in any line outside programs, or an empty line.
 #[derive(Clone, Copy)]
@@ -23,7 +23,8 @@ pub enum Oddity {
 
 /// The first oddity of a line, in the order of the variants of [`Oddity`].
 pub fn oddity_of(line: &[u8]) -> Option<Oddity>
-    ensures { MatchOption result ((oddity : AnOddity) → ¬ (HasOddity line.now oddity)) (HasOddity line.now) }
+    ensures found { MatchOption result ((oddity : AnOddity) → ¬ (HasOddity line.now oddity)) (HasOddity line.now) }
+    ensures first { IfSome result (IsFirstOddity line.now) }
 {
     if line.strip_prefix(b"\xef\xbb\xbf").is_some() {
         Some(Oddity::ByteOrderMark)

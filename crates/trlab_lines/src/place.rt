@@ -1,7 +1,8 @@
 //! Places in a text: its lines, by their numbers.
 
-ghost use Rattle.std.specs.Prelude.{◌≡◌, drop, length, option_map, take};
+ghost use Rattle.std.specs.Prelude.{◌≡◌, ◌++◌, ◌<◌, ◌^◌, ℕ, List, drop, length, option_map, take};
 ghost use Rattle.trlab_lines.specs.Lines.{line_at, lines_of};
+ghost use Rattle.trlab_lines.specs.Places.{IsPlaceOf};
 
 use crate::lines::next_line;
 
@@ -34,7 +35,8 @@ pub struct Place<'a> {
 impl<'a> Place<'a> {
     /// The place of the line `number`: for 0 the start of the text, and past the last line its end.
     pub fn at(text: &'a [u8], number: u32) -> Place<'a>
-        ensures { option_map (λ line. line.now) result.line ≡ line_at number (lines_of text.now) }
+        ensures line { option_map (λ line. line.now) result.line ≡ line_at number (lines_of text.now) }
+        ensures place { IsPlaceOf text.now number result }
     {
         let mut left = text;
         let mut ahead = number;
@@ -67,7 +69,11 @@ impl<'a> Place<'a> {
     }
 
     /// The lines below this place: all lines if it is the start of the text, and none if it is the end.
-    pub fn below(&self) -> &'a [u8] {
+    pub fn below(&self) -> &'a [u8]
+        ensures lines { IsPlaceOf self.now.text.now self.now.number self.now
+            → lines_of result.now ≡ drop self.now.number (lines_of self.now.text.now) }
+        ensures end { (before : List ℕ) × (self.now.text.now ≡ before ++ result.now) }
+    {
         let end = match self.line {
             Some(line) => self.start.saturating_add(line.len()).saturating_add(1),
             None => self.start,
@@ -81,6 +87,7 @@ impl<'a> Place<'a> {
 fn split(text: &[u8], at: usize) -> (&[u8], &[u8])
     ensures front { result.0.now ≡ take at text.now }
     ensures back { result.1.now ≡ drop at text.now }
+    ensures fits { length text.now < 2 ^ 64 }
 {
     text.split_at(at.min(text.len()))
 }

@@ -27,8 +27,9 @@ AreNoStronger None None = Unit {0}
 AreNoStronger (Some m) (Some n) = IsNoStronger m n
 AreNoStronger _ _ = ⊥
 
--- the common knowledge of two abstract values: the smallest range around two ranges, for example
--- `Between 0 9` for `Between 0 3` and `Between 5 9`; a flag that implies an empty side cell if both flags do;
+-- the common knowledge of two abstract values: the range from the smaller lower end of two ranges to the
+-- larger upper end, for example `Between 0 9` for `Between 0 3` and `Between 5 9`, and `Between 5 9` for the
+-- empty range `Between 5 3` and `Between 7 9`; a flag that implies an empty side cell if both flags do;
 -- otherwise `Nothing`
 abbrev pub join_values : AbstractValue → AbstractValue → AbstractValue
 join_values (Between lo hi) (Between least most) = Between (min lo least) (max hi most)

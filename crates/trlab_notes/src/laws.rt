@@ -1,4 +1,4 @@
-//! Laws of notes: their order, their join, and the transfer of instructions.
+//! Laws of notes: their levels, their order, their join, and the transfer of instructions.
 //!
 //! Each law is the contract of a function with an empty body.
 
@@ -9,6 +9,14 @@ ghost use Rattle.trlab_notes.specs.Notes.{Note};
 ghost use Rattle.trlab_notes.specs.Order.{IsNoStronger, AreNoStronger, join};
 ghost use Rattle.trlab_notes.specs.Reasons.{reason_against};
 ghost use Rattle.trlab_notes.specs.Transfer.{next_note, jump_note};
+
+use crate::note::{AT_MOST, BELOW};
+
+/// The levels of known order: 1 if a variable is at most another, and 2 if it is below another.
+pub fn levels()
+    ensures at_most { AT_MOST ≡ 1 }
+    ensures below { BELOW ≡ 2 }
+{}
 
 /// The order of notes by strength is reflexive and transitive.
 pub fn notes_are_ordered()

@@ -98,7 +98,7 @@ begin_more a b [] h begin = tt
 begin_more a b (x ∷ sheet) h begin = let here = begin.0 in (omega arith, begin_more a b sheet h begin.1)
 
 -- below its step a rule that was entered changes nothing
-in_force_entered : (sheet : Sheet) (least from step : ℕ) (rule : Programs) → StepsIncreaseFrom least sheet → step < from → in_force (with_rule_from sheet from rule) step ≡ in_force sheet step
+pub in_force_entered : (sheet : Sheet) (least from step : ℕ) (rule : Programs) → StepsIncreaseFrom least sheet → step < from → in_force (with_rule_from sheet from rule) step ≡ in_force sheet step
 in_force_entered [] least from step rule rises h = rw (lt-leb from step h) refl
 in_force_entered (x ∷ sheet) least from step rule rises h =
     let rest = filter (λ (entry : ℕ × Programs). ltb entry.0 from) sheet in
@@ -109,7 +109,7 @@ in_force_entered (x ∷ sheet) least from step rule rises h =
     (λ late. let high = ltb-false x.0 from late in
     same ∙ none_in_force sheet (x.0 + 1) step rises.1 (omega arith) ∙ sym (rw (lt-leb x.0 step (omega arith)) refl))
 
-comes_entered : (seed : Seed) (sheet : Sheet) (from : ℕ) (rule : Programs) (step : ℕ) (road : Cells) (sum : StepTally) → step ≤ from → StepsIncreaseFrom 0 sheet → IsSheet (with_rule_from sheet from rule)
+pub comes_entered : (seed : Seed) (sheet : Sheet) (from : ℕ) (rule : Programs) (step : ℕ) (road : Cells) (sum : StepTally) → step ≤ from → StepsIncreaseFrom 0 sheet → IsSheet (with_rule_from sheet from rule)
     → ComesTo seed sheet step road sum → ComesTo seed (with_rule_from sheet from rule) step road sum
 comes_entered seed sheet from rule zero road sum h rises is comes = (is, comes.1, comes.2)
 comes_entered seed sheet from rule (suc step) road sum h rises is comes = (

@@ -5,3 +5,4 @@ pub mod LeaseRuns
 pub mod Booking
 pub mod Submitting
 pub mod Reading
+pub mod Refusals

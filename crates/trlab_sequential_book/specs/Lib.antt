@@ -8,3 +8,4 @@ pub mod Answers
 pub mod Comparison
 pub mod Replay
 pub mod Submits
+pub mod Refusals

@@ -1,8 +1,9 @@
-//! The limits of the book as numbers, and the call of `submit` from which each of its jobs comes.
+//! The limits of the book as numbers, the call of `submit` from which each of its jobs comes, and refused leases.
 //!
 //! Each law is the contract of a function with an empty body.
 
 ghost use Rattle.std.specs.Prelude.{◌≡◌};
+ghost use Rattle.trlab_sequential_book.specs.Refusals.{RefusedLeasesAreNotOut};
 ghost use Rattle.trlab_sequential_book.specs.Submits.{JobsAreSubmitted, ReadsAreDriven, SnapshotsAreOfSubmits};
 ghost use Rattle.trlab_sequential_book.specs.Submits.{SubmitNumbersAreUnique};
 
@@ -28,4 +29,10 @@ pub fn jobs_are_of_submits()
 /// of the calls before it. Each step is clean, its programs end within their budgets, and no car is lost.
 pub fn reads_are_driven()
     ensures { ReadsAreDriven }
+{}
+
+/// A lease that ran only steps which the book ordered runs the road of its job as long as it is out, whichever other
+/// calls are made. So if the book refuses its order or its return, it is not out: another call has ended it.
+pub fn refused_leases_are_not_out()
+    ensures { RefusedLeasesAreNotOut }
 {}

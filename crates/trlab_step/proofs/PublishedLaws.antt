@@ -9,12 +9,12 @@ use Rattle.trlab_code.specs.declared.view.View.{View}
 use Rattle.trlab_code.specs.Machine.{Answer, Crosses as EndsAcross, Stays, EndsWith}
 use Rattle.trlab_machine.specs.Crossings.{crossing_answer}
 use Rattle.trlab_verify.specs.CheckedProgram.{CheckedProgram}
-use Rattle.trlab_road.specs.Cells.{Cell, Cells, cell, lane_of, IsAt}
+use Rattle.trlab_road.specs.Cells.{Cell, Cells, cars, cell, lane_of, IsAt}
 use Rattle.trlab_road.specs.LaneChange.{ChangesLanes, CrossesToEmpty, other_lane, car_after_crossing}
 use Rattle.trlab_road.specs.LaneChange.StaysOrCrosses.{on_own_lane, on_other_lane}
 use Rattle.trlab_road.specs.Gaps.{gap, side, sidegap, sideback}
 use Rattle.trlab_road.specs.Legal.{IsLegal}
-use Rattle.trlab_road.proofs.LaneChangeLaws.{came_from, lane_change_legal, lane_change_none_lost}
+use Rattle.trlab_road.proofs.LaneChangeLaws.{came_from, lane_change_legal, lane_change_none_lost, lane_change_same_count}
 use Rattle.trlab_road.proofs.MotionLaws.{on_lane}
 use Rattle.trlab_rules.specs.Published.{brake, safe_speed, nasch_speed, rickert_crosses, vdr_braking_chance, vdr_speed}
 use Rattle.trlab_rules.specs.StandardRules.{IsChangeComputing}
@@ -128,6 +128,7 @@ none_of (Some car) h = absurd cc
 -- a phase in which cars change lanes
 record Changed (c : ℕ) (dice : Dice) (old middle : Cells) : Type 0 where
   legal : IsLegal middle
+  kept : cars middle ≡ cars old
   changed : CarsCrossIf (rickert_car_crosses c dice old) old middle
 
 rickert_phase : (c : ℕ) (change : CheckedProgram) (dice : Dice) (old middle : Cells) (changes : ℕ) → ComputesCrossing (rickert_crosses c) change.program → IsLegal old → IsLaneChangePhase (Some change) dice old middle changes
@@ -151,6 +152,7 @@ rickert_phase c change dice old middle changes by legal phase =
     λ car. rw (word_is dice car.number 1 (omega arith)) refl in
     record {
       legal = lane_change_legal answers old middle legal phase.3 free;
+      kept = lane_change_same_count answers old middle legal phase.3 free;
       changed = λ car here.
           subst (λ (b : Bool). IsAt middle (if b then car_after_crossing car else car)) (agree car here ∙ word car)
           (change_by answers old middle legal phase.3 free car here);
@@ -166,4 +168,4 @@ pub rickert_on_cells : RickertOnCells
 rickert_on_cells p c rule dice old new tally is legal next =
     let middle = next.0 in
     let phase = rickert_change c rule.change dice old middle tally.changes is.change legal next.1.lane_change in
-    (middle, phase.legal, phase.changed, nasch_goes_by p rule.motion dice middle new is.motion.moves phase.legal next.1.motion)
+    (middle, phase.legal, phase.kept, phase.changed, nasch_goes_by p rule.motion dice middle new is.motion.moves phase.legal next.1.motion)

@@ -1,11 +1,11 @@
 -- The published models on the cells of a road: the place of each car after a step. trlab_rules defines the
 -- same speeds and lane changes (`nasch_speed`, `vdr_speed`, `rickert_crosses`) as functions of a program's
 -- input, a view and a list of random words; the definitions here are functions of a road and a car.
-use Rattle.std.specs.Prelude.{ℕ, ◌+◌, ◌&&◌, Bool, length, nat_lt, if◌then◌else◌}
+use Rattle.std.specs.Prelude.{◌≡◌, ℕ, ◌+◌, ◌&&◌, Bool, length, nat_lt, if◌then◌else◌}
 use Rattle.trlab_words.specs.Words.{random_word}
 use Rattle.trlab_words.specs.Chances.{happens_on}
 use Rattle.trlab_road.specs.declared.car.Car.{Car}
-use Rattle.trlab_road.specs.Cells.{Cells, IsAt, lane_of}
+use Rattle.trlab_road.specs.Cells.{Cells, IsAt, cars, lane_of}
 use Rattle.trlab_road.specs.LaneChange.{car_after_crossing, other_lane}
 use Rattle.trlab_road.specs.Gaps.{ahead, gap, side, sidegap, sideback}
 use Rattle.trlab_road.specs.Legal.{IsLegal}
@@ -76,10 +76,11 @@ VdrOnCells = (p p0 : ℕ) (rule : Programs) (dice : Dice) (old new : Cells) (tal
     → AllMoveAhead (vdr_car_speed p p0 dice old) old new
 
 -- in a step of a legal road under a `rickert` rule with braking probability p / 2 ^ 31 and lane-change
--- probability c / 2 ^ 31, all cars first change lanes as in Rickert et al. (1996), which gives a legal road,
--- and from there each car moves by its speed in the Nagel-Schreckenberg model
+-- probability c / 2 ^ 31, all cars first change lanes as in Rickert et al. (1996), which gives a legal road
+-- with these cars only, and from there each car moves by its speed in the Nagel-Schreckenberg model
 abbrev pub RickertOnCells : Type 0
 RickertOnCells = (p c : ℕ) (rule : Programs) (dice : Dice) (old new : Cells) (tally : StepTally)
     → IsRickert p c rule → IsLegal old → IsNext rule dice old new tally
-    → (middle : Cells) × IsLegal middle × CarsCrossIf (rickert_car_crosses c dice old) old middle
+    → (middle : Cells) × IsLegal middle × (cars middle ≡ cars old)
+    × CarsCrossIf (rickert_car_crosses c dice old) old middle
     × AllMoveAhead (nasch_car_speed p dice middle) middle new

@@ -36,7 +36,7 @@ impl StepObserver for NoObserver {
 /// Runs a program for all cars of a road, and replaces the contents of a list with their answers in standing order.
 ///
 /// The road is borrowed mutably, so that it can be moved to other threads; it comes back unchanged. The observer sees
-/// it once, even if an allocation fails.
+/// it, even if an allocation fails. It is called once, but contracts only say how it is after the call.
 pub trait Executor {
     // The precondition of a call, for example the contracts of the closures that an executor calls.
     ghost is_ready: { Self → Type 0 };

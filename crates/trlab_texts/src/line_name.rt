@@ -1,7 +1,8 @@
 //! The lines of job, sweep and program files by their first words, and sets of them.
 
-ghost use Rattle.std.specs.Prelude.{◌≡◌, ◌<◌, IsTrue, ◌↔◌, length};
-ghost use Rattle.trlab_texts.specs.LineNames.{name_and_space, name_word};
+ghost use Rattle.std.specs.Prelude.{◌≡◌, ◌<◌, ◌||◌, IsTrue, ◌↔◌, false, length, nat_eq, true};
+ghost use Rattle.trlab_texts.specs.declared.line_name.LineName.{LineName as AName};
+ghost use Rattle.trlab_texts.specs.LineNames.{has_name, name_and_space, name_number, name_word};
 
 /// A line of a job, sweep or program file, by its first word.
 #[derive(Clone, Copy, Debug, PartialEq, Eq)]
@@ -103,26 +104,35 @@ pub struct LineNames {
 
 impl LineNames {
     /// The empty set.
-    pub fn none() -> LineNames {
+    pub fn none() -> LineNames
+        ensures { (name : AName) → has_name result name ≡ false }
+    {
         LineNames {
             present: [false; 16],
         }
     }
 
     /// The set with this name added.
-    pub fn with(self, name: LineName) -> LineNames {
+    pub fn with(self, name: LineName) -> LineNames
+        ensures { (other : AName) →
+            has_name result other ≡ (nat_eq (name_number other) (name_number name) || has_name self other) }
+    {
         let mut present = self.present;
         present[name as usize] = true;
         LineNames { present }
     }
 
     /// Whether the set contains this name.
-    pub fn has(self, name: LineName) -> bool {
+    pub fn has(self, name: LineName) -> bool
+        ensures { result ≡ has_name self name }
+    {
         self.present[name as usize]
     }
 
     /// Whether the set contains no name.
-    pub fn is_empty(self) -> bool {
+    pub fn is_empty(self) -> bool
+        ensures { result ≡ true → (name : AName) → has_name self name ≡ false }
+    {
         !self.present.contains(&true)
     }
 }

@@ -1,12 +1,13 @@
 //! A text that is read line by line.
 
-ghost use Rattle.std.specs.Prelude.{◌≡◌, ◌+◌, ◌-◌, ◌<◌, ◌^◌, [], ◌∷◌, None, length, MatchOption, MatchResult, IsTrue, ◌↔◌};
+ghost use Rattle.std.specs.Prelude.{◌≡◌, ◌+◌, ◌-◌, ◌<◌, ◌^◌, [], ◌∷◌, None, length, MatchOption, MatchResult, IsTrue, ◌↔◌, true};
 ghost use Rattle.trlab_lines.specs.Lines.{lines_of};
 ghost use Rattle.trlab_texts.specs.Lines.{IsNextLine, Rest as RestOfLines, all_lines};
 ghost use Rattle.trlab_texts.specs.Programs.{SplitsAtEnd, split_at_end};
 ghost use Rattle.std.specs.Fn.{FnOnceReturnsAt};
 ghost use Rattle.trlab_texts.specs.declared.fault.Cause.{Cause};
 ghost use Rattle.trlab_texts.specs.declared.fault.TextFault.{TextFault};
+ghost use Rattle.trlab_texts.specs.LineNames.{has_name};
 ghost use Rattle.trlab_texts.specs.Reading.{Reports, line};
 ghost use Rattle.trlab_texts.specs.Words.{next_word_is};
 
@@ -90,7 +91,9 @@ impl<'a> Rest<'a> {
     }
 
     /// The names that the next line may have, with this name added.
-    pub fn names_with(&self, name: LineName) -> LineNames {
+    pub fn names_with(&self, name: LineName) -> LineNames
+        ensures { has_name result name ≡ true }
+    {
         self.also_wanted.with(name)
     }
 

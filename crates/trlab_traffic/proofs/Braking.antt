@@ -1,9 +1,10 @@
--- What random braking costs.
+-- Each random braking costs a cell.
 use Rattle.std.proofs.Common.{◌≡◌, ℕ, zero, suc, ◌+◌, ◌-◌, ◌*◌, ◌≤◌, ◌&&◌, min, Bool, true, false, cond, List, [], ◌∷◌, length, get_or, refl, sym, ◌∙◌, ap, subst, inl, inr, arith, mul_comm, suc-mul, if◌then◌else◌}
 use Rattle.std.specs.Prelude.{All, nat_le, nat_lt, sum_by}
 use Rattle.std.proofs.lemmas.Bool.{cases_lt, le-leb, lt-leb}
 use Rattle.std.proofs.lemmas.List.Sums.{sum_by-cons, sum_by-le}
 use Rattle.trlab_words.specs.Chances.{happens_on}
+use Rattle.trlab_words.specs.Words.{random_word}
 use Rattle.trlab_words.proofs.RandomWords.{slice_index-random_words}
 use Rattle.trlab_machine.specs.declared.dice.Dice.{Dice}
 use Rattle.trlab_road.specs.declared.car.Car.{Car}
@@ -17,22 +18,26 @@ use Rattle.trlab_road.proofs.StandingOrder.{length-standing_from_lane, standing_
 use Rattle.trlab_rules.specs.Laws.{ComputesSpeed}
 use Rattle.trlab_rules.specs.Published.{brake, nasch_speed, safe_speed, vdr_braking_chance}
 use Rattle.trlab_rules.specs.Rules.{Programs}
+use Rattle.trlab_rules.specs.StandardRules.{IsRickert}
+use Rattle.trlab_verify.specs.CheckedProgram.{CheckedProgram}
 use Rattle.trlab_step.specs.declared.tally.StepTally.{StepTally}
-use Rattle.trlab_step.specs.Next.{IsNext}
+use Rattle.trlab_step.specs.Next.{IsMotionPhase, IsNext, IsStep, total_speed}
+use Rattle.trlab_step.specs.Laws.{IsLegalLike}
 use Rattle.trlab_step.specs.Published.{happens_to}
 use Rattle.trlab_step.specs.Run.{ComesTo, IsRoadAt, Seed, Sheet, dice_at}
 use Rattle.trlab_step.proofs.RunLaws.{road_at_is_one}
-use Rattle.trlab_traffic.specs.Braking.{AddsUpTo, BrakingCosts, BrakingCostsRuns, BrakingCostsRunsWithSlowStarts, BrakingCostsSteps, EachRunHasBraked, HasBraked, braking_cars, braking_cars_with_gap}
+use Rattle.trlab_traffic.specs.Braking.{AddsUpTo, BrakingCosts, BrakingCostsRuns, BrakingCostsRunsWithLaneChanges, BrakingCostsRunsWithSlowStarts, BrakingCostsSteps, BrakingCostsStepsWithLaneChanges, EachRunHasBraked, HasBraked, braking_cars, braking_cars_with_gap}
 use Rattle.trlab_traffic.specs.Runs.{StaysInLane, always}
 use Rattle.trlab_traffic.specs.Triangle.{all_cells, empty_cells}
-use Rattle.trlab_traffic.proofs.AnyRule.{answers_fit}
-use Rattle.trlab_traffic.proofs.Capacities.{distance_counted, distance_uncounted, next_cells, same_empty, speeds_total}
+use Rattle.trlab_traffic.proofs.AnyRule.{answers_fit, middle_like}
+use Rattle.trlab_traffic.proofs.Capacities.{distance_counted, distance_uncounted, middle_cells, next_cells, same_empty, speeds_total}
 use Rattle.trlab_traffic.proofs.DetectingRuns.{counted_so, uncounted_so}
 use Rattle.trlab_traffic.proofs.Freely.{one_rule}
 use Rattle.trlab_traffic.proofs.Going.{run_like}
 use Rattle.trlab_traffic.proofs.NaschMoves.{answered, motion_alone}
+use Rattle.trlab_traffic.proofs.Numbering.{sum_of_standing}
 use Rattle.trlab_traffic.proofs.RoomAhead.{lanes_room}
-use Rattle.trlab_traffic.proofs.Sums.{below_not, below_so}
+use Rattle.trlab_traffic.proofs.Sums.{below_not, below_so, total}
 
 -- a sum of sums
 sum_two : (f g : Car → ℕ) (xs : List Car) → sum_by (λ (c : Car). f c + g c) xs ≡ sum_by f xs + sum_by g xs
@@ -67,18 +72,18 @@ record Costs (chance : ℕ → ℕ) (dice : Dice) (road : Cells) (distance : ℕ
   by_limit : distance + braking_cars chance dice road ≤ road.limit * cars road
   by_empty_cells : distance + braking_cars_with_gap chance dice road ≤ empty_cells road
 
-module _ (chance : ℕ → ℕ) (rule : Programs) (moves : ComputesSpeed (λ view words. nasch_speed (chance view.speed) view words) rule.motion.program) (stays : StaysInLane rule) where
-  step_costs : (dice : Dice) (old new : Cells) (tally : StepTally) → IsLegal old → IsNext rule dice old new tally → Costs chance dice old tally.distance
-  step_costs dice old new tally legal is =
-      let phase = motion_alone rule dice old new tally stays is in
+-- the motion of one step
+module _ (chance : ℕ → ℕ) (motion : CheckedProgram) (moves : ComputesSpeed (λ view words. nasch_speed (chance view.speed) view words) motion.program) where
+  motion_costs : (dice : Dice) (old new : Cells) → IsLegal old → IsMotionPhase motion dice old new → Costs chance dice old (total_speed new)
+  motion_costs dice old new legal phase =
       let speeds = phase.0 in
-      let fits = answers_fit rule.motion dice old speeds phase.1 in
-      let total = is.1.distance ∙ speeds_total speeds old new fits phase.2 in
+      let fits = answers_fit motion dice old speeds phase.1 in
+      let total = speeds_total speeds old new fits phase.2 in
       let b : Car → Bool = λ car. happens_to dice car 0 (chance car.speed) in
       let g : Car → ℕ = λ car. gap (lane_of old car.lane) car.place in
       let safe : Car → ℕ = λ car. safe_speed car.speed old.limit (g car) in
       let goes : (car : Car) → IsAt old car → speeds car.lane car.place ≡ brake (b car) (safe car) = λ car here.
-      answered (λ view words. nasch_speed (chance view.speed) view words) rule.motion dice old speeds moves legal phase.1 car here
+      answered (λ view words. nasch_speed (chance view.speed) view words) motion dice old speeds moves legal phase.1 car here
       ∙ ap (λ (word : ℕ). brake (happens_on (chance car.speed) word) (safe car)) (slice_index-random_words dice.key dice.road car.number dice.step 0 (omega arith)) in
       let speed : Car → ℕ = λ car. speeds car.lane car.place in
       let braked : Car → ℕ = λ car. cond (b car) 1 0 in
@@ -105,24 +110,29 @@ module _ (chance : ℕ → ℕ) (rule : Programs) (moves : ComputesSpeed (λ vie
       let split_gaps = sum_two speed with_gap (standing old) in
       record { by_limit = omega (arith, total, limits, split, same); by_empty_cells = omega (arith, total, rooms, split_gaps) }
 
+module _ (chance : ℕ → ℕ) (rule : Programs) (moves : ComputesSpeed (λ view words. nasch_speed (chance view.speed) view words) rule.motion.program) (stays : StaysInLane rule) where
+  step_costs : (dice : Dice) (old new : Cells) (tally : StepTally) → IsLegal old → IsNext rule dice old new tally → Costs chance dice old tally.distance
+  step_costs dice old new tally legal is =
+      subst (Costs chance dice old) (sym is.1.distance) (motion_costs chance rule.motion moves dice old new legal (motion_alone rule dice old new tally stays is))
+
   -- a run
   run_costs : (seed : Seed) (step : ℕ) (road : Cells) (sum : StepTally) (braked with_gap : ℕ) → IsLegal seed.road → ComesTo seed (always rule) step road sum
       → HasBraked chance seed (always rule) step braked with_gap → BrakingCosts seed.road (step - seed.warm) sum.distance braked with_gap
   run_costs seed zero road sum braked with_gap legal comes has =
       let none = ap (λ (t : StepTally). t.distance) comes.2 in
       let a = has.all in
-      let b = has.those_with_gap in
+      let b = has.with_gaps in
       record { by_limit = omega (arith, none, a); by_empty_cells = omega (arith, none, b) }
   run_costs seed (suc step) road sum braked with_gap legal comes has =
       let old = comes.0 in
       let tally = comes.3 in
       let go = comes.5 in
       let all = has.all in
-      let those = has.those_with_gap in
+      let those = has.with_gaps in
       let here : IsRoadAt seed (always rule) step old = (comes.1, comes.4) in
       let all_here = road_at_is_one seed (always rule) step all.0 old all.2 here in
       let those_here = road_at_is_one seed (always rule) step those.0 old those.2 here in
-      let before = run_costs seed step old comes.1 all.1 those.1 legal comes.4 (record { all = all.3; those_with_gap = those.3 }) in
+      let before = run_costs seed step old comes.1 all.1 those.1 legal comes.4 (record { all = all.3; with_gaps = those.3 }) in
       let like = run_like seed (always rule) step old comes.1 legal comes.4 in
       let same = one_rule rule comes.2 step go.under in
       let next = subst (λ (r : Programs). IsNext r (dice_at seed step) old road tally) (sym same) go.next in
@@ -157,15 +167,15 @@ module _ (chance : ℕ → ℕ) (rule : Programs) (moves : ComputesSpeed (λ vie
             })
       ]
 
+once : (m n : ℕ) → m ≤ n → m ≤ 1 * n
+once m n h = omega (arith, h)
+
 pub braking_costs_steps : BrakingCostsSteps
 braking_costs_steps p rule dice road next tally is legal step =
     let costs = step_costs (λ speed. p) rule is.motion.moves is.change dice road next tally legal step in
     let a = costs.by_limit in
     let b = costs.by_empty_cells in
     record { by_limit = once (tally.distance + braking_cars (λ speed. p) dice road) (road.limit * cars road) a; by_empty_cells = once (tally.distance + braking_cars_with_gap (λ speed. p) dice road) (empty_cells road) b }
-  where
-    once : (m n : ℕ) → m ≤ n → m ≤ 1 * n
-    once m n h = omega (arith, h)
 
 pub braking_costs_runs : BrakingCostsRuns
 braking_costs_runs p rule seed step road sum braked with_gap is legal comes has =
@@ -186,4 +196,72 @@ pub each_run_has_braked : EachRunHasBraked
 each_run_has_braked chance seed sheet step road sum comes =
     let all = adds_up (braking_cars chance) seed sheet step road sum comes in
     let those = adds_up (braking_cars_with_gap chance) seed sheet step road sum comes in
-    (all.0, those.0, record { all = all.1; those_with_gap = those.1 })
+    (all.0, those.0, record { all = all.1; with_gaps = those.1 })
+
+-- with lane changes: the same cars brake after them
+same_braking : (p : ℕ) (dice : Dice) (road middle : Cells) → IsLegal road → IsLegalLike road middle → braking_cars (λ speed. p) dice middle ≡ braking_cars (λ speed. p) dice road
+same_braking p dice road middle legal like =
+    let of_number : ℕ → ℕ = λ i. cond (happens_on p (random_word dice.key dice.road i dice.step 0)) 1 0 in
+    let of_car : Car → ℕ = λ car. cond (happens_to dice car 0 p) 1 0 in
+    sum_of_standing of_car of_number middle like.legal (λ car here. refl)
+    ∙ ap (total of_number) like.same_count
+    ∙ sym (sum_of_standing of_car of_number road legal (λ car here. refl))
+
+record ChangeCosts (p : ℕ) (dice : Dice) (road middle : Cells) (distance : ℕ) : Type 0 where
+  by_limit : distance + braking_cars (λ speed. p) dice road ≤ road.limit * cars road
+  by_empty_cells : distance + braking_cars_with_gap (λ speed. p) dice middle ≤ empty_cells road
+
+change_costs : (p c : ℕ) (rule : Programs) (dice : Dice) (road middle next : Cells) (tally : StepTally) → IsRickert p c rule → IsLegal road → IsStep rule dice road middle next tally
+    → ChangeCosts p dice road middle tally.distance
+change_costs p c rule dice road middle next tally is legal step =
+    let like = middle_like rule.change dice road middle tally.changes legal step.lane_change in
+    let costs = motion_costs (λ speed. p) rule.motion is.motion.moves dice middle next like.legal step.motion in
+    let a = costs.by_limit in
+    let b = costs.by_empty_cells in
+    let total = step.distance in
+    let same = same_braking p dice road middle legal like in
+    let most : middle.limit * cars middle ≡ road.limit * cars road = ap (λ k. k * cars middle) like.same_limit ∙ ap (λ k. road.limit * k) like.same_count in
+    let empty = same_empty road middle like.same_count (middle_cells rule.change dice road middle tally.changes step.lane_change) in
+    record { by_limit = omega (arith, a, total, same, most); by_empty_cells = omega (arith, b, total, empty) }
+
+pub braking_costs_steps_with_lane_changes : BrakingCostsStepsWithLaneChanges
+braking_costs_steps_with_lane_changes p c rule dice road middle next tally is legal step =
+    let costs = change_costs p c rule dice road middle next tally is legal step in
+    record {
+      by_limit = once (tally.distance + braking_cars (λ speed. p) dice road) (road.limit * cars road) costs.by_limit;
+      by_empty_cells = once (tally.distance + braking_cars_with_gap (λ speed. p) dice middle) (empty_cells road) costs.by_empty_cells;
+    }
+
+pub braking_costs_runs_with_lane_changes : BrakingCostsRunsWithLaneChanges
+braking_costs_runs_with_lane_changes p c rule seed zero road sum braked is legal comes has =
+    let none = ap (λ (t : StepTally). t.distance) comes.2 in
+    omega (arith, none, has)
+braking_costs_runs_with_lane_changes p c rule seed (suc step) road sum braked is legal comes has =
+    let old = comes.0 in
+    let tally = comes.3 in
+    let go = comes.5 in
+    let most = seed.road.limit * cars seed.road in
+    let here : IsRoadAt seed (always rule) step old = (comes.1, comes.4) in
+    let all_here = road_at_is_one seed (always rule) step has.0 old has.2 here in
+    let before = braking_costs_runs_with_lane_changes p c rule seed step old comes.1 has.1 is legal comes.4 has.3 in
+    let like = run_like seed (always rule) step old comes.1 legal comes.4 in
+    let same = one_rule rule comes.2 step go.under in
+    let next = subst (λ (r : Programs). IsNext r (dice_at seed step) old road tally) (sym same) go.next in
+    let now = (change_costs p c rule (dice_at seed step) old next.0 road tally is like.legal next.1).by_limit in
+    let same_most : old.limit * cars old ≡ most = ap (λ k. k * cars old) like.same_limit ∙ ap (λ k. seed.road.limit * k) like.same_count in
+    let brakes = ap (braking_cars (λ speed. p) (dice_at seed step)) all_here in
+    elim (cases_lt step seed.warm) [
+      | inl early ↦
+          let e : suc step - seed.warm ≡ step - seed.warm = omega (arith, early) in
+          let not_yet = lt-leb seed.warm step early in
+          let d = distance_uncounted (nat_le seed.warm step) sum comes.1 tally go.counted not_yet in
+          let c = uncounted_so (nat_le seed.warm step) braked has.1 (braking_cars (λ speed. p) (dice_at seed step) has.0) has.4 not_yet in
+          subst (λ k. sum.distance + braked ≤ k * most) (sym e) (omega (arith, before, d, c))
+      | inr late ↦
+          let e : suc step - seed.warm ≡ suc (step - seed.warm) = omega (arith, late) in
+          let yet = le-leb seed.warm step late in
+          let d = distance_counted (nat_le seed.warm step) sum comes.1 tally go.counted yet in
+          let c = counted_so (nat_le seed.warm step) braked has.1 (braking_cars (λ speed. p) (dice_at seed step) has.0) has.4 yet in
+          let limits = suc-mul (step - seed.warm) most in
+          subst (λ k. sum.distance + braked ≤ k * most) (sym e) (omega (arith, now, before, d, c, same_most, brakes, limits))
+    ]

@@ -28,7 +28,7 @@ use Rattle.trlab_traffic.specs.Triangle.{IsDistanceUnderTriangle, RunStaysUnderT
 use Rattle.trlab_traffic.proofs.AnyRule.{answers_fit, middle_like, next_legal_like}
 use Rattle.trlab_traffic.proofs.RoomAhead.{lanes_room, taken_or_empty}
 
--- what a function gives for the k-th car
+-- the value of a function for the k-th car
 kth_is : (f : ℕ → ℕ → ℕ) (road : Cells) (k : ℕ) → k < cars road → let car = get_or (standing road) k no_one in slice_index (in_order f road) k ≡ f car.lane car.place
 kth_is f road k below =
     let count = length-standing_from_lane 0 road.lanes in
@@ -85,7 +85,7 @@ same_cells (x ∷ xs) (y ∷ ys) size same =
     omega (arith, first, rest, a, b)
 
 -- a road keeps its cells in the lane change, and in the motion
-middle_cells : (change : Option CheckedProgram) (dice : Dice) (road middle : Cells) (changes : ℕ) → IsLaneChangePhase change dice road middle changes → all_cells middle ≡ all_cells road
+pub middle_cells : (change : Option CheckedProgram) (dice : Dice) (road middle : Cells) (changes : ℕ) → IsLaneChangePhase change dice road middle changes → all_cells middle ≡ all_cells road
 middle_cells None dice road middle changes phase = ap all_cells phase.0
 middle_cells (Some change) dice road middle changes phase =
     let crossed = phase.3 in

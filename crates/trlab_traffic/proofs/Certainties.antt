@@ -128,7 +128,7 @@ run_is_deterministic seed key number sheet (suc step) road sum all comes =
       },
     )
 
--- what holds of each instruction, one by one
+-- the property of each instruction, one by one
 abbrev EachOne : List Instr → Type 0
 EachOne [] = Unit {0}
 EachOne (instr ∷ code) = HasOneOutcome instr × EachOne code

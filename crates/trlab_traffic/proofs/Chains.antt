@@ -1,4 +1,4 @@
--- A ring as a chain of cells, cut open before its first cell: what one step makes of it, and the sums of all
+-- A ring as a chain of cells, cut open before its first cell: the chain after a step, and the sums of all
 -- weights that lead to a chain.
 use Rattle.std.proofs.Common.{◌≡◌, ℕ, zero, suc, ◌+◌, ◌*◌, Bool, true, false, not, ◌&&◌, ◌||◌, [], ◌∷◌, length, get_or, refl, ap, arith}
 use Rattle.std.specs.Bool.{beq}
@@ -18,7 +18,7 @@ abbrev pub kept : Bool → Bool → Bool → Bool
 kept own left came = (own && not left) || came
 
 module _ (t q : ℕ) where
-  -- what a cell weighs on the old ring
+  -- the weight of a cell on the old ring
   abbrev pub own_weight : Bool → Bool → ℕ
   own_weight false next = 1
   own_weight true false = t + q
@@ -109,7 +109,7 @@ module _ (t q : ℕ) where
   product e0 e1 false (true ∷ new) = (t + q) * (t + q) * product e0 e1 true new
   product e0 e1 true (true ∷ new) = (t + q) * t * product e0 e1 true new
 
-  -- the sums from an empty cell to which no car comes, whatever the next cell is
+  -- the sums from an empty cell to which no car comes, for any next cell
   abbrev pub open_sums : Bool → Bool → Ring → ℕ
   open_sums first last new = sums first last false false new + sums first last false true new
 

@@ -1,4 +1,4 @@
--- How many rings have so many cars, in so many clusters.
+-- The number of rings with a given number of cars in a given number of clusters.
 use Rattle.std.proofs.Common.{◌≡◌, ◌≢◌, ℕ, zero, suc, ◌+◌, ◌*◌, ◌<◌, Bool, true, false, not, ◌&&◌, cond, nat_eq, [], ◌∷◌, length, get_or, refl, sym, ◌∙◌, ap, inl, inr, arith}
 use Rattle.std.specs.Prelude.{count_by}
 use Rattle.std.proofs.lemmas.Bool.{cases_eq, eq-eqb, ne_eqb}
@@ -244,7 +244,7 @@ open_ends (suc n) (suc m) (suc e) (suc k) sum =
     let c = ap (λ x. x * choose (suc e) k) (choose_split m k) in
     record { by_taken = omega (arith, a, b, s, c); by_empty = omega (arith, a, d, t) }
 
--- the rings with so many cars and empty cells, and so many cars with an empty cell ahead
+-- the rings with m cars and e empty cells, k cars of which have an empty cell ahead
 abbrev pub picked_ring : ℕ → ℕ → ℕ → Ring → ℕ
 picked_ring m e k r = same (trues r) m * same (falses r) e * same (free (get_or r 0 false) r) k
 

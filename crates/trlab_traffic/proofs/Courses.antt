@@ -22,7 +22,7 @@ abbrev pub gap_of : Cells → Car → ℕ
 gap_of road car = gap (lane_of road car.lane) car.place
 
 -- the cars of a run at a step, by their numbers, each with how far it has gone: its gap is its gap at the
--- start, plus what the next car has gone, less what it has gone itself
+-- start, plus the distance of the next car, less its own distance
 pub record Course (seed : Seed) (sheet : Sheet) (next room : ℕ → ℕ) (step : ℕ) (road : Cells) (car : ℕ → Car) (far : ℕ → ℕ) : Type 0 where
   pub stands : (i : ℕ) → i < cars seed.road → IsAt road (car i)
   pub numbered : (i : ℕ) → i < cars seed.road → (car i).number ≡ i
@@ -38,7 +38,7 @@ module _ (old new : Cells) (speeds : ℕ → ℕ → ℕ) (moves : Moves speeds 
   abbrev pub moved : Car → Car
   moved car = car_after_motion old car (speeds car.lane car.place)
 
-  moved_stands : (car : Car) → IsAt old car → IsAt new (moved car)
+  pub moved_stands : (car : Car) → IsAt old car → IsAt new (moved car)
   moved_stands car here = (moves.each_lane car.lane (on_lane old car.lane car.place (car.number, car.speed) here)).arrives car.place car.number car.speed here
 
   moved_follows : (car next : Car) → IsAt old car → IsNextAhead old car next → IsNextAhead new (moved car) (moved next)
@@ -52,7 +52,7 @@ module _ (old new : Cells) (speeds : ℕ → ℕ → ℕ) (moves : Moves speeds 
             ∙ sym (next_place_after (speeds l) (lane_of old l) (lane_of new l) (moves.each_lane l on) (fits.each_lane l on) car.place car.number car.speed here);
       }
 
-  moved_gap : (car next : Car) → IsAt old car → IsNextAhead old car next → gap_of new (moved car) + goes car ≡ gap_of old car + goes next
+  pub moved_gap : (car next : Car) → IsAt old car → IsNextAhead old car next → gap_of new (moved car) + goes car ≡ gap_of old car + goes next
   moved_gap car next here follows =
       let l = car.lane in
       let on = on_lane old l car.place (car.number, car.speed) here in

@@ -1,4 +1,4 @@
--- What detectors count.
+-- The counts of detectors in a step.
 use Rattle.std.proofs.Common.{◌≡◌, ◌≢◌, ℕ, zero, suc, ◌+◌, ◌-◌, ◌%◌, ◌<◌, ◌≤◌, cond, is_some, Some, None, List, [], ◌∷◌, length, get_or, refl, sym, ◌∙◌, ap, inl, inr, arith, mod-eq_of_lt}
 use Rattle.std.specs.Prelude.{count_by, sum_by}
 use Rattle.std.specs.List.{range_with_len}
@@ -208,7 +208,7 @@ module _ (answer : ℕ → ℕ) (old new : Lane) (m : LaneMoves answer old new) 
         (λ z low apart. started_elsewhere z (at new z) refl (λ from e reach other at_from. apart (reach ∙ ap (λ k. ahead n k (answer k)) e)))
         ∙ one
 
-    -- what the detectors of a lane count, cell by cell
+    -- the counts of the detectors of a lane, cell by cell
     passages_are : (x : ℕ) → passages new x ≡ total (in_cell (passed x) new) n
     passages_are x =
         ap (λ k. count_by (passes k x) (standing_from 0 0 new)) m.same_length

@@ -1,4 +1,4 @@
--- What detectors count in runs.
+-- The counts of detectors in runs.
 use Rattle.std.proofs.Common.{◌≡◌, ℕ, zero, suc, ◌+◌, ◌<◌, ◌≤◌, Bool, true, false, cond, length, min, refl, sym, ◌∙◌, ap, subst, arith, ◌-◌, ◌*◌, ◌%◌, inl, inr, suc-mul, if◌then◌else◌}
 use Rattle.std.specs.Prelude.{nat_le, sum_by}
 use Rattle.std.specs.List.{range_with_len}
@@ -35,7 +35,7 @@ count_exists seed sheet (suc step) road sum l x comes =
     let count = if nat_le seed.warm step then before.0 + passages (lane_of road l) x else before.0 in
     (count, (road, before.0, (sum, comes), before.1, refl))
 
--- what a detector counts in one step more
+-- the count of a detector in one more step
 pub counts_on : (seed : Seed) (sheet : Sheet) (step : ℕ) (road : Cells) (l x count : ℕ) → IsRoadAt seed sheet (suc step) road → DetectorHasCounted seed sheet l x (suc step) count
     → (before : ℕ) × (DetectorHasCounted seed sheet l x step before × (count ≡ (if nat_le seed.warm step then before + passages (lane_of road l) x else before)))
 counts_on seed sheet step road l x count here counts =
@@ -181,7 +181,7 @@ detectors_agree_by_cars seed sheet step road sum l x k first second nobody comes
           record { no_less = no_less; no_more = no_more }
     ]
 
--- sums of what detectors count
+-- sums of the counts of detectors
 sum_both : (f g h : ℕ → ℕ) (s k : ℕ) → ((x : ℕ) → f x ≡ g x + h x) → sum_by f (range_with_len s k) ≡ sum_by g (range_with_len s k) + sum_by h (range_with_len s k)
 sum_both f g h s k each =
     let same = total_same (λ x. f (s + x)) (λ x. g (s + x) + h (s + x)) k (λ x low. each (s + x)) in

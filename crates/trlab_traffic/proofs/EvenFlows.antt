@@ -151,7 +151,7 @@ as_queue lane t g late cruise = record {
   most = cruise.most;
 }
 
--- the regime of dense traffic on so many cells
+-- the regime of dense traffic
 dense : (limit count cells g : ℕ) → g + 1 ≤ limit → 0 < count → Regime limit (cells - count) count limit
 dense limit count cells g fast some = record {
   Holds = λ t lane. (length lane ≡ cells) × Dense t g lane;

@@ -50,7 +50,7 @@ module _ (cells n : ℕ) (lane : Lane) (even : IsEvenlySpacedLane 1 cells n 0 la
   pub stands : (i : ℕ) → i < n → at lane (place cells n i) ≡ Some (i, 0)
   stands i low = subst (λ k. at lane k ≡ Some (i, 0)) (place_is cells n i) (even.stands i low (lane_is cells n i))
 
-  -- a car of the lane is one of the n, stands at its place, and is stopped
+  -- a car of the lane is one of the n, is at its place, and is stopped
   pub record IsOne (x number speed : ℕ) : Type 0 where
     pub low : number < n
     pub at_place : place cells n number ≡ x
@@ -66,7 +66,7 @@ module _ (cells n : ℕ) (lane : Lane) (even : IsEvenlySpacedLane 1 cells n 0 la
         stopped = (some_pair_parts number number speed 0 (sym here ∙ sym (ap (at lane) to) ∙ stands number is.numbered)).1;
       }
 
-  -- so far ahead of a car stands no other
+  -- this far ahead of a car there is no other
   pub gap_low : (x number speed : ℕ) → at lane x ≡ Some (number, speed) → cells / n ≤ gap lane x + 1
   gap_low x number speed here =
       let i = number in

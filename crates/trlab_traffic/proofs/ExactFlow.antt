@@ -177,7 +177,7 @@ to_range f m =
     ∙ total_same (λ x. f (0 + x)) f (m + 1) (λ x low. let z : 0 + x ≡ x = omega arith in ap f z)
     ∙ ap (total f) e)
 
--- the rings with so many cars
+-- the rings with m cars
 picked_sum : (m : ℕ) (f : Ring → ℕ) (n : ℕ) → sum_by (λ (r : Ring). if nat_eq (size r) m then f r else 0) (all_rings n) ≡ rings n (λ (r : Ring). same (trues r) m * f r)
 picked_sum m f n =
     let g : Ring → ℕ = λ r. if nat_eq (size r) m then f r else 0 in
@@ -187,7 +187,7 @@ picked_sum m f n =
     let turn : f r * same (trues r) m ≡ same (trues r) m * f r = omega arith in
     chosen (nat_eq (size r) m) (f r) ∙ ap (λ k. f r * bit (nat_eq k m)) (size_is r) ∙ ap (λ k. f r * k) (same_is (trues r) m) ∙ turn)
 
--- what holds of rings with m cars
+-- sums over the rings with m cars
 where_same : (a m x y : ℕ) → (a ≡ m → x ≡ y) → same a m * x ≡ same a m * y
 where_same a m x y so =
     elim (cases_eq a m) [

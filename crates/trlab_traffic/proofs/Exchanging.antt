@@ -44,7 +44,7 @@ module _ (road : Cells) (car : Car) (here : IsAt (exchange_lanes road) car) wher
   pub on : car.lane < 2
   on = on_lane (exchange_lanes road) car.lane car.place (car.number, car.speed) here
 
-  -- a car of the exchanged road stands on the other lane of the road
+  -- a car of the exchanged road is on the other lane of the road
   pub stood : IsAt road (car_after_crossing car)
   stood = subst (λ (lane : Lane). at lane car.place ≡ Some (car.number, car.speed)) (lane_exchanged road car.lane on) here
 

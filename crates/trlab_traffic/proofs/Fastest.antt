@@ -1,4 +1,4 @@
--- Nobody is faster: two runs from one start, by what their cars answer.
+-- Nobody is faster: two runs from one start, by the answers of their cars.
 use Rattle.std.proofs.Common.{◌≡◌, ℕ, zero, suc, ◌+◌, ◌≤◌, ◌⊎◌, Bool, true, false, min, refl, sym, ◌∙◌, ap, subst, inl, inr, arith, nat_eq, if◌then◌else◌}
 use Rattle.std.specs.Prelude.{List, slice_index}
 use Rattle.std.proofs.lemmas.Bool.{cases_lt}
@@ -32,7 +32,7 @@ use Rattle.trlab_traffic.proofs.NaschMoves.{never}
 use Rattle.trlab_traffic.proofs.Races.{no_faster}
 use Rattle.trlab_traffic.proofs.Slower.{more_happens}
 
--- a sheet of one rule has what the rule has
+-- a sheet of one rule has the properties of the rule
 pub always_so : (P : Programs → Type 0) (rule : Programs) → P rule → EachRule P (always rule)
 always_so P rule so zero d below = so
 always_so P rule so (suc k) d below = absurd (omega (arith, below))
@@ -186,13 +186,13 @@ record BrakeAnswers (ga a gb b : ℕ) : Type 0 where
   slower : ga ≤ gb → a ≤ b
 
 -- a car that brakes by a smaller chance, or has more room, goes as far
-brakes_more : (c d : Bool) (va ga vb gb : ℕ) → (d ≡ true → c ≡ true) → ga ≤ gb → brake c (min (min (va + 1) 1) ga) ≤ brake d (min (min (vb + 1) 1) gb)
+pub brakes_more : (c d : Bool) (va ga vb gb : ℕ) → (d ≡ true → c ≡ true) → ga ≤ gb → brake c (min (min (va + 1) 1) ga) ≤ brake d (min (min (vb + 1) 1) gb)
 brakes_more true true va ga vb gb so room = omega (arith, room)
 brakes_more true false va ga vb gb so room = omega (arith, room)
 brakes_more false true va ga vb gb so room = let e = so refl in absurd cc
 brakes_more false false va ga vb gb so room = omega (arith, room)
 
--- a rule whose cars brake by a chance that is never smaller, whatever their speeds are
+-- a rule whose cars brake by a chance that is never smaller, for any speed
 braking_slows : (p : ℕ) (chance : ℕ → ℕ) (light heavy : Programs) (seed : Seed) (step : ℕ) → ((speed : ℕ) → p ≤ chance speed) → IsNasch p light
     → ComputesSpeed (λ view words. nasch_speed (chance view.speed) view words) heavy.motion.program → StaysInLane heavy → IsLegal seed.road → seed.road.limit ≡ 1
     → IsNoFaster seed (always heavy) (always light) step

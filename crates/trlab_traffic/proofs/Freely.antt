@@ -77,7 +77,7 @@ module _ (v : ℕ) (answer : ℕ → ℕ) (old new : Lane) (m : LaneMoves answer
       let came = m.nothing_else y number speed there in
       came.1.1.at_speed ∙ goes came.0 number came.1.0 came.1.1.was
 
-  -- and each cell so far ahead has what it had, where the cars went as far before
+  -- and each cell this far ahead has the content of the cell, if all cars went as far
   module _ (fast : (x number speed : ℕ) → at old x ≡ Some (number, speed) → speed ≡ v) where
     cell_ahead : (x : ℕ) → x < length old → at new (ahead (length old) x v) ≡ at old x
     cell_ahead x low = of_cells (at old x) refl (at new (ahead (length old) x v)) refl

@@ -99,7 +99,7 @@ module _ (answer : ℕ → ℕ) (old new : Lane) (m : LaneMoves answer old new) 
           let reach : ahead (length old) q (answer q) ≡ ahead (length old) q k = sym (came.1.1.reaches ∙ ap (λ i. ahead (length old) i (answer i)) same) in
           absurd (differs (same_way (length old) q (answer q) k (omega (arith, own, short)) (omega (arith, room, short)) reach))
 
-  -- the gap of a car grows by what the next one goes, and falls by what it goes itself
+  -- the gap of a car grows by the next car's distance, and falls by its own
   pub gap_after : (x number speed : ℕ) → at old x ≡ Some (number, speed) → gap new (ahead (length old) x (answer x)) ≡ gap old x - answer x + answer (next_place old x)
   gap_after x number speed here =
       let n = length old in
@@ -142,7 +142,7 @@ module _ (answer : ℕ → ℕ) (old new : Lane) (m : LaneMoves answer old new) 
       let taken : is_some (at new (ahead (length new) y (far + 1))) ≡ true = ap (λ k. is_some (at new k)) end ∙ ap is_some (m.arrives p next.0.0 next.0.1 next.1) in
       ends_before new (ahead (length new) y) far (omega (arith, fits_in, size)) (clear_from new (ahead (length new) y) far clear) taken
 
--- what a car goes is what is said of it
+-- a car moves by the speed that is stated for it
 goes_so : (old new : Cells) (speeds : ℕ → ℕ → ℕ) (car : Car) (v : ℕ) → IsLegal new → IsAt new (car_after_motion old car (speeds car.lane car.place)) → IsAt new (car_after_motion old car v) → speeds car.lane car.place ≡ v
 goes_so old new speeds car v legal here there =
     let same = (legal.once (car_after_motion old car (speeds car.lane car.place)) (car_after_motion old car v) here there refl).1 in

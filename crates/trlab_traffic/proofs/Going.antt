@@ -54,7 +54,7 @@ each_car_has_gone seed sheet (suc step) road sum number legal comes low =
     let found = all_present road like.legal number (omega (arith, low, count)) in
     (before.0 + found.0.speed, (road, found.0, before.0, (sum, comes), found.1.0, found.1.1, before.1, refl))
 
--- what a car has gone in one step more
+-- the distance of a car in one more step
 record OneMore (seed : Seed) (sheet : Sheet) (step : ℕ) (road : Cells) (i far : ℕ) (before : ℕ) : Type 0 where
   car : Car
   here : IsAt road car

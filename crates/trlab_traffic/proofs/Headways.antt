@@ -81,7 +81,7 @@ module _ (answer : ℕ → ℕ) (old new : Lane) (m : LaneMoves answer old new) 
       let place : ahead n x 1 ≡ ahead n p.from (w + 1) = ap (λ k. ahead n k 1) (sym (way_reaches n p.from x inside_ring low)) ∙ ahead_more n p.from w 1 in
       ap (at old) place ∙ clear
 
-  -- who passes a detector stands within the limit ahead of it
+  -- a car that passes a detector is within the limit ahead of it
   record Ends (limit x : ℕ) : Type 0 where
     on : ℕ
     some : 1 ≤ on
@@ -199,7 +199,7 @@ module _ (seed : Seed) (sheet : Sheet) (legal : IsLegal seed.road) (nobody : Eac
       let stands = one_ahead lane y in
       omega (arith, one, same, stands)
 
-  -- a step does not pass so many detectors in a row
+  -- a car passes at most as many detectors in a row as the limit
   not_all : (t x : ℕ) → x < n → ((j : ℕ) → j ≤ seed.road.limit → Passed t (ahead n x j)) → ⊥
   not_all t x low each =
       let first = each 0 (omega arith) in

@@ -54,7 +54,7 @@ reached w s (suc t) x =
           (suc j, record { low = omega (arith, low); is = (let k : max (height w s t x + 1) (height w s t (x + s)) ≡ total w (x + s * suc j) + (suc t - suc j) = omega (arith, more, low, is) in k) })
     ]
 
--- sums of what comes again each round
+-- sums of values that come again each round
 module _ (w : ℕ → ℕ) (n : ℕ) (again : (x : ℕ) → w (x + n) ≡ w x) where
   one_round : (x : ℕ) → total w (x + n) ≡ total w x + total w n
   one_round zero = let e : 0 + n ≡ n = omega arith in ap (total w) e ∙ (let k : total w n ≡ 0 + total w n = omega arith in k)
@@ -92,7 +92,7 @@ module _ (w : ℕ → ℕ) (n : ℕ) (again : (x : ℕ) → w (x + n) ≡ w x) w
       let all = one_round x in
       omega (arith, more, f, all)
 
-  -- where there is room for so many cells a car, heights rise by no more than one over so many cells, once each car
+  -- if there is room for this number of cells per car, heights rise by no more than one over these cells, once each car
   -- had a step
   pub rises_slowly : (s t x : ℕ) → s * total w n ≤ n → total w n ≤ t + 1 → 1 ≤ total w n → height w s t (x + s) ≤ height w s t x + 1
   rises_slowly s t x few round some =
@@ -132,7 +132,7 @@ module _ (w : ℕ → ℕ) (n : ℕ) (again : (x : ℕ) → w (x + n) ≡ w x) w
         let most = one (a + d) in
         omega (arith, f, last, rest, most)
 
-    -- so many cells for each of some cars have as many cars
+    -- this number of cells for each of some cars holds as many cars
     enough : (v q x : ℕ) → q ≤ total w n → n ≤ total w n + v * q → total w x + q ≤ total w (x + suc v * q)
     enough v q x low soon =
         elim (cases_lt (suc v * q) n) [

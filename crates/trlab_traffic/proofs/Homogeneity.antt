@@ -48,7 +48,7 @@ module _ (r : ℕ) (road : Cells) (car : Car) (here : IsAt (rotate_road r road) 
   some_cell : 0 < length (lane_of road car.lane)
   some_cell = let low = place_low in omega (arith, low)
 
-  -- it stands there
+  -- it is there
   pub stood : IsAt road (car_before r road car)
   stood = sym (turned_at r (lane_of road car.lane) car.place place_low) ∙ on_own
 

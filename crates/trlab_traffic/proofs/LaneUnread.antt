@@ -13,7 +13,7 @@ use Rattle.trlab_code.specs.declared.view.View.{View}
 use Rattle.trlab_code.specs.Machine.{Answer, At, Done, Effect, EndsFrom, EndsWith, Ends, Falls, Flag, Goes, Jumps, MachineState, Sticks, Store, Stuck, Value, Writes, allows, effect, end_if, execute, jump_if, on_any, on_flag, on_number, variable_number, start, state_after, step, update, write_difference, write_u32, Number}
 use Rattle.trlab_traffic.specs.Symmetry.{reads_lane}
 
--- two stores differ in what they hold of the lane alone
+-- two stores differ only in the lane
 record Alike (s t : Store) : Type 0 where
   registers : (r : Register) → s (variable.Register r) ≡ t (variable.Register r)
   inputs : (d : Register) (k : Input) → reads_lane (Get d k) ≡ false → s (variable.Input k) ≡ t (variable.Input k)

@@ -69,7 +69,7 @@ module _ (limit : ℕ) (answer : ℕ → ℕ) (old new : Lane) (some_limit : 1 �
     beyond : ahead (length old) y 1 ≡ suc (p + limit) % length old
     beyond = mod-add-mod (p + limit) (length old) 1 ∙ (let e : p + limit + 1 ≡ suc (p + limit) = omega arith in ap (λ k. k % length old) e)
 
-    -- what a step does to the place, by the cars of so many cells behind it
+    -- the effect of a step on the place, by the cars of some cells behind it
     abbrev Balance : ℕ → ℕ → ℕ → Type 0
     Balance o c after = after + min (window d (suc p) limit) (1 - c) ≡ o + min (window d p limit) (1 - o)
 
@@ -212,7 +212,7 @@ module _ (limit : ℕ) (answer : ℕ → ℕ) (old new : Lane) (some_limit : 1 �
               omega (arith, empty, none, none_next)
         ])
 
--- a lane that has leapt for so many steps: its cars are the slope of the heights
+-- a lane that has leapt for a number of steps: its cars are the slope of the heights
 pub record Leaps (limit : ℕ) (first lane : Lane) (t : ℕ) : Type 0 where
   pub same_length : length lane ≡ length first
   pub slope : (x : ℕ) → height (digit_at first) (suc limit) t (suc x) ≡ height (digit_at first) (suc limit) t x + digit_at lane (x + limit * t)

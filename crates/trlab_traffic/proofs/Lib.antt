@@ -20,22 +20,25 @@ pub mod LaneGaps
 pub mod Jamming
 pub mod NextCars
 pub mod Queues
+pub mod Outflow
 -- runs that are compared, car by car
 pub mod Numbering
 pub mod Going
 pub mod Courses
 pub mod Races
 pub mod Fastest
+pub mod Attractiveness
 pub mod Newell
 -- lane changes
 pub mod SafeChanges
--- what makes no difference
+-- symmetries
 pub mod Turning
 pub mod TurnedSums
 pub mod Homogeneity
 pub mod LaneUnread
 pub mod Exchanging
 pub mod LanesApart
+pub mod LightCone
 pub mod Certainties
 pub mod Pigeonhole
 pub mod Periods
@@ -51,6 +54,7 @@ pub mod RingMotion
 pub mod RingWords
 pub mod Clusters
 pub mod ExactFlow
+pub mod Uniqueness
 -- the fundamental diagram without randomization
 pub mod Regimes
 pub mod EvenGaps
@@ -62,14 +66,14 @@ pub mod Leaping
 pub mod Readiness
 pub mod Waves
 pub mod Classification
--- what detectors count
+-- the counts of detectors
 pub mod Detecting
 pub mod OnePassage
 pub mod FewCars
 pub mod DetectingRuns
 pub mod Headways
 pub mod Rows
--- what random braking costs
+-- random braking
 pub mod Braking
 -- how soon the triangle is reached
 pub mod Sooner

@@ -34,7 +34,7 @@ next_place_after answer old new m fits x number speed here =
     ∙ ap (ahead n x) e
     ∙ sym (ahead_more n x (g + 1) b)
 
--- where the next car stands
+-- the place of the next car
 next_there : (road : Cells) (car next : Car) → IsNextAhead road car next → IsAt road next → at (lane_of road car.lane) (next_place (lane_of road car.lane) car.place) ≡ Some (next.number, next.speed)
 next_there road car next follows there =
     sym (ap (λ l. at (lane_of road l) next.place) follows.same_lane ∙ ap (at (lane_of road car.lane)) follows.ahead) ∙ there

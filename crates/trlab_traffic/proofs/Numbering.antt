@@ -113,7 +113,7 @@ total_le f g (suc n) each =
     let rest = total_le (λ i. f (suc i)) (λ i. g (suc i)) n (λ i low. each (suc i) (omega (arith, low))) in
     omega (arith, first, rest)
 
--- what is said of the cars of a road by their numbers is said of them in standing order
+-- a sum over the cars of a road by their numbers is the sum in standing order
 pub sum_of_standing : (g : Car → ℕ) (f : ℕ → ℕ) (road : Cells) → IsLegal road → ((car : Car) → IsAt road car → g car ≡ f car.number) → sum_by g (standing road) ≡ total f (cars road)
 sum_of_standing g f road legal same =
     same_sum (standing road) (λ k low. same (get_or (standing road) k no_one) (standing_cell road k no_one (let size = length-standing_from_lane 0 road.lanes in omega (arith, low, size))))

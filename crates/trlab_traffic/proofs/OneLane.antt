@@ -1,4 +1,4 @@
--- Roads of one lane: what is so of each lane, and what is summed over lanes.
+-- Roads of one lane: properties of each lane, and sums over lanes.
 use Rattle.std.proofs.Common.{◌≡◌, ℕ, ◌+◌, ◌<◌, List, [], ◌∷◌, length, get_or, ◌∙◌, ap, subst, arith}
 use Rattle.std.specs.Prelude.{sum_by}
 use Rattle.std.proofs.lemmas.List.Sums.{sum_by-cons}
@@ -10,7 +10,7 @@ one_sum g [] one = absurd (omega (arith, one))
 one_sum g (lane ∷ []) one = let e = sum_by-cons g lane [] in omega (arith, e)
 one_sum g (lane ∷ other ∷ rest) one = absurd (omega (arith, one))
 
--- what is so of the first lane is so of each
+-- a property of the first lane is one of each
 pub only_lane : (P : ℕ → Type 0) (lanes : List Lane) → length lanes ≡ 1 → P 0 → (l : ℕ) → l < length lanes → P l
 only_lane P lanes one first l low = let e : 0 ≡ l = omega (arith, low, one) in subst P e first
 

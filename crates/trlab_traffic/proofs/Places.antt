@@ -16,7 +16,7 @@ ahead_below n x j some = mod-lt (x + j) some
 pub ahead_none : (n x : ℕ) → x < n → ahead n x 0 ≡ x
 ahead_none n x low = let e : x + 0 ≡ x = omega arith in ap (λ k. k % n) e ∙ mod-eq_of_lt low
 
--- so many cells ahead, and then so many more
+-- a number of cells ahead, and then some more
 pub ahead_more : (n x i j : ℕ) → ahead n (ahead n x i) j ≡ ahead n x (i + j)
 ahead_more n x i j = let e : x + i + j ≡ x + (i + j) = omega arith in mod-add-mod (x + i) n j ∙ ap (λ k. k % n) e
 

@@ -26,7 +26,7 @@ use Rattle.trlab_traffic.proofs.NaschMoves.{SafeMotion, safe_motion}
 use Rattle.trlab_traffic.proofs.Places.{ahead_more, ahead_none, clear_is_gap, gap_below}
 use Rattle.trlab_traffic.proofs.RunLanes.{run_lanes}
 
--- what a taken cell has
+-- the car of a taken cell
 taken_car : (c : Cell) → is_some c ≡ true → (car : ℕ × ℕ) × (c ≡ Some car)
 taken_car None h = absurd cc
 taken_car (Some car) h = (car, refl)
@@ -63,7 +63,7 @@ row_on : (lane : Lane) (p j : ℕ) → Row lane p (suc j) → Row lane (ahead (l
 row_on lane p j row i most = ap (is_taken lane) (ahead_more (length lane) p 1 i) ∙ row (1 + i) (omega (arith, most))
 
 -- a car behind a taken cell has no gap
-no_gap : (lane : Lane) (p : ℕ) (next : ℕ × ℕ) → at lane (ahead (length lane) p 1) ≡ Some next → gap lane p ≡ 0
+pub no_gap : (lane : Lane) (p : ℕ) (next : ℕ × ℕ) → at lane (ahead (length lane) p 1) ≡ Some next → gap lane p ≡ 0
 no_gap lane p next there =
     let low = inside lane (ahead (length lane) p 1) next there in
     ends_before lane (ahead (length lane) p) 0 (omega (arith, low)) refl (ap is_some there)
@@ -112,12 +112,12 @@ queue_waits seed sheet step road x n j car nobody queued some most is =
     let now = waits seed sheet nobody l step road car.place j car.number car.speed row queued.on_road most is in
     subst (λ v. at (lane_of road l) car.place ≡ Some (car.number, v)) (now.stopped some) now.here
 
--- a car with a gap moves, whatever its speed and the limit
+-- a car with a gap moves, for any speed and limit
 goes : (speed limit gap : ℕ) → 1 ≤ limit → 1 ≤ gap → 1 ≤ safe_speed speed limit gap
 goes speed limit gap some room = omega (arith, some, room)
 
 -- by one cell, if it was stopped
-goes_one : (limit gap : ℕ) → 1 ≤ limit → 1 ≤ gap → safe_speed 0 limit gap ≡ 1
+pub goes_one : (limit gap : ℕ) → 1 ≤ limit → 1 ≤ gap → safe_speed 0 limit gap ≡ 1
 goes_one limit gap some room = omega (arith, some, room)
 
 module _ (seed : Seed) (rule : Programs) (nasch : IsNasch 0 rule) (legal : IsLegal seed.road) (l : ℕ) where

@@ -35,8 +35,8 @@ pub record Pair (seed : Seed) (slow fast : Sheet) (step : ℕ) (road other : Cel
   pub within_gap : v ≤ gap_of road a
   pub other_within_gap : w ≤ gap_of other b
 
--- what the answers of two such cars are, by their speeds and gaps; and what is kept of two cars: the speed of the slow
--- one and how far it has gone; the speed, the gap and how far the fast one has gone, with the speed of its next car
+-- a relation of the answers of two such cars, by their speeds and gaps; and one that steps keep: of the slow car's speed
+-- and distance, and of the fast car's speed, gap and distance, with the speed of its next car
 module _ (seed : Seed) (legal : IsLegal seed.road) (start : Start seed.road) (slow fast : Sheet) (stays : EachRule StaysInLane slow) (others_stay : EachRule StaysInLane fast)
     (Goes : ℕ → ℕ → ℕ → ℕ → ℕ → ℕ → Type 0)
     (answered : (step : ℕ) (road other : Cells) (a b : Car) (v w : ℕ) → Pair seed slow fast step road other a b v w → Goes a.speed (gap_of road a) v b.speed (gap_of other b) w)

@@ -123,7 +123,7 @@ module _ (limit : ℕ) (answer : ℕ → ℕ) (old new : Lane) (m : LaneMoves an
         subst (λ v. Quick limit (suc t) v (gap new y)) (sym f.at_speed) q;
   }
 
--- a lane that has leapt for so many steps from some lane of its cells and cars
+-- a lane that has leapt for a number of steps, from some lane with its numbers of cells and cars
 pub record Leaping (limit cells count k : ℕ) (lane : Lane) : Type 0 where
   first : Lane
   size : length first ≡ cells

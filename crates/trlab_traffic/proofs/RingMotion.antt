@@ -1,4 +1,4 @@
--- With the limit 1 a step of the rule of 1992 is a step of the ring of each lane, in which the cars brake that their words say.
+-- With the limit 1 a step of the rule of 1992 is a step of the ring of each lane, in which those cars brake that do so on their words.
 use Rattle.std.proofs.Common.{◌≡◌, ℕ, zero, suc, ◌+◌, ◌-◌, ◌<◌, min, Bool, true, false, not, ◌&&◌, ◌||◌, cond, Some, None, [], ◌∷◌, length, is_some, refl, sym, ◌∙◌, ap, subst, arith}
 use Rattle.std.proofs.lemmas.List.FromFn.{fill_by_all}
 use Rattle.trlab_words.specs.Chances.{happens_on}
@@ -46,7 +46,7 @@ going braking lane x = is_some (at lane x) && not (is_some (at lane (ahead (leng
 
 module _ (braking : ℕ → Bool) (answer : ℕ → ℕ) (old new : Lane) (m : LaneMoves answer old new)
     (goes : (x number speed : ℕ) → at old x ≡ Some (number, speed) → answer x ≡ brake (braking x) (min 1 (gap old x))) where
-  -- what a car answers
+  -- the answer of a car
   answers : (x : ℕ) (car : ℕ × ℕ) (next : Cell) (b : Bool) → at old x ≡ Some car → at old (ahead (length old) x 1) ≡ next → braking x ≡ b
       → answer x ≡ cond (not (is_some next) && not b) 1 0
   answers x car None false here there is =

@@ -76,7 +76,7 @@ size_is (true ∷ r) =
     let rest = size_is r in
     omega (arith, a, rest)
 
--- what the braking of a cell's car weighs, and that of a set of cars
+-- the weight of the braking of a cell's car, and of that of a set of cars
 abbrev pub draw_weight : ℕ → ℕ → Bool → Bool → ℕ
 draw_weight t q false brake = 1
 draw_weight t q true false = q
@@ -87,7 +87,7 @@ set_weight t q [] _ = 1
 set_weight t q (own ∷ ring) [] = 1
 set_weight t q (own ∷ ring) (brake ∷ set) = draw_weight t q own brake * set_weight t q ring set
 
--- what is known of a set of cars
+-- properties of a set of cars
 pub record IsCarSet (ring set : Ring) : Type 0 where
   pub long : length set ≡ length ring
   pub few : trues set ≤ trues ring

@@ -146,22 +146,25 @@ step_weights_count_words p words old new low size_of =
     if_weight : Ring → ℕ
     if_weight s = cond (is_same (ring_after old s) new) (braking_weight p old s) 0
 
--- where a step leads to a ring, it has as many cars
-as_many : (b : Bool) (m n w : ℕ) → (b ≡ true → m ≡ n) → 2 ^ m * (w * bit b) ≡ 2 ^ n * (w * bit b)
-as_many false m n w so = omega arith
-as_many true m n w so = ap (λ k. 2 ^ k * (w * 1)) (so refl)
+-- if a step leads to a ring, both rings have as many cars
+as_many : (factor : ℕ → ℕ) (b : Bool) (m n w : ℕ) → (b ≡ true → m ≡ n) → factor m * (w * bit b) ≡ factor n * (w * bit b)
+as_many factor false m n w so = none (factor m) (factor n) w
+  where
+    none : (i j w : ℕ) → i * (w * 0) ≡ j * (w * 0)
+    none i j w = omega arith
+as_many factor true m n w so = ap (λ k. factor k * (w * 1)) (so refl)
 
-by_new : (p : ℕ) (old new : Ring) → 2 ^ trues old * step_weight p old new ≡ 2 ^ trues new * step_weight p old new
-by_new p old new =
+pub by_new : (factor : ℕ → ℕ) (p : ℕ) (old new : Ring) → factor (trues old) * step_weight p old new ≡ factor (trues new) * step_weight p old new
+by_new factor p old new =
     let first = get_or old 0 false in
     let after : Ring → Ring = λ s. cells first (leaving first false old s) old s in
     let f : Ring → ℕ = λ s. set_weight p (CERTAIN - p) old s * bit (is_same (after s) new) in
-    ap (λ x. 2 ^ trues old * x) (step_is p old new)
-    ∙ sym (sets_times old (2 ^ trues old) f)
-    ∙ sets_same old (λ (s : Ring). 2 ^ trues old * f s) (λ (s : Ring). 2 ^ trues new * f s)
-    (λ s is. as_many (is_same (after s) new) (trues old) (trues new) (set_weight p (CERTAIN - p) old s) (λ h. sym (cells_kept old s is.long) ∙ same_size (after s) new h))
-    ∙ sets_times old (2 ^ trues new) f
-    ∙ ap (λ x. 2 ^ trues new * x) (sym (step_is p old new))
+    ap (λ x. factor (trues old) * x) (step_is p old new)
+    ∙ sym (sets_times old (factor (trues old)) f)
+    ∙ sets_same old (λ (s : Ring). factor (trues old) * f s) (λ (s : Ring). factor (trues new) * f s)
+    (λ s is. as_many factor (is_same (after s) new) (trues old) (trues new) (set_weight p (CERTAIN - p) old s) (λ h. sym (cells_kept old s is.long) ∙ same_size (after s) new h))
+    ∙ sets_times old (factor (trues new)) f
+    ∙ ap (λ x. factor (trues new) * x) (sym (step_is p old new))
 
 pub weights_are_stationary_over_words : WeightsAreStationaryOverWords
 weights_are_stationary_over_words p words new low size_of =
@@ -173,10 +176,10 @@ weights_are_stationary_over_words p words new low size_of =
     ∙ rings_same n f (λ (old : Ring). 2 ^ trues new * g old)
     (λ old long.
     let order : stationary_weight p old * (2 ^ trues new * step_weight p old new) ≡ 2 ^ trues new * (stationary_weight p old * step_weight p old new) = omega arith in
-    ap (λ x. stationary_weight p old * x) (step_weights_count_words p words old new low size_of ∙ ap (λ k. 2 ^ k * step_weight p old new) (size_is old) ∙ by_new p old new)
+    ap (λ x. stationary_weight p old * x) (step_weights_count_words p words old new low size_of ∙ ap (λ k. 2 ^ k * step_weight p old new) (size_is old) ∙ by_new (λ k. 2 ^ k) p old new)
     ∙ order)
     ∙ rings_times n (2 ^ trues new) g
-    ∙ ap (λ x. 2 ^ trues new * x) (sym (rings_sum n g) ∙ weights_are_stationary p new low)
+    ∙ ap (λ x. 2 ^ trues new * x) (sym (rings_sum n g) ∙ weights_are_stationary p low new)
     ∙ turn (2 ^ trues new) (CERTAIN ^ size new) (stationary_weight p new)
     ∙ ap (λ k. 2 ^ k * CERTAIN ^ size new * stationary_weight p new) (sym (size_is new))
     ∙ ap (λ x. x * stationary_weight p new) (sym (mul-pow 2 CERTAIN (size new)))
@@ -185,7 +188,7 @@ weights_are_stationary_over_words p words new low size_of =
     turn : (a b c : ℕ) → a * (b * c) ≡ a * b * c
     turn a b c = omega arith
 
--- what a list holds, its image holds
+-- the image of a list holds the images of its entries
 in_map : {X Y : Type 0} (f : X → Y) (xs : List X) (x : X) (k : ℕ) → k < length xs → get_or xs k x ≡ x → Contains (map f xs) (f x)
 in_map f [] x k low is = absurd (omega (arith, low))
 in_map f (y ∷ ys) x zero low is = (0, omega arith, ap f is)

@@ -136,7 +136,7 @@ module _ (seed : Seed) (sheet : Sheet) (legal : IsLegal seed.road) (x k : ℕ) (
   nothing : (y step : ℕ) (count : ℕ → ℕ) → step ≤ seed.warm → ((l : ℕ) → DetectorHasCounted seed sheet l y step (count l)) → total count m ≡ 0
   nothing y step count early counts = total_none count m (λ l on. none_counted seed sheet l y step (count l) early (counts l))
 
-  -- what the detectors of a place count in one step more
+  -- the counts of the detectors of a place in one more step
   one_on : (y step : ℕ) (road : Cells) (count before : ℕ → ℕ) → length road.lanes ≡ m → ((l : ℕ) → count l ≡ before l + passages (lane_of road l) y) → total count m ≡ total before m + sum_by (λ (lane : Lane). passages lane y) road.lanes
   one_on y step road count before size each =
       let same = total_same count (λ l. before l + passages (lane_of road l) y) m (λ l on. each l) in
@@ -214,7 +214,7 @@ between (lane ∷ lanes) x k round =
     let i = suc-mul (length lanes) k in
     record { most = omega (arith, a, d, f, g); within = omega (arith, b, short, f, i); least = omega (arith, c, e, f, h, i) }
 
--- two counts that differ by what two numbers of cars do
+-- two counts that differ as two numbers of cars do
 apart : (first second now before n e w : ℕ) → now + second ≡ before + first → now ≤ n → now ≤ w → w ≤ now + e → before ≤ n → before ≤ w → w ≤ before + e → DifferByAtMost (min n e) first second
 apart first second now before n e w all a b c d f g =
     let less : first ≤ second + min n e = omega (arith, all, a, b, c, d, f, g) in
@@ -224,7 +224,7 @@ apart first second now before n e w all a b c d f g =
 none_apart : (first second k : ℕ) → first ≡ 0 → second ≡ 0 → DifferByAtMost k first second
 none_apart first second k a b = record { no_less = omega (arith, a, b); no_more = omega (arith, a, b) }
 
--- what is known of a road of the run
+-- properties of a road of the run
 record OnRoad (seed : Seed) (road : Cells) (x k : ℕ) : Type 0 where
   most : cars_ahead_of_row road x k ≤ cars seed.road
   within : cars_ahead_of_row road x k ≤ length seed.road.lanes * k

@@ -29,7 +29,7 @@ use Rattle.trlab_step.specs.declared.tally.StepTally.{StepTally}
 use Rattle.trlab_step.specs.Answers.{AnswersCrossings, change_view_of, motion_view_of}
 use Rattle.trlab_step.specs.Next.{IsLaneChangePhase, IsMotionPhase, IsNext, stopped_cars, total_speed}
 use Rattle.trlab_step.proofs.AnswersExist.{change_view_is_view}
-use Rattle.trlab_traffic.specs.SafeChanges.{ChangesSafely, HasSafeChanges, IsAsFast, IsSafeToCross, RickertChangesSafely, SafeChangesCostNobody, SafeChangesCostNobodyInVdr}
+use Rattle.trlab_traffic.specs.SafeChanges.{ChangesSafely, HasSafeChanges, IsNoSlowerStep, IsSafeToCross, RickertChangesSafely, SafeChangesCostNobody, SafeChangesCostNobodyInVdr}
 use Rattle.trlab_traffic.proofs.AnyRule.{crossings_free, middle_like, next_legal_like}
 use Rattle.trlab_traffic.proofs.Going.{one_speed}
 use Rattle.trlab_traffic.proofs.NaschMoves.{answered, motion_alone}
@@ -38,7 +38,7 @@ use Rattle.trlab_traffic.proofs.Places.{ahead_back, clear_is_gap, gap_below}
 use Rattle.trlab_traffic.proofs.Slower.{stops_too}
 use Rattle.trlab_traffic.proofs.Sums.{total}
 
--- so many cells of a way are empty
+-- the first cells of a path are empty
 clear_way : (lane : Lane) (way : ℕ → ℕ) (j : ℕ) → 1 ≤ j → j ≤ clear_cells lane way → at lane (way j) ≡ None
 clear_way lane way j low most =
     clear_at lane way (clear_cells lane way) (greatest_passes (is_clear lane way) (length lane - 1) refl) j low most
@@ -86,7 +86,7 @@ module _ (change : CheckedProgram) (safe : ChangesSafely change) (dice : Dice) (
   long : (l m : ℕ) → l < 2 → m < 2 → length (lane_of road l) ≡ length (lane_of road m)
   long l m a b = legal.shape.equal l (rw two a) ∙ sym (legal.shape.equal m (rw two b))
 
-  -- where a car stands after the change
+  -- the place of a car after the change
   stands : (car : Car) → IsAt road car → IsAt middle (car_in (now car.lane car.place) car.place car.number car.speed)
   stands car here =
       let l = car.lane in
@@ -212,7 +212,7 @@ moved motion dice chance road next moves legal phase car here =
       speed = answered (speed_by chance) motion dice road phase.0 moves legal phase.1 car here;
     }
 
--- what both steps make of a car
+-- a car after both steps
 record Both (slow fast : Cells) (i : ℕ) : Type 0 where
   first : ℕ
   second : ℕ
@@ -245,7 +245,7 @@ module _ (chance : ℕ → ℕ) (rule other : Programs) (dice : Dice) (road slow
             (safe_speed car.speed middle.limit (gap (lane_of middle room.lane) car.place)) (omega (arith, more, limit));
       }
 
-  as_fast : IsAsFast slow fast slow_tally fast_tally
+  as_fast : IsNoSlowerStep slow fast slow_tally fast_tally
   as_fast =
       let n = cars road in
       let like = next_legal_like rule dice road slow slow_tally legal slow_step in

@@ -3,7 +3,7 @@ use Rattle.std.proofs.Common.{◌≡◌, ℕ, zero, suc, ◌+◌, ◌-◌, ◌*�
 use Rattle.std.specs.Bool.{beq}
 use Rattle.std.proofs.Math.Nat.{pow-succ', pow-zero}
 use Rattle.trlab_bounds.specs.declared.programs.TheConstants.{CERTAIN}
-use Rattle.trlab_traffic.specs.Rings.{Ring, is_unblocked, ring_after, size}
+use Rattle.trlab_traffic.specs.Rings.{Ring, is_free_car, ring_after, size}
 use Rattle.trlab_traffic.specs.Stationary.{StepWeightsAddUp, WeightsAreStationary, braking_weight, free_cars, is_same, stationary_weight, step_weight}
 use Rattle.trlab_traffic.proofs.Chains.{all_chains, bit, chain, chains_sum, closed, cell_weight, closed_empty, closed_taken, kept, leaves, own_weight, product}
 use Rattle.trlab_traffic.proofs.RingSteps.{cells, cells_long, leaving, next_on_ring, ring_after_is}
@@ -40,10 +40,10 @@ bit_is true = refl
 pub free_is : (ring : Ring) → free_cars ring ≡ free (get_or ring 0 false) ring
 free_is ring =
     let first = get_or ring 0 false in
-    sum_range (λ x. cond (is_unblocked ring x) 1 0) 0 (length ring)
-    ∙ total_same (λ x. cond (is_unblocked ring (0 + x)) 1 0) (λ x. bit (get_or ring x false && not (get_or ring (suc x) first))) (length ring)
+    sum_range (λ x. cond (is_free_car ring x) 1 0) 0 (length ring)
+    ∙ total_same (λ x. cond (is_free_car ring (0 + x)) 1 0) (λ x. bit (get_or ring x false && not (get_or ring (suc x) first))) (length ring)
     (λ x low. let e : 0 + x ≡ x = omega arith in
-    ap (λ k. cond (is_unblocked ring k) 1 0) e ∙ bit_is (is_unblocked ring x) ∙ ap (λ next. bit (get_or ring x false && not next)) (next_on_ring ring x low))
+    ap (λ k. cond (is_free_car ring k) 1 0) e ∙ bit_is (is_free_car ring x) ∙ ap (λ next. bit (get_or ring x false && not next)) (next_on_ring ring x low))
     ∙ sym (free_total first ring)
 
 blocked_is : (ring : Ring) → size ring - free_cars ring ≡ blocked (get_or ring 0 false) ring
@@ -119,7 +119,7 @@ module _ (t q : ℕ) where
       split : (a b c d e f g : ℕ) → a * (b * c) * (d * (e * (f * g))) ≡ b * d * (c * e * (a * f * g))
       split a b c d e f g = omega arith
 
-  -- what leads from one ring to another, with a car coming at its start or not
+  -- the steps from one ring to another, with or without a car that comes at its start
   one_of : (first : Bool) (own : Bool) (old braking new : Ring) → length braking ≡ suc (length old) → length new ≡ suc (length old)
       → chain t q first false false (own ∷ old) braking new + chain t q first true true (own ∷ old) braking new
       ≡ old_weight first (own ∷ old) * (set_weight t q (own ∷ old) braking * bit (is_same (cells first (leaving first false (own ∷ old) braking) (own ∷ old) braking) new))
@@ -348,7 +348,7 @@ weight_is p ring e =
     ∙ ap (λ c. p ^ blocked first ring * c ^ free first ring) (sym e)
 
 pub weights_are_stationary : WeightsAreStationary
-weights_are_stationary p new low =
+weights_are_stationary p low new =
     let q = CERTAIN - p in
     let e : p + q ≡ CERTAIN = omega (arith, low) in
     let f : Ring → ℕ = λ old. stationary_weight p old * step_weight p old new in

@@ -200,7 +200,7 @@ sum_at_cars f g l s (Some car ∷ cells) same =
     let b = sum_by-cons g (car_in l s car.0 car.1) (standing_from l (suc s) cells) in
     omega (arith, first, rest, a, b)
 
--- what the car of a cell weighs
+-- the weight of the car of a cell
 abbrev pub weight : (Car → ℕ) → ℕ → ℕ → Cell → ℕ
 weight f l x None = 0
 weight f l x (Some car) = f (car_in l x car.0 car.1)

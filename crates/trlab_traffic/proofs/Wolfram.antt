@@ -1,11 +1,13 @@
 -- With the limit 1 and without randomization cells are taken by rule 184.
-use Rattle.std.proofs.Common.{◌≡◌, ℕ, ◌+◌, ◌<◌, ◌≤◌, min, true, false, Some, None, length, is_some, refl, sym, ◌∙◌, ap, subst, inl, inr, arith}
+use Rattle.std.proofs.Common.{◌≡◌, ℕ, zero, suc, ◌+◌, ◌-◌, ◌%◌, ◌<◌, ◌≤◌, not, min, true, false, Some, None, length, is_some, refl, sym, ◌∙◌, ap, subst, inl, inr, arith}
+use Rattle.std.proofs.Math.Nat.{add-mod_right, mod-eq_of_lt, mod_self}
 use Rattle.std.proofs.lemmas.Bool.{cases_lt}
 use Rattle.trlab_road.specs.Cells.{Cell, Cells, Lane, at, cell, lane_of}
 use Rattle.trlab_road.specs.Gaps.{ahead, behind, gap}
 use Rattle.trlab_road.specs.Motion.{LaneMoves}
 use Rattle.trlab_road.proofs.Ring.{car_in, clear_within_gap, inside}
-use Rattle.trlab_traffic.specs.Rule184.{Rule184HasParticleHoleSymmetry, IsElementaryStep, NaschIsRule184, elementary_rule}
+use Rattle.trlab_traffic.specs.Holes.{EmptyCellsFollowRule184}
+use Rattle.trlab_traffic.specs.Rule184.{Rule184HasParticleHoleSymmetry, IsElementaryStep, NaschIsRule184, elementary_rule, is_taken}
 use Rattle.trlab_traffic.proofs.NaschMoves.{SafeMotion, safe_motion}
 use Rattle.trlab_traffic.proofs.Places.{ahead_behind, ahead_none, behind_ahead, clear_is_gap}
 
@@ -18,6 +20,38 @@ empty_cells_go_back false true true = refl
 empty_cells_go_back false true false = refl
 empty_cells_go_back false false true = refl
 empty_cells_go_back false false false = refl
+
+-- two cells that are at the same place from both ends of a ring: so are the cell ahead of one and the cell
+-- behind the other
+mirrored : (m x y : ℕ) → x + y + 1 ≡ m → ahead m x 1 + behind m y 1 + 1 ≡ m
+mirrored m x zero pair =
+    let last : x + 1 ≡ m = omega (arith, pair) in
+    let round : ahead m x 1 ≡ 0 = ap (λ k. k % m) last ∙ mod_self m in
+    let below : 0 + (m - 1) < m = omega (arith, pair) in
+    let before : behind m 0 1 ≡ 0 + (m - 1) = mod-eq_of_lt below in
+    omega (arith, pair, round, before)
+mirrored m x (suc y) pair =
+    let inside : x + 1 < m = omega (arith, pair) in
+    let next : ahead m x 1 ≡ x + 1 = mod-eq_of_lt inside in
+    let over : suc y + (m - 1) ≡ y + m = omega (arith, pair) in
+    let below : y < m = omega (arith, pair) in
+    let before : behind m (suc y) 1 ≡ y = ap (λ k. k % m) over ∙ (add-mod_right y m ∙ mod-eq_of_lt below) in
+    omega (arith, pair, next, before)
+
+pub empty_cells_follow : EmptyCellsFollowRule184
+empty_cells_follow old new old_holes new_holes same step before after x low =
+    let m = length old in
+    let y = m - 1 - x in
+    let pair : x + y + 1 ≡ m = omega (arith, low, before.0) in
+    let back : y + x + 1 ≡ m = omega (arith, pair) in
+    let low_y : y < m = omega (arith, pair) in
+    let pair_new : x + y + 1 ≡ length new = omega (arith, pair, same) in
+    let ahead_of_y : behind m x 1 + ahead m y 1 + 1 ≡ m = let e = mirrored m y x back in omega (arith, e) in
+    let taken_behind = before.1 (behind m x 1) (ahead m y 1) ahead_of_y in
+    let taken_here = before.1 x y pair in
+    let taken_ahead = before.1 (ahead m x 1) (behind m y 1) (mirrored m x y pair) in
+    let flipped = empty_cells_go_back (is_taken old (behind m y 1)) (is_taken old y) (is_taken old (ahead m y 1)) in
+    rw (before.0, taken_behind, taken_here, taken_ahead) (after.1 x y pair_new ∙ (ap not (step y low_y) ∙ flipped))
 
 -- a car in front of a taken cell has no gap
 pub gap_none : (lane : Lane) (x : ℕ) (next : ℕ × ℕ) → at lane (ahead (length lane) x 1) ≡ Some next → gap lane x ≡ 0

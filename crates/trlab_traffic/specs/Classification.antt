@@ -1,4 +1,4 @@
--- Density classification (Capcarrere, Sipper and Tomassini 1996): after at most half as many steps as cells, the
+-- Density classification (Capcarrere, Sipper and Tomassini 1996): after at most n / 2 steps on n cells, the
 -- pattern of rule 184 shows everywhere whether more than half of the cells are taken.
 use Rattle.std.specs.Prelude.{◌≡◌, ℕ, ◌+◌, ◌*◌, ◌<◌, ◌≤◌, true, false, length}
 use Rattle.trlab_road.specs.Cells.{Cells, Lane, lane_car_count, lane_of}
@@ -21,14 +21,15 @@ abbrev pub NoTwoEmptyCellsAreNeighbours : Lane → Type 0
 NoTwoEmptyCellsAreNeighbours lane = (x : ℕ) → x < length lane
     → is_taken lane x ≡ false → is_taken lane (ahead (length lane) x 1) ≡ true
 
--- the pattern of lane `now` shows the density of lane `start`: no two cars are neighbours if at most half of the
--- cells of `start` are taken, and no two empty cells are if at least half of them are
+-- the pattern of lane `now` shows the density of lane `start`: if at most half of the cells of `start` are
+-- taken, no two cars of `now` are neighbours, and if at least half of them are, no two empty cells
 pub record ShowsDensity (start now : Lane) : Type 0 where
   pub few : 2 * lane_car_count start ≤ length start → NoTwoCarsAreNeighbours now
   pub many : length start ≤ 2 * lane_car_count start → NoTwoEmptyCellsAreNeighbours now
 
--- in the Nagel-Schreckenberg model with v_max = 1 and without randomization, which is rule 184, the pattern of a
--- lane with N cars and E empty cells shows its density from step min(N, E) - 1 on, for any speeds at the start
+-- in the Nagel-Schreckenberg model with v_max = 1 and without randomization, which is rule 184, the pattern
+-- of a lane with N cars and E empty cells shows its density from step min(N, E) - 1 on, for any initial
+-- speeds
 abbrev pub Rule184ClassifiesDensity : Type 0
 Rule184ClassifiesDensity =
     (rule : Programs) (seed : Seed) (step : ℕ) (road : Cells) (l : ℕ)

@@ -10,8 +10,8 @@ use Rattle.trlab_traffic.specs.Triangle.{lane_empty_cells}
 use Rattle.trlab_traffic.specs.Detector.{ContinuityHolds, passages}
 use Rattle.trlab_traffic.specs.Runs.{EachRule, StaysInLane}
 
--- after `step` steps of a run the detector at the end of cell x on lane l has counted `count` cars: all that
--- passed it in step `warm` or later
+-- after `step` steps of a run the detector at the end of cell x on lane l has counted `count` cars: all
+-- that passed it in step `warm` or later
 abbrev pub DetectorHasCounted : Seed → Sheet → ℕ → ℕ → ℕ → ℕ → Type 0
 DetectorHasCounted seed sheet l x zero count = count ≡ 0
 DetectorHasCounted seed sheet l x (suc step) count =
@@ -58,8 +58,8 @@ DetectorsAgree =
 abbrev pub min_of_cars_and_empty_cells : Lane → ℕ
 min_of_cars_and_empty_cells lane = min (lane_car_count lane) (lane_empty_cells lane)
 
--- under any sheet of rules without lane changes the counts of two detectors of a lane, at most one lap apart,
--- differ by at most the number of its cars, and by at most the number of its empty cells
+-- under any sheet of rules without lane changes the counts of two detectors of a lane, at most one lap
+-- apart, differ by at most the number of its cars, and by at most the number of its empty cells
 abbrev pub DetectorsAgreeByCars : Type 0
 DetectorsAgreeByCars =
     (seed : Seed) (sheet : Sheet) (step : ℕ) (road : Cells) (sum : StepTally) (l x k first second : ℕ)
@@ -76,9 +76,9 @@ DetectorsCountRun =
     → ((x : ℕ) → DetectorHasCounted seed sheet 0 x step (count x))
     → sum_by count (range_with_len 0 (length (lane_of seed.road 0))) ≡ sum.distance
 
--- `count` measures the flow on a ring of n cells: n times `count` differs from `distance` by at most the number
--- of cars times the number of empty cells. (This is reached if all cars are in a row right behind the detector
--- at first, and in a row right ahead of it in the end)
+-- `count` measures the flow on a ring of n cells: n times `count` differs from `distance` by at most the
+-- number of cars times the number of empty cells. A queue that starts right behind the detector and ends
+-- right ahead of it differs by as much
 abbrev pub MeasuresFlow : Lane → ℕ → ℕ → Type 0
 MeasuresFlow lane count distance =
     DifferByAtMost (lane_car_count lane * lane_empty_cells lane) (length lane * count) distance

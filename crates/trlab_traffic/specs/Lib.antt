@@ -12,10 +12,12 @@ pub mod Following
 pub mod LaneGaps
 pub mod Jams
 pub mod Queues
+pub mod Outflow
 pub mod Overtaking
 -- runs compared car by car
 pub mod Gone
 pub mod Fastest
+pub mod Attractiveness
 pub mod Newell
 -- lane changes and steps without them
 pub mod SafeChanges
@@ -23,11 +25,13 @@ pub mod SafeChanges
 pub mod Homogeneity
 pub mod Symmetry
 pub mod Apart
+pub mod LightCone
 pub mod Determinism
 pub mod Periods
 -- rules that have the same steps as others
 pub mod Reduction
 pub mod Rule184
+pub mod Holes
 -- v_max = 1 with randomization, over all random words
 pub mod Rings
 pub mod Stationary

@@ -13,8 +13,9 @@ use Rattle.trlab_traffic.specs.Jams.{stopped_car}
 use Rattle.trlab_traffic.specs.Rule184.{is_taken}
 use Rattle.trlab_traffic.specs.Runs.{EachRule, StaysInLane, always}
 
--- a queue of n + 1 cars on a lane: the head is in cell x, and each of the n cells behind it holds a car. For
--- example, `..000.` has a queue with x = 4 and n = 2
+-- a queue of n + 1 cars on a lane, for n below its length: the head is in cell x, and each of the n cells
+-- behind it holds a car. For example, `..000.` has a queue with x = 4 and n = 2. A larger n says that every
+-- cell of the lane holds a car
 abbrev pub IsQueue : Lane → ℕ → ℕ → Type 0
 IsQueue lane x n = (j : ℕ) → j ≤ n → is_taken lane (behind (length lane) x j) ≡ true
 

@@ -1,6 +1,6 @@
--- Kinematic waves (Lighthill and Whitham 1955) without randomization: once a lane has relaxed, its pattern of
--- taken and empty cells only moves, ahead at v_max if the lane is dilute, and back by one cell per step if it is
--- congested, for every v_max.
+-- Kinematic waves (Lighthill and Whitham 1955) without randomization: once a lane has relaxed, its pattern
+-- of taken and empty cells keeps its form and moves, ahead at v_max if the lane is dilute, and back by one
+-- cell per step if it is congested, for every v_max.
 use Rattle.std.specs.Prelude.{◌≡◌, ◌⊎◌, ℕ, ◌+◌, ◌*◌, ◌<◌, ◌≤◌, length, min}
 use Rattle.trlab_road.specs.declared.car.Car.{Car}
 use Rattle.trlab_road.specs.Cells.{Cells, Lane, IsAt, lane_car_count, lane_of}
@@ -16,7 +16,8 @@ use Rattle.trlab_traffic.specs.Rule184.{is_taken}
 use Rattle.trlab_traffic.specs.Runs.{always}
 use Rattle.trlab_traffic.specs.Triangle.{lane_max_distance}
 
--- the pattern of taken and empty cells has moved k cells ahead round the ring, from lane `old` to lane `new`
+-- the pattern of taken and empty cells has moved k cells ahead round the ring, from lane `old` to lane
+-- `new`
 pub record PatternMovesAhead (k : ℕ) (old new : Lane) : Type 0 where
   pub same_cells : length new ≡ length old
   pub moved : (x : ℕ) → x < length old → is_taken new (ahead (length old) x k) ≡ is_taken old x
@@ -26,24 +27,25 @@ pub record PatternMovesBack (k : ℕ) (old new : Lane) : Type 0 where
   pub same_cells : length new ≡ length old
   pub moved : (x : ℕ) → x < length old → is_taken new x ≡ is_taken old (ahead (length old) x k)
 
--- the lane has room for all its cars to drive at v_max, the limit: with N cars, N (limit + 1) cells or more
+-- the lane has room for all its cars to drive at v_max, the limit: with N cars, at least N (limit + 1)
+-- cells
 abbrev pub IsDilute : ℕ → Lane → Type 0
 IsDilute limit lane = lane_car_count lane * (limit + 1) ≤ length lane
 
--- the lane has no more room than its cars need to drive at v_max, the limit: with N cars, N (limit + 1) cells or
--- fewer
+-- the lane has no more room than its cars need to drive at v_max, the limit: with N cars, at most
+-- N (limit + 1) cells
 abbrev pub IsCongested : ℕ → Lane → Type 0
 IsCongested limit lane = length lane ≤ lane_car_count lane * (limit + 1)
 
--- cars need `delay` steps to reach v_max, the limit, and there is no randomization: `limit` steps in the
--- Nagel-Schreckenberg model without randomization; but none in this model if the limit is 1, and none under a rule
--- that lets cars reach their speed at once
+-- without randomization cars need `delay` steps to reach v_max, the limit: `limit` steps in the
+-- Nagel-Schreckenberg model, but none if the limit is 1, and none under a rule that lets cars reach their
+-- speed at once
 abbrev pub AcceleratesIn : ℕ → ℕ → Programs → Type 0
 AcceleratesIn limit delay rule =
     (IsNasch 0 rule × (delay ≡ limit))
     ⊎ ((IsNasch 0 rule × (limit ≡ 1) × (delay ≡ 0)) ⊎ (ReachesSpeedAtOnce rule × (delay ≡ 0)))
 
--- lane l of a run has relaxed at step `step`, if cars need `delay` steps to reach v_max
+-- lane l of a run has relaxed at step `step`, where cars need `delay` steps to reach v_max
 abbrev pub LaneHasRelaxed : Seed → ℕ → ℕ → ℕ → Type 0
 LaneHasRelaxed seed delay l step =
     HasRelaxed seed.road.limit delay (lane_max_distance seed.road.limit (lane_of seed.road l)) step
@@ -53,7 +55,7 @@ pub record AreStepsApart (seed : Seed) (rule : Programs) (step k : ℕ) (old new
   pub earlier : IsRoadAt seed (always rule) step old
   pub later : IsRoadAt seed (always rule) (step + k) new
 
--- the pattern of a dilute lane that has relaxed moves ahead by v_max cells per step: free flow
+-- free flow: the pattern of a dilute lane that has relaxed moves ahead by v_max cells per step
 abbrev pub FreeFlowMovesAhead : Type 0
 FreeFlowMovesAhead =
     (rule : Programs) (seed : Seed) (delay step k : ℕ) (old new : Cells) (l : ℕ)
@@ -62,7 +64,7 @@ FreeFlowMovesAhead =
     → AreStepsApart seed rule step k old new
     → PatternMovesAhead (seed.road.limit * k) (lane_of old l) (lane_of new l)
 
--- the pattern of a congested lane that has relaxed moves back by one cell per step, for every v_max
+-- jams: the pattern of a congested lane that has relaxed moves back by one cell per step, for every v_max
 abbrev pub JamsMoveBack : Type 0
 JamsMoveBack =
     (rule : Programs) (seed : Seed) (delay step k : ℕ) (old new : Cells) (l : ℕ)
@@ -71,7 +73,7 @@ JamsMoveBack =
     → AreStepsApart seed rule step k old new
     → PatternMovesBack k (lane_of old l) (lane_of new l)
 
--- the pattern of a lane of n cells that has relaxed is the same again after n steps
+-- the pattern of a lane of n cells that has relaxed comes again after n steps
 abbrev pub PatternIsPeriodic : Type 0
 PatternIsPeriodic =
     (rule : Programs) (seed : Seed) (delay step : ℕ) (old new : Cells) (l x : ℕ)
@@ -79,8 +81,8 @@ PatternIsPeriodic =
     → LaneHasRelaxed seed delay l step → AreStepsApart seed rule step (length (lane_of seed.road l)) old new
     → x < length (lane_of seed.road l) → is_taken (lane_of new l) x ≡ is_taken (lane_of old l) x
 
--- each car of a congested lane that has relaxed closes its gap: it moves up to the cell behind the one in which the
--- next car was
+-- each car of a congested lane that has relaxed closes its gap in every step: it moves up to the cell right
+-- behind the one in which the next car ahead was
 abbrev pub CongestedCarsCloseGaps : Type 0
 CongestedCarsCloseGaps =
     (rule : Programs) (seed : Seed) (delay step : ℕ) (old new : Cells) (car : Car)
@@ -89,8 +91,8 @@ CongestedCarsCloseGaps =
     → AreStepsApart seed rule step 1 old new
     → IsAt new (car_after_motion old car (gap (lane_of old car.lane) car.place))
 
--- in the Nagel-Schreckenberg model without randomization acceleration holds no car back from step v_max on: each
--- car moves by its gap or by v_max, whichever is smaller
+-- in the Nagel-Schreckenberg model without randomization each car moves by its gap or by v_max, whichever
+-- is smaller, from step v_max on: acceleration no longer holds it back
 abbrev pub AccelerationEnds : Type 0
 AccelerationEnds =
     (rule : Programs) (seed : Seed) (step : ℕ) (old new : Cells)

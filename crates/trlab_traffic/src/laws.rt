@@ -3,10 +3,12 @@
 //! Each law is the contract of a function with an empty body.
 
 ghost use Rattle.trlab_traffic.specs.Apart.{RunKeepsLanesApart, StepKeepsLanesApart};
+ghost use Rattle.trlab_traffic.specs.Attractiveness.{RunKeepsOrder, StepKeepsOrder};
 ghost use Rattle.trlab_traffic.specs.Triangle.{CellsAreTakenOrEmpty, RunStaysUnderTriangle, StepStaysUnderTriangle};
 ghost use Rattle.trlab_traffic.specs.Triangle.{RunKeepsBelowPeak};
 ghost use Rattle.trlab_traffic.specs.Determinism.{NaschWithoutRandomizationIsDeterministic, RunIsDeterministic, StepIsDeterministic};
-ghost use Rattle.trlab_traffic.specs.Braking.{BrakingCostsRuns, BrakingCostsRunsWithSlowStarts, BrakingCostsSteps, EachRunHasBraked};
+ghost use Rattle.trlab_traffic.specs.Braking.{BrakingCostsRuns, BrakingCostsRunsWithLaneChanges, BrakingCostsRunsWithSlowStarts};
+ghost use Rattle.trlab_traffic.specs.Braking.{BrakingCostsSteps, BrakingCostsStepsWithLaneChanges, EachRunHasBraked};
 ghost use Rattle.trlab_traffic.specs.Changing.{RunBoundsLaneChanges, StepBoundsLaneChanges};
 ghost use Rattle.trlab_traffic.specs.Classification.{Rule184ClassifiesDensity};
 ghost use Rattle.trlab_traffic.specs.Detector.{DetectorCountsAtMostOne, DetectorsCountDistance, StepSatisfiesContinuity};
@@ -22,14 +24,17 @@ ghost use Rattle.trlab_traffic.specs.Fastest.{VdrAcceleratesByAtMostOne};
 ghost use Rattle.trlab_traffic.specs.Following.{GapChangesBySpeedDifference};
 ghost use Rattle.trlab_traffic.specs.FreeFlow.{FreeFlowGoesOn, FreeFlowStaysFree, FreeFlowMovesAsOne};
 ghost use Rattle.trlab_traffic.specs.Gone.{CarsGoDistance, EachCarHasGone, GoneIsUnique};
+ghost use Rattle.trlab_traffic.specs.Holes.{EmptyCellsFollowRule184};
 ghost use Rattle.trlab_traffic.specs.Homogeneity.{RunIsHomogeneous, StepIsHomogeneous};
 ghost use Rattle.trlab_traffic.specs.Jams.{CarWithoutGapStops};
 ghost use Rattle.trlab_traffic.specs.LaneGaps.{GapsFillLane, RunKeepsLaneCars};
+ghost use Rattle.trlab_traffic.specs.LightCone.{NaschHasLightCone, VdrHasLightCone};
 ghost use Rattle.trlab_traffic.specs.Metastable.{SlowStartsKeepFreeFlow, SlowStartsKeepJams};
 ghost use Rattle.trlab_traffic.specs.Metastable.{SlowStartsMoveFreeFlowAsOne, TwoFlowsAtOneDensity};
 ghost use Rattle.trlab_traffic.specs.Moving.{RunBoundsMovingSpeed, StepBoundsMovingSpeed};
 ghost use Rattle.trlab_traffic.specs.Newell.{MinimumPrinciple, MinimumPrincipleGivesDistance, MinimumPrincipleLater};
 ghost use Rattle.trlab_traffic.specs.Newell.{NobodyBeatsMinimumPrinciple, Rule184MinimumPrinciple};
+ghost use Rattle.trlab_traffic.specs.Outflow.{QueueFlowsOut};
 ghost use Rattle.trlab_traffic.specs.Overtaking.{EachCarHasNext, NextCarIsUnique, RunKeepsNextCar, StepKeepsNextCar};
 ghost use Rattle.trlab_traffic.specs.Periods.{DeterministicRunsBecomePeriodic};
 ghost use Rattle.trlab_traffic.specs.Queues.{QueueStarts, QueueWaits};
@@ -40,7 +45,7 @@ ghost use Rattle.trlab_traffic.specs.Rows.{RowMeasuresFlow, RowsAgree};
 ghost use Rattle.trlab_traffic.specs.Rows.{RunSatisfiesContinuityByRows, StepIsContinuousByRows};
 ghost use Rattle.trlab_traffic.specs.Rule184.{Rule184HasParticleHoleSymmetry, NaschIsRule184};
 ghost use Rattle.trlab_traffic.specs.SafeChanges.{RickertChangesSafely, SafeChangesCostNobody, SafeChangesCostNobodyInVdr};
-ghost use Rattle.trlab_traffic.specs.Stationary.{DrawsAreCounted, StepWeightsAddUp, StepWeightsCountWords};
+ghost use Rattle.trlab_traffic.specs.Stationary.{DrawsAreCounted, StationaryWeightsAreUnique, StepWeightsAddUp, StepWeightsCountWords};
 ghost use Rattle.trlab_traffic.specs.Stationary.{WeightsAreStationary, WeightsAreStationaryOverWords};
 ghost use Rattle.trlab_traffic.specs.Symmetry.{RickertIgnoresLane, RunIsSymmetric, StepIsSymmetric};
 ghost use Rattle.trlab_traffic.specs.Waves.{AccelerationEnds, CongestedCarsCloseGaps, FreeFlowMovesAhead};
@@ -135,6 +140,13 @@ pub fn queue_dissolves_from_front()
     ensures starts { QueueStarts }
 {}
 
+/// In the VDR model of Barlovic et al. (1998) a queue flows out one car at a time: once the car ahead has left its
+/// cell, the next car leaves in the first step in which it does not brake at random. So the outflow depends only on
+/// the braking probability of stopped cars.
+pub fn queue_flows_out_car_by_car()
+    ensures { QueueFlowsOut }
+{}
+
 /// Nobody overtakes on a lane: each car has one next car ahead, and keeps it in each step and run without lane
 /// changes.
 pub fn nobody_overtakes()
@@ -169,9 +181,9 @@ pub fn nobody_beats_gap()
 {}
 
 /// The minimum principle gives the distance of each car in closed form (Newell 1993, Transp. Res. B 27, 281; Daganzo
-/// 2006, Transp. Res. B 40, 396): exactly if cars reach their speed at once, and in the Nagel-Schreckenberg model without
-/// randomization from step v_max on, or from the start if v_max = 1. Under all rules without lane changes it is an upper
-/// bound.
+/// 2006, Transp. Res. B 40, 396). It is exact if cars reach their speed at once, and in the Nagel-Schreckenberg model
+/// without randomization from step v_max on, or from the start if v_max = 1. Under all rules without lane changes it
+/// is an upper bound.
 pub fn minimum_principle()
     ensures gap { MinimumPrinciple }
     ensures distance { MinimumPrincipleGivesDistance }
@@ -188,10 +200,18 @@ pub fn randomization_slows_runs()
     ensures vdr { SlowStartsSlowRuns }
 {}
 
-/// Safe lane changes cost nobody. If cars change lanes only where the gap ahead on the other lane is larger than their
+/// The Nagel-Schreckenberg model with v_max = 1 is attractive (Liggett 1985, Interacting Particle Systems): if no car
+/// of a road is further than the same car on another road, this stays so in steps and in runs, with the same random
+/// words. It also stays so if cars brake more often on the road behind.
+pub fn nasch_is_attractive()
+    ensures step { StepKeepsOrder }
+    ensures run { RunKeepsOrder }
+{}
+
+/// Safe lane changes cost nobody. If cars change lanes only if the gap ahead on the other lane is larger than their
 /// speed and the gap behind at least v_max, then in one step of the Nagel-Schreckenberg model or of the VDR model of
-/// Barlovic et al. (1998) each car goes at least as far as without lane changes. The lane changes of Rickert et al. (1996)
-/// are such.
+/// Barlovic et al. (1998) each car goes at least as far as without lane changes. The lane changes of Rickert et al.
+/// (1996) are safe.
 pub fn safe_lane_changes_cost_nobody()
     ensures nasch { SafeChangesCostNobody }
     ensures vdr { SafeChangesCostNobodyInVdr }
@@ -218,6 +238,13 @@ pub fn lanes_are_symmetric()
 pub fn lanes_are_apart()
     ensures step { StepKeepsLanesApart }
     ensures run { RunKeepsLanesApart }
+{}
+
+/// Influence stays in a light cone in the Nagel-Schreckenberg model and in the VDR model of Barlovic et al. (1998):
+/// with the same random words, a cell after t steps depends only on v_max * t cells behind it and 2 t cells ahead.
+pub fn influence_stays_in_light_cone()
+    ensures nasch { NaschHasLightCone }
+    ensures vdr { VdrHasLightCone }
 {}
 
 /// If programs are deterministic, the key does not matter: a road has one next road for all dice, and a run is
@@ -248,31 +275,33 @@ pub fn rules_reduce_to_nasch()
 pub fn nasch_is_rule_184()
     ensures rule { NaschIsRule184 }
     ensures holes { Rule184HasParticleHoleSymmetry }
+    ensures lanes { EmptyCellsFollowRule184 }
 {}
 
-/// With v_max = 1 a step of the Nagel-Schreckenberg model moves the cars of each lane as a ring of taken and empty
-/// cells: a car moves to the next cell if that is empty and the car does not brake on its random word. The distance is
-/// the number of these cars.
+/// With v_max = 1 a step of the Nagel-Schreckenberg model is a step of a ring of taken and empty cells, on each lane:
+/// a car moves to the next cell if this cell is empty and the car does not brake on its random word. The distance is
+/// the number of cars that move.
 pub fn nasch_steps_rings()
     ensures step { NaschStepsRings }
     ensures distance { NaschGoesByRings }
     ensures cars { StepsKeepCars }
 {}
 
-/// With v_max = 1 the Nagel-Schreckenberg model has the stationary state of Schreckenberg, Schadschneider, Nagel and Ito
-/// (1995, Phys. Rev. E 51, 2939), for every braking probability p and on every ring: counted over all roads and all
-/// random words, a step leaves the weight of each road as it is. The weight has a factor 1 for each car with an empty
-/// cell ahead, and p for each other car.
+/// With v_max = 1 the Nagel-Schreckenberg model has the stationary state of Schreckenberg, Schadschneider, Nagel and
+/// Ito (1995, Phys. Rev. E 51, 2939), for every braking probability p and on every ring: counted over all roads and
+/// all random words, a step does not change the weight of any road. The weight has a factor 1 for each car with an
+/// empty cell ahead, and a factor p for each other car. If p is above 0 and below 1, it is the only stationary state.
 pub fn nasch_has_stationary_state()
     ensures words { WeightsAreStationaryOverWords }
     ensures weights { WeightsAreStationary }
+    ensures unique { StationaryWeightsAreUnique }
     ensures chances { StepWeightsAddUp }
     ensures counts { StepWeightsCountWords }
     ensures counted { DrawsAreCounted }
 {}
 
-/// The flow of this stationary state, exactly, on every finite ring: the weights of all roads with the same number of
-/// cars, and their weights times their mean distances, as sums of products of binomial coefficients.
+/// The exact flow of this stationary state on every finite ring: the sum of the weights of all roads with the same
+/// number of cars, and that of their weights times their mean distances, in binomial coefficients.
 pub fn stationary_flow_is_exact()
     ensures clusters { RingsAreClustered }
     ensures flow { FlowIsExact }
@@ -288,29 +317,30 @@ pub fn nasch_reaches_triangle()
 {}
 
 /// If cars reach their speed at once, a run on one lane with N cars and E empty cells is on the triangle from step
-/// min(N, E / v_max) - 1 on (Fukui and Ishibashi 1996, J. Phys. Soc. Japan 65, 1868). From one queue of all cars no rules
-/// without lane changes reach it sooner.
+/// min(N, E / v_max) - 1 on (Fukui and Ishibashi 1996, J. Phys. Soc. Japan 65, 1868). From one queue of all cars no
+/// rules without lane changes reach it sooner.
 pub fn gap_reaches_triangle()
     ensures triangle { GapReachesTriangle }
     ensures no_sooner { QueueReachesTriangleNoSooner }
 {}
 
-/// With v_max = 1 a run on one lane with N cars and E empty cells is on the triangle from step min(N, E) - 1 on (Krug and
-/// Spohn 1988, Phys. Rev. A 38, 4271).
+/// With v_max = 1 and without randomization a run on one lane with N cars and E empty cells is on the triangle from
+/// step min(N, E) - 1 on (Krug and Spohn 1988, Phys. Rev. A 38, 4271).
 pub fn rule_184_reaches_triangle()
     ensures { Rule184ReachesTriangle }
 {}
 
 /// Rule 184 classifies densities (Capcarrere, Sipper and Tomassini 1996, Phys. Rev. Lett. 77, 4969): from step
-/// min(N, E) - 1 on no two of N cars are neighbours if there are at least as many empty cells, E, and no two empty cells
-/// are if there are at most as many.
+/// min(N, E) - 1 on no two of the N cars are neighbours if N <= E, the number of empty cells, and no two empty cells
+/// if N >= E.
 pub fn rule_184_classifies_density()
     ensures { Rule184ClassifiesDensity }
 {}
 
-/// Kinematic waves (Lighthill and Whitham 1955, Proc. R. Soc. London A 229, 317): without randomization a lane that has
-/// relaxed only moves its pattern of taken and empty cells, ahead by v_max per step if it is dilute, and back by one
-/// cell per step if it is congested, for every v_max. So the pattern repeats after as many steps as cells.
+/// Kinematic waves (Lighthill and Whitham 1955, Proc. R. Soc. London A 229, 317): without randomization the pattern of
+/// taken and empty cells on a lane that has relaxed keeps its form and moves, ahead by v_max per step if the lane is
+/// dilute, and back by one cell per step if it is congested, for every v_max. So on n cells it comes again after n
+/// steps.
 pub fn kinematic_waves()
     ensures free { FreeFlowMovesAhead }
     ensures jams { JamsMoveBack }
@@ -319,13 +349,16 @@ pub fn kinematic_waves()
     ensures gaps { CongestedCarsCloseGaps }
 {}
 
-/// Each car that brakes at random costs at least one cell, in the Nagel-Schreckenberg model and in the VDR model of
-/// Barlovic et al. (1998): the distance plus the number of brakings is under the triangle.
+/// Each random braking of a car costs at least one cell of distance, in the Nagel-Schreckenberg model, in the VDR model
+/// of Barlovic et al. (1998) and in the two-lane model of Rickert et al. (1996): the distance plus the number of
+/// brakings stays under the triangle.
 pub fn braking_costs_distance()
     ensures step { BrakingCostsSteps }
     ensures exists { EachRunHasBraked }
     ensures nasch { BrakingCostsRuns }
     ensures vdr { BrakingCostsRunsWithSlowStarts }
+    ensures lane_changes { BrakingCostsStepsWithLaneChanges }
+    ensures rickert { BrakingCostsRunsWithLaneChanges }
 {}
 
 /// Evenly spaced, stopped cars reach the triangle within v_max - 1 steps, the time to reach v_max.

@@ -55,12 +55,13 @@ fn run_and_replace<L: Ledger + Send + Sync, R: Threads + Wait + Sync>(
     (book.gather(mine, theirs), ran, entered)
 }
 
-/// Whether the sheet of a snapshot has a second rule exactly if one entered, from that step on.
+/// Whether the sheet of a snapshot has a second rule exactly if one entered after the first step was ordered, from that
+/// step on. A rule that enters before takes the place of the first one.
 fn has_entered(seen: &Snapshot, entered: Option<u32>) -> bool {
     let sheet = seen.sheet();
     match entered {
+        None | Some(0) => sheet.len() == 1,
         Some(step) => sheet.len() == 2 && sheet.entry(1).0 == step,
-        None => sheet.len() == 1,
     }
 }
 

@@ -9,6 +9,7 @@ use Rattle.trlab_jobs.specs.Later.{later_rules}
 use Rattle.trlab_jobs.specs.Job.{Job, steps_line}
 use Rattle.trlab_jobs.proofs.HandedOn.{handed_on}
 use Rattle.trlab_jobs.proofs.JobLines.{after_lanes, after_rule, after_steps, after_all, behind_rule, behind_steps, behind_all, ends_in_fault}
+use Rattle.trlab_jobs.proofs.OneText.{rules_stored}
 use Rattle.trlab_texts.proofs.Readings.{line_by, stops}
 use Rattle.trlab_jobs.proofs.job.read_rules.Goals as goal
 
@@ -57,3 +58,19 @@ returns-clause-told c =
           (behind_steps c.args.key c.args.road c.in_ok-first.first c.in_ok-steps.steps c.in_ok-first.rest c.in_ok-steps.rest (Ok (say, after)) (line_by _ (exactly steps_line) c.in_ok-first.rest (Ok (c.in_ok-steps.steps, c.in_ok-steps.rest)) (λ text says p. search rules) c.in_ok-steps.ensures)
           (behind_all c.args.key c.args.road c.in_ok-first.first c.in_ok-steps.steps c.in_ok-later.later.items c.in_ok-steps.rest after later)),
     )
+
+pub invariant_of-result : goal.invariant_of-result
+invariant_of-result c =
+    let after : Rest = c.in_ok-later.field-0-1 in
+    let first = rw c.lanes.ensures.value at c.in_ok-first.ensures.told in
+    let later = rw c.lanes.ensures.value at c.in_ok-later.ensures.told in
+    rules_stored c.args.key c.args.road c.in_ok-first.first c.in_ok-later.later.items c.in_ok-steps.steps c.args.rest c.in_ok-first.rest c.in_ok-steps.rest after c.requires first
+    (line_by _ (exactly steps_line) c.in_ok-first.rest (Ok (c.in_ok-steps.steps, c.in_ok-steps.rest)) (λ text says p. search rules) c.in_ok-steps.ensures) later
+
+pub returns-clause-stored : goal.returns-clause-stored
+returns-clause-stored c =
+    let after : Rest = c.in_ok-later.field-0-1 in
+    let first = rw c.lanes.ensures.value at c.in_ok-first.ensures.told in
+    let later = rw c.lanes.ensures.value at c.in_ok-later.ensures.told in
+    rules_stored c.args.key c.args.road c.in_ok-first.first c.in_ok-later.later.items c.in_ok-steps.steps c.args.rest c.in_ok-first.rest c.in_ok-steps.rest after c.requires first
+    (line_by _ (exactly steps_line) c.in_ok-first.rest (Ok (c.in_ok-steps.steps, c.in_ok-steps.rest)) (λ text says p. search rules) c.in_ok-steps.ensures) later
