@@ -62,7 +62,7 @@ def module_files():
 
 def example_files():
     """The examples that the page of trlab-lab offers, by their paths in the wheel."""
-    files = [file for file in EXAMPLES.iterdir() if file.suffix in {".job", ".sweep", ".rule"}]
+    files = [file for file in EXAMPLES.iterdir() if file.suffix in {".job", ".sweep", ".rule", ".py"}]
     return {f"trlab/lab/examples/{file.name}": file.read_bytes() for file in files}
 
 

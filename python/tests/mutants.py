@@ -1,9 +1,11 @@
-"""Wrong edits of the analysis, each of which a test must notice. Run by hand, in `python/`, with the libraries of the analysis:
+"""Wrong edits of the analysis, of the exact results and of the translation of Python rules, each of which a test must notice. Run
+by hand, in `python/`, with the libraries of the analysis:
 
     python3 -m tests.mutants            # all, which takes some minutes
     python3 -m tests.mutants means.py   # those of one file
+    python3 -m tests.mutants _rules/    # those of one folder
 
-It ends with status 1 if there is an edit that no test noticed."""
+It names the first test that fails, and ends with status 1 if there is an edit that no test noticed."""
 import multiprocessing
 import os
 import shutil
@@ -31,8 +33,17 @@ TESTS = {
     "_analysis/series.py": ["test_estimates.Lifetimes", "test_estimates.Blocking"],
     "_analysis/units.py": ["test_units", "test_frames.Strangers"],
     "_analysis/plots.py": ["test_plots"],
+    "_exact/stationary.py": ["test_exact_results.StationaryState"],
+    "_exact/triangle.py": ["test_exact_results.Triangle"],
+    "_exact/minimum.py": ["test_exact_results.MinimumPrinciple"],
+    "_exact/rules.py": ["test_exact_results.MinimumPrinciple", "test_exact_results.Triangle"],
     "_studies/grid.py": ["test_grid", "test_tidy", "test_frames.Strangers"],
     "_studies/roads.py": ["test_tidy", "test_grid", "test_frames.Strangers"],
+    **dict.fromkeys(
+        (f"_rules/{name}.py" for name in "calls conditions emission expressions functions names pairs reading registers statements".split()),
+        ["test_rules.Values", "test_rules.Words", "test_rules.Published", "test_rules.Idioms", "test_rules.Files", "test_rules.Errors",
+         "test_rules.Random"],
+    ),
 }
 """The tests that have to notice an edit of a file, the fast ones first."""
 
@@ -129,7 +140,7 @@ MUTANTS = [
     ("_analysis/peak.py", "    if not rows.duplicated(RUN).any():\n", "    if True:\n"),
     ("_analysis/peak.py", "numpy.cov(by_key.to_numpy().T)) / len(by_key)", "numpy.cov(by_key.to_numpy().T))"),
     ("_analysis/peak.py", "part[f\"{y}_sem\"].to_numpy() ** 2", "part[f\"{y}_sem\"].to_numpy()"),
-    ("_analysis/peak.py", "LEAST_BEND = 3", "LEAST_BEND = 0"),
+    ("_analysis/peak.py", "SIGNIFICANT = 3", "SIGNIFICANT = 0"),
     ("_analysis/peak.py", "LEAST_RUNS, LEAST_POINTS, MAX_DEGREE = 5, 5, 5", "LEAST_RUNS, LEAST_POINTS, MAX_DEGREE = 2, 5, 5"),
     ("_analysis/peak.py", "if chi2 > dof + 3 * math.sqrt(2 * dof):", "if False:"),
     ("_analysis/peak.py", "float(fitted(top)), height_sem", "float(fitted(top)) + 3 * height_sem, height_sem"),
@@ -177,12 +188,104 @@ MUTANTS = [
      "[input.start.placement, input.start.speed, input.start.seed]"),
     ("_studies/roads.py", "[is_sweep, count, *about]", "[is_sweep, *about]"),
     ("_studies/roads.py", "key_digits(input.key).lower()", "\"0\" * 64"),
+    # The stationary state.
+    ("_exact/stationary.py", "Fraction(parts(probability(\"brake\", brake)), ALWAYS)", "Fraction(probability(\"brake\", brake))"),
+    ("_exact/stationary.py", "splits * self.cars // k", "splits * self.empty // k"),
+    ("_exact/stationary.py", "(self.cars - k) * (self.empty - k) // (k * k)", "(self.cars - k) * self.empty // (k * k)"),
+    ("_exact/stationary.py", "self.brake.numerator ** (most - k)", "self.brake.numerator ** k"),
+    ("_exact/stationary.py", "(1 - ring.brake) * Fraction(", "Fraction("),
+    ("_exact/stationary.py", "moving * brakes + splits * power", "moving * brakes + splits"),
+    ("_exact/stationary.py", "roads + term / k\n", "roads + term\n"),
+    ("_exact/stationary.py", "if term < NEGLIGIBLE:", "if term < 1e-9:"),
+    ("_exact/stationary.py", "yield k + 1, term", "yield k, term"),
+    ("_exact/stationary.py", "range(largest - 1, 0, -1)", "range(largest - 1, 1, -1)"),
+    ("_exact/stationary.py", "cell != \".\" and ahead == \".\"", "cell != \".\" and ahead != \".\""),
+    ("_exact/stationary.py", "self.brake == 0 and self.cars > self.empty", "False"),
+    ("_exact/stationary.py", "if len(lanes) != 1:", "if False:"),
+    # The triangle.
+    ("_exact/triangle.py", "min(fastest * cars, 1 - cars)", "fastest * cars"),
+    ("_exact/triangle.py", "max(delay, delay - 1 + steps_of_one_car)", "max(delay, delay + steps_of_one_car)"),
+    ("_exact/triangle.py", "max(delay, delay - 1 + steps_of_one_car)", "delay - 1 + steps_of_one_car"),
+    ("_exact/triangle.py", "-(-min(fastest * count, cells - count) // fastest)", "min(fastest * count, cells - count) // fastest"),
+    # The minimum principle.
+    ("_exact/minimum.py", "(0, min(time, cars - 1))", "(0, min(time, cars - 2))"),
+    ("_exact/minimum.py", "max(0, time - cars + 1)", "max(0, time - cars + 2)"),
+    ("_exact/minimum.py", "if rising[0] <= place - size:", "if rising[0] < place - size:"),
+    ("_exact/minimum.py", "values[rising[-1]] >= value", "values[rising[-1]] <= value"),
+    ("_exact/minimum.py", "- sums[x] + low", "+ low"),
+    ("_exact/minimum.py", "(after - cell - 1) % len(lane)", "(after - cell) % len(lane)"),
+    ("_exact/minimum.py", "min(steps_to_accelerate(job.rule, job.limit), time)", "0"),
+    ("_exact/minimum.py", "len({job.rule, *job.at.values()}) > 1", "False"),
+    ("_exact/minimum.py", "zip(sorted(cells), ", "zip(cells, "),
+    ("_exact/minimum.py", "(cell + far) % len(lanes[0])", "cell + far"),
+    # The rules that are known exactly.
+    ("_exact/rules.py", "return limit if limit > 1 and braking_of_nasch(rule) == 0 else 0", "return 0"),
+    ("_exact/rules.py", "limit if limit > 1 and ", "limit if "),
+    ("_exact/rules.py", " and parts(rule.brake) == parts(rule.stopped)", ""),
+    ("_exact/rules.py", " and parts(rule.change) == 0", ""),
+    ("_exact/rules.py", "if not is_exact(rule):", "if False:"),
+    # Rules as Python functions: numbers below 0.
+    ("_rules/pairs.py", "by - 1), by)", "0), by)"),
+    ("_rules/pairs.py", "self.excess(minus, plus), self._to.place)", "0)"),
+    ("_rules/pairs.py", "else Number(minus, plus, self._to.place)", "else Number(plus, minus)"),
+    ("_rules/pairs.py", "other = \"max\" if name == \"min\" else \"min\"", "other = name"),
+    ("_rules/pairs.py", "return self._best(\"max\", number[:2])", "return number.plus"),
+    ("_rules/pairs.py", "or name == \"min\" and best == [0]:", "or best == [0]:"),
+    ("_rules/pairs.py", "max(-terms.constant, 0)", "max(terms.constant, 0)"),
+    ("_rules/pairs.py", "return Number(self.excess(plus, minus))", "return Number(self.excess(minus, plus))"),
+    ("_rules/pairs.py", "(-1, number.minus)", "(1, number.minus)"),
+    ("_rules/pairs.py", "self.constant - other.constant", "self.constant + other.constant"),
+    ("_rules/pairs.py", "self.minus + other.plus,", "self.minus,"),
+    ("_rules/pairs.py", "if by == 0:\n            return 0", "if by == 0:\n            return 1"),
+    ("_rules/expressions.py", "left - (ZERO - right)", "left - right"),
+    ("_rules/expressions.py", "inner if isinstance(node.op, ast.UAdd) else ZERO - inner", "inner"),
+    ("_rules/expressions.py", "        if minus is variable.plus:\n", "        if False:\n"),
+    ("_rules/statements.py", "if value.minus != 0 and self.to.is_live:", "if False:"),
+    # Conditions.
+    ("_rules/pairs.py", "if isinstance(operator, (ast.Gt, ast.GtE)):", "if isinstance(operator, ast.Gt):"),
+    ("_rules/pairs.py", "when = when == isinstance(operator, ast.Eq)", "when = when != isinstance(operator, ast.Eq)"),
+    ("_rules/pairs.py", "self.jump(high, low, True, target, when)", "self.jump(high, low, False, target, when)"),
+    ("_rules/pairs.py", "self.jump(high + may_be_equal, low,", "self.jump(high + 1, low,"),
+    ("_rules/pairs.py", "low + (not may_be_equal), True", "low, True"),
+    ("_rules/pairs.py", "\"jlt\" if may_be_equal else \"jle\", None, high", "\"jle\" if may_be_equal else \"jle\", None, high"),
+    ("_rules/pairs.py", "\"jle\" if may_be_equal else \"jlt\", None, low", "\"jle\" if may_be_equal else \"jle\", None, low"),
+    ("_rules/conditions.py", "self.branch(it, skip, not when)", "self.branch(it, skip, when)"),
+    ("_rules/conditions.py", "else (skip, False)", "else (target, False)"),
+    ("_rules/conditions.py", "isinstance(node.op, ast.Or))\n        self.to.label(end)", "isinstance(node.op, ast.And))\n        self.to.label(end)"),
+    ("_rules/conditions.py", "self.to.new(\"copy\", registers[0])", "registers[0]"),
+    ("_rules/conditions.py", " and self._is_truth(parts[-1]):", ":"),
+    ("_rules/conditions.py", "return all(self._is_truth(it)", "return any(self._is_truth(it)"),
+    ("_rules/conditions.py", "self.to.emit(\"and\", result, result, self.to.new(\"not\", result))", "pass"),
+    ("_rules/conditions.py", "self.numbers.jump(1, self.numbers.size(value),", "self.numbers.jump(1, value.plus,"),
+    # Words, calls and statements.
+    ("_rules/calls.py", "self._next_word += 1 if self.kind == \"motion\" else -1", "self._next_word += 1"),
+    ("_rules/calls.py", "if self.words.setdefault(word, bool(names)) != bool(names):", "if False:"),
+    ("_rules/calls.py", "[Number(value.plus), *most]", "most"),
+    ("_rules/calls.py", "if name not in frame.assigned:\n", "if True:\n"),
+    ("_rules/calls.py", "or name in frame.assigned or", "or"),
+    ("_rules/functions.py", "_counted(motion) & _words_of(change) |", ""),
+    ("_rules/functions.py", "r\"^[^;\\n]*\\bdraw", "r\"\\bdraw"),
+    ("_rules/statements.py", "frame.constants[target.id] = turn", "frame.constants[target.id] = turn + 1"),
+    ("_rules/statements.py", "self.branch(node.value, stay, False)", "self.branch(node.value, stay, True)"),
+    ("_rules/statements.py", "            self.to.emit(\"jump\", target=frame.end)\n", ""),
+    ("_rules/names.py", "if any(it is UNKNOWN for it in names.values()):", "if False:"),
+    ("_rules/reading.py", "return bool(its.co_freevars) or same[0] == same[1]", "return True"),
+    ("_rules/reading.py", "[len(its.args) - len(its.defaults):]", ""),
+    # Registers.
+    ("_rules/emission.py", "set.intersection(*paths)", "set.union(*paths)"),
+    ("_rules/emission.py", "self.is_live = name not in ENDS", "self.is_live = True"),
+    ("_rules/registers.py", " or it.difference is not None]", "]"),
+    ("_rules/registers.py", "(set(it.reads) if it.name == \"copy\" else set())", "set(it.reads)"),
+    ("_rules/registers.py", "        else:\n            near = set()\n", ""),
+    ("_rules/registers.py", " if numbers.get(other) in free]", " if other in numbers]"),
+    ("_rules/registers.py", "        now |= at.get(it.target, set())\n", ""),
+    ("_rules/registers.py", "                found[it.to].add(other)\n", ""),
 ]
 """A file of the package, the text in it (once, or the first), and its replacement."""
 
 
-def is_noticed(mutant: "tuple[str, str, str]") -> bool:
-    """Whether the tests fail with this edit in a copy of the package. Only for a process of its own."""
+def first_failure(mutant: "tuple[str, str, str]") -> str:
+    """The first test that fails with this edit in a copy of the package; empty if all pass. Only for a process of its own."""
     file, old, new = mutant
     with tempfile.TemporaryDirectory() as folder:
         for part in "trlab", "tests":
@@ -198,11 +301,13 @@ def is_noticed(mutant: "tuple[str, str, str]") -> bool:
         hypothesis.settings.load_profile("quick")
         with open(os.devnull, "w") as nowhere:
             tests = unittest.defaultTestLoader.loadTestsFromNames(f"tests.{name}" for name in TESTS[file])
-            return not unittest.TextTestRunner(nowhere, failfast=True).run(tests).wasSuccessful()
+            result = unittest.TextTestRunner(nowhere, failfast=True).run(tests)
+            failed = [test for test, _ in result.errors + result.failures]
+            return getattr(failed[0], "test_case", failed[0]).id() if failed else ""
 
 
 def main() -> int:
-    chosen = [mutant for mutant in MUTANTS if not sys.argv[1:] or mutant[0].endswith(tuple(sys.argv[1:]))]
+    chosen = [mutant for mutant in MUTANTS if not sys.argv[1:] or any(word in mutant[0] for word in sys.argv[1:])]
     for file, old, _ in chosen:
         if old not in (TOP / "trlab" / file).read_text():
             raise SystemExit(f"{file} has no {old!r}: adapt the list of mutants")
@@ -211,11 +316,11 @@ def main() -> int:
     # Each edit has its own process, which need not import the libraries again.
     with multiprocessing.get_context("fork").Pool(maxtasksperchild=1) as pool:
         unedited = [(file, "", "") for file in dict.fromkeys(file for file, _, _ in chosen)]
-        if any(pool.imap(is_noticed, unedited, chunksize=1)):
+        if any(pool.imap(first_failure, unedited, chunksize=1)):
             raise SystemExit("the tests fail without any edit")
-        for (file, old, new), is_seen in zip(chosen, pool.imap(is_noticed, chosen, chunksize=1)):
-            missed += not is_seen
-            print(f"{'noticed' if is_seen else 'NOT NOTICED'}: {file}: {old!r} -> {new!r}", flush=True)
+        for (file, old, new), test in zip(chosen, pool.imap(first_failure, chosen, chunksize=1)):
+            missed += not test
+            print(f"{test.removeprefix('tests.') or 'NOT NOTICED'}: {file}: {old!r} -> {new!r}", flush=True)
     print(f"{len(chosen) - missed} of {len(chosen)} edits are noticed")
     return 1 if missed else 0
 

@@ -23,7 +23,7 @@ SHAPE = Sweep(limit=5, length=100, rule=Nasch(0.25), warm=10, measure=20, cars=[
 SWEEPS = {f"key_{key}": replace(SHAPE, key=key) for key in range(5)}
 JOB = Job(limit=5, length=20, cars=4, rule=Nasch(0.25), steps=9)
 
-# Some 0.1 seconds for each of 30 sweeps.
+# 30 sweeps, each result of which waits for a line on standard input, or for its end.
 MANY = """
 import json, sys, trlab
 shape = {"limit": 5, "length": 10000, "rule": trlab.Nasch(0.25), "warm": 500, "measure": 500}
@@ -32,6 +32,7 @@ found = {}
 for key, table in trlab.results(sweeps, cache=sys.argv[1], at_once=2):
     found[key] = list(table[0])
     print(key, flush=True)
+    sys.stdin.readline()
 print(json.dumps(sorted(found.items())), flush=True)
 """
 
@@ -180,7 +181,10 @@ class Kept(unittest.TestCase):
 
     def test_a_cache_has_a_name(self):
         self.assertRaisesRegex(ParameterError, "current folder", trlab.results, SWEEPS, cache="")
-        self.assertRaises(TypeError, trlab.results, SWEEPS, cache=True)
+        self.assertRaisesRegex(ParameterError, "must be the path of a folder", trlab.results, SWEEPS, cache=True)
+        with tempfile.NamedTemporaryFile() as file:
+            for cache in file.name, f"{file.name}/cache":
+                self.assertRaisesRegex(ParameterError, "in place of one or below a file", trlab.results, SWEEPS, cache=cache)
 
     def test_a_read_only_cache_is_read_and_a_warning_says_that_nothing_is_kept(self):
         script = """
@@ -250,6 +254,8 @@ class Killed(unittest.TestCase):
             killed = child(MANY, str(cache), TRLAB=program)
             for _ in range(7):
                 killed.stdout.readline()
+                killed.stdin.write("\n")
+                killed.stdin.flush()
             killed.kill()
             killed.communicate()
             self.assertTrue(until(lambda: not marked(killed.mark)))

@@ -126,6 +126,8 @@ class Detectors(unittest.TestCase):
             self.assertRaises((ValueError, TypeError), trlab.passings, snapshots, cells)
         for every in 0, -1, 7, 31, 1.5:
             self.assertRaises((ValueError, TypeError), trlab.detectors, snapshots, [0], every)
+        with self.assertRaisesRegex(ParameterError, "must be a list of cells, for example .0, 100., not 3"):
+            trlab.detectors(snapshots, 3, 10)
         with self.assertRaisesRegex(ParameterError, "30 steps are not whole windows of 7 steps"):
             trlab.detectors(snapshots, [0], 7)
         other = Job(limit=5, length=20, cars=6, rule=Nasch("1/4"), steps=30).run()

@@ -158,6 +158,14 @@ class Peaks(unittest.TestCase):
         found = self.peaks(40, lambda x: 0.318 - (x - 0.09) ** 2, runs=5, noise=0.01)
         self.assertLess(len(found), 2)
 
+    def test_a_peak_beside_a_plateau(self):
+        def flow(x):
+            return 0.318 - (20 * (x - 0.086) ** 2 if x < 0.086 else 0.006 * (1 - math.exp(-((x - 0.086) / 0.015) ** 2)))
+
+        found = self.peaks(20, flow)
+        self.assertGreater(len(found), 15)
+        self.assertLess(abs(numpy.mean([it.y for it in found]) - 0.318), 0.001)
+
     def test_what_it_returns(self):
         frame = self.curve(self.parabola, runs=7, noise=1e-4)
         found = trlab.peak(frame, over="seed", within=0.05)

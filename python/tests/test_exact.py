@@ -7,6 +7,8 @@ from pathlib import Path
 
 sys.path.append(str(Path(__file__).resolve().parents[2]))
 
+from trlab import exact
+
 from studies.exact.chain import by_elimination, by_iteration, chain, expected_distance, first_state, stationary
 from studies.exact.closed import flow_of_long_ring, flow_of_ring
 from studies.exact.models import NagelSchreckenberg, Rickert, VelocityDependent
@@ -62,6 +64,13 @@ class Solutions(unittest.TestCase):
                 exact = float(flow(NagelSchreckenberg(p, 1), length, cars))
                 self.assertAlmostEqual(flow_of_ring(float(p), length, cars), exact, places=14)
         self.assertAlmostEqual(flow_of_ring(0.25, 100000, 30000), flow_of_long_ring(0.25, 0.3), places=5)
+
+    def test_the_module_of_exact_results_agrees(self):
+        for p, length in product((QUARTER, HALF, Fraction(3, 4)), range(2, 7)):
+            for cars in range(1, length):
+                self.assertEqual(exact.flow(length, cars, p), flow(NagelSchreckenberg(p, 1), length, cars))
+        for p, cars in product((0.25, 0.5), (200, 600, 1000, 1600)):
+            self.assertAlmostEqual(exact.flow_as_float(2000, cars, p), flow_of_ring(p, 2000, cars), places=12)
 
     def test_a_step_by_hand(self):
         # Both cars have room for one cell, and move with 3/4 each.

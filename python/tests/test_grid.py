@@ -93,6 +93,12 @@ class Inputs(unittest.TestCase):
             with self.subTest(words=words), self.assertRaisesRegex(ParameterError, words):
                 Grid(job, **parameters)
 
+    def test_a_function_that_does_not_fit(self):
+        for make, fault in (lambda seed: None, "'key'"), (lambda key: None, "'seed'"), (lambda seed, p, key: None, "'p'"):
+            self.assertRaisesRegex(ParameterError, f"with seed, key by name, which does not fit: .*{fault}", Grid, make, seed=[1])
+        self.assertRaisesRegex(ParameterError, "needs a function", Grid, job(0.25, 0.1, 0, 1), seed=[1])
+        Grid(lambda **named: job(0.25, 0.1, **named), seed=[1])
+
     def test_an_input_is_a_job_or_a_sweep(self):
         self.assertRaisesRegex(ParameterError, "must return a Job or a Sweep, not None", Grid, lambda seed, key: None, seed=[1])
 
@@ -111,6 +117,8 @@ class Inputs(unittest.TestCase):
                                lambda p, density, seed, key: job(0.25, density, seed, key), **JOBS)
         self.assertRaisesRegex(ParameterError, "p and seed change only the key", Grid, lambda p, seed, key: sweep(0.25, seed, key),
                                **SWEEPS)
+        for values in [0.25, 0.5], ["1/4", "1/2"]:
+            self.assertRaisesRegex(ParameterError, "`p` changes only the key", Grid, lambda p, key: job(0.25, 0.1, 0, key), p=values)
         # A parameter that is used for some values of another one is used.
         rules = {"nasch": lambda q: Nasch(0.25), "slow": lambda q: SlowToStart(0.25, q)}
         Grid(lambda rule, q, seed, key: Job(limit=5, length=20, cars=4, rule=rules[rule](q), steps=9, key=key),
@@ -258,7 +266,7 @@ class Clusters(unittest.TestCase):
             self.assertEqual(len(list(Path(folder).iterdir())), 24)
 
     def test_names_that_are_equal_in_files(self):
-        grid = Grid(lambda p, key: sweep(0.25, 0, key), p=["1/4", "1_4"])
+        grid = Grid(lambda p, key: sweep(p, 0, key), p={"1/4": 0.25, "1_4": 0.5})
         self.assertRaisesRegex(ParameterError, "same file name", grid.named_inputs)
 
 

@@ -8,7 +8,7 @@ from fractions import Fraction
 from pathlib import Path
 
 from trlab import Job, Nasch, Own, ParameterError, RejectedInputError, Rickert, SlowToStart, Sweep, TrlabWarning
-from trlab import check, explain, random_cells
+from trlab import check, exact, explain, random_cells
 from trlab.lab import jobs as lab_jobs
 
 TOP = Path(__file__).resolve().parents[2]
@@ -160,6 +160,29 @@ class Controls(unittest.TestCase):
         self.refuses("file/job", {**self.ROAD, "rules": [self.RULE, {**self.RULE, "at": 3}, {**self.RULE, "at": 3}]})
         for lanes in ["0..", "1."], ["0..", "..", ".."], [0, 1], ["x"], None:
             self.refuses("file/job", {**self.ROAD, "start": "file", "road": lanes})
+
+    def curve(self, rule, limit=1, length=12, lanes=1):
+        body = {"limit": limit, "length": length, "lanes": lanes, "rule": {**self.RULE, **rule}}
+        return json.loads(lab_jobs.answer("exact", json.dumps(body).encode()))
+
+    def test_exact_curves(self):
+        triangle = {"kind": "triangle", "points": [[0, 0], [0.25, 0.75], [1, 0]]}
+        gap_rule = {"model": "own", "motion": f"motion\n{exact.gap_rule.motion}"}
+        for rule in {"model": "nasch", "p": 0}, {"model": "vdr", "p": 0, "q": 0}, gap_rule:
+            self.assertEqual(self.curve(rule, limit=3), triangle)
+            self.assertIsNone(self.curve(rule, limit=3, lanes=2))
+        flows = [[cars / 12, exact.flow_as_float(12, cars, "1/3")] for cars in range(13)]
+        for rule in {"model": "nasch", "p": "1/3"}, {"model": "vdr", "p": "1/3", "q": "1/3"}:
+            self.assertEqual(self.curve(rule), {"kind": "stationary", "points": flows})
+            self.assertIsNone(self.curve(rule, limit=2))
+            self.assertIsNone(self.curve(rule, lanes=2))
+        self.assertEqual(len(self.curve({"model": "nasch", "p": 0.5}, length=100000)["points"]), 101)
+        for rule in {"model": "vdr", "p": 0, "q": 0.5}, {"model": "own", "motion": "motion\nnum r0, 0\ngo r0\n"}:
+            self.assertIsNone(self.curve(rule))
+        for value in self.OTHERS:
+            for field in "limit", "length", "lanes", "rule":
+                self.refuses("exact", {"limit": 1, "length": 12, "lanes": 1, "rule": self.RULE, field: value})
+            self.refuses("exact", {"limit": 1, "length": 12, "lanes": 1, "rule": {**self.RULE, "p": value}})
 
     def test_the_sweep_of_two_lanes_has_cars_on_both(self):
         rule = {"model": "nasch", "p": 0, "q": 0}

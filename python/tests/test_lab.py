@@ -23,6 +23,7 @@ from tests.waiting import LIMIT, holds
 from trlab import Job, Nasch, Snapshot, Snapshots, RejectedInputError, Rickert, random_cells
 from trlab.lab import Lab, page_of, server
 from trlab.lab.__main__ import fragment, main
+from trlab._rules.functions import rules_in
 from trlab._runs.calls import ask
 
 TOP = Path(__file__).resolve().parents[2]
@@ -85,7 +86,7 @@ class Pages(Serving):
                 self.assertEqual([it for it in found if it.startswith("http")], [], file.name)
 
     def test_the_examples(self):
-        wanted = {path.name: path.read_text() for path in EXAMPLES.iterdir() if path.suffix in {".job", ".sweep", ".rule"}}
+        wanted = {path.name: path.read_text() for path in EXAMPLES.iterdir() if path.suffix in {".job", ".sweep", ".rule", ".py"}}
         self.assertEqual(server.examples(), wanted)
         self.assertEqual(self.ask("examples").status, 200)
 
@@ -99,6 +100,8 @@ class Pages(Serving):
 class Answers(Serving):
     def test_every_example(self):
         for name, text in server.examples().items():
+            if name.endswith(".py"):
+                continue
             kind = {"job": "run", "sweep": "sweep", "rule": "check"}[name.rpartition(".")[2]]
             self.assertEqual(self.text(f"explain/{kind}", text), ask(["explain", "--json", kind], text), name)
             if kind == "check":
@@ -123,6 +126,42 @@ class Answers(Serving):
         self.assertEqual(self.text("run", "road 2\n"), "fault line 1 cause 1\n")
         self.assertIn("fault line 1 cause 1\n", self.text("explain", "road 2\n"))
         self.assertEqual(json.loads(self.text("explain/run", "road 2\n"))["answer"], "fault line 1 cause 1")
+
+
+class Rules(Serving):
+    """The rules of the Python editor."""
+
+    def rules(self, text, chosen={}, values={}):
+        return json.loads(self.text("rules", json.dumps({"text": text, "chosen": chosen, "values": values})))
+
+    def test_programs_and_parameters(self):
+        text = (EXAMPLES / "overtake.py").read_text()
+        found = self.rules(text, values={"drive": {"p": 0.5, "gone": 1}})
+        self.assertEqual(found["names"], {"motion": ["drive"], "change": ["overtake"]})
+        self.assertEqual(found["motion"], rules_in(text)["drive"](p=0.5))
+        self.assertEqual(found["change"], rules_in(text)["overtake"]())
+        self.assertEqual(found["budgets"]["drive"], rules_in(text)["drive"]().budget)
+        sliders = [(it["rule"], it["name"], it["value"], it["most"], it["step"]) for it in found["parameters"]]
+        self.assertEqual(sliders, [("drive", "p", 0.5, 1, 0.01), ("overtake", "p", 0.5, 1, 0.01), ("overtake", "ahead", 2, 10, 1)])
+
+    def test_a_choice_among_rules(self):
+        text = (EXAMPLES / "published_rules.py").read_text()
+        self.assertEqual(self.rules(text)["motion"], rules_in(text)["nasch"]())
+        found = self.rules(text, {"motion": "comfortable", "change": "gone"})
+        self.assertEqual(found["motion"], rules_in(text)["comfortable"]())
+        self.assertEqual(found["change"], rules_in(text)["symmetric"]())
+
+    def test_errors_have_their_line(self):
+        text = "@motion\ndef f(car, g):\n    return car.gap\n"
+        self.assertEqual(self.rules(text)["line"], 0)
+        self.assertIn("missing a required argument", self.rules(text)["message"])
+        found = self.rules(text, values={"f": {"g": 1}})
+        self.assertEqual(found["line"], 3)
+        self.assertIn("more than the limit", found["message"])
+        self.assertEqual(self.rules("def f(:")["line"], 1)
+        self.assertEqual(self.rules("import os")["names"], {"motion": [], "change": []})
+        # The text is read, and not run.
+        self.assertEqual(self.rules("import os\nos.abort()\n" + text, values={"f": {"g": 1}})["line"], 5)
 
 
 class Files(Serving):

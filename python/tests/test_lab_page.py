@@ -2,6 +2,7 @@
 import http.server
 import math
 import os
+import re
 import signal
 import tempfile
 import threading
@@ -15,6 +16,7 @@ from tests.browsers import Keys, Window, missing
 from trlab import Job, Nasch, Rickert, SlowToStart, Snapshots
 from trlab.lab import Lab, server
 from trlab.lab.__main__ import fragment
+from trlab._rules.functions import rules_in
 from trlab._runs.calls import ask
 from trlab._results.tables import Window as Row, Table
 from trlab._results.written import snapshots_in
@@ -391,6 +393,8 @@ class Pages:
                 elif kind == "sweep":
                     self.has(ask(["sweep"], text), lambda: self.page.js("return lab.table"))
                     self.has_marks(text.count("\ncars "))
+                elif kind == "py":
+                    self.hold(lambda: f"; {next(iter(rules_in(text)))}(" in self.page.job())
                 else:
                     self.hold(lambda: text in self.page.job())
                 self.hold(lambda: self.page.text("textverdict") == "Accepted." and self.page.step() >= 0)
@@ -430,6 +434,39 @@ class Pages:
         self.page.type("#motion .code", Keys.CONTROL, Keys.HOME)
         self.page.press(*[Keys.DOWN] * 4)
         self.hold(lambda: "Known before line 5: r0:" in self.page.text("motionfacts"))
+
+    def test_a_rule_in_python(self):
+        text = server.examples()["keep_distance.py"]
+        self.page.set("example", "keep_distance.py")
+        self.has_line("; keep_distance(g=1, p=0.25)\n")
+        self.hold(lambda: "keep_distance takes at most 14 instructions" in self.page.text("pythonverdict"))
+        good = self.page.job()
+        self.write("#python .code", text.replace("max(car.gap - g, 0)", "car.gap - g"))
+        self.hold(lambda: "Rejected at line 10" in self.page.text("pythonverdict") and "may be below 0" in self.page.text("python"))
+        self.has_job(good)
+        self.write("#python .code", text.replace("g=1", "g=3"))
+        self.has_line("; keep_distance(g=3, p=0.25)\n")
+        self.run_to(20)
+        self.page.set("keep_distance.g", "5")
+        self.has_line("; keep_distance(g=5, p=0.25)\n")
+        self.hold(lambda: re.search(r"\nat \d+ rule own\nmotion\n; keep_distance\(g=5,", self.page.job()))
+        self.write("#motion .code", "motion\nnum r0, 0\ngo r0")
+        self.hold(lambda: "not those of these functions" in self.page.text("pythonverdict"))
+
+    def test_rules_in_python_for_two_lanes(self):
+        self.page.set("example", "published_rules.py")
+        self.has_line("; nasch(p=0.5)\n")
+        self.has_line("; symmetric(p=1.0)\n")
+        self.page.set("motionrule", "comfortable")
+        self.has_line("; comfortable(p=0.1, p0=0.5, pb=0.94, h=6)\n")
+        self.page.set("changerule", "asymmetric")
+        self.has_line("; asymmetric(p=1.0)\n")
+        self.page.set("asymmetric.p", "0.5")
+        self.has_line("; asymmetric(p=0.5)\n")
+        self.assertFalse(self.page.js("return document.getElementById('asymmetric.p').parentNode.hidden"))
+        self.page.set("lanes", "1")
+        self.hold(lambda: self.page.js("return document.getElementById('asymmetric.p').parentNode.hidden"))
+        self.hold(lambda: "\nchange\n" not in self.page.job())
 
     def fix(self, name):
         """Click on the change that the message in an editor proposes."""
@@ -495,6 +532,52 @@ class Pages:
         self.page.set("measure", "0")
         self.page.click("sweep")
         self.hold(lambda: self.page.js("return lab.table").startswith("cars,cells,steps,distance,stopped,changes,flow\n20,1000,1,"))
+
+    def exact_curve(self):
+        """The points of the exact curve that is drawn, as densities and flows, or None."""
+        return self.page.js("""const line = document.querySelector('#diagram .exact'), top = lab.job.limit / (lab.job.limit + 1);
+            return line && line.getAttribute('points').split(' ').map(it => it.split(',').map(Number))
+                .map(([x, y]) => [(x - 34) / 316, (240 - y) / 222 * top])""")
+
+    def has_curve(self, *wanted):
+        """The exact curve comes to have these points, up to the tenth of a pixel to which it is drawn."""
+        near = lambda one, other: abs(one[0] - other[0]) < 0.001 and abs(one[1] - other[1]) < 0.001
+        self.hold(lambda: len(found := self.exact_curve() or []) == len(wanted) and all(map(near, found, wanted)))
+
+    def test_exact_curves(self):
+        self.assertIsNone(self.exact_curve())
+        self.page.set("p", "0")
+        self.has_curve((0, 0), (1 / 6, 5 / 6), (1, 0))
+        self.hold(lambda: "exact" in self.page.text("diagram") and "every initial state reaches" in self.page.text("diagram"))
+        self.page.set("limit", "1")
+        self.has_curve((0, 0), (1 / 2, 1 / 2), (1, 0))
+        self.page.set("p", "0.25")
+        self.has_curve(*((k / 100, trlab.exact.flow_as_float(1000, 10 * k, 0.25)) for k in range(101)))
+        self.assertIn("over all random words", self.page.text("diagram"))
+        self.page.set("length", "12")
+        self.has_curve(*((cars / 12, float(trlab.exact.flow(12, cars, "1/4"))) for cars in range(13)))
+        self.page.set("model", "vdr")
+        self.page.set("q", "0.75")
+        self.hold(lambda: self.exact_curve() is None)
+        self.page.set("q", "0.25")
+        self.has_curve(*((cars / 12, float(trlab.exact.flow(12, cars, "1/4"))) for cars in range(13)))
+        self.page.set("lanes", "2")
+        self.hold(lambda: self.exact_curve() is None)
+        self.page.set("lanes", "1")
+        self.page.set("limit", "4")
+        self.hold(lambda: self.page.value("limit") == "4" and self.exact_curve() is None)
+        self.open(Job(limit=4, length=50, cars=10, rule=trlab.exact.gap_rule, steps=400).text())
+        self.has_curve((0, 0), (1 / 5, 4 / 5), (1, 0))
+        self.page.set("figure", "diagram")
+        self.assertIn('class="exact"', self.saved("savefigure"))
+
+    def test_runs_lie_on_exact_curves(self):
+        self.open(Job(limit=5, length=300, cars=90, start=trlab.random_cells(1), rule=Nasch(0), steps=500).text())
+        self.hold(lambda: self.page.js("return lab.job.length") == 300)
+        self.run_to(500)
+        self.hold(lambda: self.page.js("return lab.marks.length") > 0)
+        (point,) = self.page.js("return lab.marks.at(-1).points")
+        self.assertAlmostEqual(point["flow"], float(trlab.exact.triangle(5, 90 / 300)), places=9)
 
     def saved(self, *names):
         """The text of the file that a click on these buttons saves."""

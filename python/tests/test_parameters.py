@@ -292,6 +292,14 @@ class Findings(unittest.TestCase):
         for written in "1e-99999999", Decimal("1e-999999"), Decimal("1e-99999999"), "0." + 9999 * "1":
             self.assertRaises(ParameterError, Nasch, written)
 
+    def test_a_density_of_less_than_one_car(self):
+        words = "on 100 cells is less than one car: the lowest density above 0 is 0.01 there"
+        with self.assertRaisesRegex(ParameterError, words):
+            replace(ROADS, start=random_cells(1), length=100, density=0.004).text()
+        sweep = replace(SWEEP, cars=None, length=100, lanes=1, densities=[0, 0.006])
+        self.assertEqual(sweep.counts(), [0, 1])
+        self.assertRaisesRegex(ParameterError, words, replace, sweep, densities=[0, 1e-9])
+
     def test_a_wrong_option_runs_nothing(self):
         for options in {"every": -1}, {"workers": 17}, {"every": None}, {"first": 31}, {"every": 500001}, {"workers": True}:
             with mock.patch("subprocess.Popen", side_effect=AssertionError):

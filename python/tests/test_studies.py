@@ -25,7 +25,8 @@ from trlab import Nasch, Point, Sweep, random_cells
 TOP = Path(__file__).resolve().parents[2]
 STUDIES = TOP / "studies"
 NAMES = "1992", "1996", "1998", "exact", "triangle"
-QUICK = "detectors", "hysteresis", "own_rule", "study_file", "trajectories"  # of the short scripts: seconds, not minutes
+QUICK = ["detectors", "hysteresis", "own_rule", "study_file", "trajectories"]  # of the short scripts: seconds, not minutes
+SLOW = ["diagram", "ring_size", "two_lanes"]
 PRINTED = re.compile(r"```sh\npython3 studies/paper/(\w+)\.py\n```\n\n```text\n(.*?)```", re.S)
 HEADING = "text,cars,cells,steps,distance,stopped,changes,flow"
 MISSING = [package for package in ("numpy", "pandas", "matplotlib") if not importlib.util.find_spec(package)]
@@ -208,9 +209,11 @@ class Studies(unittest.TestCase):
     def test_short_scripts_print_their_page(self):
         wanted = dict(PRINTED.findall((STUDIES / "paper" / "README.md").read_text(encoding="utf-8")))
         self.assertEqual(set(wanted), {file.stem for file in (STUDIES / "paper").glob("*.py")})
+        self.assertEqual(set(wanted), {*QUICK, *SLOW})
+        names = [*QUICK, *(SLOW if os.environ.get("TRLAB_SLOW_STUDIES") else [])]
         with tempfile.TemporaryDirectory() as folder, ThreadPoolExecutor() as pool:
-            found = pool.map(lambda name: ran(Path(folder) / name, f"studies/paper/{name}.py"), QUICK)
-            for name, (figures, printed) in zip(QUICK, found):
+            found = pool.map(lambda name: ran(Path(folder) / name, f"studies/paper/{name}.py"), names)
+            for name, (figures, printed) in zip(names, found):
                 with self.subTest(script=name):
                     self.assertEqual(set(figures), {f"{name}.svg"})
                     words, others = "\n".join(printed).split(), wanted[name].split()

@@ -15,10 +15,11 @@ runs and their rows need no other package; frames, arrays, estimates and plots n
 `pip install "trlab[analysis]"`. The environment variable `TRLAB` may hold the path of the program (see `find_program`)."""
 from importlib import import_module as _import_module
 
+from . import exact as exact
 from ._errors import (
     EstimateError, ExitStatusError, FrameError, IncompleteOutputError, MissingLibraryError, OutputFormatError, ParameterError,
-    ProgramError, ProgramNotFoundError, RejectedInputError, RenamedError, ResultFilesError, SnapshotsError, StudyFileError,
-    TrlabError, TrlabWarning,
+    ProgramError, ProgramNotFoundError, RejectedInputError, RenamedError, ResultFilesError, RuleError, SnapshotsError,
+    StudyFileError, TrlabError, TrlabWarning,
 )
 from ._inputs.jobs import Duration, Job
 from ._inputs.numbers import Density, Key, Probability
@@ -30,6 +31,7 @@ from ._renamed import IN_PACKAGE as _IN_PACKAGE, renamed as _renamed
 from ._results.drift import Drift
 from ._results.snapshots import Snapshot, Snapshots
 from ._results.tables import Point, Table, Window
+from ._rules.functions import PythonRule, change, motion
 from ._runs.calls import version
 from ._runs.cluster import read_tables, write_inputs
 from ._runs.location import find_program
@@ -55,11 +57,11 @@ _ANALYSIS = {
 __all__ = [
     "AcceptedProgram", "Density", "Drift", "Duration", "EstimateError", "ExitStatusError", "FrameError", "Grid",
     "IncompleteOutputError", "InitialState", "Job", "Key", "MissingLibraryError", "Nasch", "OutputFormatError", "Own",
-    "ParameterError", "Point", "Probability", "ProgramError", "ProgramNotFoundError", "RejectedInputError", "RenamedError",
-    "ResultFilesError", "Rickert", "Rule", "SlowToStart", "Snapshot", "Snapshots", "SnapshotsError", "StudyFileError", "Sweep",
-    "Table", "TrlabError", "TrlabWarning", "Window", "__version__", "check", "even", "explain", "find_program", "jammed", "key_for",
-    "moving", "random_cells",
-    "read_study", "read_tables", "results", "run_all", "version", "write_inputs",
+    "ParameterError", "Point", "Probability", "ProgramError", "ProgramNotFoundError", "PythonRule", "RejectedInputError",
+    "RenamedError", "ResultFilesError", "Rickert", "Rule", "RuleError", "SlowToStart", "Snapshot", "Snapshots", "SnapshotsError",
+    "StudyFileError", "Sweep", "Table", "TrlabError", "TrlabWarning", "Window", "__version__", "change", "check", "even", "explain",
+    "find_program", "jammed", "key_for", "motion", "moving", "random_cells", "read_study", "read_tables", "results", "run_all",
+    "version", "write_inputs",
 ]
 
 

@@ -86,6 +86,19 @@ class RejectedInputError(TrlabError):
         return self.explanation
 
 
+class RuleError(TrlabError, ValueError):
+    """A Python function that is not a rule, or whose program the verifier rejects. The message names the file, the line and the
+    expression, and says what to write instead; the attributes are `file`, `line` (from 1) and `message`, which does not repeat
+    them."""
+
+    def __init__(self, file: str, line: int, message: str) -> None:
+        super().__init__(file, line, message)
+        self.file, self.line, self.message = file, line, message
+
+    def __str__(self) -> str:
+        return f"{self.file}, line {self.line}: {self.message}"
+
+
 class IncompleteOutputError(TrlabError):
     """An output of the program that is shorter or longer than its input allows, whatever the exit status is."""
 

@@ -1,4 +1,5 @@
-"""The known flow of the Nagel-Schreckenberg model with v_max = 1, which is the parallel TASEP on a ring."""
+"""The known flow of the Nagel-Schreckenberg model with v_max = 1, which is the parallel TASEP on a ring. It shares no code with
+`trlab.exact`, and is compared with it in a test."""
 from __future__ import annotations
 
 from math import exp, log, sqrt

@@ -147,16 +147,19 @@ def draw_shares(study, z, below):
     study.save(axes)
 
 
-def draw_long_rings(study, found):
-    """The known flow for v_max = 1, and the means of trlab from stationary initial states."""
+def draw_long_rings(study, found, length):
+    """The exact flow for v_max = 1, which without randomization is the triangle, and the means of trlab from stationary initial
+    states."""
     _, axes = plt.subplots()
-    densities = numpy.linspace(0, 1, 201)
+    densities, counts = numpy.linspace(0, 1, 201), numpy.linspace(0, length, 201, dtype=int)
+    axes.plot(densities, [float(trlab.exact.triangle(1, density)) for density in densities], "-", color="0.6", label="exact, p = 0")
     for number, (name, p) in enumerate(CHANCES.items()):
-        axes.plot(densities, [flow_of_long_ring(p, density) for density in densities], "-", label=f"known, p = {p}")
+        flows = [trlab.exact.flow_as_float(length, cars, p) for cars in counts]
+        axes.plot(counts / length, flows, "-", color=f"C{number}", label=f"exact, p = {p}")
         its = found[found.index.str.startswith(f"p_{name}")].set_index("density")
         trlab.plot_means(its, ax=axes, linestyle="none", color=f"C{number}", label="trlab, means ± standard error")
-    axes.set(xlim=(0, 1), ylim=(0, 0.3))
-    axes.legend()
+    axes.set(xlim=(0, 1), ylim=(0, 0.7))
+    axes.legend(ncol=2, loc="upper center")
     study.save(axes, "long_rings.svg")
 
 
@@ -170,7 +173,7 @@ def main():
     print_long_rings(asked, found)
     print_early_rings(early, found_early)
     draw_shares(study, z, below)
-    draw_long_rings(study, found["stationary"])
+    draw_long_rings(study, found["stationary"], next(iter(asked.values())).length)
 
 
 if __name__ == "__main__":

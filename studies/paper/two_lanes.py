@@ -8,28 +8,24 @@ from trlab import Grid, Job, Own, Rickert, random_cells
 
 HERE = Path(__file__).parent
 plt.style.use(HERE.parent / "figures.mplstyle")
-NASCH = (HERE.parents[1] / "examples" / "nasch.rule").read_text()  # p = 1/2
-RETURN = """
-change
-        side r0
-        jfalse r0, keep         ; the side cell is occupied
-        get r1, speed
-        num r2, 1
-        add r1, r1, r2          ; the speed that the car wants
-        get r2, lane
-        num r3, 1
-        jle r3, r2, back        ; on lane 1: return, even if it is free
-        get r2, gap
-        jle r1, r2, keep        ; on lane 0: stay, if it is free
-back:   get r2, sidegap
-        jlt r2, r1, keep        ; too little room ahead on the other lane
-        get r2, sideback
-        get r3, limit
-        jlt r2, r3, keep        ; a car may come from behind
-        cross
-keep:   stay
-"""
-RULES = {"both lanes alike": Rickert("1/2", 1), "return to lane 0": Own(NASCH, RETURN)}
+
+
+@trlab.motion
+def nasch(car, p=0.5):
+    v = min(car.speed + 1, car.limit, car.gap)
+    if car.draw(p):
+        v = max(v - 1, 0)
+    return v
+
+
+@trlab.change
+def return_to_lane_0(car):
+    wanted = car.speed + 1
+    wants = car.lane == 1 or car.gap < wanted  # on lane 0 only if the car is hindered
+    return car.side and wants and car.sidegap >= wanted and car.sideback >= car.limit
+
+
+RULES = {"both lanes alike": Rickert("1/2", 1), "return to lane 0": Own(nasch, return_to_lane_0)}
 
 
 def make(rule, density, seed, key):

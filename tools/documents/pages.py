@@ -5,7 +5,7 @@ import re
 import standing
 
 # Of pages with many blocks, which do not count.
-MAX_WORDS_OUTSIDE_BLOCKS = {"README.md": 1000, "docs/TUTORIAL.md": 850, "docs/CHEATSHEET.md": 550, "docs/FAQ.md": 950}
+MAX_WORDS_OUTSIDE_BLOCKS = {"README.md": 1020, "docs/TUTORIAL.md": 850, "docs/CHEATSHEET.md": 550, "docs/FAQ.md": 950}
 INDEX = "docs/README.md"
 NUMBER = re.compile(r"\d+\.\d+")
 REPRODUCED = re.compile(r"^\| \[[^]]*\]\((studies/[^)]*)\): [^|]*\| (.*) \|$", re.M)

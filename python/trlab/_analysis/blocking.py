@@ -34,8 +34,8 @@ def blocking(values: Union[Iterable[float], Array, pandas.Series]) -> Blocking:
 
     Neighbours are averaged in pairs, again and again, until the error of the mean no longer grows. The block is the smallest one
     whose length B fulfils B**3 > 2 n (sem_B / sem_1)**4, with n values in the series (Lee and others, Phys. Rev. E 83, 066706,
-    2011). This needs about 90 times as many values as the inefficiency. Values that do not fill a block are left out of the
-    error, never out of the mean. The error of a series of equal values is 0.
+    2011). This needs 90 to 260 times as many values as the inefficiency, since lengths of blocks are powers of 2. Values that do
+    not fill a block are left out of the error, never out of the mean. The error of a series of equal values is 0.
 
     `values` is a column of a frame or any list of at least 32 numbers. If its index has the parameters of a study, they must be
     those of one run. Raises `EstimateError` if it is not such a series, or if fewer than 16 blocks would be left, because the

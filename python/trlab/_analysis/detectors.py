@@ -113,6 +113,8 @@ class _Road:
 
     def __init__(self, snapshot: Snapshot, cells: Sequence[int]) -> None:
         self.sizes, self.cars, self.step = [len(lane) for lane in snapshot.lanes], _cars_on(snapshot), snapshot.step
+        if not isinstance(cells, Iterable):
+            raise ParameterError(f"`cells` must be a list of cells, for example [0, 100], not {cells!r}")
         self.cells = [whole("a cell", cell, 0, self.sizes[0] - 1) for cell in cells]
         if len(set(self.cells)) < len(self.cells) or not self.cells:
             raise ParameterError("`cells` must be different cells, at least one")

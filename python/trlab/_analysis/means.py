@@ -42,7 +42,8 @@ def means(
       root of n, and NaN if n is 1. The mean of an unlimited number of runs is within one standard error with a probability
       of 0.68 if n is large, 0.63 for n = 5 and 0.50 for n = 2 (Student's distribution).
 
-    Counts such as `distance` are averaged only on request. Without cars a speed is NaN, and so is its mean.
+    `density` and `requested_density` stay, since all runs of a mean have the same. Counts such as `distance` are averaged only on
+    request. Without cars a speed is NaN, and so is its mean.
 
     Raises `FrameError` if the result would not be such a mean: for a frame of means, for several windows of one run (see
     `per_run` and `blocking`), for runs with the same key or of different inputs, for missing values, for times that are censored
@@ -55,6 +56,8 @@ def means(
     columns: dict[str, Array] = {}
     if "density" in frame and "density" not in chosen:
         columns["density"] = found.first["density"].to_numpy()
+    if "requested_density" in frame and "requested_density" not in chosen:
+        columns["requested_density"] = found.first["requested_density"].to_numpy()
     columns["n"] = numpy.bincount(found.group)
     for name in chosen:
         columns[name], columns[f"{name}_sem"] = mean_and_sem(numbers(found, name), found.group)

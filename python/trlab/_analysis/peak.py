@@ -12,8 +12,8 @@ from .._errors import EstimateError
 
 LEAST_RUNS, LEAST_POINTS, MAX_DEGREE = 5, 5, 5
 
-LEAST_BEND = 3
-"""The minimum bend of a parabola through the points, in standard errors, because a flat curve has a highest point too."""
+SIGNIFICANT = 3
+"""How much the curve must be bent or fall, in standard errors, because a flat curve has a highest point too."""
 
 _FLAT = "the curve is not bent significantly around its highest point: take more runs, or a larger `within`"
 
@@ -50,7 +50,8 @@ def peak(frame: pandas.DataFrame, over: str, x: str = "density", y: str = "flow"
 
     Raises `EstimateError` if there are fewer than 5 runs at a point or fewer than 5 points, if the peak is at an end of the
     curve, if no such polynomial fits because the curve has a kink (take points closer to the peak, and a smaller `within`), and
-    if the curve is not bent significantly (take more runs, or a larger `within`). Raises `FrameError` as `means` does."""
+    if the curve is not bent (take more runs, or a larger `within`): a parabola through the points must be bent down by 3 standard
+    errors, or the polynomial must fall by as much on both sides. Raises `FrameError` as `means` does."""
     if isinstance(within, bool) or not 0 < within < 1:
         raise EstimateError(f"`within` is a share between 0 and 1, not {within!r}")
     runs = _one_curve(frame, over, x, y)
@@ -59,10 +60,11 @@ def peak(frame: pandas.DataFrame, over: str, x: str = "density", y: str = "flow"
     middle, width = (at[0] + at[-1]) / 2, (at[-1] - at[0]) / 2
     n, covariance = int(part["n"].min()), _covariance(runs, over, x, y, part)
     degree, chi2, solve = _fit((at - middle) / width, part[y].to_numpy(), covariance, n)
-    top, top_sem, height, height_sem = _maximum(solve @ part[y].to_numpy(), solve @ covariance @ solve.T)
     dof = len(part) - degree - 1
-    scatter = math.sqrt(max(1.0, chi2 / dof))
-    return Peak(middle + top * width, scatter * top_sem * width, height, scatter * height_sem, n, len(part), degree, chi2, dof)
+    scatter = max(1.0, chi2 / dof)
+    is_bent = _is_bent((at - middle) / width, part[y].to_numpy(), covariance)
+    top, top_sem, height, height_sem = _maximum(solve @ part[y].to_numpy(), scatter * (solve @ covariance @ solve.T), is_bent)
+    return Peak(middle + top * width, top_sem * width, height, height_sem, n, len(part), degree, chi2, dof)
 
 
 def _one_curve(frame: pandas.DataFrame, over: str, x: str, y: str) -> pandas.DataFrame:
@@ -121,7 +123,6 @@ def _fit(t: Array, mean: Array, covariance: Array, n: int) -> tuple[int, float, 
     """The degree of the best polynomial, its chi2, and the matrix that gives its coefficients from the means."""
     # With few runs the errors are uncertain too: the mean of Student's t**2 is (n - 1) / (n - 3) for n - 1 degrees of freedom.
     scale = (n - 3) / (n - 1)
-    _need_bend(t, mean, covariance)
     fits = []
     for degree in range(2, min(MAX_DEGREE, len(t) - 2) + 1):
         design = numpy.vander(t, degree + 1, increasing=True)
@@ -138,15 +139,15 @@ def _fit(t: Array, mean: Array, covariance: Array, n: int) -> tuple[int, float, 
     return degree, chi2, solve
 
 
-def _need_bend(t: Array, mean: Array, covariance: Array) -> None:
-    """Raises `EstimateError` unless a parabola through the means is bent down significantly."""
+def _is_bent(t: Array, mean: Array, covariance: Array) -> bool:
+    """Whether a parabola through the means is bent down significantly."""
     row = numpy.linalg.pinv(numpy.vander(t, 3, increasing=True))[2]
-    if row @ mean > -LEAST_BEND * math.sqrt(row @ covariance @ row):
-        raise EstimateError(_FLAT)
+    return bool(row @ mean <= -SIGNIFICANT * math.sqrt(row @ covariance @ row))
 
 
-def _maximum(coefficients: Array, covariance: Array) -> tuple[float, float, float, float]:
-    """The place and the height of the maximum of a polynomial between -1 and 1, each with its standard error."""
+def _maximum(coefficients: Array, covariance: Array, is_bent: bool) -> tuple[float, float, float, float]:
+    """The place and the height of the maximum of a polynomial between -1 and 1, each with its standard error. Unless the points are
+    bent, it has to fall significantly on both sides, as a sharp peak beside a plateau does."""
     fitted: Any = numpy.polynomial.Polynomial(coefficients)
     slope, bend = fitted.deriv(), fitted.deriv(2)
     roots = [float(root.real) for root in slope.roots() if abs(root.imag) < 1e-12 and abs(root.real) < 1]
@@ -156,6 +157,9 @@ def _maximum(coefficients: Array, covariance: Array) -> tuple[float, float, floa
     at, slopes = top**powers, powers * top ** numpy.maximum(powers - 1, 0)
     height_sem, slope_sem = (math.sqrt(row @ covariance @ row) for row in (at, slopes))
     top_sem = slope_sem / abs(float(bend(top))) if bend(top) else math.inf
-    if not roots or bend(top) >= 0 or fitted(top) < max(fitted(-1), fitted(1)) or top_sem > 0.5:
+    falls = [at - end**powers for end in (-1.0, 1.0)]
+    least = 0 if is_bent else SIGNIFICANT
+    is_flat = any(fall @ coefficients < least * math.sqrt(fall @ covariance @ fall) for fall in falls)
+    if not roots or bend(top) >= 0 or is_flat or top_sem > 0.5:
         raise EstimateError(_FLAT)
     return top, top_sem, float(fitted(top)), height_sem

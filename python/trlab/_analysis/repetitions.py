@@ -25,7 +25,7 @@ class Repetitions(NamedTuple):
     def place(self, group: int) -> str:
         """A group in a message."""
         names = [name for name in self.names if name not in IDENTITY]
-        return place_shown(names, self.first[names].iloc[group]) or "the only group"
+        return place_shown(names, first_of(self.first[names].iloc[group:])) or "the only group"
 
     def by_group(self, columns: dict[str, Array]) -> pandas.DataFrame:
         """A frame with one row for each group, whose index is the names."""
@@ -34,6 +34,11 @@ class Repetitions(NamedTuple):
             return found
         places = self.first[self.names].reset_index(drop=True)
         return pandas.concat([places, found], axis=1).set_index(self.names)
+
+
+def first_of(rows: pandas.DataFrame) -> Sequence[object]:
+    """The values of the first row, each of the type of its column: `rows.iloc[0]` would make floats of whole numbers."""
+    return [rows[name].iloc[0] for name in rows]
 
 
 def need_runs(frame: pandas.DataFrame) -> pandas.DataFrame:
@@ -108,7 +113,7 @@ def _need_independent(found: Repetitions, levels: Sequence[str]) -> None:
     rows = found.rows
     doubled = rows.duplicated([*levels, "road"])
     if doubled.any():
-        place = place_shown(levels, rows.loc[doubled, levels].iloc[0])
+        place = place_shown(levels, first_of(rows.loc[doubled, levels]))
         raise FrameError(f"two rows are {place}: is a parameter missing in the index, or a run repeated?")
     if rows[RUN].assign(group=found.group).duplicated().any():
         raise FrameError(

@@ -103,10 +103,10 @@ class Job:
 
     def road(self) -> list[list[Optional[int]]]:
         """The lanes at the start: speeds by cell, None for an empty cell."""
-        return [speeds_of(lane) for lane in self._lanes()]
+        return [speeds_of(lane) for lane in self.lane_texts()]
 
-    def _lanes(self) -> Sequence[str]:
-        """The lanes at the start, as in the file."""
+    def lane_texts(self) -> Sequence[str]:
+        # The lanes at the start, as in the file.
         if isinstance(self.start, InitialState):
             return self.start.on_lanes(self.count(), cast(int, self.length), self.lanes, self.limit)
         return cast(Sequence[str], self.start)
@@ -128,7 +128,7 @@ class Job:
                 f"a job file has at most {MAX_STEPS} steps, and this job has {self.steps}: "
                 "`run`, `snapshots` and `series` run it as several inputs"
             )
-        lines = ["road 1", f"key {key_digits(self.key)}", f"limit {self.limit}", *(f"lane {lane}" for lane in self._lanes())]
+        lines = ["road 1", f"key {key_digits(self.key)}", f"limit {self.limit}", *(f"lane {lane}" for lane in self.lane_texts())]
         lines += [*self.rule.lines(), f"steps {self.steps}"]
         for step, rule in self.at.items():
             first, *others = rule.lines()

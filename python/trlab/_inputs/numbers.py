@@ -165,8 +165,16 @@ def derived_key(purpose: str, key: Key, number: int) -> str:
 
 
 def cars_at(density: Density, cells: int) -> int:
-    """The number of cars on `cells` cells that is nearest to a density."""
-    return round(Fraction(share("density", density)) * cells)
+    """The number of cars on `cells` cells that is nearest to a density. Raises `ParameterError` if it is 0 for a density above 0,
+    because an empty road is not what was asked for."""
+    exact = Fraction(share("density", density)) * cells
+    cars = round(exact)
+    if exact and not cars:
+        raise ParameterError(
+            f"density {shown(density)} on {cells} cells is less than one car: the lowest density above 0 is {1 / cells:.3g} there, so "
+            "take a longer road, or 0 for an empty one"
+        )
+    return cars
 
 
 def store(owner: object, **values: object) -> None:

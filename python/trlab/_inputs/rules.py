@@ -7,6 +7,7 @@ from collections.abc import Iterator, Mapping
 from typing import Optional, Union
 
 from .._errors import ParameterError
+from .._rules.functions import PythonRule, need_own_words, program_of
 from .numbers import Probability, parts, probability, shown, store, whole
 
 
@@ -55,20 +56,22 @@ class Rickert:
 
 @dataclass(frozen=True)
 class Own:
-    """Your own driver programs, as `trlab check` reads them or as one line `code X`. Without `change` no car changes
-    lanes."""
+    """Your own driver programs: Python functions (see `trlab.motion` and `trlab.change`), the text that `trlab check` reads, or one
+    line `code X`. Functions are stored as the text of their programs. Without `change` no car changes lanes. Raises `RuleError` if
+    a function is not a rule, and `ParameterError` if both programs use the same random word, although a function does not
+    give it by `word=`."""
 
-    motion: str
-    change: Optional[str] = None
+    motion: Union[str, PythonRule]
+    change: Union[None, str, PythonRule] = None
 
     def __post_init__(self) -> None:
-        store(self, motion=_judged("motion", self.motion))
-        if self.change is not None:
-            store(self, change=_judged("change", self.change))
+        motion, change = program_of("motion", self.motion), program_of("change", self.change)
+        need_own_words(motion, change)
+        store(self, motion=_judged("motion", motion), change=None if change is None else _judged("change", change))
 
     def lines(self) -> list[str]:
-        changes = [] if self.change is None else _part("change", self.change)
-        return ["rule own", *_part("motion", self.motion), *changes]
+        changes = [] if self.change is None else _part("change", str(self.change))
+        return ["rule own", *_part("motion", str(self.motion)), *changes]
 
 
 Rule = Union[Nasch, SlowToStart, Rickert, Own]

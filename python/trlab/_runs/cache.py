@@ -30,13 +30,18 @@ class Cache:
     cannot be written to, no new outputs are kept in it."""
 
     def __init__(self, folder: Union[str, Path]) -> None:
+        if not isinstance(folder, (str, os.PathLike)):
+            raise ParameterError(f'`cache` must be the path of a folder, for example "study/cache", not {folder!r}')
         if not str(folder):
             raise ParameterError('the cache needs the path of a folder, not "": Path(".") is the current folder')
         self.folder = Path(folder).expanduser().absolute()
 
     def create(self) -> None:
         """Creates the folder if it is not there, and removes everything that a killed process began in it."""
-        self.folder.mkdir(parents=True, exist_ok=True)
+        try:
+            self.folder.mkdir(parents=True, exist_ok=True)
+        except (FileExistsError, NotADirectoryError):
+            raise ParameterError(f"the cache needs the path of a folder, and {self.folder} is in place of one or below a file") from None
         remove_left(self.folder)
 
     def path(self, key: str) -> Path:

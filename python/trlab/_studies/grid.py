@@ -1,6 +1,7 @@
 """A grid of parameters with repetitions: an input and a key for each choice, and one frame of all results."""
 from __future__ import annotations
 
+import inspect
 import itertools
 import re
 from collections import namedtuple
@@ -53,7 +54,7 @@ class Grid:
     the parameters.
 
     Raises `ParameterError` if two choices give the same input, because `make` ignores a parameter or its `key`; if two parameters
-    change only the key; if two requested densities give the same number of cars; and if a parameter `density` (within one car),
+    change only the key, or one with fractions as values; if two requested densities give the same number of cars; and if a parameter `density` (within one car),
     `cars`, `limit`, `length`, `lanes`, `warm` or `measure` is not that of the input."""
 
     def __init__(self, make: Callable[..., Input], /, **parameters: Union[Iterable[Any], Mapping[str, Any]]) -> None:
@@ -61,6 +62,7 @@ class Grid:
         self.names: tuple[str, ...] = tuple(values)
         self.inputs: dict[Any, Input] = {}
         choice = _choice_of(self.names)
+        _check_make(make, self.names)
         for names in itertools.product(*values.values()):
             chosen = {name: values[name][value] for name, value in zip(self.names, names)}
             key = int(key_for(**dict(zip(self.names, names))), 16)
@@ -87,6 +89,12 @@ class Grid:
         if len(unused) > 1:
             unused_names = " and ".join(unused)
             raise ParameterError(f"{unused_names} change only the key: use them in `make`, and only one to repeat")
+        for name in unused:
+            if any(map(_is_fraction, {getattr(place, name) for place in self.inputs})):
+                raise ParameterError(
+                    f"`{name}` changes only the key, as a repetition does: use it in `make`, or give repetitions whole numbers, for "
+                    "example seed=range(8)"
+                )
 
     def _check_densities(self) -> None:
         """Raises `ParameterError` if two densities give the same number of cars."""
@@ -191,10 +199,29 @@ class Grid:
         return names
 
 
+def _check_make(make: Callable[..., Input], names: Sequence[str]) -> None:
+    """Raises `ParameterError` unless `make` can be called with these parameters and a key."""
+    if not callable(make):
+        raise ParameterError(f"a grid needs a function that makes an input of its parameters, not {make!r}")
+    try:
+        inspect.signature(make).bind(**dict.fromkeys([*names, "key"]))
+    except TypeError as fault:
+        wanted = ", ".join([*names, "key"])
+        raise ParameterError(f"the grid calls its function with {wanted} by name, which does not fit: {fault}") from None
+
+
 def _checked(made: object) -> Input:
     if not isinstance(made, (Job, Sweep)):
         raise ParameterError(f"`make` must return a Job or a Sweep, not {made!r}")
     return made
+
+
+def _is_fraction(value: object) -> bool:
+    """Whether a value of a parameter is a number, but not a whole one."""
+    try:
+        return as_fraction(value).denominator > 1
+    except ValueError:
+        return False
 
 
 def _choice_of(names: Sequence[str]) -> Any:

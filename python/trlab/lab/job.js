@@ -6,6 +6,15 @@ export const speedOf = sign => sign < 58 ? sign - 48 : sign - 87;
 export const clamp = (x, least, most) => Math.min(most, Math.max(least, x));
 export const upTo = count => Array.from({ length: count }, (_, k) => k);
 
+/** Call when no call has come for some milliseconds. */
+export function soon(wait, call) {
+  let timer;
+  return () => {
+    clearTimeout(timer);
+    timer = setTimeout(call, wait);
+  };
+}
+
 /** `rules` have the step `at` which they take over, and `road` has the lanes if `start` is "file". */
 export const FIRST = {
   key: "1", limit: 5, lanes: 1, length: 1000, cars: 150, density: 0.15, start: "random", road: null, steps: 5000,

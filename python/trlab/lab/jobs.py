@@ -1,4 +1,4 @@
-"""Job files from the controls of the page, and the controls from job files. The page sends and receives JSON."""
+"""Job files and exact curves from the controls of the page, and the controls from job files. The page sends and receives JSON."""
 from __future__ import annotations
 
 import json
@@ -13,7 +13,9 @@ from .._inputs.rules import Nasch, Own, Rickert, Rule, SlowToStart
 from .._inputs.states import InitialState, even, halved, jammed, lanes_are_told, random_cells
 from .._inputs.jobs import Job
 from .._inputs.sweeps import Sweep
-from .._inputs.numbers import ALWAYS, checked_key, key_digits, parts, whole
+from .._inputs.numbers import ALWAYS, MAX_CELLS, MAX_SPEED, checked_key, key_digits, parts, whole
+from .curves import exact_curve
+from .rules import translated
 
 Controls = dict[str, Any]
 DENSITIES = [k / 50 if k <= 16 else 0.32 + (k - 16) * 0.045 for k in range(1, 31)]
@@ -94,7 +96,7 @@ def controls_of(text: str) -> Controls:
 
 def _controls_of_rule(rule: Rule) -> Controls:
     if isinstance(rule, Own):
-        return {"model": "own", "motion": _lines(rule.motion), "change": _lines(rule.change or "")}
+        return {"model": "own", "motion": _lines(str(rule.motion)), "change": _lines(str(rule.change or ""))}
     model, *numbers = rule.lines()[0].split(" ")[1:]
     return {"model": model, **dict(zip("pq", map(_decimal, numbers)))}
 
@@ -109,7 +111,15 @@ def _decimal(number: str) -> float:
     return next(it for digits in range(12) if parts(it := round(exact, digits)) == int(number))
 
 
-_WRITERS: dict[str, Callable[[Controls], str]] = {"file/job": job_file, "file/sweep": sweep_file}
+def exact_flow(controls: Controls) -> str:
+    """The exact curve of the road for a `rule`, as JSON; null if it is not known, or if the road has two lanes."""
+    lanes = whole("lanes", controls["lanes"], 1, 2)
+    limit, length = whole("limit", controls["limit"], 1, MAX_SPEED), whole("length", controls["length"], 1, MAX_CELLS)
+    rule = _rule(controls["rule"], lanes)
+    return json.dumps(exact_curve(rule, limit, length) if lanes == 1 else None)
+
+
+_WRITERS: dict[str, Callable[[Controls], str]] = {"file/job": job_file, "file/sweep": sweep_file, "exact": exact_flow}
 
 
 def answer(name: str, text: bytes) -> bytes:
@@ -117,6 +127,8 @@ def answer(name: str, text: bytes) -> bytes:
     try:
         if name == "controls":
             return json.dumps(controls_of(text.decode())).encode()
+        if name == "rules":
+            return json.dumps(translated(json.loads(text))).encode()
         return _WRITERS[name](json.loads(text)).encode()
     except (LookupError, TypeError, AttributeError, ArithmeticError, RecursionError) as error:
         raise ValueError(f"{type(error).__name__}: {error}") from None

@@ -1,28 +1,29 @@
 // The page of trlab-lab. The job file is the only truth: a control changes the job, the server writes the job as a file,
 // trlab reads the file, and the page draws the snapshots that come back. A file that you type goes back into the controls.
 
-import { FIRST, answer, clamp, jobOf, linkOf, roadFits, textOfLink } from "./job.js";
+import { FIRST, answer, clamp, jobOf, linkOf, roadFits, soon, textOfLink } from "./job.js";
 import { bytesBefore } from "./film.js";
 import { FIGURES, colour, rowsOf } from "./draw.js";
 import { across, diagramFile, diagramOf, pointsOf } from "./diagram.js";
 import { Editor, explain, lineOf, messageOf } from "./editor.js";
 import { $, Player } from "./player.js";
+import { PythonRules } from "./rules.js";
 
 const MOST_BYTES = 4194304, MAX_CELLS = 100000;
 let job = structuredClone(FIRST), examples = {}, marks = [], means = null, table = "", drawn = 0;
 let turn = 0, since = Infinity; // the number of the last request for a file, and the first step that it changes (-1: the road)
 const motion = new Editor("motion"), change = new Editor("change"), text = new Editor("text");
 const complain = fault => { $("fault").textContent = fault.message ?? fault; };
+/** The rules in Python, whose programs the cars follow from the shown step on. */
+const python = new PythonRules(({ motion, change }, isNew) => {
+  const rule = inForce(), found = { motion: motion ?? (rule.motion || examples["nasch.rule"]), change: change ?? (motion === null ? rule.change : "") };
+  if (isNew) {
+    job.rules = [{ ...rule, at: 0, live: false, model: "own", ...found }];
+    begin();
+  } else if (rule.model !== "own" || found.motion !== rule.motion || found.change !== rule.change) changeRule({ model: "own", ...found });
+}, complain);
 /** The file that the server writes for the job. */
 const fileOf = async (kind, more) => (await answer(`file/${kind}`, JSON.stringify({ ...job, ...more }))).text();
-/** Call when no call has come for some milliseconds. */
-function soon(wait, call) {
-  let timer;
-  return () => {
-    clearTimeout(timer);
-    timer = setTimeout(call, wait);
-  };
-}
 const player = new Player({
   shot: count,
   moved(now) {
@@ -32,7 +33,7 @@ const player = new Player({
   over() { settle(); drawDiagram(); },
 }, complain);
 globalThis.lab = { // for the console and for tests
-  player, colour, open: load, get job() { return job; }, get marks() { return marks; }, get table() { return table; }, get isWriting() { return since < Infinity; },
+  player, colour, python, open: load, get job() { return job; }, get marks() { return marks; }, get table() { return table; }, get isWriting() { return since < Infinity; },
   rows: () => rowsOf(player.view, $("spacetime").clientWidth, $("spacetime").clientHeight),
 };
 
@@ -150,17 +151,36 @@ function show(force = false) {
   $("start").querySelector("[value=file]").hidden = !job.road;
   $("own").hidden = !own;
   $("changepart").hidden = job.lanes === 1;
+  python.compare(rule, job.lanes);
   for (const [id, place] of own ? [["motion", motion], ["change", change]] : []) {
     if (place.busy || place.value === rule[id]) continue;
     place.value = rule[id];
     judgeProgram(id, place);
   }
+  findExact();
   drawDiagram();
 }
 
 // The fundamental diagram
 
-const diagram = () => ({ limit: job.limit, density: job.cars / (job.length * job.lanes), flow: means?.steps ? means.sum / means.steps : null, marks });
+/** The road and the rule of the exact curve, and the last curve that the server has sent, with the words that asked for it. */
+const asked = () => {
+  const { limit, length, lanes } = job, { model, p, q, motion, change } = inForce();
+  return JSON.stringify({ limit, length, lanes, rule: { model, p, q, motion, change } });
+};
+let exact = { words: "", curve: null };
+const findExact = soon(50, async () => {
+  const words = asked();
+  if (words === exact.words) return;
+  const curve = await answer("exact", words).then(got => got.json()).catch(() => null);
+  if (words !== asked()) return; // the call for the new words is on its way
+  exact = { words, curve: curve && { ...curve, points: curve.points.map(([density, flow]) => ({ density, flow })) } };
+  drawDiagram();
+});
+const diagram = () => ({
+  limit: job.limit, density: job.cars / (job.length * job.lanes), flow: means?.steps ? means.sum / means.steps : null, marks,
+  exact: exact.words === asked() ? exact.curve : null,
+});
 function drawDiagram(now = 0) {
   $("diagram").innerHTML = diagramOf(diagram());
   drawn = now;
@@ -248,6 +268,7 @@ async function take(source, isWanted = () => true) {
 // Files, examples and links
 
 async function load(name, source) {
+  if (name.endsWith(".py")) return loadPython(source);
   const kind = name.endsWith(".rule") || /^(motion|change)\b/.test(source) ? "check" : /^sweep/i.test(source) ? "sweep" : "run";
   const found = await explain(kind, source);
   if (found.error) return complain(`${name} is rejected at line ${lineOf(found.error)}.\n${messageOf(found)}`);
@@ -264,6 +285,13 @@ async function load(name, source) {
   job = await jobOf(source);
   await begin();
   await sweep(source, name.replace(".sweep", "").replaceAll("_", " "));
+}
+/** Rules in Python drive the road from the start; if they change lanes, there are two of them. */
+function loadPython(source) {
+  if (/^@(trlab\.)?change\b/m.test(source) && job.lanes === 1) resize({ lanes: 2 });
+  python.text = source;
+  $("own").hidden = false;
+  return python.translate();
 }
 function openFile(file) {
   if (file.size > MOST_BYTES) return complain(`${file.name} is too long: at most ${MOST_BYTES} bytes are allowed.`);

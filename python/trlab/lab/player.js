@@ -78,8 +78,8 @@ export class Player {
     if (this.phase >= 1) {
       this.phase = 1;
       this.moving = this.playing;
-      if (this.playing && this.over) {
-        this.setPlaying(false);
+      if (this.over) {
+        if (this.playing) this.setPlaying(false);
         this.hear.over?.();
       }
     }

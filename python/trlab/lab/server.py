@@ -27,7 +27,7 @@ PIECE = 65536
 PATIENCE = 2.0
 """How long a run waits for a free processor, in seconds."""
 
-SCRIPTS = ("job", "film", "draw", "diagram", "editor", "player", "page")
+SCRIPTS = ("job", "film", "draw", "diagram", "editor", "player", "rules", "page")
 FILES = {
     "": ("page.html", "text/html"),
     "page.css": ("page.css", "text/css"),
@@ -39,8 +39,8 @@ QUESTIONS = {
     "explain": ["explain", "run"],
     **{f"explain/{kind}": ["explain", "--json", kind] for kind in ("run", "sweep", "check")},
 }
-WRITTEN = ("controls", "file/job", "file/sweep")
-"""Requests that need no process: see `jobs.answer`."""
+WRITTEN = ("controls", "file/job", "file/sweep", "exact", "rules")
+"""Requests that Python answers, for `rules` with short calls of the verifier: see `jobs.answer`."""
 HEADERS = {
     "Cache-Control": "no-store",
     "Content-Security-Policy": "default-src 'none'; script-src 'self'; style-src 'self'; connect-src 'self'; "
@@ -56,7 +56,7 @@ def examples() -> dict[str, str]:
     """The example inputs by file name: those of the package, or of the checkout."""
     packed = HERE / "examples"
     folder = packed if packed.is_dir() else HERE.parents[2] / "examples"
-    files = sorted(path for path in folder.glob("*") if path.suffix in {".job", ".sweep", ".rule"})
+    files = sorted(path for path in folder.glob("*") if path.suffix in {".job", ".sweep", ".rule", ".py"})
     return {path.name: path.read_text("utf-8") for path in files}
 
 

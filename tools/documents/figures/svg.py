@@ -1,5 +1,5 @@
 """Drawings as SVG text: shapes, words, arrows, and roads of cells with cars."""
-from typing import List, Optional
+from typing import List, Optional, Tuple
 
 # Text and lines, frames, what is stressed, what is allowed, what is forbidden.
 INK, FRAME, BLUE, GREEN, RED = "#303030", "#b0b0b0", "#0072b2", "#00805c", "#c04000"
@@ -33,6 +33,11 @@ class Drawing:
             f'<rect x="{x:.1f}" y="{y:.1f}" width="{wide:.1f}" height="{high:.1f}" rx="{round_by}" '
             f'fill="{fill}" stroke="{stroke}" stroke-width="{width}"/>'
         )
+
+    def boxes(self, corners: List[Tuple[float, float]], size: float, fill: str) -> None:
+        """Squares of one size and colour, by their upper left corners."""
+        steps = "".join(f"M{x:g} {y:g}h{size:g}v{size:g}h{-size:g}z" for x, y in corners)
+        self.parts.append(f'<path d="{steps}" fill="{fill}"/>')
 
     def text(
         self, x: float, y: float, words: str, anchor: str = "start",

@@ -1,0 +1,452 @@
+"""Random functions of the subset of `trlab.motion` and `trlab.change`, and two ways to answer a view: Python runs the function
+itself, and a small interpreter runs its program. Both are written from docs/PROGRAMS.md, and not from the translation."""
+import ast
+import functools
+import operator
+import random
+import re
+from fractions import Fraction
+
+from trlab import RuleError
+from trlab._rules.functions import rules_in
+
+CERTAIN = 2**31
+JUMPS = {
+    "jump": lambda: True, "jlt": operator.lt, "jle": operator.le, "jtrue": lambda flag: flag, "jfalse": lambda flag: not flag,
+}
+INSTRUCTIONS = {
+    "num": int, "copy": lambda value: value, "add": operator.add, "sub": operator.sub, "mul": operator.mul, "div": operator.floordiv,
+    "min": min, "max": max, "not": operator.not_, "and": lambda a, b: a and b, "or": lambda a, b: a or b,
+}
+PROBABILITIES = ("0", "1", "0.5", "0.25", "'1/3'", "p", "1 - p", "0.9 if car.speed == 0 else 0.1", "p if car.gap < 3 else 0")
+EXPECTED = (
+    "may be below 0", "may be more than", "may be above", "side cell is occupied", "at most 128", "more than eight registers",
+    "one draw too many", "which another draw uses too",
+)
+"""Errors that a function of the subset may have."""
+
+# Statements with one feature each. {n} is a number, {c} a condition, {k} a constant above 0, {p} a probability, {t} turns.
+MOTIONS = """
+v = {n} + {n}
+v = {n} - {n}
+v = {n} - ({n} - {n})
+v = {n} - {k} + {n}
+v = -({n} - {k})
+v = -{n} - {n}
+v = {n} * {k}
+v = ({n} - {n}) * {t} + {n}
+v = -{k} * ({n} - {k})
+v = ({n}) // {k}
+v = ({n} - {n}) // {k}
+v = ({n} - {n}) // {k} + {k}
+v = ({n}) % {k}
+v = ({n} - {n}) % {k}
+v = min({n}, {n} - {n}, {n})
+v = max({n} - {n}, {n} - {n})
+v = max({n} - {k}, -{k}) + {k}
+v = abs({n} - {n})
+v = {n} if {c} else {n} - {n}
+v = {n} - {k} if {c} else {n}
+v = ({c}) + ({c}) + ({c})
+v = {k} * ({c})
+v = {c} and {n}
+v = {n} - {k} or {n}
+v = {n} and {c}
+v = ({c}) or ({n} - {k})
+v = {n}|v -= {n}
+v = {n}|v -= {k}|v += {k}
+v = {n} - {k}|v = -v
+v = {n} - {k}|v = -1 * v|v = v + {k}
+v = {n}|if v > {k}:|    v -= {k}
+v = {n}|if v >= {k}:|    v -= {k}|else:|    v = {n} - {n}
+v = {n}|w = {n}|if v > w:|    v = v - w|elif v < w:|    v = w - v
+v = {n}|w = v|v += 1|v = v + w
+u = {n}|u -= {k} + u|v = -(u + u)
+u = {n} - {n}|v = {n}
+v = {n}|if {c}:|    v = {n} - {n}|if {c}:|    v = v + {n}
+v = {c}|if {c}:|    v = {n}
+b = {c}|v = {n} if b else {n}|b = not b|v += b
+b = {c}|a = b and {c}|v = {k} * b + a
+b = {c}|a = b|b = {c}|v = a + {k} * b
+b = car.draw({p})|a = b or {c}|v = b + {k} * a
+b = car.draw({p})|a = b and {c}|v = b + {k} * a
+b = car.draw({p})|v = b and {n}
+v = 0|for i in range({t}):|    if {n} > i:|        v += {k}
+v = {n}|for i in range({t}):|    v = max(v - i, {n})
+v = 0|for i in range({t}):|    for j in range(1, 3):|        v += i * j - 1
+v = 0|for i in range({t}):|    if car.draw({p}):|        v += {k}
+v = {k} if car.draw({p}) else {n}
+v = (car.draw({p}) + car.draw({p})) * {k}
+v = 5|if {c} and car.draw({p}) or car.draw({p}):|    v = {n}
+v = 5|if not ({c}):|    v = {k}
+v = {k} if {n} - {k} <= {n} else 0
+v = {k} if {n} - {n} == {n} - {k} else 0
+v = {k} if {n} - {n} != 0 else 0
+v = {k} if {k} <= {n} < {n} - {k} else 0
+v = {k} if {n} - {k} else 0
+v = {k} if {c} else 1 if {c} else 0
+v = car.safe({n} - {k}) + car.safe({n})
+v = helper(car, {n})
+v = helper(car, {n} - {k}, y={k}) + helper(car, {n})
+v = {n} - helper(car, {n}, {k})
+v = {k} if clear(car, {n}) else 0
+v = {n}|if clear(car, {n}) and {c}:|    v = v + {k}
+""".strip().split("\n")
+CHANGES = """
+v = {c}
+v = car.side and {c}
+v = {c} and car.side
+v = car.side|v = v and {c} and car.draw({p})
+v = not car.side
+v = car.side and car.sidegap - {k} > {n}
+v = car.side or {c}
+w = car.gap < {n}|v = w and car.side
+w = car.side and car.sidegap > {n}|v = w and {c}
+w = car.side|w = not w|v = not w and {c}
+w = car.lane == 0|v = car.side if w else car.side and {c}
+v = car.side|if {c}:|    v = 0
+v = car.draw({p}) and car.side
+v = car.side and clear(car, {n})
+v = car.sideback - helper(car, {n}) >= {k}
+""".strip().split("\n")
+HELPERS = """
+def helper(car, x, y=2):
+    return x - y
+def helper(car, x, y=2):
+    if x > y:
+        return x - y
+    return {n}
+def helper(car, x, y=2):
+    v = x
+    for i in range(y):
+        v = v - {n}
+        if v < 0:
+            return v
+    return v
+def helper(car, x, y=2):
+    x = x + {n}
+    return inner(car, x) + inner(car, {n})
+def helper(car, x, y=2):
+    return x if car.draw({q}) else inner(car, y)
+def helper(car, x, y=2):
+    return {c}
+"""
+INNER = """
+def inner(car, x):
+    return 1 - x
+def inner(car, x):
+    if car.draw({q}):
+        return x
+    return {n} - x
+def inner(car, x):
+    return x and {n}
+"""
+CLEARS = """
+def clear(car, x, y=3):
+    return {c} and x > y
+def clear(car, x, y=3):
+    if x < y:
+        return False
+    return {c}
+def clear(car, x, y=3):
+    return not car.draw({q})
+def clear(car, x, y=3):
+    return x - y
+"""
+
+
+def _choices(text):
+    return [f"def {part}".rstrip("\n") for part in text.split("\ndef ")[1:]]
+
+
+class Writer:
+    """Writes a random function. Its draws have `word=` all of them, or none."""
+
+    def __init__(self, dice, kind):
+        self.dice, self.kind, self.has_words = dice, kind, dice.random() < 0.4
+        self.draws, self.turns, self.numbers, self.flags = 0, 1, [], []
+        self.has_helpers, self.own = False, ["g", "g + 1", "-1", "MARGIN"]
+
+    def text(self):
+        write = self.small if self.dice.random() < 0.8 else self.large
+        function = write()
+        helpers = self.helpers() if "helper(" in function or "clear(" in function else []
+        return "\n".join(["MARGIN = 4", *helpers, f"@{self.kind}", "def f(car, g=2, p=0.25):", function, ""])
+
+    def helpers(self):
+        self.numbers, self.flags, self.has_helpers, self.own = ["x"], [], False, ["MARGIN"]
+        inner = self.filled(self.dice.choice(_choices(INNER)))
+        self.own = ["y", "y + 1", "MARGIN"]
+        return [inner, *(self.filled(self.dice.choice(_choices(it))) for it in (HELPERS, CLEARS))]
+
+    def filled(self, text):
+        """A template with its holes filled."""
+        holes = {
+            "n": lambda: self.number(self.dice.choice([0, 0, 1])), "c": lambda: self.condition(self.dice.choice([0, 1])),
+            "k": lambda: self.dice.choice(["1", "2", "3", "5", "g"]), "t": lambda: self.dice.choice(["0", "1", "2", "3", "g"]),
+            "p": lambda: self.dice.choice(PROBABILITIES) + self.word(), "q": lambda: self.dice.choice(PROBABILITIES[:5]) + self.word(),
+        }
+        return re.sub("{([nckpqt])}", lambda hole: holes[hole[1]](), text)
+
+    def word(self):
+        return f", word={self.dice.randrange(16)}" if self.has_words else ""
+
+    def small(self):
+        """One or two statements with one feature each."""
+        kinds = MOTIONS if self.kind == "motion" else [*CHANGES, *CHANGES, *(it for it in MOTIONS if "safe" not in it)]
+        lines = []
+        for _ in range(self.dice.choice([1, 1, 1, 2])):
+            lines += self.filled(self.dice.choice(kinds)).split("|")
+            self.numbers = ["v"]
+        if self.kind == "change":
+            end = self.dice.choice(["v", "v", "car.side and v", "car.side and v > 1", "v and car.side", "not v"])
+        else:
+            end = self.dice.choice(["car.safe(v)"] * 3 + ["car.safe(v + 5)", "min(v, car.gap, car.limit)", "max(min(v, car.limit, car.gap), 0)"])
+        return "\n".join(f"    {line}" for line in [*lines, f"return {end}"])
+
+    def constant(self):
+        return self.dice.choice(["0", "1", "1", "2", "3", "5", "7", "40", *self.own])
+
+    def seen(self):
+        more = ["sidegap", "sideback", "lane"] * 2 if self.kind == "change" else []
+        return "car." + self.dice.choice(["speed", "limit", "gap", "headspeed", "speed", "gap", "limit", *more])
+
+    def draw(self):
+        if self.draws + self.turns > 16:
+            return "car.gap > 2"
+        self.draws += self.turns
+        return f"car.draw({self.dice.choice(PROBABILITIES if 'g' in self.own else PROBABILITIES[:5])}{self.word()})"
+
+    def number(self, depth):
+        if depth <= 0 or self.dice.random() < 0.2:
+            choice = self.dice.random()
+            if self.numbers and choice < 0.45:
+                return self.dice.choice(self.numbers)
+            return self.seen() if choice < 0.8 else self.constant()
+        first, second = self.number(depth - 1), self.number(depth - 1)
+        by = self.dice.choice(["2", "3", "MARGIN"])
+        forms = [
+            f"{first} + {second}", f"({first} - {second})", f"({first} - {second})", f"max({first} - {second}, {self.dice.choice('001')})",
+            f"min({first}, {second})", f"max({first}, {second}, {self.number(depth - 1)})", f"({first}) // {by}", f"({first}) % {by}",
+            f"({first}) * {by}", f"{self.dice.choice(['2', '-1', '3'])} * ({first})", f"abs({first})", f"-({first})",
+        ]
+        if self.dice.random() < 0.25:
+            condition = self.condition(depth - 1)
+            forms = [f"({first} if {condition} else {second})", f"({condition})", f"max({first} - ({condition}), 0)",
+                     f"({first} and {second})", f"({first} or {second})"]
+        elif self.has_helpers and self.dice.random() < 0.15:
+            forms = [f"helper(car, {first})", f"helper(car, {first}, {by})"]
+        return self.dice.choice(forms)
+
+    def condition(self, depth):
+        choice, sign = self.dice.randrange(10), lambda: self.dice.choice(["<", "<=", ">", ">=", "==", "!="])
+        if depth > 0 and choice < 3:
+            first, second = self.condition(depth - 1), self.condition(depth - 1)
+            return self.dice.choice([f"({first} and {second})", f"({first} or {second})", f"not {first}", f"({first} and {second})"])
+        if choice == 3 and ("g" in self.own or self.has_words):
+            return self.draw()
+        if choice == 4 and self.flags:
+            return self.dice.choice(self.flags)
+        if choice == 5 and self.kind == "change":
+            return "car.side"
+        if choice == 6:
+            return f"{self.number(depth - 1)} {sign()} {self.number(depth - 1)} {sign()} {self.number(depth - 1)}"
+        if choice == 7 and self.dice.random() < 0.3:
+            return f"({self.condition(depth - 1)} if {self.condition(depth - 1)} else {self.condition(depth - 1)})"
+        if choice == 8 and self.has_helpers:
+            return f"clear(car, {self.number(depth - 1)})"
+        return f"{self.number(depth - 1)} {sign()} {self.number(depth - 1)}"
+
+    def large(self):
+        self.has_helpers = self.dice.random() < 0.4
+        return "\n".join([*self.block(1, 2, self.dice.choice([1, 2, 3, 4])), f"    return {self.result()}"])
+
+    def block(self, indent, depth, count):
+        lines, pad, before = [], "    " * indent, (list(self.numbers), list(self.flags))
+        for _ in range(count):
+            choice = self.dice.randrange(10)
+            if choice < 4 or not depth:
+                name = self.dice.choice("vwu")
+                sign = self.dice.choice(["+=", "-=", "="]) if name in self.numbers else "="
+                lines.append(f"{pad}{name} {sign} {self.number(2)}")
+                self.numbers += [name] * (name not in self.numbers)
+            elif choice == 4:
+                name = self.dice.choice("abv" if "v" in self.numbers else "ab")
+                lines.append(f"{pad}{name} = {self.condition(2)}")
+                self.flags += [name] * (name not in self.flags)
+            elif choice == 5 and self.turns == 1 and self.draws < 8:
+                self.turns = self.dice.choice([1, 2, 3])
+                self.numbers.append("i")
+                lines += [f"{pad}for i in range({self.turns}):", *self.block(indent + 1, 0, self.dice.choice([1, 2]))]
+                self.numbers.remove("i")
+                self.turns = 1
+            else:
+                lines += self.decision(indent, depth)
+        if indent > 1:
+            self.numbers, self.flags = before
+        return lines
+
+    def decision(self, indent, depth):
+        pad = "    " * indent
+        lines = [f"{pad}if {self.condition(2)}:", *self.block(indent + 1, depth - 1, self.dice.choice([1, 2]))]
+        if self.dice.random() < 0.15:
+            lines.append(f"{pad}    return {self.result()}")
+        if self.dice.random() < 0.5:
+            head = "else" if self.dice.random() < 0.7 else f"elif {self.condition(1)}"
+            lines += [f"{pad}{head}:", *self.block(indent + 1, depth - 1, 1)]
+        return lines
+
+    def result(self):
+        if self.kind == "change":
+            return self.dice.choice(["car.side and ", "car.side and ", ""]) + self.condition(2)
+        value = self.number(2)
+        forms = [f"car.safe({value})", f"min({value}, car.gap, car.limit)", f"max(min({value}, car.limit, car.gap), 0)",
+                 f"car.safe({value} + 5)", f"car.safe(({value}) % 7)", f"min(abs({value}), car.gap, car.limit)"]
+        return self.dice.choice(3 * forms + [value])
+
+
+class Numbered(ast.NodeTransformer):
+    """Gives each draw its random word: counted in the order in which Python evaluates the text, with the turns of loops and the
+    texts of called functions written out. A function gets the first word of its draws as a parameter `at`."""
+
+    def __init__(self, draws, constants):
+        self.draws, self.constants = draws, constants
+        self.count, self.turns = 0, ""
+
+    def visit_For(self, node):
+        values = eval(compile(ast.Expression(node.iter), "turns", "eval"), {"range": range}, dict(self.constants))
+        outer, before = self.count, self.turns
+        name = node.target.id
+        self.turns = f"{before} + [{', '.join(map(str, values))}].index({name}) * PER_{name}_{node.lineno}"
+        node.body = [self.visit(it) for it in node.body]
+        each = self.count - outer
+        for it in ast.walk(ast.Module(node.body, [])):
+            if isinstance(it, ast.Name) and it.id == f"PER_{name}_{node.lineno}":
+                it.id = f"({each})"
+        self.count, self.turns = outer + each * len(values), before
+        return node
+
+    def visit_Call(self, node):
+        self.generic_visit(node)
+        name = node.func.attr if isinstance(node.func, ast.Attribute) else node.func.id
+        if name == "draw" and not node.keywords:
+            node.keywords = [ast.keyword("count", self.now())]
+            self.count += 1
+        elif name in self.draws:
+            node.keywords.append(ast.keyword("at", self.now()))
+            self.count += self.draws[name]
+        return node
+
+    def now(self):
+        return ast.parse(f"at + {self.count}{self.turns}", mode="eval").body
+
+
+def called_by_python(text, kind, given):
+    """The answer of a function to a view, as Python calculates it."""
+    tree, draws = ast.parse(text), {}
+    for node in tree.body:
+        if isinstance(node, ast.FunctionDef):
+            defaults = dict(zip([it.arg for it in node.args.args[::-1]], [ast.literal_eval(it) for it in node.args.defaults[::-1]]))
+            numbered = Numbered(draws, {"MARGIN": 4, **defaults, **(given if node.name == "f" else {})})
+            node.body = [numbered.visit(it) for it in node.body]
+            draws[node.name] = numbered.count
+            node.args.kwonlyargs.append(ast.arg("at"))
+            node.args.kw_defaults.append(ast.Constant(0))
+    names = {"motion": lambda it: it, "change": lambda it: it}
+    exec(compile(ast.unparse(ast.fix_missing_locations(tree)), "a function", "exec"), names)
+    return lambda view: names["f"](Car(view, kind), **given)
+
+
+class Car:
+    """A car in a view, when Python itself calls a function."""
+
+    def __init__(self, view, kind):
+        self.view, self.kind = view, kind
+
+    def __getattr__(self, name):
+        return self.view[name]
+
+    def draw(self, chance, count=None, word=None):
+        word = word if word is not None else count if self.kind == "motion" else 15 - count
+        return self.view["words"][word] // 2 < round(Fraction(chance) * CERTAIN)
+
+    def safe(self, speed):
+        return max(0, min(speed, self.gap, self.limit))
+
+
+def answer(program, view):
+    """The answer of a program to a view: a speed, or whether the car changes lanes."""
+    lines, labels = parsed(program)
+    registers, pc = {}, 0
+    while True:
+        name, *words = lines[pc]
+        pc += 1
+        if name in ("go", "cross", "stay"):
+            return registers[words[0]] if name == "go" else name == "cross"
+        if name[0] == "j":
+            pc = labels[words[-1]] if JUMPS[name](*(registers[word] for word in words[:-1])) else pc
+        elif name in INSTRUCTIONS:
+            values = [registers[word] if word[0] == "r" else int(word) for word in words[1:]]
+            registers[words[0]] = INSTRUCTIONS[name](*values)
+        elif name == "draw":
+            registers[words[0]] = view["words"][int(words[1])] // 2 < int(words[2])
+        else:
+            registers[words[0]] = view["side"] if name == "side" else view[words[1]]
+        assert name[0] == "j" or 0 <= registers[words[0]] < 2**32
+
+
+@functools.lru_cache(maxsize=8)
+def parsed(program):
+    """The words of the instructions of a program, and the instructions with labels."""
+    lines = [line.split(";")[0].strip() for line in program.split("\n")[1:]]
+    lines = [line for line in lines if line]
+    labels = {line.split(":")[0]: at for at, line in enumerate(lines) if ":" in line}
+    return [line.split(": ")[-1].replace(",", "").split() for line in lines], labels
+
+
+def random_view(dice):
+    """A view of a car: often with small numbers, and sometimes with the greatest."""
+    limit = dice.choice([1, 2, 3, 5, 5, 9, 20, 35])
+    is_empty = dice.random() < 0.6
+
+    def cells():
+        return dice.choice([0, 1, 2, 3, 4, 5, 6, 7, 8, dice.randrange(50), dice.randrange(50), dice.randrange(100000), 99999])
+
+    return {
+        "limit": limit, "speed": dice.choice([0, limit, dice.randint(0, limit)]), "headspeed": dice.choice([0, limit, dice.randint(0, limit)]),
+        "gap": cells(), "lane": dice.randrange(2), "side": is_empty, "sidegap": cells() if is_empty else 0,
+        "sideback": cells() if is_empty else 0, "words": [dice.getrandbits(32) for _ in range(16)],
+    }
+
+
+class Tried:
+    """A random function by its seed: its text and parameters, and its program, or the error."""
+
+    def __init__(self, seed):
+        self.dice = random.Random(seed)
+        self.kind = self.dice.choice(["motion", "motion", "change"])
+        self.text = Writer(self.dice, self.kind).text()
+        self.given = {"g": self.dice.choice([1, 2, 3]), "p": self.dice.choice([0, 0.5, 1, 0.7])} if self.dice.random() < 0.7 else {}
+        self.program, self.error = None, None
+        try:
+            self.program = rules_in(self.text)["f"](**self.given)
+        except RuleError as error:
+            self.error = str(error)
+
+    def has_other_error(self):
+        """Whether the error is not one that a function of the subset may have."""
+        return self.error is not None and not any(it in self.error for it in EXPECTED)
+
+    def difference(self, views):
+        """The first of some random views at which the program and the function differ, with both answers; None if there is none."""
+        by_python = called_by_python(self.text, self.kind, self.given)
+        for _ in range(views):
+            view = random_view(self.dice)
+            wanted = by_python(view)
+            found = answer(self.program, view)
+            if found != (int(wanted) if self.kind == "motion" else bool(wanted)):
+                return view, wanted, found
+        return None
+
+    def __str__(self):
+        return f"{self.text}{self.given}\n{self.program or self.error}"

@@ -1,0 +1,111 @@
+"""The published rules of examples/published_rules.py: each is compared with its built-in form, a program, or a formula."""
+import os
+import unittest
+
+from tests.random_functions import answer, random_view
+from random import Random
+from trlab import Grid, Job, Nasch, Own, Rickert, SlowToStart, check, jammed, moving, random_cells
+from trlab._rules.functions import rules_in
+
+EXAMPLES = os.path.join(os.path.dirname(os.path.dirname(os.path.dirname(os.path.abspath(__file__)))), "examples")
+DENSITIES = 0.05, 0.15, 0.4, 0.9
+
+
+def example(name):
+    with open(os.path.join(EXAMPLES, name), encoding="utf-8") as file:
+        return file.read()
+
+
+RULES = rules_in(example("published_rules.py"))
+
+
+def snapshots(rule, lanes=1, density=0.3, limit=5, seed=3):
+    job = Job(limit=limit, length=80, lanes=lanes, density=density, start=random_cells(seed), rule=rule, steps=30, key=seed)
+    return job.run().text()
+
+
+class PublishedRules(unittest.TestCase):
+    def assert_alike(self, ours, theirs, lanes=1):
+        for density in DENSITIES:
+            for limit in 1, 5, 20:
+                with self.subTest(density=density, limit=limit):
+                    self.assertEqual(snapshots(ours, lanes, density, limit), snapshots(theirs, lanes, density, limit))
+
+    def test_nagel_schreckenberg(self):
+        self.assert_alike(Own(RULES["nasch"](p="1/3")), Nasch("1/3"))
+
+    def test_slow_to_start(self):
+        self.assert_alike(Own(RULES["slow_to_start"](p="1/64", p0=0.75)), SlowToStart("1/64", 0.75))
+
+    def test_symmetric_lane_changes(self):
+        self.assert_alike(Own(RULES["nasch"](p=0.25), RULES["symmetric"](p="2/3")), Rickert(0.25, "2/3"), lanes=2)
+
+    def test_anticipating_is_the_program_of_the_examples(self):
+        self.assert_alike(Own(RULES["anticipating"]()), Own(example("anticipating.rule")))
+
+    def test_cruise_control_keeps_free_traffic_free(self):
+        # Up to density 1 / (limit + 1) all cars drive at the limit for ever, if they begin so.
+        for cars, is_free in (16, True), (17, False):
+            job = Job(limit=5, length=96, cars=cars, start=moving, rule=Own(RULES["cruise_control"](p=0.5)), steps=300, key=1)
+            (window,) = job.series(every=100, first=200)
+            self.assertEqual(window.distance == 100 * cars * 5, is_free)
+        # Without random braking it is the model of Nagel and Schreckenberg.
+        self.assert_alike(Own(RULES["cruise_control"](p=0)), Nasch(0))
+
+    def test_comfortable_driving_without_near_cars_is_slow_to_start(self):
+        self.assert_alike(Own(RULES["comfortable"](p=0.1, p0=0.5, h=0)), SlowToStart(0.1, 0.5))
+
+    def test_comfortable_driving_by_its_definition(self):
+        program, dice, near = RULES["comfortable"](p=0, p0=0, pb=1, h=6), Random(1), 0
+        for _ in range(2000):
+            view = random_view(dice)
+            v, gap = view["speed"], view["gap"]
+            follows = view["headspeed"] < v and gap / v < min(v, 6)
+            near += follows
+            self.assertEqual(answer(program, view), max(min(v, view["limit"], gap) - 1, 0) if follows else min(v + 1, view["limit"], gap))
+        self.assertGreater(near, 100)
+
+    def test_asymmetric_lane_changes(self):
+        program, symmetric, dice = RULES["asymmetric"](p=1), RULES["symmetric"](p=1), Random(2)
+        for _ in range(2000):
+            view = random_view(dice)
+            changes = answer(program, {**view, "lane": 0})
+            self.assertEqual(changes, answer(symmetric, view))
+            has_room = view["side"] and view["sidegap"] > view["speed"] + 1 and view["sideback"] > view["limit"]
+            self.assertEqual(answer(program, {**view, "lane": 1}), has_room)
+        # A few cars soon are all on lane 0.
+        job = Job(limit=5, length=200, lanes=2, cars=4, rule=Own(RULES["nasch"](p=0), RULES["asymmetric"]()), start=random_cells(1), steps=200)
+        self.assertTrue(all(cell == "." for cell in job.run()[-1].lanes[1]))
+
+    def test_keep_distance(self):
+        # Without random braking the flow is the smaller of limit x density and 1 - (1 + g) x density (docs/STUDIES.md).
+        rule = rules_in(example("keep_distance.py"))["keep_distance"]
+        for g in 0, 1, 3:
+            for cars in 10, 20, 40, 60:
+                job = Job(limit=5, length=240, cars=cars, start=jammed, rule=Own(rule(g=g, p=0)), steps=4800, key=1)
+                (window,) = job.series(every=2400, first=2400)
+                density = cars / 240
+                self.assertAlmostEqual(window.flow, max(min(5 * density, 1 - (1 + g) * density), 0), 3)
+
+    def test_the_program_of_the_page(self):
+        with open(os.path.join(EXAMPLES, os.pardir, "docs", "PROGRAMS.md"), encoding="utf-8") as file:
+            self.assertIn(f"```text\n{rules_in(example('keep_distance.py'))['keep_distance'](g=2)}```", file.read())
+
+    def test_a_grid_over_parameters_of_a_rule(self):
+        rule = rules_in(example("keep_distance.py"))["keep_distance"]
+
+        def make(g, density, key):
+            return Job(limit=5, length=50, density=density, rule=Own(rule(g=g)), steps=5, key=key)
+
+        inputs = Grid(make, g=[0, 1, 2], density=[0.1, 0.2]).named_inputs()
+        self.assertEqual(list(inputs)[:2], ["g_0_density_0.1", "g_0_density_0.2"])
+        self.assertIn("; keep_distance(g=2, p=0.25)", inputs["g_2_density_0.2"].text())
+        self.assertEqual(len({job.key for job in inputs.values()}), 6)
+
+    def test_all_are_accepted(self):
+        for rule in RULES.values():
+            check(rule())
+
+
+if __name__ == "__main__":
+    unittest.main()

@@ -1,0 +1,340 @@
+"""Numbers that version 0.5.6 got wrong without a word, one test for each.
+
+The calls go by the names of either version. So the tests can be run with the older package too, where each of them fails:
+
+    TRLAB=$(OLD/trlab --where) PYTHONPATH=OLD/python python3 python/tests/test_regressions.py
+
+OLD is a checkout of version 0.5.6. Results are right if they have the right value, or if there is an error of the package."""
+import contextlib
+import io
+import os
+import shutil
+import signal
+import statistics
+import subprocess
+import sys
+import tempfile
+import time
+import unittest
+import warnings
+from pathlib import Path
+
+import trlab
+from trlab import Grid, Job, Nasch, Own, Rickert, Sweep
+
+try:
+    import matplotlib
+    import numpy
+    import pandas  # noqa: F401 (frames are of pandas)
+except ModuleNotFoundError as missing:
+    raise unittest.SkipTest(f"{missing.name} is not installed") from None
+
+matplotlib.use("Agg")
+IS_NEW = hasattr(trlab, "TrlabError")
+ERRORS = trlab.TrlabError if IS_NEW else (ValueError, TypeError, trlab.Refused, trlab.Failed)
+SEM = "sem" if IS_NEW else "error"
+random_cells = trlab.random_cells if IS_NEW else trlab.random
+write_inputs = trlab.write_inputs if IS_NEW else trlab.write_texts
+PACKAGE = Path(trlab.__file__).parents[1]
+
+
+def means(frame, axis):
+    return trlab.means(frame, axis) if IS_NEW else frame.means(axis)
+
+
+def column(frame, name):
+    """The values of a column, or None if the frame has no such column."""
+    if not IS_NEW:
+        return [getattr(row, name) for row in frame] if name in frame.columns else None
+    columns = frame.reset_index()
+    return list(columns[name]) if name in columns else None
+
+
+def speeds(snapshots):
+    return snapshots.speeds() if IS_NEW else snapshots.to_numpy()
+
+
+def is_error(call, *arguments, **named):
+    """Whether a call ends with an error of the package."""
+    try:
+        call(*arguments, **named)
+    except ERRORS:
+        return True
+    return False
+
+
+def job(density=0.2, seed=0, key=0, **changes):
+    shape = dict(limit=5, length=50, density=density, rule=Nasch(0.25), start=random_cells(key), steps=40, key=key)
+    return Job(**{**shape, **changes})
+
+
+def frame(call=lambda it: it.series(every=40), make=job, seed=range(4), **options):
+    return Grid(make, seed=seed).run(call=call, **options)
+
+
+def python(script, *words, before=(), **environment):
+    """What Python writes for a script that uses the package under test."""
+    line = [*before, sys.executable, "-c", script, *words]
+    place = {**os.environ, "PYTHONPATH": str(PACKAGE), "TRLAB": trlab.find_program(), **environment}
+    return subprocess.run(line, env=place, cwd="/", capture_output=True, text=True).stdout
+
+
+class Frames(unittest.TestCase):
+    def test_means_of_means(self):
+        of_windows = frame(lambda it: it.series(every=10))
+        if is_error(lambda: means(means(of_windows, "step"), "seed")):
+            return
+        found = means(means(of_windows, "step"), "seed")
+        flows = [statistics.fmean(row.flow for row in of_windows if row.seed == seed) for seed in range(4)]
+        self.assertAlmostEqual(column(found, f"flow_{SEM}")[0], statistics.stdev(flows) / 2)
+        self.assertEqual(column(found, "count"), [4])
+
+    def test_the_number_of_runs_is_not_a_mean_of_counts(self):
+        found = means(frame(lambda it: {"count": 7}), "seed")
+        self.assertEqual(column(found, "n" if IS_NEW else "count"), [4])
+
+    def test_an_error_is_not_replaced_by_a_column(self):
+        measured = frame(lambda it: {"x": it.key % 10, f"x_{SEM}": 0.001})
+        self.assertTrue(is_error(means, measured, "seed") or column(means(measured, "seed"), f"x_{SEM}") != [0.001])
+
+    def test_a_parameter_does_not_replace_a_result(self):
+        def run():
+            return Grid(job, density=[0.1, 0.2], seed=[0]).run(call=lambda it: {"density": 0.9999})
+
+        self.assertTrue(is_error(run) or column(run(), "density") == [0.9999, 0.9999])
+
+    def test_requested_densities_of_one_car(self):
+        def run():
+            return Grid(job, density=[0.011, 0.02, 0.029], seed=[0]).run(call=lambda it: it.series(every=40))
+
+        self.assertTrue(is_error(run) or column(run(), "density") == 3 * [0.02])
+
+    def test_numbers_of_numpy(self):
+        measured = frame(lambda it: {"x": numpy.int64(it.count())})
+        self.assertEqual(column(means(measured, "seed"), "x"), [10])
+
+    def test_one_missing_value_does_not_remove_a_column(self):
+        measured = frame(lambda it: {"x": 1.0 if it.key % 3 else None, "y": 1.0}, seed=range(9))
+        self.assertTrue(is_error(means, measured, "seed") or column(means(measured, "seed"), "x") is not None)
+
+    def test_a_choice_without_rows_does_not_vanish(self):
+        def run():
+            return frame(lambda it: it.series(every=10)[:0 if it.key % 2 else 4], seed=range(9))
+
+        self.assertTrue(is_error(run) or len(set(column(run(), "seed"))) == 9)
+
+    def test_a_forgotten_key(self):
+        def run():
+            return frame(make=lambda seed, key: job(start=random_cells(1)), seed=range(5))
+
+        self.assertTrue(is_error(run) or is_error(means, run(), "seed"))
+
+    def test_windows_of_one_run_are_not_independent(self):
+        def long(seed, key):
+            return job(key=key, length=100, density=0.12, steps=9000)
+
+        of_windows = frame(lambda it: it.series(every=5, first=1000), make=long, seed=range(12))
+        if is_error(means, of_windows, "step"):
+            return
+        runs = means(of_windows, "step")
+        spread = statistics.stdev(column(runs, "flow"))
+        self.assertGreater(statistics.fmean(column(runs, f"flow_{SEM}")), 0.75 * spread)
+
+    def test_a_row_and_its_fields_have_one_flow(self):
+        def run():
+            return frame(lambda it: it.series(every=40)[0]._asdict())
+
+        self.assertTrue(is_error(run) or max(column(run(), "flow")) < 1)
+
+
+class Values(unittest.TestCase):
+    def test_arithmetic_with_speeds(self):
+        snapshots = Job(limit=20, length=200, cars=2, rule=Nasch(0), steps=50).run()
+        self.assertEqual(numpy.nanmax(speeds(snapshots).reshape(-1) * speeds(snapshots).reshape(-1)), 400)
+
+    def test_a_mean_of_speeds_has_no_empty_cells(self):
+        found = speeds(Job(limit=5, length=50, cars=5, rule=Nasch(0), steps=50).run())
+        self.assertFalse(found.mean() < 0)
+
+    def test_flow_has_one_unit(self):
+        table = job().series(every=40)
+        found = [table.to_pandas().flow[0], table[0].flow]
+        with contextlib.suppress(ERRORS, AttributeError):
+            found.append(table[0].passing)
+        self.assertEqual(len(set(found)), 1)
+
+    def test_headways_are_not_gaps(self):
+        cars = job(density=0.1, length=100, steps=20).run().trajectories()
+        if not is_error(lambda: cars.headways()):
+            self.assertAlmostEqual(numpy.mean(cars.headways()), 10)
+
+    def test_an_occupancy_is_not_a_road(self):
+        def run():
+            return Job(limit=5, start=numpy.array([0, 1, 0, 0]), rule=Nasch(0), steps=1).road()
+
+        self.assertTrue(is_error(run) or sum(cell is not None for lane in run() for cell in lane) == 1)
+
+    def test_snapshots_that_are_no_film(self):
+        taken = job(steps=99).run()
+
+        def draw():
+            both = taken[:50] + taken[90:]
+            return trlab.plot_space_time(both) if IS_NEW else both.space_time()
+
+        with contextlib.redirect_stderr(io.StringIO()):
+            self.assertTrue(is_error(draw))
+
+    def test_impossible_rows(self):
+        heading = "cars,cells,steps,distance,stopped,changes,flow\n"
+        for row in "0,0,0,0,0,0,0", "1,10,100,999,0,0,999000", "1,10,010,0,0,0,0":
+            self.assertTrue(is_error(lambda: [it.density for it in trlab.Table.read(trlab.Point, f"{heading}{row}\n")]), row)
+
+
+class Inputs(unittest.TestCase):
+    def test_small_integers_of_numpy(self):
+        script = (
+            "import numpy as np, trlab\n"
+            "job = lambda n: trlab.Job(limit=5, rule=trlab.Nasch(.1), steps=1, length=n, cars=60000)\n"
+            "print([job(n).series()[0].cars for n in (np.int32(100000), 100000)])"
+        )
+        self.assertEqual(python(script, NPY_PROMOTION_STATE="weak"), "[60000, 60000]\n")
+
+    def test_products_of_small_integers(self):
+        warnings.simplefilter("ignore")
+        sweep = Sweep(limit=5, rule=Nasch(0), length=10, cars=[5], warm=numpy.uint16(60000), measure=numpy.uint16(10000),
+                      start=random_cells(1))
+        self.assertEqual([it.steps for it in sweep.jobs()], [70000])
+
+    def test_a_boolean_is_not_a_number(self):
+        self.assertTrue(is_error(lambda: Job(limit=True, rule=Nasch(0), steps=2, length=9, cars=1)))
+        self.assertTrue(is_error(lambda: Job(limit=5, rule=Nasch(0), steps=False, length=9, cars=1)))
+
+    def test_a_wrong_option(self):
+        for options in {"every": -1}, {"workers": 17}:
+            with self.assertRaises(ValueError):
+                job().run(**options)
+
+    def test_two_lanes_that_do_not_start_even(self):
+        with warnings.catch_warnings(record=True) as caught:
+            warnings.simplefilter("always")
+            with contextlib.redirect_stderr(io.StringIO()):
+                Job(limit=5, length=1000, lanes=2, cars=300, rule=Rickert(0.25, 1), steps=10).text()
+        self.assertEqual(len(caught), 1)
+
+    def test_a_draw_is_explained(self):
+        rule = Own("get r0, speed\nget r1, gap\nmin r0, r0, r1\ndraw r4, 0, 1\ngo r0\n")
+        self.assertIn("p = 0.00000000046", trlab.explain(job(rule=rule)))
+
+
+class Runs(unittest.TestCase):
+    def setUp(self):
+        place = tempfile.TemporaryDirectory()
+        self.addCleanup(place.cleanup)
+        self.place = Path(place.name)
+
+    def program(self, script):
+        """A program in place of trlab, which is `$real`."""
+        path = self.place / "program"
+        path.write_text(f'#!/bin/sh\nreal="{trlab.find_program()}"\n{script}\n')
+        path.chmod(0o755)
+        return str(path)
+
+    def test_a_cut_output_is_not_a_result(self):
+        """Of a program whose exit status is lost, since a parent process ignores SIGCHLD, or which ends with 0."""
+        script = "import trlab\nprint(len(trlab.Job(limit=5, length=9, cars=1, rule=trlab.Nasch(0), steps=9).series()))"
+        cut = self.program('[ "$1" = series ] || exec "$real" "$@"\n"$real" "$@" | head -n 5\nkill -9 $$')
+        for before in [], ["env", "--ignore-signal=CHLD"]:
+            self.assertEqual(python(script, before=before, TRLAB=cut), "")
+        cut = self.program('[ "$1" = series ] || exec "$real" "$@"\n"$real" "$@" | head -n 5')
+        self.assertEqual(python(script, TRLAB=cut), "")
+
+    def test_a_folder_with_a_line_feed(self):
+        sweep = Sweep(limit=5, length=10, cars=[1], rule=Nasch(0), warm=0, measure=1)
+        folder = self.place / "x\ntouch INJECTED\n#"
+        if not is_error(write_inputs, folder, {"a": sweep}):
+            subprocess.run(["sh", str(folder / "array.sh")], cwd=self.place, capture_output=True)
+        self.assertFalse((self.place / "INJECTED").exists())
+
+    def test_results_of_another_program(self):
+        sweep = Sweep(limit=5, length=10, cars=[1], rule=Nasch(0), warm=0, measure=1)
+        script = write_inputs(self.place / "study", {"a": sweep})
+        subprocess.run(["sh", str(script)], check=True, capture_output=True)
+        other = self.program('[ "$1" != --version ] || exec echo trlab 9.9.9\nexec "$real" "$@"')
+        self.assertTrue(is_error(write_inputs, self.place / "study", {"a": sweep}, program=other))
+
+    def test_a_full_disk_is_named(self):
+        sweep = Sweep(limit=5, length=10, cars=[1], rule=Nasch(0), warm=0, measure=1)
+        full = self.program('[ "$1" = sweep ] || exec "$real" "$@"\n"$real" "$@" > /dev/full')
+        script = write_inputs(self.place / "study", {"a": sweep}, program=full)
+        said = subprocess.run(["sh", str(script)], capture_output=True, text=True).stderr
+        self.assertRegex(said, "status 4: .*[a-z]")
+
+    def test_a_study_that_is_terminated_leaves_no_program(self):
+        script = (
+            "import sys, trlab\nprint('ready', flush=True)\n"
+            "rule = trlab.Rickert(0.25, 1)\n"
+            "trlab.Sweep(limit=5, length=100000, lanes=2, cars=[99999], rule=rule, warm=0, measure=500000).sweep()"
+        )
+        mark = f"mark-{os.getpid()}-{id(self)}"
+        program = self.program(f'[ "$1" = sweep ] || exec "$real" "$@"\necho $$ > "{self.place}/{mark}"\nexec "$real" "$@"')
+        place = {**os.environ, "PYTHONPATH": str(PACKAGE), "TRLAB": program}
+        study = subprocess.Popen([sys.executable, "-c", script], env=place, stdout=subprocess.PIPE, text=True)
+        self.addCleanup(study.stdout.close)
+        number = self.wait_for(lambda: (self.place / mark).exists() and (self.place / mark).read_text().strip())
+        study.send_signal(signal.SIGTERM)
+        study.wait()
+        try:
+            self.assertTrue(self.wait_for(lambda: not Path(f"/proc/{number}").exists(), seconds=5))
+        finally:
+            with contextlib.suppress(ProcessLookupError):
+                os.kill(int(number), signal.SIGKILL)
+
+    def wait_for(self, condition, seconds=60):
+        for _ in range(seconds * 20):
+            if found := condition():
+                return found
+            time.sleep(0.05)
+        return None
+
+    def test_a_locale_without_utf_8(self):
+        script = (
+            "import trlab\ntry:\n    trlab.check('motion\\ng\\u00e9t r0, speed\\n')\n"
+            "except Exception as error:\n    print(type(error).__name__)"
+        )
+        found = python(script, LC_ALL="C", PYTHONUTF8="0", PYTHONCOERCECLOCALE="0")
+        self.assertIn(found, ("Refused\n", "RejectedInputError\n"))
+
+    def test_an_entry_of_the_cache_that_is_not_a_file(self):
+        script = (
+            "import sys, trlab\njob = trlab.Job(limit=5, length=9, cars=1, rule=trlab.Nasch(0), steps=9)\n"
+            "print(len(dict(trlab.results({'a': job}, cache=sys.argv[1]))['a']))"
+        )
+        cache = self.place / "cache"
+        self.assertEqual(python(script, str(cache)), "10\n")
+        entry = next(file for file in cache.iterdir() if not file.name.startswith("."))
+        entry.unlink()
+        os.mkfifo(entry)
+        self.assertEqual(python(script, str(cache), before=["timeout", "60"]), "10\n")
+
+    def test_a_cut_download(self):
+        package = self.place / "package"
+        shutil.copytree(PACKAGE / "trlab", package / "trlab", ignore=shutil.ignore_patterns("__pycache__"))
+        programs = package / "trlab" / "programs"
+        shutil.copytree(PACKAGE.parent / "release", programs)
+        for program in programs.glob("*.gz"):
+            program.write_bytes(program.read_bytes()[:1000])
+        script = (
+            "import os, trlab\nos.environ.pop('TRLAB')\n"
+            "try:\n    trlab.find_program()\nexcept OSError as error:\n    print(error)"
+        )
+        self.assertIn("install trlab again", python(script, PYTHONPATH=str(package), XDG_CACHE_HOME=str(self.place)))
+
+    def test_a_figure_of_a_run(self):
+        """diagram.awk refuses what is no table."""
+        line = ["timeout", "20", "awk", "-f", str(PACKAGE.parent / "docs/diagram.awk")]
+        drawn = subprocess.run(line, input=job().run().text().encode(), capture_output=True)
+        self.assertEqual((drawn.returncode, drawn.stdout), (1, b""))
+
+
+if __name__ == "__main__":
+    unittest.main()

@@ -1,0 +1,155 @@
+"""Calls: random draws, safe speeds, min, max and abs, and other functions, whose text takes the place of the call."""
+from __future__ import annotations
+
+import ast
+from abc import abstractmethod
+from collections.abc import Mapping, Sequence
+from typing import Any
+
+from .._errors import ParameterError
+from .._inputs.numbers import parts, probability
+from .conditions import Conditions
+from .emission import Label, Register
+from .names import Attempt, Car, Flag, Frame, Value
+from .pairs import Number
+from .reading import Function
+
+WORDS = 16
+"""The random words of a car in a step."""
+
+DEEPEST = 16
+"""How many calls may be inside each other."""
+
+
+class Calls(Conditions):
+    """Calls, and the random words that they use: each with whether the function gives its number."""
+
+    def __init__(self, kind: str, attempt: Attempt) -> None:
+        super().__init__(kind, attempt)
+        self.words: dict[int, bool] = {}
+        self._next_word = 0 if kind == "motion" else WORDS - 1
+
+    @abstractmethod
+    def block(self, body: Sequence[ast.stmt]) -> None:
+        """Statements, one after the other."""
+
+    def called(self, node: ast.Call) -> Value:
+        function = node.func
+        if isinstance(function, ast.Attribute) and self.is_car(function.value):
+            if function.attr == "draw":
+                return self._drawn(node)
+            if function.attr == "safe" and self.kind == "motion" and len(node.args) == 1 and not node.keywords:
+                return self._safe(node)
+        if not isinstance(function, ast.Name):
+            self.fail(node, f"is not possible in a {self.kind} rule: the car has `draw(p)`, and in a motion rule `safe(v)`")
+        if self._is_own(function.id):
+            return self._extreme(function.id, node)
+        called = self.named(function)
+        if not isinstance(called, Function):
+            self.fail(node, "is not possible: a rule calls min, max, abs, car.draw, car.safe and functions like itself")
+        return self._inlined(called, node)
+
+    def _is_own(self, name: str) -> bool:
+        """Whether this is Python's min, max or abs."""
+        frame = self.frames[-1]
+        if name not in ("min", "max", "abs") or name in frame.assigned or name in frame.constants:
+            return False
+        try:
+            return frame.function.outside(name) in (min, max, abs)
+        except KeyError:
+            return True
+
+    def _extreme(self, name: str, node: ast.Call) -> Number:
+        is_one = name == "abs"
+        if node.keywords or any(isinstance(it, ast.Starred) for it in node.args) or (len(node.args) < 2) != is_one:
+            self.fail(node, f"needs {'one number' if is_one else 'two or more numbers'}")
+        values = [self.number(it) for it in node.args]
+        with self.at(node):
+            return Number(self.numbers.size(values[0])) if is_one else self.numbers.extreme(name, values)
+
+    def _safe(self, node: ast.Call) -> Number:
+        """The number, but at least 0 and at most the gap and the limit."""
+        value = self.number(node.args[0])
+        with self.at(node):
+            most = [Number(self.to.new("get", rest=[name])) for name in ("gap", "limit")]
+            return self.numbers.extreme("min", [Number(value.plus), *most])
+
+    def _drawn(self, node: ast.Call) -> Flag:
+        names = [it.arg for it in node.keywords]
+        if len(node.args) != 1 or names not in ([], ["word"]):
+            self.fail(node, "needs a probability: write `car.draw(p)`, or `car.draw(p, word=k)` with a random word k, 0 to 15")
+        word = self._word(node)
+        if self.words.setdefault(word, bool(names)) != bool(names):
+            self.fail(node, f"uses random word {word}, which another draw uses too: give all draws their `word=`")
+        with self.at(node):
+            result = Register(self.to.place.text)
+            self._draw(node.args[0], word, result)
+            return Flag(result)
+
+    def _word(self, node: ast.Call) -> int:
+        """The random word that a draw gives, or else the next one: 0, 1, 2 .. in a motion rule, and 15, 14 .. in a change rule, in
+        the order in which Python evaluates the text with all branches, loops and calls written out."""
+        if node.keywords:
+            given = self.constant(node.keywords[0].value)
+            if isinstance(given, bool) or not isinstance(given, int) or not 0 <= given < WORDS:
+                self.fail(node, "needs a constant word, 0 to 15")
+            return given
+        word = self._next_word
+        self._next_word += 1 if self.kind == "motion" else -1
+        if not 0 <= word < WORDS:
+            self.fail(node, f"is one draw too many: a car has {WORDS} random words in a step, and every branch and turn counts")
+        return word
+
+    def _draw(self, chance: ast.expr, word: int, to: Register) -> None:
+        """A draw with a probability, or a choice of probabilities: `car.draw(p0 if car.speed == 0 else p)`."""
+        value = self.constant(chance)
+        if value is None and isinstance(chance, ast.IfExp):
+            yes, no = chance.body, chance.orelse
+            return self.either(chance.test, lambda: self._draw(yes, word, to), lambda: self._draw(no, word, to))
+        if value is None:
+            self.fail(chance, "is not a probability: it must be a constant, a parameter, or a choice like `p0 if car.speed == 0 "
+                              "else p`")
+        try:
+            return self.to.emit("draw", to, rest=[word, parts(probability("the probability", value))])
+        except ParameterError as error:
+            self.fail(chance, f"is not a probability: {error}")
+
+    def _inlined(self, function: Function, node: ast.Call) -> Value:
+        """The text of a function in the place of its call."""
+        if len(self.frames) > DEEPEST:
+            self.fail(node, "calls itself, or calls are nested too deeply: write a loop, `for i in range(n)`")
+        values = [self._argument(it) for it in node.args]
+        named = {str(it.arg): self._argument(it.value) for it in node.keywords}
+        try:
+            bound = function.bound(values, named)
+        except TypeError as error:
+            self.fail(node, f"does not fit: {error}")
+        end, result = Label(), self.new_variable(ast.unparse(node))
+        self.frames.append(Frame(function, end, result))
+        self.enter(bound)
+        self.block(function.node.body)
+        if self.to.is_live:
+            self.fail(function.node, "can end without `return`: return a value on every path")
+        self.to.label(end)
+        self.frames.pop()
+        return self.read(result)
+
+    def _argument(self, node: ast.expr) -> Any:
+        if isinstance(node, ast.Starred):
+            self.fail(node, "is not possible: a rule has no `*` in calls")
+        if isinstance(node, ast.Name) and isinstance(self.named(node), (Car, Function)):
+            return self.named(node)
+        constant = self.constant(node)
+        return self.value(node) if constant is None else constant
+
+    def enter(self, bound: Mapping[str, Any]) -> None:
+        """Gives the parameters of the current call their values. Those that are never assigned stay as they are."""
+        frame = self.frames[-1]
+        for name, value in bound.items():
+            if name not in frame.assigned:
+                frame.constants[name] = value
+            elif isinstance(value, Car):
+                self.fail(frame.function.node, f"assigns `{name}`, which is the car: take another name")
+            else:
+                is_value = isinstance(value, (Number, Flag))
+                self.assign(self.variable(name), value if is_value else self.whole(frame.function.node, value))

@@ -1,0 +1,119 @@
+"""Conditions: jumps, and their values."""
+from __future__ import annotations
+
+import ast
+from collections.abc import Iterator
+
+from .emission import Label
+from .expressions import Expressions
+from .names import Flag, Value
+
+COMPARISONS = (ast.Lt, ast.LtE, ast.Gt, ast.GtE, ast.Eq, ast.NotEq)
+
+
+class Conditions(Expressions):
+    """Jumps that depend on conditions."""
+
+    def branch(self, node: ast.expr, target: Label, when: bool) -> None:
+        value = self.constant(node)
+        if value is not None:
+            if bool(value) == when:
+                self.to.emit("jump", target=target)
+        elif isinstance(node, ast.UnaryOp) and isinstance(node.op, ast.Not):
+            self.branch(node.operand, target, not when)
+        elif isinstance(node, ast.BoolOp):
+            self._branch_at_parts(node, target, when)
+        elif isinstance(node, ast.IfExp):
+            yes, no = node.body, node.orelse
+            self.either(node.test, lambda: self.branch(yes, target, when), lambda: self.branch(no, target, when))
+        elif isinstance(node, ast.Compare):
+            self._branch_at_comparison(node, target, when)
+        else:
+            self._branch_at_value(self.value(node), node, target, when)
+
+    def _branch_at_parts(self, node: ast.BoolOp, target: Label, when: bool) -> None:
+        if isinstance(node.op, ast.Or) == when:
+            for it in node.values:
+                self.branch(it, target, when)
+            return
+        skip = Label()
+        for it in node.values[:-1]:
+            self.branch(it, skip, not when)
+        self.branch(node.values[-1], target, when)
+        self.to.label(skip)
+
+    def _branch_at_comparison(self, node: ast.Compare, target: Label, when: bool) -> None:
+        """A comparison, also of several numbers: each is calculated once."""
+        if not all(isinstance(it, COMPARISONS) for it in node.ops):
+            self.fail(node, "is not possible: a rule compares with <, <=, >, >=, == and !=")
+        sums = [self.sum(it) for it in [node.left, *node.comparators]]
+        skip = Label()
+        with self.at(node):
+            for place, (operator, left, right) in enumerate(zip(node.ops, sums, sums[1:]), 1):
+                is_last = place == len(node.ops)
+                to, truth = (target, when) if is_last or not when else (skip, False)
+                self.numbers.compare(operator, right - left, to, truth)
+            self.to.label(skip)
+
+    def _branch_at_value(self, value: Value, node: ast.expr, target: Label, when: bool) -> None:
+        with self.at(node):
+            if isinstance(value, Flag):
+                self.to.emit("jtrue" if when else "jfalse", None, value.register, target=target)
+            else:
+                self.numbers.jump(1, self.numbers.size(value), True, target, when)
+
+    def joined(self, node: ast.BoolOp) -> Value:
+        """The value of `and` and `or`: that of their last part, unless an earlier part decides."""
+        result = self.new_variable(ast.unparse(node))
+        parts = list(_all_of(node)) if isinstance(node.op, ast.And) else []
+        if any(self._is_flag(it) for it in parts) and self._is_truth(parts[-1]):
+            return self._flag_of_all(parts)
+        if self._is_truth(node):
+            return self.truth(node)
+        end = Label()
+        for it in node.values:
+            self.assign(result, self.value(it))
+            if it is not node.values[-1]:
+                self._branch_at_value(self.read(result), it, end, isinstance(node.op, ast.Or))
+        self.to.label(end)
+        return self.read(result)
+
+    def _flag_of_all(self, parts: list[ast.expr]) -> Flag:
+        """The flags of an `and`, all together. If another part is false, the result is combined with its own opposite. So the
+        verifier still knows that the side cell is empty if the result is true."""
+        flags = [self.value(it) for it in parts if self._is_flag(it)]
+        registers = [it.register for it in flags if isinstance(it, Flag)]
+        result, false, end = self.to.new("copy", registers[0]), Label(), Label()
+        for other in registers[1:]:
+            self.to.emit("and", result, result, other)
+        for it in parts:
+            if not self._is_flag(it):
+                self.branch(it, false, False)
+        self.to.emit("jump", target=end)
+        self.to.label(false)
+        self.to.emit("and", result, result, self.to.new("not", result))
+        self.to.label(end)
+        return Flag(result)
+
+    def _is_flag(self, node: ast.expr) -> bool:
+        """Whether this is the side cell, or a variable with a flag. (A draw is not, so that draws keep their order.)"""
+        if isinstance(node, ast.Attribute):
+            return node.attr == "side"
+        return isinstance(node, ast.Name) and isinstance(self.named(node), Flag)
+
+    def _is_truth(self, node: ast.expr) -> bool:
+        """Whether the form of an expression shows that its value is true or false."""
+        if isinstance(node, ast.BoolOp):
+            return all(self._is_truth(it) for it in node.values)
+        is_not = isinstance(node, ast.UnaryOp) and isinstance(node.op, ast.Not)
+        is_draw = isinstance(node, ast.Call) and isinstance(node.func, ast.Attribute) and node.func.attr == "draw"
+        return is_not or is_draw or isinstance(node, ast.Compare) or self._is_flag(node)
+
+
+def _all_of(node: ast.expr) -> Iterator[ast.expr]:
+    """The conditions that must all be true."""
+    if isinstance(node, ast.BoolOp) and isinstance(node.op, ast.And):
+        for value in node.values:
+            yield from _all_of(value)
+    else:
+        yield node

@@ -1,0 +1,180 @@
+"""What the names of a function mean while it is translated: the car, constants, other functions and variables."""
+from __future__ import annotations
+
+import ast
+from collections.abc import Iterator
+from contextlib import contextmanager
+from dataclasses import dataclass, field
+from functools import lru_cache
+from itertools import count
+from typing import Any, NamedTuple, NoReturn, Optional, Union
+
+from .emission import Emitter, Label, Place, Register
+from .pairs import Arithmetic, Number
+from .reading import UNKNOWN, Function
+
+_OPERATORS = (
+    ast.Constant, ast.Name, ast.Load, ast.IfExp, ast.BoolOp, ast.boolop, ast.Compare, ast.Lt, ast.LtE, ast.Gt, ast.GtE, ast.Eq,
+    ast.NotEq, ast.UnaryOp, ast.UAdd, ast.USub, ast.Not, ast.BinOp, ast.Add, ast.Sub, ast.Mult, ast.Div, ast.FloorDiv, ast.Mod,
+)
+"""The syntax of expressions that Python itself calculates if all names in them are constants."""
+
+
+class Car:
+    """The first parameter of a rule."""
+
+
+class Flag(NamedTuple):
+    """A register with true or false, which is 1 or 0 in calculations."""
+
+    register: Register
+
+
+Value = Union[Number, Flag]
+
+
+@dataclass
+class Attempt:
+    """What earlier translations of the function have shown: the differences that may be negative, by their numbers, the variables
+    that may be, and those that are not always a flag. `shares` is that of `Emitter`; `texts` and `names` are those of expressions
+    that were asked for before."""
+
+    shares: bool
+    below: set[int] = field(default_factory=set)
+    paired: set[int] = field(default_factory=set)
+    numbers: set[int] = field(default_factory=set)
+    texts: dict[ast.AST, str] = field(default_factory=dict)
+    names: dict[ast.AST, Optional[list[ast.Name]]] = field(default_factory=dict)
+
+
+class AgainError(Exception):
+    """The translation has to begin again, because it needs another form of a variable that it has used already."""
+
+
+class Variable:
+    """A name that is assigned: a pair of registers, or one with a flag. The first value decides if `is_flag` is None."""
+
+    def __init__(self, name: str, number: int, attempt: Attempt) -> None:
+        self.number = number
+        self.is_flag = False if number in attempt.numbers else None
+        self.why: Optional[Place] = None
+        self.plus = Register(name)
+        self.minus = Register(name) if number in attempt.paired else None
+
+
+class Frame:
+    """A call of a function: its names, and where `return` continues (None: the end of the step)."""
+
+    def __init__(self, function: Function, end: Optional[Label], result: Optional[Variable]) -> None:
+        self.function, self.end, self.result = function, end, result
+        self.constants: dict[str, Any] = {}
+        self.variables: dict[str, Variable] = {}
+        self.assigned, self.counters = _stored_in(function.node)
+
+
+@lru_cache(maxsize=256)
+def _stored_in(node: ast.FunctionDef) -> tuple[set[str], set[str]]:
+    """The names that a function assigns, and those of its loops."""
+    loops = [it.target for it in ast.walk(node) if isinstance(it, ast.For)]
+    names = [it for it in ast.walk(node) if isinstance(it, ast.Name) and isinstance(it.ctx, ast.Store) and it not in loops]
+    return {it.id for it in names}, {it.id for it in loops if isinstance(it, ast.Name)}
+
+
+class Names:
+    """The frames of the calls that are being translated, and the values of names in them."""
+
+    def __init__(self, kind: str, attempt: Attempt) -> None:
+        self.kind, self.attempt = kind, attempt
+        self.to = Emitter(attempt.shares)
+        self.numbers = Arithmetic(self.to, attempt.below)
+        self.frames: list[Frame] = []
+        self._variables = count()
+
+    def place(self, node: ast.AST) -> Place:
+        written, texts = self.frames[-1].function, self.attempt.texts
+        if node not in texts:
+            texts[node] = ast.unparse(node).split("\n")[0]
+        return Place(written.file, getattr(node, "lineno", written.node.lineno), texts[node])
+
+    def fail(self, node: ast.AST, message: str) -> NoReturn:
+        """Raises the error of a node; the message begins with its text."""
+        place = self.place(node)
+        place.fail(f"`{place.text}` {message}")
+
+    @contextmanager
+    def at(self, node: ast.AST) -> Iterator[None]:
+        """Instructions in this block come from this node."""
+        before, self.to.place = self.to.place, self.place(node)
+        yield
+        self.to.place = before
+
+    def new_variable(self, name: str) -> Variable:
+        return Variable(name, next(self._variables), self.attempt)
+
+    def variable(self, name: str) -> Variable:
+        """The variable of this name in the current call."""
+        variables = self.frames[-1].variables
+        if name not in variables:
+            variables[name] = self.new_variable(name)
+        return variables[name]
+
+    def read(self, variable: Variable) -> Value:
+        if variable.is_flag:
+            return Flag(variable.plus)
+        return Number(variable.plus, variable.minus or 0, variable.why)
+
+    def named(self, node: ast.Name) -> Any:
+        """What a name means: the car, a constant, a function, or the value of a variable."""
+        frame, name = self.frames[-1], node.id
+        if name in frame.assigned:
+            variable = self.variable(name)
+            if self.to.is_live and variable not in self.to.assigned:
+                self.fail(node, "may have no value here: assign one on every path to this line")
+            return self.read(variable)
+        if name in frame.constants:
+            return frame.constants[name]
+        if name in frame.counters:
+            self.fail(node, "is known only inside its loop: assign it to another name there")
+        try:
+            return frame.function.outside(name)
+        except KeyError:
+            self.fail(node, "is unknown here: make it a parameter, or give it a constant above the function")
+
+    def is_car(self, node: ast.expr) -> bool:
+        return isinstance(node, ast.Name) and isinstance(self.named(node), Car)
+
+    def constant(self, node: ast.expr) -> Any:
+        """The value of an expression of constants, as Python calculates it; None if it depends on the car."""
+        found = self._names_in(node)
+        if found is None:
+            return None
+        names = {it.id: self.named(it) for it in found}
+        if any(isinstance(it, (Car, Function, Number, Flag)) for it in names.values()):
+            return None
+        if any(it is UNKNOWN for it in names.values()):
+            self.fail(node, "is not known before the run: give it a number in the file, or make it a parameter")
+        if isinstance(node, ast.Constant):
+            return node.value
+        return names[node.id] if isinstance(node, ast.Name) else self._calculated(node, names)
+
+    def _names_in(self, node: ast.AST) -> Optional[list[ast.Name]]:
+        """The names in an expression; None if it has more than operators, names and constants."""
+        known = self.attempt.names
+        if node not in known:
+            parts = [self._names_in(it) for it in ast.iter_child_nodes(node)] if isinstance(node, _OPERATORS) else [None]
+            own = [node] if isinstance(node, ast.Name) else []
+            known[node] = None if None in parts else own + [name for part in parts for name in part or []]
+        return known[node]
+
+    def _calculated(self, node: ast.expr, names: dict[str, Any]) -> Any:
+        values = [*names.values(), *(it.value for it in ast.walk(node) if isinstance(it, ast.Constant))]
+        is_text = any(isinstance(it, (str, bytes)) for it in values) and any(isinstance(it, ast.BinOp) for it in ast.walk(node))
+        try:
+            if is_text:
+                raise TypeError("a text is not a number")
+            code = compile(ast.Expression(node), "constant", "eval")
+            return eval(code, {"__builtins__": {}}, names)
+        except (ArithmeticError, TypeError, ValueError) as error:
+            if self.to.is_live:
+                self.fail(node, f"cannot be calculated: {error}")
+            return 0

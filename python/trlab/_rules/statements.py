@@ -1,0 +1,89 @@
+"""Statements: assignments, `if`, loops that are written out, and `return`."""
+from __future__ import annotations
+
+import ast
+from collections.abc import Sequence
+
+from .calls import Calls
+from .emission import Label
+
+MOST_TURNS = 64
+"""The most turns of a loop: each of them takes instructions of a program, which has at most 128."""
+
+
+class Translation(Calls):
+    """One translation of a function."""
+
+    def block(self, body: Sequence[ast.stmt]) -> None:
+        for statement in body:
+            with self.at(statement):
+                self._statement(statement)
+
+    def _statement(self, node: ast.stmt) -> None:
+        if isinstance(node, ast.Pass) or isinstance(node, ast.Expr) and isinstance(node.value, ast.Constant):
+            return
+        if isinstance(node, ast.Assign) and len(node.targets) == 1:
+            self._assign(node.targets[0], node.value)
+        elif isinstance(node, ast.AnnAssign) and node.value is not None:
+            self._assign(node.target, node.value)
+        elif isinstance(node, ast.AugAssign) and isinstance(node.target, ast.Name):
+            name = ast.copy_location(ast.Name(node.target.id, ast.Load()), node.target)
+            self._assign(node.target, ast.copy_location(ast.BinOp(name, node.op, node.value), node))
+        elif isinstance(node, ast.If):
+            yes, no = node.body, node.orelse
+            self.either(node.test, lambda: self.block(yes), lambda: self.block(no))
+        elif isinstance(node, ast.For):
+            self._loop(node)
+        elif isinstance(node, ast.Return):
+            self._return(node)
+        elif isinstance(node, ast.While):
+            self.fail(node, "may not end: write `for i in range(n)` with a constant n")
+        else:
+            self.fail(node, "is not possible: a rule has assignments to a name, `if`, `for i in range(n)` and `return`")
+
+    def _assign(self, target: ast.expr, node: ast.expr) -> None:
+        if not isinstance(target, ast.Name):
+            self.fail(target, "cannot be assigned: assign one name per line")
+        value = self.value(node)
+        with self.at(node):
+            self.assign(self.variable(target.id), value)
+
+    def _loop(self, node: ast.For) -> None:
+        frame, call, target = self.frames[-1], node.iter, node.target
+        is_range = isinstance(call, ast.Call) and isinstance(call.func, ast.Name) and call.func.id == "range" and not call.keywords
+        bounds = [self.constant(it) for it in call.args] if isinstance(call, ast.Call) and is_range else []
+        if not bounds or not all(isinstance(it, int) for it in bounds) or not isinstance(target, ast.Name) or node.orelse:
+            self.fail(node, "is not possible: write `for i in range(n)` with constants, and without `else`")
+        if target.id in frame.assigned or target.id in frame.constants:
+            self.fail(node, f"uses `{target.id}`, which has another value outside: take another name")
+        turns = range(*bounds)
+        if len(turns) > MOST_TURNS:
+            self.fail(node, f"has {len(turns)} turns, and at most {MOST_TURNS} are possible")
+        for turn in turns:
+            frame.constants[target.id] = turn
+            self.block(node.body)
+        frame.constants.pop(target.id, None)
+
+    def _return(self, node: ast.Return) -> None:
+        frame = self.frames[-1]
+        if node.value is None:
+            self.fail(node, "needs a value")
+        if frame.end is not None and frame.result is not None:
+            self.assign(frame.result, self.value(node.value))
+            self.to.emit("jump", target=frame.end)
+        elif self.kind == "change":
+            stay = Label()
+            self.branch(node.value, stay, False)
+            self.to.emit("cross")
+            self.to.label(stay)
+            self.to.emit("stay")
+        else:
+            self._go(node, node.value)
+
+    def _go(self, node: ast.Return, speed: ast.expr) -> None:
+        value = self.number(speed)
+        if value.minus != 0 and self.to.is_live:
+            why = value.why or self.place(speed)
+            where = "" if why.line == node.lineno else f", and so may the speed of line {node.lineno}"
+            why.fail(f"`{why.text}` may be below 0{where}: write `max({why.text}, 0)`, or `return car.safe(..)`")
+        self.to.emit("go", None, value.plus)

@@ -1,0 +1,52 @@
+"""The rules of the page's Python editor: their programs and their parameters, for which the page has sliders. The text is read
+and never run, so a page can only make programs, which the verifier judges."""
+from __future__ import annotations
+
+from fractions import Fraction
+from typing import Any, Optional
+
+from .._errors import ParameterError, RuleError
+from .._rules.functions import PythonRule, rules_in
+
+Answer = dict[str, Any]
+
+
+def translated(asked: Answer) -> Answer:
+    """The programs of the rules that are `chosen` by their kind, or else the first ones, of a Python `text`, with the `values` of
+    parameters by rule. At an error only its `line` (0 if it has none) and its `message`."""
+    found: Answer = {"names": {}, "parameters": [], "budgets": {}}
+    try:
+        rules = rules_in(asked["text"], "your rules")
+        for kind in ("motion", "change"):
+            names = [name for name, rule in rules.items() if rule.kind == kind]
+            chosen = asked["chosen"].get(kind)
+            name = chosen if chosen in names else next(iter(names), None)
+            found["names"][kind], found[kind] = names, None
+            if name is not None:
+                values = _known(asked["values"].get(name, {}), rules[name])
+                program = rules[name](**values)
+                found[kind], found["budgets"][name] = program, program.budget
+                shown = {**rules[name].parameters, **values}
+                found["parameters"] += [it for it in (_slider(rules[name], *pair) for pair in shown.items()) if it]
+    except RuleError as error:
+        return {"line": error.line, "message": error.message}
+    except ParameterError as error:
+        return {"line": 0, "message": str(error)}
+    return found
+
+
+def _known(values: Answer, rule: PythonRule) -> Answer:
+    """The values of parameters that the rule still has."""
+    return {name: value for name, value in values.items() if name in rule.parameters}
+
+
+def _slider(rule: PythonRule, name: str, value: object) -> Optional[Answer]:
+    """The slider of a parameter: 0 to 1 if its default is a fraction, and otherwise whole numbers. None if it is not a number."""
+    default = rule.parameters[name]
+    try:
+        number = float(Fraction(str(value)))
+    except (ValueError, ZeroDivisionError):
+        return None
+    is_whole = isinstance(default, int) and not isinstance(default, bool)
+    most = max(10, 3 * default) if is_whole else 1
+    return {"rule": rule.name, "kind": rule.kind, "name": name, "value": number, "most": most, "step": 1 if is_whole else 0.01}

@@ -1,0 +1,107 @@
+"""The functions of a crate's sources: where each begins and ends, whether it is public, and whether it has a clause."""
+import os
+import re
+from typing import NamedTuple
+
+# Where a function begins, and where what it may be a method of begins.
+FUNCTION = re.compile(r"(?m)^( *)(pub(?:\(\w+\))? )?(?:const )?fn (\w+)")
+BLOCK = re.compile(r"(?m)^(?:pub )?(?:impl|trait)\b([^{]*)")
+MODULE = re.compile(r"(?m)^(?:(pub)(?:\(\w+\))? )?mod (\w+);")
+EXPORT = re.compile(r"(?m)^pub use ([^;]+);")
+
+
+class Function(NamedTuple):
+    """A function of a source: what it is a method of, its name, and where it, its body and its end are in its file."""
+
+    file: str
+    owner: str
+    name: str
+    start: int
+    body: int
+    end: int
+    is_pub: bool
+    has_clause: bool
+    is_empty: bool
+
+    def __str__(self):
+        return f"{self.owner}::{self.name}" if self.owner else self.name
+
+    @property
+    def module(self):
+        """The path of the module of its file."""
+        return re.sub(r"^src/((lib|main)\.rt)?|\.rt$", "", self.file).replace("/", "::")
+
+    def path_in(self, every):
+        """Its path, of all those of a crate as the prover names them, or None."""
+        last = rf"{re.escape(self.owner)}\w*::{self.name}" if self.owner else self.name
+        here = [path for path in every if re.fullmatch(rf"{self.module}(::)?{last}", path)]
+        # (a method is named by the module of its type, which may be another file's)
+        there = here or [path for path in every if self.owner and re.fullmatch(rf"(\w+::)*{last}", path)]
+        return min(there, key=len, default=None)
+
+
+def base_name(kind):
+    """The name of a type or a trait without its path, its lifetimes and its parameters."""
+    return re.sub(r"<.*", "", kind.strip()).rpartition("::")[2].strip("&' ")
+
+
+def without_parameters(head):
+    """What follows the parameters of an `impl`."""
+    depth = 0
+    for at, sign in enumerate(head):
+        depth += (sign == "<") - (sign == ">" and head[at - 1] != "-")
+        if depth == 0:
+            return head[at + 1:] if sign == ">" else head
+    return head
+
+
+def owner_in(head):
+    """What the prover's name of a method begins with, from the line at which its `impl` or `trait` begins."""
+    trait, is_for, kind = without_parameters(head.strip()).rpartition(" for ")
+    return base_name(kind) + (base_name(trait) if is_for else "")
+
+
+def functions_in(file, text):
+    """The functions of a file."""
+    return [function_at(file, text, found) for found in FUNCTION.finditer(text)]
+
+
+def function_at(file, text, found):
+    indent, visibility, name = found.groups()
+    owner = owner_in(list(BLOCK.finditer(text, 0, found.start()))[-1][1]) if indent else ""
+    # Its body begins on a line of its own if it has clauses.
+    brace = re.compile(rf"(?m)^{indent}([{{}}]\S*)|\Z").search(text, found.start())
+    head = text[found.start():brace.start()]
+    end = text.index(f"\n{indent}}}", brace.start()) + len(indent) + 2 if brace[1] == "{" else brace.end()
+    return Function(
+        file, owner, name, found.start(), brace.start() if brace[1] in ("{", "{}") else found.start(), end,
+        is_pub=visibility == "pub ",
+        has_clause=bool(re.search(rf"(?m)^{indent}    ensures\b", head)),
+        is_empty=not text[brace.start():end].strip("{} \n"),
+    )
+
+
+class Exports:
+    """The names and the modules that a library shows."""
+
+    def __init__(self, folder):
+        self.names, self.modules = set(), set()
+        self.is_program = not os.path.exists(os.path.join(folder, "src", "lib.rt"))
+        if not self.is_program:
+            self.read(folder, "src/lib.rt", ())
+
+    def read(self, folder, file, module):
+        with open(os.path.join(folder, file), encoding="utf-8") as it:
+            text = re.sub(r"//.*", "", it.read())
+        for shown in EXPORT.findall(text):
+            self.names |= set(re.findall(r"(\w+)(?=\s*[,}]|\s*$)", shown))
+        for pub, name in MODULE.findall(text):
+            if pub:
+                self.modules.add("::".join((*module, name)))
+            self.read(folder, os.path.join("src", *module, f"{name}.rt"), (*module, name))
+
+    def shows(self, function):
+        """Whether a function is public. A program shows none, so there each one with a clause counts."""
+        if self.is_program:
+            return function.has_clause
+        return function.is_pub and ((function.owner or function.name) in self.names or function.module in self.modules)
