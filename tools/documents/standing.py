@@ -37,7 +37,7 @@ MAX_WORDS = {
     "docs/STUDIES.md": 3120,
     "docs/TUTORIAL.md": 1240,
     "docs/VERIFIER.md": 870,
-    "docs/dev/ARCHITECTURE.md": 2050,
+    "docs/dev/ARCHITECTURE.md": 2200,
     "docs/dev/CALLS.md": 800,
     "docs/dev/BOOK.md": 1290,
     "docs/dev/DECISIONS.md": 2660,
