@@ -34,22 +34,22 @@ impl Transcript {
     {}
 }
 
-/// Whether a call that gave `count` bytes to a buffer of the size `room` has told the end of the input.
-fn tells_end(count: usize, room: usize) -> bool
+/// Whether a call that gave `count` bytes to a buffer of the size `room` has reported the end of the input.
+fn reports_end(count: usize, room: usize) -> bool
     ensures { (result ≡ true) ↔ ((count ≡ 0) × (0 < room)) }
 {
     count == 0 && room > 0
 }
 
 /// A std reader or writer as a `Source` or `Sink`. It remembers whether a call has failed, whether the last read has
-/// told the end of the input, whether everything written was flushed, and how often it was flushed. In contracts it
+/// reported the end of the input, whether everything written was flushed, and how often it was flushed. In contracts it
 /// also remembers the bytes that it gave or took.
 #[derive(Drop)]
 pub struct Watched<X> {
     inner: X,
     /// Whether a call has failed.
     failed: bool,
-    /// Whether the last read has told the end of the input.
+    /// Whether the last read has reported the end of the input.
     at_end: bool,
     given: Transcript,
     accepted: Transcript,
@@ -59,14 +59,14 @@ pub struct Watched<X> {
 }
 
 impl<X> Watched<X> {
-    ghost use Rattle.trlab_campaign.specs.Watched.{inner_device, has_failed, has_told_end};
+    ghost use Rattle.trlab_campaign.specs.Watched.{inner_device, has_failed, is_at_end};
     ghost use Rattle.trlab_campaign.specs.Watched.{given_bytes, accepted_bytes, flush_count};
 
     /// Wraps a reader or writer. The wrapper starts without a failure, a flush or transferred bytes.
     pub fn new(inner: X) -> Watched<X>
         ensures inner { inner_device result ≡ inner }
         ensures fresh { has_failed result ≡ false }
-        ensures unread { has_told_end result ≡ false }
+        ensures begins { is_at_end result ≡ false }
         ensures none_given { given_bytes result ≡ [] }
         ensures none_accepted { accepted_bytes result ≡ [] }
         ensures unflushed { flush_count result ≡ Never }
@@ -84,13 +84,13 @@ impl<X> Watched<X> {
 }
 
 impl<X: Read> Source for Watched<X> {
-    ghost use Rattle.trlab_campaign.specs.Watched.{inner_device, has_failed, has_told_end, given_bytes};
+    ghost use Rattle.trlab_campaign.specs.Watched.{inner_device, has_failed, is_at_end, given_bytes};
 
     ghost left = { λ watched. X.remaining (inner_device watched) };
 
     ghost given = { given_bytes };
 
-    ghost at_end = { has_told_end };
+    ghost at_end = { is_at_end };
 
     ghost failed = { has_failed };
 
@@ -98,7 +98,7 @@ impl<X: Read> Source for Watched<X> {
         match self.inner.read(buffer) {
             Ok(count) => {
                 self.given.add(&buffer[..count]);
-                self.at_end = tells_end(count, buffer.len());
+                self.at_end = reports_end(count, buffer.len());
                 Ok(count)
             }
             Err(_) => {

@@ -86,7 +86,7 @@ returns-then-is_err-clause-whole g c = tt
 
 pub returns-then-count-eq0-clause-whole : goal.returns-then-count-eq0-clause-whole
 returns-then-count-eq0-clause-whole g c =
-    λ small. c.in-Ok.ensures.tells.1 (c.if-count-eq0.true, omega (arith, length-take c.min-room.result c.loop-piece.piece))
+    λ small. c.in-Ok.ensures.ends.1 (c.if-count-eq0.true, omega (arith, length-take c.min-room.result c.loop-piece.piece))
 
 pub returns-clause-given : goal.returns-clause-given
 returns-clause-given g c = c.loop-piece.invariant.given
