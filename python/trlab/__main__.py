@@ -1,15 +1,15 @@
 """The command `trlab`, as `pip` installs it, and `python -m trlab`: run the program with the same arguments."""
-import os
 import sys
 
 from ._runs.location import find_program
+from ._runs.node import command_of
+from ._runs.systems import replace_process
 
 
 def main() -> None:
     """Replace this process with the program, which gets its arguments and streams."""
     try:
-        program = find_program()
-        os.execv(program, [program, *sys.argv[1:]])
+        replace_process([*command_of(find_program()), *sys.argv[1:]])
     except OSError as error:
         sys.exit(f"trlab: {error}")
 

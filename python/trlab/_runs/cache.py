@@ -78,7 +78,7 @@ class Cache:
             # Anything else, a pipe or a device, might have no end.
             if not path.is_file():
                 return None
-            file = open(path, "rb", opener=lambda name, flags: os.open(name, flags | os.O_NONBLOCK))
+            file = open(path, "rb", opener=lambda name, flags: os.open(name, flags | getattr(os, "O_NONBLOCK", 0)))
         except OSError:
             return None
         if file.read(_HEADING) == _heading(key, _digest(file, request)):

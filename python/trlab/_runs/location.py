@@ -16,7 +16,9 @@ from collections.abc import Iterator
 from typing import NoReturn, Optional
 
 from .._errors import ProgramNotFoundError
+from .node import command_of, is_for_node, node, of_package, sha256_of_module
 from .ownership import new_path, owned, remove_left
+from .systems import fits_native_programs
 
 _HERE = Path(__file__).resolve().parents[1]
 _PACKED = _HERE / "programs"
@@ -37,16 +39,19 @@ def find_program() -> str:
     2. the program of the installed package, unpacked on first use into `$XDG_CACHE_HOME/trlab` or `~/.cache/trlab`,
        and compared with its SHA-256;
     3. the program of the checkout, as `./trlab` finds it;
-    4. `trlab` on the `PATH`.
+    4. if no native program fits the machine, the program in WebAssembly: the path is that of a script, which Node runs;
+    5. `trlab` on the `PATH`.
 
     Raises `ProgramNotFoundError` if none is found, if it is damaged, or if `TRLAB` names another file."""
     named = os.environ.get("TRLAB")
-    return _named(named) if named else _packed() or _of_checkout() or _on_path() or _nowhere()
+    return _named(named) if named else _packed() or _of_checkout() or _for_node() or _on_path() or _nowhere()
 
 
 def sha256_of_program(path: str) -> str:
     """The SHA-256 of a program, 64 hexadecimal digits. For a script such as `./trlab` it is that of the program which the script
-    runs."""
+    runs, and for a script for Node that of the module of WebAssembly."""
+    if is_for_node(path):
+        return sha256_of_module(path)
     return hashlib.sha256(_program_behind(path).read_bytes()).hexdigest()
 
 
@@ -62,7 +67,7 @@ def _program_behind(path: str) -> Path:
 def asked(path: str, word: str) -> Optional[str]:
     """The output of a program for `--version` or `--where`, or None if it cannot be run, ends with an error or does not end."""
     try:
-        process = subprocess.Popen([path, word], stdin=subprocess.DEVNULL, stdout=subprocess.PIPE, stderr=subprocess.DEVNULL)
+        process = subprocess.Popen([*command_of(path), word], stdin=subprocess.DEVNULL, stdout=subprocess.PIPE, stderr=subprocess.DEVNULL)
     except OSError:
         return None
     alarm = threading.Timer(_PATIENCE, process.kill)
@@ -82,7 +87,7 @@ def _named(name: str) -> str:
     path = Path(os.path.expanduser(name)).absolute()
     if not path.is_file():
         raise ProgramNotFoundError(f"TRLAB is {name!r}, and there is no file {path}")
-    if not os.access(path, os.X_OK):
+    if not is_for_node(name) and not os.access(path, os.X_OK):
         raise ProgramNotFoundError(f"TRLAB is {name!r}, and {path} is not executable")
     if not _is_trlab(str(path), path.stat().st_mtime_ns):
         raise ProgramNotFoundError(f"TRLAB is {name!r}, and {path} is not trlab: it does not answer to --version as trlab does")
@@ -97,8 +102,8 @@ def _is_trlab(path: str, changed: int) -> bool:
 
 @functools.lru_cache(maxsize=None)
 def _packed() -> Optional[str]:
-    """The program of the installed package, which a checkout does not have."""
-    if not _PACKED.is_dir():
+    """The native program of the installed package, which a checkout and a package for any machine do not have."""
+    if not (fits_native_programs() and any(_PACKED.glob("trlab-x86-64-v*.gz"))):
         return None
     level = "x86-64-v3" if _V3 <= _features() else "x86-64-v2"
     released = dict(line.split() for line in (_PACKED / "release.txt").read_text("utf-8").splitlines() if line[:1] != "#")
@@ -161,7 +166,7 @@ def _unpacked(packed: Path, path: Path, sha256: str) -> bool:
 
 @functools.lru_cache(maxsize=None)
 def _of_checkout() -> Optional[str]:
-    if not (_SCRIPT.is_file() and os.access(_SCRIPT, os.X_OK) and (_SCRIPT.parent / "release").is_dir()):
+    if not (fits_native_programs() and _SCRIPT.is_file() and os.access(_SCRIPT, os.X_OK) and (_SCRIPT.parent / "release").is_dir()):
         return None
     ran = subprocess.run([_SCRIPT, "--where"], stdin=subprocess.DEVNULL, stdout=subprocess.PIPE, stderr=subprocess.PIPE)
     path = os.fsdecode(ran.stdout).rstrip("\n")
@@ -169,6 +174,16 @@ def _of_checkout() -> Optional[str]:
         said = ran.stderr.decode("utf-8", "replace").strip()
         raise ProgramNotFoundError(said or f"{_SCRIPT} ended with status {ran.returncode}")
     return path
+
+
+@functools.lru_cache(maxsize=None)
+def _for_node() -> Optional[str]:
+    """The script that Node runs, if the program in WebAssembly is there, is whole, and Node is on the `PATH`."""
+    found = of_package()
+    if found is None or node() is None:
+        return None
+    found.module()
+    return str(found.script)
 
 
 def _on_path() -> Optional[str]:
@@ -189,4 +204,9 @@ def _is_trlab_from_path(path: str) -> bool:
 
 
 def _nowhere() -> NoReturn:
+    if of_package() is not None:
+        raise ProgramNotFoundError(
+            "no native program of trlab fits this machine, and the one in WebAssembly needs Node: install Node 18 or later, so that "
+            "`node` is on the PATH"
+        )
     raise ProgramNotFoundError("trlab is not found: install it with pip, put it on the PATH, or name the program in TRLAB")

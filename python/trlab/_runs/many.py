@@ -2,7 +2,6 @@
 from __future__ import annotations
 
 import itertools
-import os
 import threading
 from concurrent.futures import BrokenExecutor, Executor, Future, ThreadPoolExecutor, wait
 from contextlib import contextmanager, nullcontext
@@ -16,6 +15,7 @@ from .cache import Cache
 from .ownership import Lease
 from .progress import Line, Progress, reporter
 from .processes import Processes, Setting, new_processes, set_to, setting
+from .systems import after_fork, processors
 from .._inputs.jobs import Job
 from .._inputs.sweeps import Sweep
 from .._inputs.numbers import whole
@@ -26,7 +26,7 @@ Result = TypeVar("Result")
 
 # The processes of the runs that go on in this process, by the path of their lease.
 _RUNS: dict[str, Processes] = {}
-os.register_at_fork(after_in_child=_RUNS.clear)
+after_fork(_RUNS.clear)
 
 
 def table_or_snapshots(it: Union[Job, Sweep]) -> Any:
@@ -168,7 +168,7 @@ def _running(
     """The executor, the lease of the run, and how many inputs it gets at first. At the end nothing of it continues."""
     now = setting()
     # A run inside a task of another run leaves the other processors to the other tasks.
-    count = at_once or (len(os.sched_getaffinity(0)) if now is None else 1)
+    count = at_once or (processors() if now is None else 1)
     lease = Lease.new(None if cache is None else cache.folder)
     with new_processes(None if now is None else now.processes) as processes:
         pool = executor or ThreadPoolExecutor(count, "trlab")

@@ -12,11 +12,13 @@ from pathlib import Path
 from collections.abc import Iterator
 from typing import NamedTuple, Optional
 
+from .systems import after_fork, is_running
+
 _SIGN = "-trlab-"
 
 # The files of this process that exist only as long as it works on them.
 _OWNED: set[Path] = set()
-os.register_at_fork(after_in_child=_OWNED.clear)
+after_fork(_OWNED.clear)
 
 
 @functools.lru_cache(maxsize=None)
@@ -63,11 +65,7 @@ def remove_left(folder: Path) -> None:
 
 def _is_left(file: Path) -> bool:
     number = file.name.split("-")[-2]
-    return number.isdecimal() and not _is_running(int(number))
-
-
-def _is_running(number: int) -> bool:
-    return os.path.exists(f"/proc/{number}")
+    return number.isdecimal() and not is_running(int(number))
 
 
 class Lease(NamedTuple):
@@ -111,7 +109,7 @@ class Lease(NamedTuple):
 
     def is_over(self) -> bool:
         """Whether the run has ended, also by a kill if it was on this machine."""
-        return not os.path.exists(self.path) or (self.machine == machine() and not _is_running(self.process))
+        return not os.path.exists(self.path) or (self.machine == machine() and not is_running(self.process))
 
     def can_be_seen(self) -> bool:
         """Whether this machine would notice the end of the run."""

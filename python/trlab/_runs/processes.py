@@ -15,9 +15,11 @@ from typing import IO, TYPE_CHECKING, NamedTuple, Optional
 
 from .._errors import ProgramError, ProgramNotFoundError
 from .location import find_program
+from .node import command_of
 from .ownership import remove_owned
 from .requests import Length, Request
 from .signals import Ending, exit_status, need_exit_statuses
+from .systems import after_fork
 
 if TYPE_CHECKING:
     from .cache import Cache
@@ -48,7 +50,7 @@ class Processes:
         program = find_program()
         with self._lock:
             try:
-                process = subprocess.Popen([program, *request.words], stdin=source, stdout=subprocess.PIPE, stderr=said)
+                process = subprocess.Popen([*command_of(program), *request.words], stdin=source, stdout=subprocess.PIPE, stderr=said)
             except OSError as fault:
                 if fault.errno in _NOT_FOUND:
                     raise ProgramNotFoundError(f"{program} cannot be run: {fault.strerror}") from None
@@ -79,7 +81,7 @@ class Processes:
 
 
 _ALL: set[Processes] = set()
-os.register_at_fork(after_in_child=_ALL.clear)
+after_fork(_ALL.clear)
 
 
 def stop_all() -> None:

@@ -11,13 +11,11 @@ from types import FrameType
 from typing import Optional
 
 from .._errors import ExitStatusError
-
-_ENDING = (signal.SIGTERM, signal.SIGHUP)
-
+from .systems import ENDING_SIGNALS, after_fork, can_ask_for_ends, ignores_ends_of_children
 
 def need_exit_statuses() -> None:
     """Raises `ExitStatusError` if SIGCHLD is ignored: Linux then forgets how a program ended, and Python calls it success."""
-    if signal.getsignal(signal.SIGCHLD) == signal.SIG_IGN:
+    if ignores_ends_of_children():
         raise ExitStatusError(
             "SIGCHLD is ignored, possibly since before Python started, so that a failed run would go unnoticed: "
             "call signal.signal(signal.SIGCHLD, signal.SIG_DFL) first"
@@ -26,7 +24,9 @@ def need_exit_statuses() -> None:
 
 def exit_status(process: subprocess.Popen[bytes]) -> int:
     """Waits until a process has ended, and returns its exit status, or minus the signal that ended it. Raises `ExitStatusError`
-    if it is lost."""
+    if it is lost, which only systems with `os.waitid` report."""
+    if not can_ask_for_ends():
+        return process.wait()
     try:
         ended = os.waitid(os.P_PID, process.pid, os.WEXITED | os.WNOWAIT)
     except ChildProcessError:
@@ -49,7 +49,7 @@ class Ending:
 
     def __init__(self, stop: Callable[[], object]) -> None:
         self._stop, self._users = stop, 0
-        os.register_at_fork(after_in_child=self._forget)
+        after_fork(self._forget)
 
     @contextmanager
     def caught(self) -> Iterator[None]:
@@ -68,7 +68,7 @@ class Ending:
                     self._replace(self._end, signal.SIG_DFL)
 
     def _replace(self, old: object, new: object) -> None:
-        for number in _ENDING:
+        for number in ENDING_SIGNALS:
             if signal.getsignal(number) == old:
                 signal.signal(number, new)  # type: ignore[arg-type]
 
