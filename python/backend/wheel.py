@@ -1,11 +1,14 @@
 """Builds the Python package: the PEP 517 backend that pyproject.toml names, with the standard library only.
 
-A wheel contains the module, the examples, the packed programs of release/ for both processor levels, and the commands
-`trlab` and `trlab-lab`. Its bytes depend only on the files of the repository: nothing in it is compressed again, and no
-time is written down. An editable wheel contains only the path of python/, so that the module of the checkout is used."""
+A wheel contains the module, the examples, the commands `trlab` and `trlab-lab`, and programs of release/: the wheel for Linux
+has the packed native programs for both processor levels, and the wheel for any machine has the page that contains the program
+in WebAssembly, and the scripts with which Node runs it. The bytes of a wheel depend only on the files of the repository: nothing
+in it is compressed again, and no time is written down. An editable wheel contains only the path of python/, so that the module
+of the checkout is used."""
 import base64
 import hashlib
 import io
+import platform
 import re
 import subprocess
 import sys
@@ -17,8 +20,11 @@ TOP = Path(__file__).resolve().parents[2]
 MODULE = TOP / "python" / "trlab"
 RELEASE = TOP / "release"
 EXAMPLES = TOP / "examples"
-# The programs in it need x86-64 Linux with glibc 2.34 or later; the module itself runs with any Python 3.
-TAG = "py3-none-manylinux_2_34_x86_64"
+NODE = TOP / "node"
+# The native programs need x86-64 Linux with glibc 2.34 or later; the module itself runs with any Python 3.
+TAGS = {"native": "py3-none-manylinux_2_34_x86_64", "any": "py3-none-any"}
+PAGE = "trlab-lab.html"
+SCRIPT = "trlab/node/trlab-node.mjs"
 # The date of every file in an archive, the first one that the format can write.
 NO_DATE = (1980, 1, 1, 0, 0, 0)
 
@@ -41,7 +47,7 @@ def metadata():
     return "".join(line + "\n" for line in lines)
 
 
-def information():
+def information(tag):
     """The files that describe the package to an installer, by their paths in the wheel."""
     text = (TOP / "pyproject.toml").read_text()
     scripts = re.findall(r'^([\w-]+) = "([\w.]+:\w+)"$', re.search(r"^\[project\.scripts\]\n(.*)", text, re.M | re.S)[1], re.M)
@@ -49,7 +55,7 @@ def information():
     folder = f"trlab-{version()}.dist-info"
     return {
         f"{folder}/METADATA": metadata().encode(),
-        f"{folder}/WHEEL": f"Wheel-Version: 1.0\nGenerator: trlab\nRoot-Is-Purelib: false\nTag: {TAG}\n".encode(),
+        f"{folder}/WHEEL": f"Wheel-Version: 1.0\nGenerator: trlab\nRoot-Is-Purelib: false\nTag: {tag}\n".encode(),
         f"{folder}/entry_points.txt": f"[console_scripts]\n{commands}".encode(),
     }
 
@@ -66,10 +72,23 @@ def example_files():
     return {f"trlab/lab/examples/{file.name}": file.read_bytes() for file in files}
 
 
-def program_files():
-    """The packed programs, by their paths in the wheel."""
+def native_files():
+    """The packed native programs, by their paths in the wheel."""
     files = [RELEASE / "release.txt", *RELEASE.glob("trlab-x86-64-v*.gz")]
     return {f"trlab/programs/{file.name}": file.read_bytes() for file in files}
+
+
+def portable_files():
+    """The page with the program in WebAssembly, and the scripts for Node, by their paths in the wheel."""
+    if not (RELEASE / PAGE).exists():
+        sys.exit(f"trlab: there is no {RELEASE / PAGE}, so there is no program for this machine: release/make builds it on Linux")
+    programs = {f"trlab/programs/{name}": (RELEASE / name).read_bytes() for name in ("release.txt", PAGE)}
+    return {**programs, **{f"trlab/node/{file.name}": file.read_bytes() for file in node_scripts()}}
+
+
+def node_scripts():
+    """The scripts of node/ that run the program."""
+    return sorted([*NODE.glob("*.mjs"), NODE / "package.json"])
 
 
 def is_of_these_sources():
@@ -90,34 +109,42 @@ def recorded(files):
     return {**dict(sorted(files.items())), f"{folder}/RECORD": "".join([*lines, f"{folder}/RECORD,,\n"]).encode()}
 
 
-def written(folder, files):
+def written(folder, files, tag):
     """Writes a wheel of these files into a folder, and returns its name."""
-    name = f"trlab-{version()}-{TAG}.whl"
+    name = f"trlab-{version()}-{tag}.whl"
+    files = {**files, **information(tag)}
     with zipfile.ZipFile(Path(folder) / name, "w", zipfile.ZIP_STORED) as wheel:
         for path, content in recorded(files).items():
             entry = zipfile.ZipInfo(path, NO_DATE)
-            entry.external_attr = 0o644 << 16
+            entry.external_attr = (0o755 if path == SCRIPT else 0o644) << 16
             wheel.writestr(entry, content)
     return name
 
 
-def build_wheel(wheel_directory, config_settings=None, metadata_directory=None):
-    """Builds the wheel that `pip install .` installs."""
+def build(folder, kind):
+    """Builds the wheel of a kind, "native" or "any", and returns its name."""
     if not is_of_these_sources():
         print("trlab: the packed programs are those of the last release, not of the sources here", file=sys.stderr)
-    return written(wheel_directory, {**module_files(), **example_files(), **program_files(), **information()})
+    programs = native_files() if kind == "native" else portable_files()
+    return written(folder, {**module_files(), **example_files(), **programs}, TAGS[kind])
+
+
+def build_wheel(wheel_directory, config_settings=None, metadata_directory=None):
+    """Builds the wheel that `pip install .` installs: the one for Linux, or on other machines the one for any machine."""
+    is_native = sys.platform == "linux" and platform.machine() in ("x86_64", "AMD64")
+    return build(wheel_directory, "native" if is_native else "any")
 
 
 def build_editable(wheel_directory, config_settings=None, metadata_directory=None):
     """Builds the wheel that `pip install -e .` installs: it leads to the module of this checkout."""
-    return written(wheel_directory, {"trlab.pth": f"{MODULE.parent}\n".encode(), **information()})
+    return written(wheel_directory, {"trlab.pth": f"{MODULE.parent}\n".encode()}, TAGS["any"])
 
 
 def build_sdist(sdist_directory, config_settings=None):
     """Builds an archive from which the same wheel can be built."""
     name = f"trlab-{version()}"
     sources = [TOP / "pyproject.toml", Path(__file__), *(RELEASE / "release.txt", RELEASE / "sources")]
-    sources += [*RELEASE.glob("trlab-x86-64-v*.gz"), *(MODULE / path[len("trlab/") :] for path in module_files())]
+    sources += [*RELEASE.glob("trlab-x86-64-v*.gz"), *RELEASE.glob(PAGE), *node_scripts(), *(MODULE / path[len("trlab/") :] for path in module_files())]
     sources += [EXAMPLES / Path(path).name for path in example_files()]
     with tarfile.open(Path(sdist_directory) / f"{name}.tar.gz", "w:gz", format=tarfile.PAX_FORMAT) as archive:
         for source in sorted(sources):
