@@ -86,9 +86,8 @@ test("an input that never ends is rejected", { skip: missing }, async () => {
 
 test("without a page there is one message", () => {
   const folder = mkdtempSync(join(tmpdir(), "trlab-node-"));
-  const source = new URL("..", import.meta.url), names = ["trlab-node.mjs", "program.mjs"];
+  const source = new URL("..", import.meta.url), names = ["trlab-node.mjs", "command.mjs", "program.mjs"];
   names.forEach(name => writeFileSync(join(folder, name), readFileSync(new URL(name, source))));
-  writeFileSync(join(folder, "host.mjs"), "");
   const ran = spawnSync(process.execPath, [join(folder, "trlab-node.mjs"), "run"], { encoding: "utf8" });
   assert.equal(ran.status, 70);
   assert.match(ran.stderr, /^trlab-node: there is no host.js: .*\n$/);

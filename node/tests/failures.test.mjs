@@ -7,7 +7,9 @@ import { Exit, hostOf } from "../../python/trlab/lab/host.js";
 import { StoppedError, runProgram } from "../program.mjs";
 import { example, missing, moduleBytes } from "./pages.mjs";
 
-const MEMORY = 3, STACK = 1 << 20, PAGE = 65536;
+const MEMORY = 3, PAGE = 65536;
+/** The most bytes of the module's memory. */
+const LIMIT = 2 ** 32 - 2 ** 20;
 const bytesOf = text => new TextEncoder().encode(text);
 /** The end of a call: its status, or the error that stopped it, and its output. */
 function ended(words, text, module, prepare = () => {}) {
@@ -25,7 +27,7 @@ function ended(words, text, module, prepare = () => {}) {
 }
 const CALLS = [
   [["run"], example("overtaking.job")], [["series", "--every", "5"], example("overtaking.job")],
-  [["sweep"], example("triangle.sweep")], [["check"], example("lane_change.rule")], [["explain"], example("jam.job")],
+  [["sweep"], example("triangle.sweep").replace(/(cars \d+\n)+/, "cars 3\ncars 50\n")], [["check"], example("lane_change.rule")], [["explain"], example("jam.job")],
   [["run", "--workers", "4"], example("jam.job")],
 ];
 
@@ -57,4 +59,70 @@ test("each allocation fails in turn", { skip: missing }, () => {
     }
     assert.ok(needed.size > 0);
   }
+});
+
+/** The module with a stack of 2**14, 2**15 .. bytes: the start of its stack pointer, its first global, is written in four bytes. */
+function withStack(power) {
+  const bytes = moduleBytes(), wide = Buffer.from([0x7f, 0x01, 0x41, 0x80, 0x80, 0xc0, 0x00, 0x0b]), at = bytes.indexOf(wide);
+  assert.ok(at > 0 && bytes.indexOf(wide, at + 1) < 0, "the module has one stack of 1 MiB");
+  bytes.set([0x80, 0x80, 0x80 | 1 << power - 14, 0x00], at + 3);
+  return new WebAssembly.Module(bytes);
+}
+test("a stack that overflows is an error, and never a wrong output", { skip: missing }, () => {
+  const ample = new WebAssembly.Module(moduleBytes()), stopped = new Set();
+  for (const [words, text] of CALLS) {
+    const right = ended(words, text, ample);
+    for (const power of [14, 15, 16, 17, 18, 19]) {
+      for (const isFull of [false, true]) {
+        // With a memory of 4 GiB but for its end, the addresses below 0, where the stack overflows, are still outside.
+        const fill = (known, instance) => {
+          const main = known.rattle_arg;
+          known.rattle_arg = (...given) => {
+            const { memory } = instance().exports;
+            if (isFull && memory.buffer.byteLength < 2 ** 31) memory.grow((LIMIT - memory.buffer.byteLength) / PAGE);
+            return main(...given);
+          };
+        };
+        const { status, output } = ended(words, text, withStack(power), fill);
+        const isStopped = status instanceof WebAssembly.RuntimeError;
+        if (isStopped) stopped.add(power);
+        assert.ok(isStopped ? right.output.startsWith(output) : status === 0 && output === right.output, `${words}, 2**${power} bytes: ${status}`);
+      }
+    }
+  }
+  assert.ok(stopped.has(14) && !stopped.has(19), [...stopped].join());
+});
+
+test("the memory ends 1 MiB below 4 GiB", { skip: missing }, () => {
+  const module = new WebAssembly.Module(moduleBytes()), host = hostOf({ words: [], input: new Uint8Array(0), put() {} });
+  const { memory } = new WebAssembly.Instance(module, host.importsOf(module)).exports;
+  const room = (LIMIT - memory.buffer.byteLength) / PAGE;
+  assert.throws(() => memory.grow(room + 1), RangeError);
+  memory.grow(room);
+  assert.equal(memory.buffer.byteLength, LIMIT);
+});
+
+test("a program that WebAssembly stops is an error with a name", { skip: missing }, () => {
+  const input = bytesOf(example("jams.job"));
+  assert.throws(() => runProgram(["run"], { input, put() {} }, withStack(14)), StoppedError);
+  const fault = new Error("of the caller");
+  assert.throws(() => runProgram(["run"], { input, put() { throw fault; } }), fault);
+});
+
+test("a Worker can be stopped at any time", { skip: missing }, async () => {
+  const job = example("jams.job").replace(/^steps \d+$/m, "steps 500000");
+  const script = `
+    const { workerData, parentPort } = require("node:worker_threads");
+    import(workerData.program).then(({ runProgram }) => {
+      const put = bytes => parentPort.postMessage(bytes.length);
+      runProgram(["run"], { input: new TextEncoder().encode(workerData.job), put });
+    });`;
+  const worker = new Worker(script, { eval: true, workerData: { program: new URL("../program.mjs", import.meta.url).href, job } });
+  await new Promise((go, fail) => {
+    worker.once("message", go);
+    worker.once("error", fail);
+  });
+  const ended = new Promise(go => worker.once("exit", go));
+  await worker.terminate();
+  assert.equal(await ended, 1);
 });
