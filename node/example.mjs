@@ -18,5 +18,5 @@ try {
   sweep(file([1001]));
 } catch (fault) {
   if (!(fault instanceof RejectedInputError)) throw fault;
-  console.log(`line ${fault.line}, error ${fault.cause}: ${fault.found}`);
+  console.log(`line ${fault.line}, error ${fault.cause}: ${fault.meaning}`);
 }

@@ -116,7 +116,8 @@ def written(folder, files, tag):
     with zipfile.ZipFile(Path(folder) / name, "w", zipfile.ZIP_STORED) as wheel:
         for path, content in recorded(files).items():
             entry = zipfile.ZipInfo(path, NO_DATE)
-            entry.external_attr = (0o755 if path == SCRIPT else 0o644) << 16
+            # The kind of the file, too: without it pip makes no file executable.
+            entry.external_attr = (0o100755 if path == SCRIPT else 0o100644) << 16
             wheel.writestr(entry, content)
     return name
 
