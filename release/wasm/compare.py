@@ -12,10 +12,10 @@ HERE = os.path.dirname(os.path.abspath(__file__))
 MORE = {
     "check": ["explain check", "explain --json check"],
     "run": [
-        "run --every 2 --from 1 --progress", "run --workers 16", "series", "series --every 3 --from 2 --progress", "explain run",
+        "run --every 2 --from 1 --progress --workers 16", "series", "series --every 3 --from 2 --progress", "explain run",
         "explain --json run",
     ],
-    "sweep": ["sweep --progress", "sweep --runners 16 --workers 16", "explain sweep", "explain --json sweep"],
+    "sweep": ["sweep --progress --runners 16 --workers 16", "explain sweep", "explain --json sweep"],
 }
 
 
