@@ -16,7 +16,8 @@ _HERE = Path(__file__).resolve().parents[1]
 _NAME = "trlab-node.mjs"
 _PAGE = "trlab-lab.html"
 _SUM = re.compile("^wasm ([0-9a-f]{64})$", re.M)
-_PROGRAM = re.compile(r'<script [^>]*\bid="program"[^>]*>([^<]*)<')
+PROGRAM = re.compile(r'<script [^>]*\bid="program"[^>]*>([^<]*)<')
+"""The element of a page that contains the program."""
 
 
 class InWebAssembly(NamedTuple):
@@ -39,7 +40,7 @@ class InWebAssembly(NamedTuple):
 
 def module_in(page: str) -> bytes:
     """The module of WebAssembly in a page: the element with the id `program`, which is compressed and then in base64."""
-    found = _PROGRAM.search(page)
+    found = PROGRAM.search(page)
     if found is None:
         raise ValueError("the page contains no program")
     return gzip.decompress(base64.b64decode(found[1]))
