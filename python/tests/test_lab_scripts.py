@@ -2,6 +2,7 @@
 import math
 import random
 import unittest
+import warnings
 from decimal import Decimal
 from fractions import Fraction
 from pathlib import Path
@@ -114,7 +115,10 @@ class Files(unittest.TestCase):
         draw = Controls(2)
         sweeps = [it for it in (draw.sweep() for _ in range(300)) if it["warm"] + it["measure"] <= 500000 // 30]
         self.assertGreater(len(sweeps), 200)
-        self.same([("jobs", "sweepFile", it) for it in sweeps], [sweep_of(it).text() for it in sweeps])
+        with warnings.catch_warnings():
+            warnings.simplefilter("error")  # if a number of cars is not halved between the lanes
+            wanted = [sweep_of(it).text() for it in sweeps]
+        self.same([("jobs", "sweepFile", it) for it in sweeps], wanted)
 
     def test_random_cells(self):
         """Random cells for seeds of one word and of many, and for more cells than the generator has words."""
@@ -173,6 +177,18 @@ class Errors(unittest.TestCase):
                 job_of({**self.job, **change}).text()
             self.assertIsInstance(thrown, Thrown, change)
             self.assertEqual(str(thrown), str(raised.exception))
+
+    def test_numbers_of_another_kind(self):
+        """Whatever is not a number of the right kind is an error, and never a file."""
+        sweep = {**self.job, "rule": self.job["rules"][0], "warm": 3, "measure": 4}
+        for value in True, False, 1.5, None, [], {}, -1, 1e300, "x", "5", "":
+            calls = [("jobs", "jobFile", {**self.job, field: value}) for field in ("limit", "lanes", "length", "cars", "steps", "key", "start")]
+            calls += [("jobs", "sweepFile", {**sweep, field: value}) for field in ("limit", "lanes", "length", "warm", "measure", "key")]
+            rules = [{**self.job["rules"][0], field: value} for field in ("at", "model", "p")]
+            calls += [("jobs", "jobFile", {**self.job, "rules": [it]}) for it in rules]
+            calls += [("jobs", "jobFile", {**self.job, "rules": [self.job["rules"][0], {"at": 3, **it}]}) for it in rules]
+            for call, found in zip(calls, answers([call for call in calls if not (value == "5" and call[2].get("key") == "5")])):
+                self.assertIsInstance(found, Thrown, call)
 
     def test_messages_of_the_page(self):
         rules = self.job["rules"]

@@ -8,7 +8,7 @@ from pathlib import Path
 
 HERE = Path(__file__).resolve().parent
 _IMPORT = re.compile(r'^import \{ (.*) \} from "\./(\w+)\.js";\n', re.M)
-_EXPORT = re.compile(r"^export ((?:async )?(?:function|class|const) (\w+))", re.M)
+_EXPORT = re.compile(r"^export ((?:async )?(?:function|class|const) ([\w$]+))", re.M)
 
 
 def joined(*names: str) -> str:
