@@ -82,7 +82,9 @@ class FilePages(InFile):
         self.run_to(20)
         self.hold(lambda: self.page.js("return running.size") == 0)
         self.run_to(1000)
-        self.test_every_snapshot_is_that_of_the_run()
+        found = snapshots(self.page.job())
+        for step, cells, *_ in self.page.js(SHOTS):
+            self.assertEqual(cells, "".join(found[step].lanes), step)
 
     def test_a_run_that_is_replaced_ends(self):
         self.page.js(WATCH)
@@ -141,8 +143,8 @@ class WithoutWaiting(Alone):
         self.assertEqual([it[1] for it in self.page.js(SHOTS)][:1500], ["".join(it.lanes) for it in snapshots(self.page.job())[:1500]])
 
     def test_a_table(self):
-        self.page.set("stepcount", 20000)
-        self.hold(lambda: "steps 20000\n" in self.page.job() and not self.page.js("return lab.isWriting"))
+        self.page.set("stepcount", 12000)
+        self.hold(lambda: "steps 12000\n" in self.page.job() and not self.page.js("return lab.isWriting"))
         self.assertEqual(self.saved("savetable"), ask(["series"], self.page.job()))
 
 
