@@ -19,7 +19,7 @@ if TYPE_CHECKING:
     from .._results.snapshots import Snapshots
 
 HERE = Path(__file__).resolve().parent
-SCRIPTS = ("job", "film", "draw", "player", "exported")
+SCRIPTS = ("job", "film", "colours", "columns", "draw", "player", "exported")
 MAX_BYTES = 256 * 1024 * 1024
 """The maximum size of the snapshots in one file, before they are compressed."""
 

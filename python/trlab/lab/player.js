@@ -3,7 +3,8 @@
 
 import { clamp, upTo } from "./job.js";
 import { Film, Run } from "./film.js";
-import { Rows, bandAt, carNow, colour, drawBands, drawCurves, drawRing, fresh, ringAt, rowsOf, smooth } from "./draw.js";
+import { colour } from "./colours.js";
+import { Rows, bandAt, carNow, drawBands, drawCurves, drawRing, fresh, isMixed, ringAt, rowsOf, smooth } from "./draw.js";
 
 export const $ = id => document.getElementById(id);
 const calm = matchMedia("(prefers-reduced-motion: reduce)").matches;
@@ -115,6 +116,7 @@ export class Player {
       step, steps: `of ${film.steps} steps`, flow, speed, stopped, dense: (film.of(step).cars / (film.length * film.lanes)).toFixed(3),
       kept: `The page keeps the last ${film.most.toLocaleString("en")} snapshots: back to step ${film.first.toLocaleString("en")}.`,
       car: followed ?? (this.hint ??= $("car").textContent),
+      mixed: isMixed(film, $("spacetime").clientWidth) ? "Colours of pixels are mean speeds, paler where there are fewer cars." : "",
     };
     for (const id in words) $(id).textContent = words[id];
     $("follow").setAttribute("aria-pressed", car !== null);

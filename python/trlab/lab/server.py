@@ -36,7 +36,7 @@ limit, because a page may pause."""
 PAUSE = 0.1
 """How long the server rests, in seconds, if it has no descriptors for another connection."""
 
-SCRIPTS = ("job", "links", "film", "draw", "diagram", "editor", "numbers", "boxes", "player", "rules", "page")
+SCRIPTS = ("job", "links", "film", "colours", "columns", "draw", "diagram", "editor", "numbers", "boxes", "player", "rules", "page")
 FILES = {
     "": ("page.html", "text/html"),
     "page.css": ("page.css", "text/css"),
