@@ -14,7 +14,7 @@ export class Player {
   /** `hear` has shot(shot), moved() and over(), and each may be missing. `fail` shows a message. */
   constructor(hear, fail) {
     Object.assign(this, { hear, fail, film: null, run: null, step: -1, car: null, lens: 0, phase: 1, drawn: -1 });
-    Object.assign(this, { playing: !calm, moving: false, stale: true, rows: new Rows(), before: 0, paused: 0 });
+    Object.assign(this, { playing: !calm, moving: false, isDue: false, stale: true, rows: new Rows(), before: 0, paused: 0 });
     this.listen();
     this.setPlaying(this.playing);
     this.setRate();
@@ -69,6 +69,7 @@ export class Player {
     this.before = now;
     if (!this.film || (this.step < 0 && !this.next())) return;
     if (!this.playing && this.run && now - this.paused > REST) this.rest();
+    if (this.isDue && this.next()) Object.assign(this, { isDue: false, phase: 0, moving: true });
     if (this.moving) this.move(passed);
     if (this.stale) this.draw(now);
   }
@@ -141,6 +142,7 @@ export class Player {
   setPlaying(now) {
     if (now && this.film && this.over) this.restart();
     this.playing = now;
+    this.isDue = false;
     this.moving ||= now;
     this.paused = performance.now();
     $("play").textContent = now ? "Pause" : "Play";
@@ -153,7 +155,7 @@ export class Player {
   }
   one() {
     this.setPlaying(false);
-    if (this.next()) [this.phase, this.moving] = [0, true];
+    this.isDue = !this.over; // the run may have ended in a long pause, and its snapshots come again
   }
   back() {
     this.setPlaying(false);
