@@ -29,7 +29,7 @@ export function rounded(number) {
   return rest > 0.5 || rest === 0.5 && low % 2 === 1 ? low + 1 : low;
 }
 /** A probability as files have it: the nearest multiple of 1 / 2**31. The product is exact, because it is one with a power of two. */
-const parts = probability => rounded(probability * ALWAYS);
+export const parts = probability => rounded(probability * ALWAYS);
 
 /** The same, or an error that names the probability. A number so close to 0 or 1 that files would have 0 or 1 is an error too. */
 export function partsOf(name, number) {
