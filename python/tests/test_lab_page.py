@@ -49,8 +49,8 @@ def snapshots(text):
     return Snapshots(snapshots_in(ask(["run"], text).splitlines(True)))
 
 
-class Pages:
-    """The tests, in one browser with one page that is loaded again for each of them."""
+class OnPage:
+    """A page in one browser, which is loaded again for each test."""
 
     browser = ""
 
@@ -95,18 +95,28 @@ class Pages:
         """The fundamental diagram has so many points of one sweep; the run may have added its own."""
         self.hold(lambda: self.page.js("return lab.marks.some(it => it.points.length === arguments[0])", count))
 
+    def turn(self, words):
+        """Click on the button that plays and pauses, if it says this. A run may end between two scripts: this is one."""
+        self.page.js("const it = document.getElementById('play'); if (it.textContent === arguments[0]) it.click()", words)
+
+    def runs(self):
+        """The processes that run jobs for pages, without those that explain files."""
+        return [child for child in list(self.lab.children) if child.args[1] == "run"]
+
+    def follows_none(self):
+        self.page.keys(Keys.ESCAPE)
+        self.hold(lambda: self.page.js("return lab.player.car") is None)
+
     def pause(self):
         self.hold(lambda: not self.page.js("return window.lab.isWriting"))
-        if self.page.text("play") == "Pause":
-            self.page.click("play")
+        self.turn("Pause")
         self.hold(lambda: self.page.js("const it = lab.player; return it.scene?.step === it.step && it.phase === 1 && !it.moving && !it.stale"))
 
     def run_to(self, step):
         """Play fast to a step at least, and pause."""
         self.page.set("rate", 100, "input")
         self.hold(lambda: not self.page.js("return window.lab.isWriting"))
-        if self.page.text("play") == "Play":
-            self.page.click("play")
+        self.turn("Play")
         self.page.later("""const it = lab.player;
             await new Promise(go => { const look = () => it.step >= words[0] ? go() : requestAnimationFrame(look); look(); });
             if (it.playing) it.setPlaying(false)""", step)
@@ -114,6 +124,10 @@ class Pages:
 
     def open(self, text, name="a.job"):
         self.page.js("lab.open(arguments[0], arguments[1])", name, text)
+
+
+class Pages(OnPage):
+    """The tests, in one browser."""
 
     # The snapshot
 
@@ -184,8 +198,7 @@ class Pages:
         self.hold(lambda: "You follow the car in lane" in self.page.text("car"))
         self.page.keys(Keys.UP)
         self.hold(lambda: self.page.js("return lab.player.car.cell") != seen[-1][2])
-        self.page.keys(Keys.ESCAPE)
-        self.hold(lambda: self.page.js("return lab.player.car") is None)
+        self.follows_none()
 
     def test_a_click_follows_a_car(self):
         self.run_to(50)
@@ -195,11 +208,11 @@ class Pages:
         self.page.click_at("ring", 150 + 135 * math.sin(angle), 150 - 135 * math.cos(angle))
         near = lambda: abs(self.page.js("return lab.player.car?.cell ?? -99") - cell) <= 4
         self.hold(near)
-        self.page.keys(Keys.ESCAPE)
+        self.follows_none()
         width = self.page.js("return document.getElementById('band').clientWidth")
         self.page.click_at("band", width * (cell + 0.5) / 1000, 10)
         self.hold(near)
-        self.page.keys(Keys.ESCAPE)
+        self.follows_none()
         step = self.page.step()
         self.page.click_at("spacetime", width * (cell + 0.5) / 1000, step - self.page.js("return lab.rows().top"))
         self.hold(near)
@@ -274,10 +287,10 @@ class Pages:
         page.click("again")
         tries = [
             ("density", "0.3", {"cars": 300}), ("cars", "151", {"cars": 151}), ("limit", "7", {"cars": 151, "limit": 7}),
-            ("limit", "99", {"cars": 151, "limit": 35}), ("limit", "5", {"cars": 151}), ("cars", "", {"cars": 151}),
+            ("limit", "35", {"cars": 151, "limit": 35}), ("limit", "5", {"cars": 151}),
             ("start", "even", {"cars": 151, "start": trlab.even}), ("start", "jam", {"cars": 151, "start": trlab.jammed}),
             ("start", "random", {"cars": 151}), ("key", "77", {"cars": 151, "key": 77, "start": trlab.random_cells(77)}),
-            ("key", "x", {"cars": 151, "key": 77, "start": trlab.random_cells(77)}), ("key", "1", {"cars": 151}),
+            ("key", "1", {"cars": 151}),
             ("p", "0.5", {"cars": 151, "rule": Nasch(0.5)}), ("p", "0.123456789", {"cars": 151, "rule": Nasch(0.123456789)}),
             ("p", "0.25", {"cars": 151}), ("stepcount", "60", {"cars": 151, "steps": 60}), ("stepcount", "5000", {"cars": 151}),
             ("model", "vdr", {"cars": 151, "rule": SlowToStart(0.25, 0.5)}), ("q", "0.75", {"cars": 151, "rule": SlowToStart(0.25, 0.75)}),
@@ -371,7 +384,8 @@ class Pages:
             for (let k = 1; k <= 40; k++) {
                 slider.value = k / 40;
                 slider.dispatchEvent(new Event('input', {bubbles: true}));
-                if (k % 3 === 0) await new Promise(requestAnimationFrame);
+                const step = lab.player.step;
+                if (k % 10 === 0) while (lab.isWriting || lab.player.step === step) await new Promise(requestAnimationFrame);
             }""")
         self.has_line(" rule nasch 2147483648\n")
         self.run_to(self.page.step() + 50)
@@ -381,8 +395,12 @@ class Pages:
 
     # Inputs
 
+    def examples(self):
+        """The examples that the page offers."""
+        return server.examples()
+
     def test_every_example(self):
-        texts = server.examples()
+        texts = self.examples()
         self.assertEqual(self.page.js("return [...document.querySelectorAll('#example option')].slice(1).map(it => it.value)"), list(texts))
         for name, text in texts.items():
             with self.subTest(name=name):
@@ -495,6 +513,8 @@ class Pages:
             self.fix("motion")
             wanted = f"motion\nget r1, limit\n{fixed}\n".replace("go r0", "min r0, r0, r1\ngo r0")
             self.hold(lambda: f"rule own\n{wanted}end\n" in self.page.job())
+
+    def test_a_change_in_words(self):
         edits = [{"line": 2, "first": 3, "last": 2, "replacement": "\\x5c"}, {"line": 3, "first": 1, "last": 2, "replacement": ""}]
         fixed = self.page.later("""const {repaired} = await import('./editor.js');
             return repaired("\u00e9\\n\u00e9a\\nb\\nc\\n", {why: "so.", edits: words[0]})""", edits)
@@ -529,7 +549,7 @@ class Pages:
         self.hold(lambda: 390 <= int(self.page.value("cars")) <= 410)
         self.assertEqual(self.page.js("document.getElementById('clear').click(); return lab.marks.length"), 0)
         self.page.set("warm", "20")
-        self.page.set("measure", "0")
+        self.page.set("measure", "1")
         self.page.click("sweep")
         self.hold(lambda: self.page.js("return lab.table").startswith("cars,cells,steps,distance,stopped,changes,flow\n20,1000,1,"))
 
@@ -575,8 +595,10 @@ class Pages:
         self.open(Job(limit=5, length=300, cars=90, start=trlab.random_cells(1), rule=Nasch(0), steps=500).text())
         self.hold(lambda: self.page.js("return lab.job.length") == 300)
         self.run_to(500)
-        self.hold(lambda: self.page.js("return lab.marks.length") > 0)
-        (point,) = self.page.js("return lab.marks.at(-1).points")
+        # The run before this one may be a point too.
+        find = "return lab.marks.find(it => it.points[0].density === 0.3)?.points ?? null"
+        self.hold(lambda: self.page.js(find) is not None)
+        (point,) = self.page.js(find)
         self.assertAlmostEqual(point["flow"], float(trlab.exact.triangle(5, 90 / 300)), places=9)
 
     def saved(self, *names):
@@ -616,7 +638,7 @@ class Pages:
         self.hold(lambda: self.page.js("return window.lab?.player.step >= 0"))
         self.has_job(job)
         self.page.js("location.hash = '#job=!'")
-        self.hold(lambda: "The link is damaged" in self.page.text("fault"))
+        self.hold(lambda: "The job in this address is damaged" in self.page.text("fault"))
 
     def test_an_exported_file_plays(self):
         job = Job(limit=5, length=200, lanes=2, density=0.2, start=trlab.random_cells(2), rule=Rickert(0.25, 0.5), steps=120)
@@ -637,13 +659,13 @@ class Pages:
 
     def test_an_interrupted_run(self):
         self.page.set("length", 100000)
-        self.hold(lambda: self.page.js("return lab.player.film.length") == 100000 and len(self.lab.children) == 1)
-        for child in list(self.lab.children):
-            os.kill(child.pid, signal.SIGKILL)
+        self.hold(lambda: self.page.js("return lab.player.film.length") == 100000 and self.page.step() >= 0 and len(self.runs()) == 1)
+        os.kill(self.runs()[0].pid, signal.SIGKILL)
         self.hold(lambda: self.page.text("fault") != "")
-        self.page.errors()  # the browser reports the cut stream too
         self.page.set("length", 1000)
         self.hold(lambda: self.page.text("fault") == "" and self.page.step() > 2)
+        self.page.get("about:blank")
+        self.page.errors()  # the browser reports the cut stream too, at some time
 
     def test_two_pages(self):
         self.page.set("stepcount", 500000)
@@ -659,8 +681,8 @@ class Pages:
 
     def test_reloading(self):
         self.page.set("stepcount", 500000)
-        self.hold(lambda: len(self.lab.children) == 1)
-        [child] = self.lab.children
+        self.hold(lambda: len(self.runs()) == 1 and self.page.step() > 2)
+        [child] = self.runs()
         self.page.refresh()
         self.hold(lambda: self.page.js("return window.lab?.player.step > 2"))
         self.hold(lambda: child.returncode is not None)
@@ -683,7 +705,7 @@ class Pages:
                     "await new Promise(go => { frame.onload = go; setTimeout(go, 2000); });"
                     "try { return String(frame.contentWindow.lab); } catch { return 'closed'; }", self.lab.address)
                 self.assertIn(framed, {"closed", "undefined"})
-                self.assertFalse(self.lab.children)
+                self.hold(lambda: not self.lab.children)  # those of the page before
             finally:
                 other.shutdown()
                 thread.join()

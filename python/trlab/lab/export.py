@@ -3,22 +3,20 @@ from __future__ import annotations
 
 import base64
 import gzip
-import hashlib
 import json
 import re
 from html import escape
-from pathlib import Path
 from collections.abc import Iterator
 from typing import TYPE_CHECKING, Optional
 
 from .._runs.calls import ask_by_line
+from .._inputs.numbers import MAX_SPEED, whole
 from .._inputs.states import SPEEDS
+from .scripts import HERE, joined, sum_of
 
 if TYPE_CHECKING:
     from .._results.snapshots import Snapshots
 
-HERE = Path(__file__).resolve().parent
-SCRIPTS = ("job", "film", "draw", "player", "exported")
 MAX_BYTES = 256 * 1024 * 1024
 """The maximum size of the snapshots in one file, before they are compressed."""
 
@@ -47,13 +45,14 @@ _PAGE = """<!doctype html>
 
 def page_of(snapshots: Snapshots, limit: Optional[int] = None, title: str = "") -> str:
     """A web page that plays these snapshots. `limit` is the maximum speed in cells per step, for the colours; None means
-    the highest speed of the snapshots. Raises `ValueError` if there are no snapshots, if they do not begin at step 0, or
-    if they are too long."""
+    the highest speed of the snapshots. Raises `ValueError` if there are no snapshots, if they do not begin at step 0, if
+    they are too long, or if a car is faster than `limit`."""
     if not snapshots or snapshots[0].step != 0:
         raise ValueError("a page needs the snapshots of a run from step 0 on")
     lines = (line for it in snapshots for line in (f"step {it.step}", *it.lanes))
-    fastest = limit or max([1, *(SPEEDS.find(sign) for snapshot in snapshots for sign in set().union(*snapshot.lanes))])
-    return _page((line + "\n" for line in lines), fastest, title)
+    fastest = max([1, *(SPEEDS.find(sign) for snapshot in snapshots for sign in set().union(*snapshot.lanes))])
+    most = fastest if limit is None else whole("limit", limit, fastest, MAX_SPEED)
+    return _page((line + "\n" for line in lines), most, title)
 
 
 def exported(text: str, title: str = "") -> str:
@@ -75,18 +74,12 @@ def _page(lines: Iterator[str], limit: int, title: str) -> str:
     job = {"length": len(lanes[0]), "lanes": len(lanes), "limit": limit, "steps": steps}
     rings = "two rings" if len(lanes) == 2 else "a ring"
     lead = f"{cars} {'car' if cars == 1 else 'cars'} on {rings} of {len(lanes[0])} cells, at most {limit} cells per step"
-    script, style = _script(), (HERE / "page.css").read_text("utf-8")
+    script, style = joined("exported"), (HERE / "page.css").read_text("utf-8")
     packed = base64.b64encode(gzip.compress("".join(output).encode(), 9, mtime=0)).decode()
     return _PAGE.format(
         title=escape(title or lead), lead=escape(title or lead) + ("" if title else "."), style=style, script=script,
-        style_sum=_sum(style), script_sum=_sum(script), parts=_parts(), job=json.dumps(job), run=packed,
+        style_sum=sum_of(style), script_sum=sum_of(script), parts=_parts(), job=json.dumps(job), run=packed,
     )
-
-
-def _script() -> str:
-    """The scripts as one: without `import` lines and the word `export`."""
-    texts = [(HERE / f"{name}.js").read_text("utf-8") for name in SCRIPTS]
-    return re.sub(r"^export ", "", re.sub(r"^import .*;\n", "", "\n".join(texts), flags=re.M), flags=re.M)
 
 
 def _parts() -> str:
@@ -94,7 +87,3 @@ def _parts() -> str:
     page = (HERE / "page.html").read_text("utf-8")
     forms = r'<figure class="ring">.*?</figure>', r'<section class="transport".*?</section>', r'<section class="time".*?role="status"></p>'
     return "\n".join(found[0] for form in forms if (found := re.search(form, page, re.S)))
-
-
-def _sum(text: str) -> str:
-    return f"'sha256-{base64.b64encode(hashlib.sha256(text.encode()).digest()).decode()}'"
