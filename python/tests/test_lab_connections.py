@@ -19,7 +19,7 @@ from unittest import mock
 from tests.test_lab import EXAMPLES, LONG, TOP, Serving
 from tests.waiting import LIMIT, first_of, holds
 from trlab import Job, Nasch
-from trlab.lab import Lab, page_of, server, strangers
+from trlab.lab import Lab, page_of, server
 from trlab.lab.__main__ import fragment, main
 
 JAMS = (EXAMPLES / "jams.job").read_text()
@@ -46,12 +46,12 @@ class Strangers(Serving):
         return found
 
     def test_silent_connections_are_bounded(self):
-        all_of_them = self.silent(strangers.MOST + 40)
+        all_of_them = self.silent(self.lab.strangers.most + 40)
         self.assertEqual(self.ask().status, 200)
         self.assertTrue(holds(lambda: sum(map(is_closed, all_of_them)) >= 40))
         # The newest ones are still there, and those that have shown the token do not count.
         self.assertFalse(is_closed(all_of_them[-1]))
-        self.assertTrue(holds(lambda: len(self.lab.strangers.waiting) == strangers.MOST - is_closed(all_of_them[40])))
+        self.assertTrue(holds(lambda: len(self.lab.strangers.waiting) == self.lab.strangers.most - is_closed(all_of_them[40])))
 
     def test_a_page_keeps_its_connection(self):
         port = self.lab.server_port
@@ -59,8 +59,8 @@ class Strangers(Serving):
         self.addCleanup(talk.close)
         ask_again = lambda: (talk.request("GET", f"/{self.lab.token}/page.css"), talk.getresponse().read())[1]
         first, own = ask_again(), talk.sock
-        self.silent(strangers.MOST + 40)
-        self.assertTrue(holds(lambda: len(self.lab.strangers.waiting) == strangers.MOST))
+        self.silent(self.lab.strangers.most + 40)
+        self.assertTrue(holds(lambda: len(self.lab.strangers.waiting) == self.lab.strangers.most))
         self.assertEqual(ask_again(), first)
         self.assertIs(talk.sock, own)
 

@@ -49,9 +49,10 @@ class Faults(OnPage):
     def dots(self, name, dots, y):
         """The colours on white of so many pixels at a height of a drawing."""
         return self.page.js("""const canvas = document.getElementById(arguments[0]), pen = canvas.getContext('2d');
+            const {data} = pen.getImageData(0, arguments[2], canvas.width, 1);
             return Array.from({length: arguments[1]}, (_, k) => {
-                const [red, green, blue, all] = pen.getImageData(Math.floor((k + 0.5) * canvas.width / arguments[1]), arguments[2], 1, 1).data;
-                return [red, green, blue].map(part => 255 + (part - 255) * all / 255);
+                const at = 4 * Math.floor((k + 0.5) * canvas.width / arguments[1]), all = data[at + 3] / 255;
+                return [...data.slice(at, at + 3)].map(part => 255 + (part - 255) * all);
             })""", name, dots, y)
 
     def pixels(self, lane, dots):

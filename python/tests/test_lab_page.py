@@ -114,13 +114,22 @@ class OnPage:
 
     def run_to(self, step):
         """Play fast to a step at least, and pause."""
-        self.page.set("rate", 100, "input")
         self.hold(lambda: not self.page.js("return window.lab.isWriting"))
-        self.turn("Play")
-        self.page.later("""const it = lab.player;
+        # In one script: between two of them, a page on a busy machine may play thousands of steps.
+        self.page.later("""const it = lab.player, rate = document.getElementById('rate');
+            rate.value = 100;
+            rate.dispatchEvent(new Event('input', {bubbles: true}));
+            if (!it.playing) document.getElementById('play').click();
             await new Promise(go => { const look = () => it.step >= words[0] ? go() : requestAnimationFrame(look); look(); });
             if (it.playing) it.setPlaying(false)""", step)
         self.pause()
+
+    def are_those_of_the_run(self):
+        """The kept snapshots, which are those of the job file. On a busy machine the first ones may be gone."""
+        shots, found = self.page.js(SHOTS), snapshots(self.page.job())
+        for step, cells, *_ in shots:
+            self.assertEqual((step, cells), (found[step].step, "".join(found[step].lanes)))
+        return shots
 
     def open(self, text, name="a.job"):
         self.page.js("lab.open(arguments[0], arguments[1])", name, text)
@@ -133,13 +142,12 @@ class Pages(OnPage):
 
     def test_every_snapshot_is_that_of_the_run(self):
         self.run_to(300)
-        shots = self.page.js(SHOTS)
-        self.assertEqual(shots[0][0], 0)
-        for (step, cells, *_), snapshot in zip(shots, snapshots(self.page.job())):
-            self.assertEqual((step, cells), (snapshot.step, "".join(snapshot.lanes)))
+        shots = self.are_those_of_the_run()
+        self.assertGreater(len(shots), 300)
         rows = Table.read(Row, ask(["series"], self.page.job()))
-        for (step, _, flow, speed, stopped), row in zip(shots[1:], rows):
-            self.assertEqual((step, flow, speed, stopped), (row.step, row.flow, row.speed, row.stopped_share))
+        for step, _, flow, speed, stopped in shots:
+            row = rows[step - 1]
+            self.assertTrue(step == 0 or (step, flow, speed, stopped) == (row.step, row.flow, row.speed, row.stopped_share))
 
     def test_every_dot_is_that_of_the_run(self):
         for lanes, length in (1, 100), (2, 80):
@@ -370,8 +378,7 @@ class Pages(OnPage):
         self.page.set("model", "vdr")
         self.has_line(f"at {later} rule vdr 1073741824 1073741824\n")
         self.run_to(later + 100)
-        for (now, cells, *_), snapshot in zip(self.page.js(SHOTS), snapshots(self.page.job())):
-            self.assertEqual((now, cells), (snapshot.step, "".join(snapshot.lanes)))
+        self.are_those_of_the_run()
         self.page.click("again")
         self.hold(lambda: self.page.value("p") == "0.25" and self.page.value("model") == "nasch")
         self.page.set("density", "0.2")
@@ -390,8 +397,7 @@ class Pages(OnPage):
         self.has_line(" rule nasch 2147483648\n")
         self.run_to(self.page.step() + 50)
         self.assertGreater(self.page.job().count("\nat "), 1)
-        for (now, cells, *_), snapshot in zip(self.page.js(SHOTS), snapshots(self.page.job())):
-            self.assertEqual((now, cells), (snapshot.step, "".join(snapshot.lanes)))
+        self.are_those_of_the_run()
 
     # Inputs
 

@@ -2,6 +2,7 @@
 from __future__ import annotations
 
 import contextlib
+import resource
 import socket
 import threading
 
@@ -9,9 +10,11 @@ MOST = 64
 
 
 class Strangers:
-    """The connections without a valid request, the oldest first."""
+    """The connections without a valid request, the oldest first: at most 64, or a quarter of the descriptors of this process."""
 
     def __init__(self) -> None:
+        descriptors, _ = resource.getrlimit(resource.RLIMIT_NOFILE)
+        self.most = MOST if descriptors == resource.RLIM_INFINITY else min(MOST, max(1, descriptors // 4))
         self.lock = threading.Lock()
         self.waiting: dict[socket.socket, None] = {}
 
@@ -19,7 +22,7 @@ class Strangers:
         """A new connection, for which the oldest one has to go if there are too many."""
         with self.lock:
             self.waiting[connection] = None
-            is_full = len(self.waiting) > MOST
+            is_full = len(self.waiting) > self.most
         if is_full:
             self.drop_oldest()
 
