@@ -81,9 +81,16 @@ test("addresses above 2 GiB, which arrive as negative numbers", () => {
   assert.ok(high > 2 ** 31);
   bytes(high, 3).set([1, 2, 3]);
   rattle_realloc(PAIR, high | 0, 3n, 2n ** 29n + 1n, 8n);
-  assert.deepEqual([...bytes(pair()[1], 3)], [1, 2, 3]);
-  rattle_dealloc(pair()[1] | 0);
-  assert.deepEqual(take(2 ** 30), [1, pair()[1]]);
+  const [, moved] = pair();
+  assert.deepEqual([...bytes(moved, 3)], [1, 2, 3]);
+  rattle_dealloc(moved | 0);
+  assert.deepEqual(take(2 ** 30), [1, moved]);
+});
+
+test("no block is larger than 1 GiB", () => {
+  const { rattle_alloc, pair } = started({ most: 65536 - 16 });
+  rattle_alloc(PAIR, 2n ** 30n + 1n, 8n);
+  assert.deepEqual(pair(), [0, 16]);
 });
 
 test("arguments", () => {
@@ -116,12 +123,13 @@ test("input in pieces, from bytes and from a call", () => {
 });
 
 test("output is copied, and errors are told apart", () => {
-  const written = [], { write, bytes } = started({ put: (piece, isError) => written.push([String.fromCharCode(...piece), isError]) });
+  const written = [], { write, bytes } = started({ put: (piece, isError) => written.push([piece, isError]) });
   bytes(TEXT, 3).set([97, 98, 99]);
   assert.equal(write(1, TEXT, 3n), 3n);
   bytes(TEXT, 3).fill(120);
   assert.equal(write(2, TEXT, 2n), 2n);
-  assert.deepEqual(written, [["abc", false], ["xx", true]]);
+  bytes(TEXT, 3).fill(0);
+  assert.deepEqual(written.map(([piece, isError]) => [String.fromCharCode(...piece), isError]), [["abc", false], ["xx", true]]);
 });
 
 test("errors of streams reach the program, and no others", () => {

@@ -22,6 +22,7 @@ start:
 after.1:                                          ; preds = %start, %"a b"
   %r0 = alloca [16 x i8], align 8
   %r1 = load i64, ptr %r0, align 8, !noundef !1
+  %r2 = load volatile i8, ptr @static.0, align 1
   %r2 = load i8, ptr @static.1, align 1, !range !2, !noundef !1
   store <16 x i8> splat (i8 0), ptr %r0, align 16
   %r3 = getelementptr inbounds nuw i8, ptr %r0, i64 %r1
@@ -29,6 +30,7 @@ after.1:                                          ; preds = %start, %"a b"
   %r5 = lshr i128 %r9, 64
   %r6 = fmul double %r7, 0x41F0000000000000
   %r8 = cmpxchg ptr %r0, i64 %r1, i64 0 seq_cst seq_cst, align 8
+  call void asm sideeffect "", "~{memory}"()
   switch i8 %r2, label %other [
     i8 -1, label %"one ptr, two"
   ]
@@ -58,7 +60,7 @@ REWRITTEN = {
 # Lines of other forms: a pointer where none is known, another processor, or a meaning that depends on the size of pointers.
 UNKNOWN = """\
   %r1 = load atomic ptr, ptr %r0 seq_cst, align 8
-  %r1 = load volatile i64, ptr %r0, align 8
+  %r1 = load volatile ptr, ptr %r0, align 8
   store atomic ptr %r1, ptr %r0 seq_cst, align 8
   store volatile ptr %r1, ptr %r0, align 8
   %r1 = load { ptr, [2 x ptr] }, ptr %r0, align 8
@@ -84,7 +86,8 @@ UNKNOWN = """\
   %r1 = call i64 @f({ ptr, i64 } %r0)
   %r1 = tail call ptr @f(ptr %r0)
   %r1 = call i64 @f(i64 ptrtoint (ptr @static.1 to i64))
-  call void asm sideeffect "", "~{memory}"()
+  call void asm sideeffect "nop", "~{memory}"()
+  call void asm sideeffect "", "~{memory},r"(ptr %r0)
   call void @llvm.x86.sse2.pause(), !noundef !1
   %r1 = call <2 x i64> @llvm.x86.pclmulqdq(<2 x i64> %r0, <2 x i64> %r2, i8 0)
   %r1 = va_arg ptr %r0, ptr

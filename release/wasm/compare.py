@@ -8,14 +8,14 @@ import threading
 from typing import NamedTuple
 
 HERE = os.path.dirname(os.path.abspath(__file__))
-# What else is asked of a text that belongs to a command.
+# What else is asked of a text that belongs to a command. The native program reports the progress of several runners in any order.
 MORE = {
     "check": ["explain check", "explain --json check"],
     "run": [
         "run --every 2 --from 1 --progress --workers 16", "series", "series --every 3 --from 2 --progress", "explain run",
         "explain --json run",
     ],
-    "sweep": ["sweep --progress --runners 16 --workers 16", "explain sweep", "explain --json sweep"],
+    "sweep": ["sweep --progress", "sweep --runners 16 --workers 16", "explain sweep", "explain --json sweep"],
 }
 
 

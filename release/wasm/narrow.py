@@ -45,13 +45,15 @@ SAME = [
     rf"    i\d+ -?\d+, label {LOCAL}", r"  \]",
     # Memory, but for pointers.
     rf"  {LOCAL} = alloca (?:{PLAIN}|\[\d+ x i8\]), align \d+",
-    rf"  {LOCAL} = load {PLAIN}, ptr {POINTER}, align \d+{FACTS}",
+    rf"  {LOCAL} = load (?:volatile )?{PLAIN}, ptr {POINTER}, align \d+{FACTS}",
     rf"  store {PLAIN} {VALUE}, ptr {POINTER}, align \d+",
     rf"  {LOCAL} = load atomic i\d+, ptr {POINTER} seq_cst, align \d+",
     rf"  store atomic i\d+ {VALUE}, ptr {POINTER} seq_cst, align \d+",
     rf"  {LOCAL} = atomicrmw (?:add|sub|xchg|and|or) ptr {POINTER}, i\d+ {VALUE} seq_cst, align \d+",
     rf"  {LOCAL} = cmpxchg ptr {POINTER}, i\d+ {VALUE}, i\d+ {VALUE} seq_cst seq_cst, align \d+",
     rf"  {LOCAL} = getelementptr (?:inbounds |nuw )*i8, ptr {POINTER}, i64 {VALUE}",
+    # A barrier for the compiler, without an instruction.
+    r'  call void asm sideeffect "", "~\{memory\}"\(\)',
     # Numbers.
     rf"  {LOCAL} = (?:add|sub|mul|[us]div|[us]rem|shl|lshr|ashr|and|or|xor) {PLAIN} {VALUE}, {VALUE}",
     rf"  {LOCAL} = (?:fadd|fsub|fmul|fdiv) double {VALUE}, {VALUE}", rf"  {LOCAL} = fneg double {VALUE}",
@@ -87,10 +89,10 @@ CONSTANT = re.compile(rf"({GLOBAL} = private constant) <\{{ (.*?) \}}> <\{{ (.*)
 IN_CONSTANT = re.compile(rf"(ptr) ({POINTER})|(\[\d+ x i8\]) (c\"[^\"]*\"|zeroinitializer)")
 TYPES_IN_CONSTANT = re.compile(r"(?:ptr|\[\d+ x i8\])(?:, (?:ptr|\[\d+ x i8\]))*")
 ATTRIBUTE_LINE = re.compile(r"attributes (#\d+) = \{ (.*) \}")
-# What is said of the processor and its stack, which WebAssembly has in its own way.
-OF_PROCESSOR = re.compile(r'"(?:probe-stack|stack-probe-size|target-cpu)"="[^"]*"')
+# What is said of the processor and its stack, which WebAssembly has in its own way, and what only rattle reads.
+OF_PROCESSOR = re.compile(r'"(?:probe-stack|stack-probe-size|target-cpu|rattle-sig)"="[^"]*"')
 OF_FUNCTION = re.compile(
-    r"(?:nounwind|alwaysinline|noinline|cold|noreturn|nobuiltin|nocallback|nofree|nosync|speculatable|willreturn|nocreateundeforpoison"
+    r"(?:nounwind|alwaysinline|inlinehint|noinline|cold|noreturn|nobuiltin|nocallback|nofree|nosync|speculatable|willreturn|nocreateundeforpoison"
     r"|memory\([\w: ,]*\))"
 )
 # A hint for the processor, without meaning.
