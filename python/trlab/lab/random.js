@@ -1,9 +1,10 @@
-// Random cells, the same as `trlab.random_cells(seed)` in Python, whose random numbers are those of the Mersenne Twister (Matsumoto
-// and Nishimura 1998, ACM Trans. Model. Comput. Simul. 8, 3).
+// Random cells, the same as `trlab.random_cells(seed)` in Python, whose random numbers are those of the Mersenne Twister
+// (Matsumoto and Nishimura 1998, ACM Trans. Model. Comput. Simul. 8, 3).
 
 const SIZE = 624, MIDDLE = 397;
 
-/** A call that returns the random words of 32 bits of `random.Random(seed)` in Python. The seed is a BigInt, or decimal digits. */
+/** A call that returns the random words of 32 bits of `random.Random(seed)` in Python. The seed is a BigInt, or decimal digits.
+ * */
 function randomWords(seed) {
   const state = stateOf(seed);
   let next = SIZE;
