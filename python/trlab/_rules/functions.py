@@ -3,6 +3,7 @@ from __future__ import annotations
 
 import re
 from collections.abc import Callable, Mapping
+from types import FunctionType
 from typing import Any, Union
 
 from .._errors import ParameterError, RuleError
@@ -38,12 +39,18 @@ class PythonRule(Decorated):
         self.kind, self.name, self.file = kind, written.node.name, written.file
         self.parameters: Mapping[str, Any] = {name: written.defaults.get(name) for name in names}
 
-    def __call__(self, **parameters: Any) -> Program:
+    def __call__(self, *unnamed: object, **parameters: Any) -> Program:
+        if unnamed:
+            raise ParameterError(f"{self.name}: name the parameters, for example `{self.name}({next(iter(self.parameters), 'p')}=..)`")
         try:
             self.written.bound([None], parameters)
         except TypeError as error:
             raise ParameterError(f"{self.name}: {error}; its parameters are {', '.join(self.parameters) or 'none'}") from None
-        made = compiled(self.kind, self.written, parameters, verdict)
+        try:
+            made = compiled(self.kind, self.written, parameters, verdict)
+        except RecursionError:
+            raise RuleError(self.file, self.written.node.lineno, f"`{self.name}` has too many brackets inside each other: give their "
+                            "values names") from None
         program = Program(made.text)
         program.budget, program.words = made.budget, frozenset(made.words)
         program.counted = frozenset(word for word, is_given in made.words.items() if not is_given)
@@ -92,6 +99,8 @@ def rules_in(text: str, file: str = "rule.py") -> dict[str, PythonRule]:
 
 def program_of(kind: str, given: object) -> object:
     """The program of a rule of this kind. Anything else is returned as it is."""
+    if isinstance(given, FunctionType):
+        raise ParameterError(f"`{given.__name__}` is not a rule yet: write `@trlab.{kind}` above it")
     if not isinstance(given, PythonRule):
         return given
     if given.kind != kind:
