@@ -78,6 +78,17 @@ def adding(number):
     return add
 
 
+def minimum_as_max():
+    """A rule in which `max` is Python's `min`."""
+    max = min
+
+    @trlab.motion
+    def lowest(car):
+        return max(car.gap, car.limit)
+
+    return lowest
+
+
 class Whole:
     """A whole number of another library."""
 
@@ -373,6 +384,7 @@ class Errors(unittest.TestCase):
             ("return 'a' * 9", "a text is not a number"),
             ("return car.safe(5000000000 + car.gap)", "the greatest is 4294967295"),
             ("return car.safe(" + " + ".join(17 * ["car.draw(p)"]) + ")", "16 random words"),
+            ("s = car.gap\nv = 0\nfor i in range(45):\n    if s > i:\n        v += 1\nreturn car.safe(v)", "`f` needs at least 1"),
             ("for i in range(60):\n    if car.gap > i:\n        g = g + car.speed\nreturn car.safe(g)", "at most 128"),
         ):
             with self.subTest(body=body):
@@ -419,7 +431,7 @@ class Errors(unittest.TestCase):
 class Files(unittest.TestCase):
     def test_a_file_is_read_and_not_run(self):
         text = "import os\nos.abort()\nG = 3\n@motion\ndef f(car):\n    return max(min(car.speed + 1, car.limit, car.gap - G), 0)\n"
-        self.assertIn("num r0, 3", instructions(rules_in(text)["f"]()))
+        self.assertIn("num r1, 3", instructions(rules_in(text)["f"]()))
         for other in ("G += 1\n", "if True:\n    G = 4\n", "from numpy import G\n", "G = len('ab')\n"):
             self.assertRaisesRegex(RuleError, "line 6: `G` is not known before the run", rules_in(text + other)["f"])
         self.assertRaisesRegex(RuleError, "no decorators", rules_in, "@cache\n@motion\ndef f(car):\n    return 0\n")
@@ -428,7 +440,7 @@ class Files(unittest.TestCase):
     def test_names_that_change_while_the_file_runs(self):
         rule = "@motion\ndef f(car):\n    return min(car.speed + 1, car.limit, max(car.gap - G, 0))\n"
         for text in ("G = H = 3\n", "G: int = 3\n", "from trlab import *\nG = 3\n", "@cache\ndef g():\n    return 1\nG = 3\n"):
-            self.assertIn("num r0, 3", instructions(rules_in(text + rule)["f"]()))
+            self.assertIn("num r1, 3", instructions(rules_in(text + rule)["f"]()))
         for change in (
             "def more():\n    global G\n    G = 4\nmore()", "del G", "def G():\n    pass\nasync def G():\n    pass", "class G:\n    pass",
             "try:\n    pass\nexcept OSError as G:\n    pass", "def f(x=(G := 4)):\n    pass", "import os as G", "import G.path",
@@ -450,6 +462,7 @@ class Files(unittest.TestCase):
             ("def range(n):\n    return [n]", "    for i in range(2):\n        pass\n    return 0"),
         ):
             self.assertRaises(RuleError, rules_in(f"{before}\n@motion\ndef f(car):\n{line}\n")["f"])
+        self.assertRaisesRegex(RuleError, "is not possible: a rule calls", minimum_as_max())
         text = "def max(a, b):\n    return a if a < b else b\n@motion\ndef f(car):\n    return max(car.gap, car.limit)\n"
         self.assertEqual(answer(rules_in(text)["f"](), view(gap=2)), 2)
 

@@ -10,16 +10,7 @@ from .._errors import ParameterError, RuleError
 from .._runs.processes import RejectionError, run
 from .._runs.requests import Request
 from .reading import Decorated, Function, function_of, functions_in
-from .translating import Budget, Refusal, compiled
-
-
-class Program(str):
-    """The text of a driver program that was a function. `budget` is its maximum number of instructions per car and step, `words`
-    are the random words that it uses, and `counted` those of them that got their numbers by their order."""
-
-    budget: int
-    words: frozenset[int]
-    counted: frozenset[int]
+from .translating import Program, Refusal, compiled
 
 
 class PythonRule(Decorated):
@@ -47,14 +38,10 @@ class PythonRule(Decorated):
         except TypeError as error:
             raise ParameterError(f"{self.name}: {error}; its parameters are {', '.join(self.parameters) or 'none'}") from None
         try:
-            made = compiled(self.kind, self.written, parameters, verdict)
+            return compiled(self.kind, self.written, parameters, verdict)
         except RecursionError:
             raise RuleError(self.file, self.written.node.lineno, f"`{self.name}` has too many brackets inside each other: give their "
                             "values names") from None
-        program = Program(made.text)
-        program.budget, program.words = made.budget, frozenset(made.words)
-        program.counted = frozenset(word for word, is_given in made.words.items() if not is_given)
-        return program
 
     def __repr__(self) -> str:
         return f"<{self.kind} rule {self.name} of {self.file}>"
@@ -128,7 +115,7 @@ def _words_of(program: str) -> frozenset[int]:
     return frozenset(map(int, found))
 
 
-def verdict(text: str) -> Union[Budget, Refusal]:
+def verdict(text: str) -> Union[int, Refusal]:
     """The verifier's answer to a program."""
     try:
         answer = b"".join(run(Request(("check",), text))).decode()
@@ -138,4 +125,4 @@ def verdict(text: str) -> Union[Budget, Refusal]:
     if words[0] == "fault":
         raise AssertionError(f"the translation is not a program: {' '.join(words)}\n{text}")
     numbers = [int(word) for word in words if word.isdigit()]
-    return Budget(numbers[0]) if words[0] == "accepted" else Refusal(numbers[0], numbers[1])
+    return numbers[0] if words[0] == "accepted" else Refusal(numbers[0], numbers[1])

@@ -41,15 +41,12 @@ Value = Union[Number, Flag]
 @dataclass
 class Attempt:
     """What earlier translations of the function have shown: the differences that may be negative, by their numbers, the variables
-    that may be, and those that are not always a flag. `shares` is that of `Emitter`; `texts` and `names` are those of expressions
-    that were asked for before."""
+    that may be, and those that are not always a flag. `shares` is that of `Emitter`."""
 
     shares: bool
     below: set[int] = field(default_factory=set)
     paired: set[int] = field(default_factory=set)
     numbers: set[int] = field(default_factory=set)
-    texts: dict[ast.AST, str] = field(default_factory=dict)
-    names: dict[ast.AST, Optional[list[ast.Name]]] = field(default_factory=dict)
 
     def forms(self) -> int:
         """How many variables need another form than the first one."""
@@ -96,10 +93,8 @@ class Names:
         self._variables, self._parts = count(), 0
 
     def place(self, node: ast.AST) -> Place:
-        written, texts = self.frames[-1].function, self.attempt.texts
-        if node not in texts:
-            texts[node] = ast.unparse(node).split("\n")[0]
-        return Place(written.file, getattr(node, "lineno", written.node.lineno), texts[node])
+        written = self.frames[-1].function
+        return Place(written.file, getattr(node, "lineno", written.node.lineno), _first_line_of(node))
 
     def fail(self, node: ast.AST, message: str) -> NoReturn:
         """Raises the error of a node; the message begins with its text."""
@@ -168,7 +163,7 @@ class Names:
 
     def constant(self, node: ast.expr) -> Any:
         """The value of an expression of constants, as Python calculates it; None if it depends on the car."""
-        found = self._names_in(node)
+        found = _names_in(node)
         if found is None:
             return None
         names = {it.id: plain(self.named(it)) for it in found}
@@ -185,14 +180,18 @@ class Names:
             return 0
         return value
 
-    def _names_in(self, node: ast.AST) -> Optional[list[ast.Name]]:
-        """The names in an expression; None if it has more than operators, names and constants."""
-        known = self.attempt.names
-        if node not in known:
-            parts = [self._names_in(it) for it in ast.iter_child_nodes(node)] if isinstance(node, _OPERATORS) else [None]
-            own = [node] if isinstance(node, ast.Name) else []
-            known[node] = None if None in parts else own + [name for part in parts for name in part or []]
-        return known[node]
+
+@lru_cache(maxsize=4096)
+def _first_line_of(node: ast.AST) -> str:
+    return ast.unparse(node).split("\n")[0]
+
+
+@lru_cache(maxsize=4096)
+def _names_in(node: ast.AST) -> Optional[list[ast.Name]]:
+    """The names in an expression; None if it has more than operators, names and constants."""
+    parts = [_names_in(it) for it in ast.iter_child_nodes(node)] if isinstance(node, _OPERATORS) else [None]
+    own = [node] if isinstance(node, ast.Name) else []
+    return None if None in parts else own + [name for part in parts for name in part or []]
 
 
 def _calculated(node: ast.expr, names: dict[str, Any]) -> Any:

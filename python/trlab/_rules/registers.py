@@ -121,18 +121,11 @@ def _conflicts(items: Sequence[Item]) -> Conflicts:
 
 def _numbers(items: Sequence[Item]) -> dict[Optional[Register], int]:
     """A number for each register, so that those in conflict have different ones, and if possible a copy has that of its source.
-    The registers with the fewest conflicts come last."""
+    They get them in the order of the text."""
     conflicts, copies = _conflicts(items), _copies(items)
-    order: list[Register] = []
-    left = {register: set(others) for register, others in conflicts.items()}
-    while left:
-        easiest = min(left, key=lambda register: len(left[register]))
-        order.append(easiest)
-        for other in left.pop(easiest):
-            left[other].discard(easiest)
     numbers: dict[Optional[Register], int] = {}
-    for register in reversed(order):
-        free = set(range(COUNT)) - {numbers[other] for other in conflicts[register] if other in numbers}
+    for register, others in conflicts.items():
+        free = set(range(COUNT)) - {numbers[other] for other in others if other in numbers}
         if not free:
             raise _too_many(items)
         alike = [numbers[other] for other in copies[register] if numbers.get(other) in free]

@@ -25,12 +25,6 @@ _ADVICE = {
 }
 
 
-class Budget(NamedTuple):
-    """An accepted program: its maximum number of instructions per car and step."""
-
-    instructions: int
-
-
 class Refusal(NamedTuple):
     """The instruction that the verifier rejects, from 0, and its reason."""
 
@@ -38,18 +32,20 @@ class Refusal(NamedTuple):
     reason: int
 
 
-Verify = Callable[[str], Union[Budget, Refusal]]
+Verify = Callable[[str], Union[int, Refusal]]
+"""The verifier's answer to a program: its budget, or the refusal."""
 
 
-class Compiled(NamedTuple):
-    """A program: its text, its budget, and the random words that it uses, each with whether the function gives its number."""
+class Program(str):
+    """The text of a driver program that was a function. `budget` is its maximum number of instructions per car and step, `words`
+    are the random words that it uses, and `counted` those of them that got their numbers by their order."""
 
-    text: str
     budget: int
-    words: Mapping[int, bool]
+    words: frozenset[int]
+    counted: frozenset[int]
 
 
-def compiled(kind: str, function: Function, named: Mapping[str, Any], verify: Verify) -> Compiled:
+def compiled(kind: str, function: Function, named: Mapping[str, Any], verify: Verify) -> Program:
     """The program of a function with these parameters. Raises `RuleError`."""
     full: Optional[TooManyError] = None
     for shares in True, False:
@@ -62,7 +58,7 @@ def compiled(kind: str, function: Function, named: Mapping[str, Any], verify: Ve
                     f"them after it ({', '.join(full.names)})")
 
 
-def _compiled(kind: str, function: Function, named: Mapping[str, Any], verify: Verify, attempt: Attempt) -> Compiled:
+def _compiled(kind: str, function: Function, named: Mapping[str, Any], verify: Verify, attempt: Attempt) -> Program:
     given = [f"{name}={_shown(value)}" for name, value in function.bound([Car()], named).items()]
     title = f"{function.node.name}({', '.join(given[1:])})".encode("ascii", "replace").decode()
     while True:
@@ -75,10 +71,12 @@ def _compiled(kind: str, function: Function, named: Mapping[str, Any], verify: V
         except TooLongError as error:
             place.fail(f"`{function.node.name}` needs at least {error.count} instructions, and a program has at most "
                        f"{MOST_INSTRUCTIONS}: write fewer turns of loops, or a simpler rule")
-        text = program.text(kind, title)
+        text = Program(program.text(kind, title))
         found = verify(text)
-        if isinstance(found, Budget):
-            return Compiled(text, found.instructions, translation.words)
+        if isinstance(found, int):
+            text.budget, text.words = found, frozenset(translation.words)
+            text.counted = frozenset(word for word, is_given in translation.words.items() if not is_given)
+            return text
         refused = program.instructions[found.pc]
         if found.reason != NEGATIVE or refused.difference is None:
             _explain(refused, found.reason)
