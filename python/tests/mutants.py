@@ -335,7 +335,7 @@ def main() -> int:
     missed = 0
     # Each edit has its own process, which need not import the libraries again.
     with multiprocessing.get_context("fork").Pool(maxtasksperchild=1) as pool:
-        unedited = [(file, "", "") for file in dict.fromkeys(file for file, _, _ in chosen)]
+        unedited = [(file, "", "") for file in {tuple(TESTS[file]): file for file, _, _ in chosen}.values()]
         if any(pool.imap(first_failure, unedited, chunksize=1)):
             raise SystemExit("the tests fail without any edit")
         for (file, old, new), test in zip(chosen, pool.imap(first_failure, chosen, chunksize=1)):
