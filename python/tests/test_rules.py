@@ -210,6 +210,11 @@ class Values(unittest.TestCase):
         self.assertEqual(speeds("return car.safe(g * 2 - 1)", g=2), [0, 1, 3, 3])
         self.assertEqual(with_a_helper().budget, 9)
 
+    def test_a_parameter_may_switch_a_part_off(self):
+        for body in "v = car.gap // g if g else car.gap", "v = car.gap\nif g:\n    v = v // g - v % g":
+            self.assertEqual(speeds(f"{body}\nreturn car.safe(v)", g=0), [0, 1, 4, 5])
+        self.assertEqual(speeds("return car.safe(9 // g if g else 2)", g=0), [0, 1, 2, 2])
+
     def test_numbers_of_other_libraries(self):
         body = "v = 0\nfor i in range(g):\n    v += 1 + car.draw(p, word=g)\nreturn car.safe(v + (g - 3))"
         self.assertEqual(program(body, g=Whole()), program(body, g=2))

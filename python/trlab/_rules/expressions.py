@@ -109,10 +109,10 @@ class Expressions(Names):
         with self.at(node):
             if isinstance(node.op, ast.Mult):
                 return self.numbers.product(number, by)
-            if by <= 0:
+            if by <= 0 and self.to.is_live:
                 self.fail(node, f"divides by {by}: a rule divides only by constants above 0")
             divided = self.numbers.quotient if isinstance(node.op, ast.FloorDiv) else self.numbers.remainder
-            return divided(number, by)
+            return divided(number, max(by, 1))
 
     def sum(self, node: ast.expr) -> Sum:
         """An expression as a sum: `a - (b - 2)` is a + 2 - b."""
