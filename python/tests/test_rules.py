@@ -491,7 +491,7 @@ class Files(unittest.TestCase):
             path = os.path.join(folder, "changing_closure.py")
             for number in 2, 3:
                 with open(path, "w") as file:
-                    file.write(f"def around(x):\n    def f(car):\n        return car.safe(x + {number})\n    return f\n{number * '# '}\n")
+                    file.write(f"def around(x):\n    def f(car, g=len.__call__('ab')):\n        return car.safe(x + {number})\n    return f\n{number * '# '}\n")
                 if number == 2:
                     names = {}
                     with open(path) as file:

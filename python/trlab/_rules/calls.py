@@ -53,8 +53,8 @@ class Calls(Conditions):
                 return self._inlined(called, node)
             if called is UNKNOWN:
                 self.fail(node, "is not known, because the file is read and not run: write the function in this file, without decorators")
-        self.fail(node, f"is not possible: a rule calls min, max, abs, {METHODS[self.kind]}, and by their names functions that are "
-                        "written with `def` and without decorators")
+        self.fail(node, f"is not possible: a rule calls min, max, abs, {METHODS[self.kind]}, and your own functions by their names, if "
+                        "these have no decorators")
 
     def _extreme(self, name: str, node: ast.Call) -> Number:
         is_one = name == "abs"
@@ -84,7 +84,7 @@ class Calls(Conditions):
             result, next_word = Register(self.to.place.text), self._next_word
             self._draw(node.args[0], word, result)
         if next_word != self._next_word:
-            self.fail(node, "has another draw in its probability, which Python makes first: assign that to a name in a line before")
+            self.fail(node, "has another draw in its probability, which Python makes first: give that one a name in a line before")
         return Flag(result)
 
     def _word(self, node: ast.Call) -> int:

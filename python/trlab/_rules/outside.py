@@ -3,8 +3,8 @@ from __future__ import annotations
 
 import ast
 
-_LATER_TURNS = "is not possible: a loop has all its turns, so let an `if` decide what they do"
-_NO_MEMORY = "is not possible: a rule remembers nothing, and changes nothing except its own names"
+_LATER_TURNS = "is not possible: all turns of a loop are written out, so let an `if` decide what the later ones do"
+_NO_MEMORY = "is not possible: a rule has no memory, and changes only its own names"
 _ONLY_NUMBERS = "is not a number: a rule has only numbers, each with a name of its own"
 _ABOVE = "is not possible inside a rule: write a function with `def` above it, and call that"
 _ONE_VALUE = "is not possible: give the value a name above the function, or make it a parameter"

@@ -7,6 +7,7 @@ import operator
 import textwrap
 import types
 from collections.abc import Callable, Iterator, Mapping
+from copy import copy
 from inspect import Parameter, Signature
 from typing import Any, NamedTuple, Union
 
@@ -103,12 +104,13 @@ def _is_text_of(node: ast.FunctionDef, function: types.FunctionType) -> bool:
     """Whether Python made the function from this text, which is compiled inside another function that has the variables of the
     surrounding ones."""
     its = function.__code__
-    bare, around = ast.parse(ast.unparse(node)).body[0], ast.parse(f"def around({', '.join(its.co_freevars)}): pass").body[0]
-    assert isinstance(bare, ast.FunctionDef) and isinstance(around, ast.FunctionDef)
-    if any(_is_call_elsewhere(it, its.co_varnames) for it in ast.walk(bare)):
+    if any(_is_call_elsewhere(it, its.co_varnames) for it in ast.walk(ast.Module(node.body, []))):
         return True
+    module = ast.parse(f"def around({', '.join(its.co_freevars)}): pass")
+    bare, around = copy(node), module.body[0]
+    assert isinstance(around, ast.FunctionDef)
     bare.decorator_list, bare.name, around.body = [], "_", [bare]
-    (code,) = _codes_in(compile(ast.Module([around], []), "rule", "exec", dont_inherit=True), "_")
+    (code,) = _codes_in(compile(module, "rule", "exec", dont_inherit=True), "_")
     same = [(it.co_code, it.co_names, it.co_varnames, it.co_freevars, repr(it.co_consts)) for it in (code, its)]
     return same[0] == same[1]
 
