@@ -389,7 +389,7 @@ class Errors(unittest.TestCase):
             ("return 'a' * 9", "a text is not a number"),
             ("return car.safe(5000000000 + car.gap)", "the greatest is 4294967295"),
             ("return car.safe(" + " + ".join(17 * ["car.draw(p)"]) + ")", "16 random words"),
-            ("s = car.gap\nv = 0\nfor i in range(45):\n    if s > i:\n        v += 1\nreturn car.safe(v)", "`f` needs at least 1"),
+            ("s = car.gap\nv = 0\nfor i in range(35):\n    if s > i:\n        v += 1\nreturn car.safe(v)", "`f` needs at least 1"),
             ("for i in range(60):\n    if car.gap > i:\n        g = g + car.speed\nreturn car.safe(g)", "at most 128"),
         ):
             with self.subTest(body=body):
