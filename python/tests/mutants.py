@@ -40,7 +40,7 @@ TESTS = {
     "_studies/grid.py": ["test_grid", "test_tidy", "test_frames.Strangers"],
     "_studies/roads.py": ["test_tidy", "test_grid", "test_frames.Strangers"],
     **dict.fromkeys(
-        (f"_rules/{name}.py" for name in "calls conditions emission expressions functions names pairs reading registers statements".split()),
+        (f"_rules/{name}.py" for name in "calls conditions emission expressions functions names pairs reading registers statements translating".split()),
         ["test_rules.Values", "test_rules.Words", "test_rules.Published", "test_rules.Idioms", "test_rules.Files", "test_rules.Errors",
          "test_rules.Random"],
     ),
@@ -264,15 +264,33 @@ MUTANTS = [
     ("_rules/calls.py", "if self.words.setdefault(word, bool(names)) != bool(names):", "if False:"),
     ("_rules/calls.py", "[Number(value.plus), *most]", "most"),
     ("_rules/calls.py", "if name not in frame.assigned:\n", "if True:\n"),
-    ("_rules/calls.py", "or name in frame.assigned or", "or"),
+    ("_rules/calls.py", "if next_word != self._next_word:", "if False:"),
     ("_rules/functions.py", "_counted(motion) & _words_of(change) |", ""),
     ("_rules/functions.py", "r\"^[^;\\n]*\\bdraw", "r\"\\bdraw"),
     ("_rules/statements.py", "frame.constants[target.id] = turn", "frame.constants[target.id] = turn + 1"),
     ("_rules/statements.py", "self.branch(node.value, stay, False)", "self.branch(node.value, stay, True)"),
     ("_rules/statements.py", "            self.to.emit(\"jump\", target=frame.end)\n", ""),
     ("_rules/names.py", "if any(it is UNKNOWN for it in names.values()):", "if False:"),
-    ("_rules/reading.py", "return bool(its.co_freevars) or same[0] == same[1]", "return True"),
+    # Names, and files that are read and not run.
+    ("_rules/names.py", "if name in frame.assigned or", "if"),
+    ("_rules/names.py", "or name in frame.counters or", "or"),
+    ("_rules/names.py", "is getattr(builtins, name)", "in (min, max, abs)"),
+    ("_rules/names.py", "plain(self.named(it)) for", "self.named(it) for"),
+    ("_rules/names.py", "            bool(value)  # an array has no truth value\n", ""),
+    ("_rules/statements.py", " or not self.is_own(\"range\")", ""),
+    ("_rules/statements.py", "if turns[MOST_TURNS:]:", "if False:"),
+    ("_rules/reading.py", "return same[0] == same[1]", "return True"),
+    ("_rules/reading.py", "known.update(dict.fromkeys(changed, UNKNOWN))", "pass"),
+    ("_rules/reading.py", "[node.name, *_names_set_by(node.args, file)]", "[node.name]"),
+    ("_rules/reading.py", "not isinstance(it.ctx, ast.Load)", "isinstance(it.ctx, ast.Store)"),
+    ("_rules/reading.py", "for field in (\"name\", \"rest\")", "for field in ()"),
+    ("_rules/reading.py", "if \"*\" in names and", "if False and"),
+    ("_rules/reading.py", "if len(names) > 1 or", "if"),
     ("_rules/reading.py", "[len(its.args) - len(its.defaults):]", ""),
+    # Forms of variables, and lengths.
+    ("_rules/translating.py", "if attempt.forms() > forms:", "if False:"),
+    ("_rules/expressions.py", "self.attempt.numbers.add(variable.number)", "pass"),
+    ("_rules/registers.py", "    _need_short(len(program.lines))\n", ""),
     # Registers.
     ("_rules/emission.py", "set.intersection(*paths)", "set.union(*paths)"),
     ("_rules/emission.py", "self.is_live = name not in ENDS", "self.is_live = True"),
@@ -317,7 +335,7 @@ def main() -> int:
     missed = 0
     # Each edit has its own process, which need not import the libraries again.
     with multiprocessing.get_context("fork").Pool(maxtasksperchild=1) as pool:
-        unedited = [(file, "", "") for file in dict.fromkeys(file for file, _, _ in chosen)]
+        unedited = [(file, "", "") for file in {tuple(TESTS[file]): file for file, _, _ in chosen}.values()]
         if any(pool.imap(first_failure, unedited, chunksize=1)):
             raise SystemExit("the tests fail without any edit")
         for (file, old, new), test in zip(chosen, pool.imap(first_failure, chosen, chunksize=1)):

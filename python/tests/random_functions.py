@@ -75,6 +75,11 @@ v = 0|for i in range({t}):|    if {n} > i:|        v += {k}
 v = {n}|for i in range({t}):|    v = max(v - i, {n})
 v = 0|for i in range({t}):|    for j in range(1, 3):|        v += i * j - 1
 v = 0|for i in range({t}):|    if car.draw({p}):|        v += {k}
+v = 0|for i in range({t}, -2, -1):|    v += i|    v = max(v, {n})
+v = {n}|for i in range(1, {k} + 3, 2):|    v -= i * {k}
+v = {n} - {n}|v //= {k}|v *= -{k}|v %= {k}
+v = {n}|v = -v if {c} else v + {k}
+v = {c} if {c} else {n}
 v = {k} if car.draw({p}) else {n}
 v = (car.draw({p}) + car.draw({p})) * {k}
 v = 5|if {c} and car.draw({p}) or car.draw({p}):|    v = {n}

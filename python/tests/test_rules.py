@@ -1,6 +1,7 @@
 """Rules written as Python functions: their programs, and the errors of functions that are not rules."""
 import io
 import linecache
+import math
 import os
 import tempfile
 import unittest
@@ -61,11 +62,45 @@ def with_a_helper_without_text(car):
     return WITHOUT_TEXT(car)
 
 
+@trlab.motion
+def with_a_function_of_a_library(car):
+    return math.floor(car.gap)
+
+
+def adding(number):
+    """A rule with a variable of the function around it."""
+    double = 2 * number
+
+    @trlab.motion
+    def add(car):
+        return car.safe(car.speed + double)
+
+    return add
+
+
+def minimum_as_max():
+    """A rule in which `max` is Python's `min`."""
+    max = min
+
+    @trlab.motion
+    def lowest(car):
+        return max(car.gap, car.limit)
+
+    return lowest
+
+
 class Whole:
     """A whole number of another library."""
 
     def __index__(self):
         return 2
+
+
+class Several:
+    """Several numbers, as an array of numpy has them."""
+
+    def __bool__(self):
+        raise ValueError("the truth value is ambiguous")
 
 
 def program(body, kind="motion", **parameters):
@@ -175,6 +210,18 @@ class Values(unittest.TestCase):
         self.assertEqual(speeds("return car.safe(g * 2 - 1)", g=2), [0, 1, 3, 3])
         self.assertEqual(with_a_helper().budget, 9)
 
+    def test_a_parameter_may_switch_a_part_off(self):
+        for body in "v = car.gap // g if g else car.gap", "v = car.gap\nif g:\n    v = v // g - v % g":
+            self.assertEqual(speeds(f"{body}\nreturn car.safe(v)", g=0), [0, 1, 4, 5])
+        self.assertEqual(speeds("return car.safe(9 // g if g else 2)", g=0), [0, 1, 2, 2])
+
+    def test_numbers_of_other_libraries(self):
+        body = "v = 0\nfor i in range(g):\n    v += 1 + car.draw(p, word=g)\nreturn car.safe(v + (g - 3))"
+        self.assertEqual(program(body, g=Whole()), program(body, g=2))
+
+    def test_probabilities_may_be_texts(self):
+        self.assertEqual(speeds("return car.safe(4 if car.draw(p if g - 1 else '1/3') else 1)", p="1/1"), [0, 1, 4, 4])
+
     def test_draws_are_true_as_often_as_the_probability(self):
         self.assertEqual(speeds("return car.safe(4 if car.draw(1) and not car.draw(0) else 1)"), [0, 1, 4, 4])
         self.assertIn("draw r0, 0, 715827883", instructions(program("return car.safe(car.draw('1/3'))")))
@@ -219,6 +266,14 @@ class Words(unittest.TestCase):
             Own(program("return car.safe(1 if car.draw(p, word=0) else 2)"), change)
         Own(nasch, change_lanes)
         Own("get r0, gap ; draw r0, 15, 1\nget r1, limit\nmin r0, r0, r1\ngo r0", program("return car.side and car.draw(p)", "change"))
+
+
+    def test_a_draw_in_the_probability_of_another_is_made_first(self):
+        nested = "return car.safe(1 if car.draw(p if car.draw(0.5) else 0) else 2)"
+        self.assertRaisesRegex(RuleError, "line 3: .* another draw in its probability, which Python makes first", program, nested)
+        first = instructions(program("rains = car.draw(0.5)\nreturn car.safe(1 if car.draw(1 if rains else 0) else 2)"))
+        self.assertEqual([line[9:] for line in first if line.startswith("draw")], ["0, 1073741824", "1, 2147483648"])
+        self.assertEqual(program("return car.safe(1 if car.draw(p if car.draw(0.5, word=3) else 0, word=2) else 2)").words, {2, 3})
 
 
 class Idioms(unittest.TestCase):
@@ -297,28 +352,44 @@ class Errors(unittest.TestCase):
             ("if car.gap > 1:\n    return 0", "can end without `return`"),
             ("return", "`return` needs a value"),
             ("return random.random()", "`random` is unknown here"),
-            ("return int(car.gap)", "`int` is unknown here"),
+            ("return int(car.gap)", "`int(car.gap)` is not possible: a rule calls min, max, abs, car.draw, car.safe"),
             ("return car.draw(car.gap)", "`car.gap` is not a probability"),
             ("return car.draw(1.5)", "the probability must be between 0 and 1, not 1.5"),
             ("return car.draw(p, word=16)", "0 to 15"),
             ("return car.draw(p, 3)", "write `car.draw(p)`"),
-            ("return car.brake(p)", "the car has `draw(p)`"),
+            ("return car.brake(p)", "a motion rule calls car.draw, car.safe, and its inputs have no brackets"),
+            ("return car.safe(1, 2)", "needs one number"),
             ("for i in range(car.gap):\n    pass\nreturn 0", "with constants"),
+            ("for i in range(10**30):\n    pass\nreturn 0", "with constants"),
+            ("for i in range(99999999999999999999):\n    pass\nreturn 0", "at most 64"),
+            ("for i in range(0, 9, 0):\n    pass\nreturn 0", "with constants"),
+            ("for i in range(1, 2, 3, 4):\n    pass\nreturn 0", "with constants"),
+            ("for min in range(2):\n    pass\nreturn min(car.gap, car.limit)", "`min` is known only inside its loop"),
             ("for i in range(65):\n    pass\nreturn 0", "at most 64"),
             ("for i in range(2):\n    pass\nreturn i", "known only inside its loop"),
-            ("v = [1]\nreturn 0", "`[1]` has no meaning"),
+            ("v = [1]\nreturn 0", "`[1]` is not a number: a rule has only numbers"),
             ("v, w = 1, 2\nreturn 0", "one name per line"),
             ("return car.gap // 0", "divides by 0"),
             ("return car.gap % -2", "divides by -2"),
-            ("return 2 ** car.gap", "+, -, *, // and %"),
-            ("return ~car.gap", "+, -, *, // and %"),
-            ("v = (car.gap is None)\nreturn 0", "compares with"),
+            ("return car.gap << 1", "+, -, *, // and %"),
+            ("return 2 ** car.gap", "a product"),
+            ("return ~car.gap", "write `not`"),
+            ("return car.safe((car.gap > 1) & (car.gap < 3))", "write `and`"),
+            ("v = (car.gap is None)\nreturn 0", "write `==`"),
+            ("return car.safe(car.speed in (0, 1))", "write `x == 1 or x == 2`"),
+            ("v = w = 1\nreturn 0", "one name per line"),
+            ("if (v := car.gap) > 2:\n    return 0\nreturn 0", "in a line of its own"),
+            ("for i in range(3):\n    if car.gap > i:\n        break\nreturn 0", "let an `if` decide"),
+            ("def half(x):\n    return x // 2\nreturn half(car.limit)", "with `def` above it"),
+            ("return car.gap.real", "or make it a parameter"),
+            ("return car.gap > 2.0", "is 2.0: write 2"),
             ("return min(car.gap)", "needs two or more numbers"),
             ("min = car.gap\nreturn min(min, car.limit)", "a rule calls min, max, abs"),
             ("return g // (g - 2)", "cannot be calculated"),
             ("return 'a' * 9", "a text is not a number"),
             ("return car.safe(5000000000 + car.gap)", "the greatest is 4294967295"),
             ("return car.safe(" + " + ".join(17 * ["car.draw(p)"]) + ")", "16 random words"),
+            ("s = car.gap\nv = 0\nfor i in range(35):\n    if s > i:\n        v += 1\nreturn car.safe(v)", "`f` needs at least 1"),
             ("for i in range(60):\n    if car.gap > i:\n        g = g + car.speed\nreturn car.safe(g)", "at most 128"),
         ):
             with self.subTest(body=body):
@@ -330,6 +401,15 @@ class Errors(unittest.TestCase):
         rest = "\n".join(f"if {name} > car.speed:\n    v += {name}" for name in names)
         self.assertIn("more than eight registers", self.said(f"{body}\nv = 0\n{rest}\nreturn car.safe(v)"))
 
+    def test_functions_that_are_written_out_too_often(self):
+        turns = "".join(f"{4 * n * ' '}for {name} in range(64):\n" for n, name in enumerate("ijk"))
+        for body in "pass", "v += 1":
+            self.assertIn("one part too many", self.said(f"v = 0\n{turns}            {body}\nreturn car.safe(v)"))
+        twice = "".join(f"def f{n}(x):\n    return f{n - 1}(x) + f{n - 1}(x)\n" for n in range(1, 16))
+        text = f"def f0(x):\n    return x\n{twice}@motion\ndef f(car):\n    return car.safe(f15(car.gap))\n"
+        self.assertRaisesRegex(RuleError, "one part too many", rules_in(text)["f"])
+        self.assertIn("too many brackets", self.said(f"return car.safe({'+'.join(400 * ['car.gap'])})"))
+
     def test_calls_that_do_not_end(self):
         text = "def g(car):\n    return g(car)\n@motion\ndef f(car):\n    return g(car)\n"
         self.assertRaisesRegex(RuleError, "line 2: .* calls itself", rules_in(text)["f"])
@@ -339,6 +419,14 @@ class Errors(unittest.TestCase):
         self.assertRaisesRegex(ParameterError, "is a change rule", Own, change_lanes)
         self.assertRaises(RuleError, trlab.motion, len)
         self.assertRaisesRegex(RuleError, "the text of .* was not found", with_a_helper_without_text)
+        self.assertRaisesRegex(RuleError, "`math.floor.car.gap.` is not possible", with_a_function_of_a_library)
+        self.assertRaisesRegex(ParameterError, "name the parameters, for example `nasch.p=..", nasch, 0.5)
+        self.assertRaisesRegex(ParameterError, "write `@trlab.motion` above it", Own, twice)
+        self.assertRaisesRegex(ParameterError, "is `Own.nasch.`", Job, limit=5, length=9, cars=1, rule=nasch, steps=1)
+        self.assertEqual((check(nasch), trlab.explain(nasch)), (check(nasch()), trlab.explain(nasch())))
+        for body in "return car.safe(g)", "if g:\n    return 0\nreturn car.safe(1)":
+            self.assertIn("the truth value is ambiguous", self.said(body, g=Several()))
+        self.assertIn("; f(g=?, p=0.25)", program("return car.safe(1)", g=object()))
         self.assertEqual(program("return car.safe(g)", g=Whole()), program("return car.safe(g)", g=2))
         self.assertRaises(RuleError, trlab.motion, eval("lambda car: 1"))
         self.assertRaisesRegex(ParameterError, "missing a required argument: 'g'", rules_in("@motion\ndef f(car, g):\n    return g\n")["f"])
@@ -348,11 +436,40 @@ class Errors(unittest.TestCase):
 class Files(unittest.TestCase):
     def test_a_file_is_read_and_not_run(self):
         text = "import os\nos.abort()\nG = 3\n@motion\ndef f(car):\n    return max(min(car.speed + 1, car.limit, car.gap - G), 0)\n"
-        self.assertIn("num r0, 3", instructions(rules_in(text)["f"]()))
+        self.assertIn("num r1, 3", instructions(rules_in(text)["f"]()))
         for other in ("G += 1\n", "if True:\n    G = 4\n", "from numpy import G\n", "G = len('ab')\n"):
             self.assertRaisesRegex(RuleError, "line 6: `G` is not known before the run", rules_in(text + other)["f"])
         self.assertRaisesRegex(RuleError, "no decorators", rules_in, "@cache\n@motion\ndef f(car):\n    return 0\n")
         self.assertRaisesRegex(RuleError, "line 1: this is not Python", rules_in, "def f(:\n")
+
+    def test_names_that_change_while_the_file_runs(self):
+        rule = "@motion\ndef f(car):\n    return min(car.speed + 1, car.limit, max(car.gap - G, 0))\n"
+        for text in ("G = H = 3\n", "G: int = 3\n", "from trlab import *\nG = 3\n", "@cache\ndef g():\n    return 1\nG = 3\n"):
+            self.assertIn("num r1, 3", instructions(rules_in(text + rule)["f"]()))
+        for change in (
+            "def more():\n    global G\n    G = 4\nmore()", "del G", "def G():\n    pass\nasync def G():\n    pass", "class G:\n    pass",
+            "try:\n    pass\nexcept OSError as G:\n    pass", "def f(x=(G := 4)):\n    pass", "import os as G", "import G.path",
+        ):
+            for text in f"G = 3\n{change}\n{rule}", f"G = 3\n{rule}{change}\n":
+                with self.subTest(text=text):
+                    self.assertRaisesRegex(RuleError, "`G` is not known before the run", lambda: rules_in(text)["f"]())
+        self.assertRaisesRegex(RuleError, "line 2: `import .` may change any name", rules_in, f"G = 3\nfrom math import *\n{rule}")
+        self.assertRaisesRegex(RuleError, "no decorators except one", rules_in, "@motion\n@change\ndef f(car):\n    return 0\n")
+        for helper in "from os import g", "@cache\ndef g(car):\n    return 0":
+            text = f"{helper}\n@motion\ndef f(car):\n    return g(car)\n"
+            self.assertRaisesRegex(RuleError, "`g.car.` is not known, because the file is read", rules_in(text)["f"])
+        self.assertRaisesRegex(RuleError, "this is not Python", rules_in, "G = 1\0")
+        self.assertEqual(list(rules_in("G = {[]: 1}\n@motion\ndef f(car):\n    return 0\n")), ["f"])
+
+    def test_names_of_python_with_another_meaning(self):
+        for before, line in (
+            ("from builtins import min as max", "    return max(car.gap, car.limit)"), ("max = 3", "    return max(car.gap, car.limit)"),
+            ("def range(n):\n    return [n]", "    for i in range(2):\n        pass\n    return 0"),
+        ):
+            self.assertRaises(RuleError, rules_in(f"{before}\n@motion\ndef f(car):\n{line}\n")["f"])
+        self.assertRaisesRegex(RuleError, "is not possible: a rule calls", minimum_as_max())
+        text = "def max(a, b):\n    return a if a < b else b\n@motion\ndef f(car):\n    return max(car.gap, car.limit)\n"
+        self.assertEqual(answer(rules_in(text)["f"](), view(gap=2)), 2)
 
     def test_a_file_that_has_changed_is_an_error(self):
         with tempfile.TemporaryDirectory() as folder:
@@ -367,6 +484,21 @@ class Files(unittest.TestCase):
                     self.assertIn("car.limit, 2)", trlab.motion(names["f"])())
             linecache.checkcache(path)
             self.assertRaisesRegex(RuleError, "the file has changed", trlab.motion, names["f"])
+
+    def test_a_rule_uses_the_variables_around_it(self):
+        self.assertEqual([answer(adding(number)(), view(gap=9)) for number in (0, 1)], [3, 5])
+        with tempfile.TemporaryDirectory() as folder:
+            path = os.path.join(folder, "changing_closure.py")
+            for number in 2, 3:
+                with open(path, "w") as file:
+                    file.write(f"def around(x):\n    def f(car, g=len.__call__('ab')):\n        return car.safe(x + {number})\n    return f\n{number * '# '}\n")
+                if number == 2:
+                    names = {}
+                    with open(path) as file:
+                        exec(compile(file.read(), path, "exec"), names)
+                    self.assertIn("car.safe(x + 2)", trlab.motion(names["around"](1))())
+            linecache.checkcache(path)
+            self.assertRaisesRegex(RuleError, "the file has changed", trlab.motion, names["around"](1))
 
     def test_the_program_has_the_lines_of_the_function(self):
         text = program("return car.safe(car.speed + 1)")

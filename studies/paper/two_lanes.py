@@ -8,14 +8,7 @@ from trlab import Grid, Job, Own, Rickert, random_cells
 
 HERE = Path(__file__).parent
 plt.style.use(HERE.parent / "figures.mplstyle")
-
-
-@trlab.motion
-def nasch(car, p=0.5):
-    v = min(car.speed + 1, car.limit, car.gap)
-    if car.draw(p):
-        v = max(v - 1, 0)
-    return v
+NASCH = (HERE.parents[1] / "examples" / "nasch.rule").read_text()  # p = 1/2
 
 
 @trlab.change
@@ -25,7 +18,7 @@ def return_to_lane_0(car):
     return car.side and wants and car.sidegap >= wanted and car.sideback >= car.limit
 
 
-RULES = {"both lanes alike": Rickert("1/2", 1), "return to lane 0": Own(nasch, return_to_lane_0)}
+RULES = {"both lanes alike": Rickert("1/2", 1), "return to lane 0": Own(NASCH, return_to_lane_0)}
 
 
 def make(rule, density, seed, key):

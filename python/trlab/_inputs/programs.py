@@ -4,6 +4,7 @@ from __future__ import annotations
 from typing import NamedTuple, Union
 
 from .._errors import ParameterError
+from .._rules.functions import PythonRule
 from .._runs.calls import ask, explained
 from .sweeps import Sweep
 from .jobs import Job
@@ -17,17 +18,22 @@ class AcceptedProgram(NamedTuple):
     program: str
 
 
-def check(program: str) -> AcceptedProgram:
-    """Verify a driver program: text that begins with `motion` or `change`, or one line `code X`. Raises `RejectedInputError`."""
+def check(program: Union[str, PythonRule]) -> AcceptedProgram:
+    """Verify a driver program: text that begins with `motion` or `change`, one line `code X`, or a Python function that is a rule.
+    Raises `RejectedInputError`, and `RuleError` for a function."""
+    if isinstance(program, PythonRule):
+        program = program()
     if not isinstance(program, str):
         raise ParameterError(f"a driver program is a text, not {shown(program)}")
     first, _, written = ask(["check"], program.lstrip("\n")).partition("\n")
     return AcceptedProgram(int(first.split(" ")[-1]), written)
 
 
-def explain(input: Union[str, Job, Sweep]) -> str:
+def explain(input: Union[str, PythonRule, Job, Sweep]) -> str:
     """The output of `trlab explain`: the error in an input and how to fix it, or a description of a valid input. `input` is a
-    job, a sweep, or the text of a job, a sweep or a driver program."""
+    job, a sweep, the text of a job, a sweep or a driver program, or a Python function that is a rule."""
+    if isinstance(input, PythonRule):
+        input = input()
     if not isinstance(input, (str, Job, Sweep)):
         raise ParameterError(f"an input is a Job, a Sweep or a text, not {shown(input)}")
     return explained(input if isinstance(input, str) else input.text()).stdout.rstrip("\n")

@@ -111,6 +111,8 @@ class Schedule(Mapping[int, Rule]):
 
 def need_rule(rule: object) -> Rule:
     """The rule; raises `ParameterError` if this is not one."""
+    if isinstance(rule, PythonRule):
+        raise ParameterError(f"a rule for the cars is `Own({rule.name})`, or `Own({rule.name}(..))` with parameters, not `{rule.name}`")
     if not isinstance(rule, (Nasch, SlowToStart, Rickert, Own)):
         raise ParameterError(f"a rule is Nasch, SlowToStart, Rickert or Own, not {shown(rule)}")
     return rule

@@ -11,14 +11,16 @@ from .._inputs.numbers import parts, probability
 from .conditions import Conditions
 from .emission import Label, Register
 from .names import Attempt, Car, Flag, Frame, Value
-from .pairs import Number
-from .reading import Function
+from .pairs import Number, whole
+from .reading import UNKNOWN, Function
 
 WORDS = 16
 """The random words of a car in a step."""
 
 DEEPEST = 16
 """How many calls may be inside each other."""
+
+METHODS = {"motion": "car.draw, car.safe", "change": "car.draw"}
 
 
 class Calls(Conditions):
@@ -38,26 +40,21 @@ class Calls(Conditions):
         if isinstance(function, ast.Attribute) and self.is_car(function.value):
             if function.attr == "draw":
                 return self._drawn(node)
-            if function.attr == "safe" and self.kind == "motion" and len(node.args) == 1 and not node.keywords:
+            if function.attr == "safe" and self.kind == "motion":
                 return self._safe(node)
-        if not isinstance(function, ast.Name):
-            self.fail(node, f"is not possible in a {self.kind} rule: the car has `draw(p)`, and in a motion rule `safe(v)`")
-        if self._is_own(function.id):
-            return self._extreme(function.id, node)
-        called = self.named(function)
-        if not isinstance(called, Function):
-            self.fail(node, "is not possible: a rule calls min, max, abs, car.draw, car.safe and functions like itself")
-        return self._inlined(called, node)
-
-    def _is_own(self, name: str) -> bool:
-        """Whether this is Python's min, max or abs."""
-        frame = self.frames[-1]
-        if name not in ("min", "max", "abs") or name in frame.assigned or name in frame.constants:
-            return False
-        try:
-            return frame.function.outside(name) in (min, max, abs)
-        except KeyError:
-            return True
+            self.fail(node, f"is not possible: a {self.kind} rule calls {METHODS[self.kind]}, and its inputs have no brackets")
+        name = function.id if isinstance(function, ast.Name) else ""
+        if self.is_own(name):
+            if name in ("min", "max", "abs"):
+                return self._extreme(name, node)
+        elif isinstance(function, ast.Name):
+            called = self.named(function)
+            if isinstance(called, Function):
+                return self._inlined(called, node)
+            if called is UNKNOWN:
+                self.fail(node, "is not known, because the file is read and not run: write the function in this file, without decorators")
+        self.fail(node, f"is not possible: a rule calls min, max, abs, {METHODS[self.kind]}, and your own functions by their names, if "
+                        "these have no decorators")
 
     def _extreme(self, name: str, node: ast.Call) -> Number:
         is_one = name == "abs"
@@ -69,6 +66,8 @@ class Calls(Conditions):
 
     def _safe(self, node: ast.Call) -> Number:
         """The number, but at least 0 and at most the gap and the limit."""
+        if len(node.args) != 1 or node.keywords:
+            self.fail(node, "needs one number")
         value = self.number(node.args[0])
         with self.at(node):
             most = [Number(self.to.new("get", rest=[name])) for name in ("gap", "limit")]
@@ -82,16 +81,18 @@ class Calls(Conditions):
         if self.words.setdefault(word, bool(names)) != bool(names):
             self.fail(node, f"uses random word {word}, which another draw uses too: give all draws their `word=`")
         with self.at(node):
-            result = Register(self.to.place.text)
+            result, next_word = Register(self.to.place.text), self._next_word
             self._draw(node.args[0], word, result)
-            return Flag(result)
+        if next_word != self._next_word:
+            self.fail(node, "has another draw in its probability, which Python makes first: give that one a name in a line before")
+        return Flag(result)
 
     def _word(self, node: ast.Call) -> int:
         """The random word that a draw gives, or else the next one: 0, 1, 2 .. in a motion rule, and 15, 14 .. in a change rule, in
         the order in which Python evaluates the text with all branches, loops and calls written out."""
         if node.keywords:
             given = self.constant(node.keywords[0].value)
-            if isinstance(given, bool) or not isinstance(given, int) or not 0 <= given < WORDS:
+            if not isinstance(given, int) or isinstance(given, bool) or not 0 <= given < WORDS:
                 self.fail(node, "needs a constant word, 0 to 15")
             return given
         word = self._next_word
@@ -119,6 +120,8 @@ class Calls(Conditions):
         if len(self.frames) > DEEPEST:
             self.fail(node, "calls itself, or calls are nested too deeply: write a loop, `for i in range(n)`")
         values = [self._argument(it) for it in node.args]
+        if not all(it.arg for it in node.keywords):
+            self.fail(node, "is not possible: a rule has no `**` in calls")
         named = {str(it.arg): self._argument(it.value) for it in node.keywords}
         try:
             bound = function.bound(values, named)
@@ -152,4 +155,4 @@ class Calls(Conditions):
                 self.fail(frame.function.node, f"assigns `{name}`, which is the car: take another name")
             else:
                 is_value = isinstance(value, (Number, Flag))
-                self.assign(self.variable(name), value if is_value else self.whole(frame.function.node, value))
+                self.assign(self.variable(name), value if is_value else whole(self.integer(frame.function.node, value)))

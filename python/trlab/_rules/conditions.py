@@ -44,8 +44,9 @@ class Conditions(Expressions):
 
     def _branch_at_comparison(self, node: ast.Compare, target: Label, when: bool) -> None:
         """A comparison, also of several numbers: each is calculated once."""
-        if not all(isinstance(it, COMPARISONS) for it in node.ops):
-            self.fail(node, "is not possible: a rule compares with <, <=, >, >=, == and !=")
+        for operator in node.ops:
+            if not isinstance(operator, COMPARISONS):
+                self.reject(node, operator, "is not possible: a rule compares with <, <=, >, >=, == and !=")
         sums = [self.sum(it) for it in [node.left, *node.comparators]]
         skip = Label()
         with self.at(node):

@@ -8,8 +8,9 @@ from fractions import Fraction
 from typing import Any, Union
 
 from .emission import Label, Register
-from .names import AgainError, Flag, Names, Value, Variable
+from .names import Flag, Names, Value, Variable
 from .pairs import ZERO, Number, Sum, summand, whole
+from .reading import plain
 
 INPUTS = {
     "motion": ("speed", "limit", "gap", "headspeed"),
@@ -36,7 +37,7 @@ class Expressions(Names):
     def value(self, node: ast.expr) -> Value:
         constant = self.constant(node)
         if constant is not None:
-            return self.whole(node, constant)
+            return whole(self.integer(node, constant))
         if isinstance(node, ast.Compare) or isinstance(node, ast.UnaryOp) and isinstance(node.op, ast.Not):
             return self.truth(node)
         if isinstance(node, ast.BoolOp):
@@ -51,7 +52,7 @@ class Expressions(Names):
             return self.called(node)
         found = self.named(node) if isinstance(node, ast.Name) else None
         if not isinstance(found, (Number, Flag)):
-            self.fail(node, "has no meaning in a rule: use numbers, min, max, abs and the inputs of the car")
+            self.reject(node, node, "has no meaning in a rule: use numbers, min, max, abs and the inputs of the car")
         return found
 
     def number(self, node: ast.expr) -> Number:
@@ -78,41 +79,40 @@ class Expressions(Names):
         self.to.label(end)
         return Number(result)
 
-    def whole(self, node: ast.AST, value: Any) -> Number:
-        """A constant as a number."""
+    def integer(self, node: ast.AST, value: Any) -> int:
+        """A constant as a whole number."""
+        value = plain(value)
         if isinstance(value, Fraction) and value.denominator == 1:
             value = int(value)
-        if not hasattr(value, "__index__"):
-            self.fail(node, f"is {value!r}, and a whole number is needed: a speed has no fractions, so use `//` to divide")
-        return whole(int(value.__index__()))
+        if isinstance(value, float) and value.is_integer():
+            self.fail(node, f"is {value!r}: write {int(value)}, because a rule calculates with whole numbers")
+        if not isinstance(value, int):
+            self.fail(node, f"is {value!r}, and a whole number is needed: `//` divides without a fraction")
+        return int(value)
 
     def operation(self, node: Union[ast.BinOp, ast.UnaryOp]) -> Number:
         """A sum, a difference, a product, a quotient or a remainder."""
-        if isinstance(node, ast.UnaryOp) or isinstance(node, ast.BinOp) and isinstance(node.op, (ast.Add, ast.Sub)):
+        if isinstance(node.op, (*SIGNS, ast.Add, ast.Sub)):
             terms = self.sum(node)
             with self.at(node):
                 return self.numbers.difference(terms)
-        if isinstance(node.op, ast.Div):
-            self.fail(node, "is a fraction: write `//`, which rounds down")
-        if not isinstance(node.op, (ast.Mult, ast.FloorDiv, ast.Mod)):
-            self.fail(node, "is not possible: a rule calculates with +, -, *, // and %")
+        if isinstance(node, ast.UnaryOp) or not isinstance(node.op, (ast.Mult, ast.FloorDiv, ast.Mod)):
+            self.reject(node, node.op, "is not possible: a rule calculates with +, -, *, // and %")
         value, by = node.left, self.constant(node.right)
         if isinstance(node.op, ast.Mult) and by is None:
             value, by = node.right, self.constant(node.left)
         if by is None:
             self.fail(node, "needs a constant on the right (for `*` on one side): a rule cannot combine two inputs like this")
-        plus, minus = self.whole(node, by)[:2]
-        assert isinstance(plus, int) and isinstance(minus, int)
-        return self.scaled(node, self.number(value), plus - minus)
+        return self.scaled(node, self.number(value), self.integer(node, by))
 
     def scaled(self, node: ast.BinOp, number: Number, by: int) -> Number:
         with self.at(node):
             if isinstance(node.op, ast.Mult):
                 return self.numbers.product(number, by)
-            if by <= 0:
+            if by <= 0 and self.to.is_live:
                 self.fail(node, f"divides by {by}: a rule divides only by constants above 0")
             divided = self.numbers.quotient if isinstance(node.op, ast.FloorDiv) else self.numbers.remainder
-            return divided(number, by)
+            return divided(number, max(by, 1))
 
     def sum(self, node: ast.expr) -> Sum:
         """An expression as a sum: `a - (b - 2)` is a + 2 - b."""
@@ -123,13 +123,11 @@ class Expressions(Names):
             if isinstance(node, ast.UnaryOp) and isinstance(node.op, SIGNS):
                 inner = self.sum(node.operand)
                 return inner if isinstance(node.op, ast.UAdd) else ZERO - inner
-            if isinstance(node, ast.UnaryOp) and isinstance(node.op, ast.Invert):
-                self.fail(node, "is not possible: a rule calculates with +, -, *, // and %")
         return summand(self.number(node))
 
     def input(self, node: ast.Attribute) -> Value:
         if not self.is_car(node.value):
-            self.fail(node, "has no meaning in a rule: only the car has inputs")
+            self.reject(node, node, "has no meaning in a rule")
         with self.at(node):
             if node.attr in INPUTS[self.kind]:
                 return Number(self.to.new("get", rest=[node.attr]))
@@ -157,7 +155,7 @@ class Expressions(Names):
         self.to.label(end)
 
     def assign(self, variable: Variable, value: Value) -> None:
-        """Gives a variable a value. Raises `AgainError` if this value needs another form of the variable."""
+        """Gives a variable a value, and notes if this value needs another form of the variable."""
         if variable.is_flag is None:
             variable.is_flag = isinstance(value, Flag)
         if isinstance(value, Flag) and variable.is_flag:
@@ -171,8 +169,6 @@ class Expressions(Names):
             self.attempt.numbers.add(variable.number)
         if value.minus != 0 and variable.minus is None:
             self.attempt.paired.add(variable.number)
-        if variable.is_flag or value.minus != 0 and variable.minus is None:
-            raise AgainError
         variable.why = value.why or variable.why
         plus, minus = value.plus, value.minus
         if minus is variable.plus:

@@ -3,22 +3,14 @@ from __future__ import annotations
 
 import re
 from collections.abc import Callable, Mapping
+from types import FunctionType
 from typing import Any, Union
 
 from .._errors import ParameterError, RuleError
 from .._runs.processes import RejectionError, run
 from .._runs.requests import Request
 from .reading import Decorated, Function, function_of, functions_in
-from .translating import Budget, Refusal, compiled
-
-
-class Program(str):
-    """The text of a driver program that was a function. `budget` is its maximum number of instructions per car and step, `words`
-    are the random words that it uses, and `counted` those of them that got their numbers by their order."""
-
-    budget: int
-    words: frozenset[int]
-    counted: frozenset[int]
+from .translating import Program, Refusal, compiled
 
 
 class PythonRule(Decorated):
@@ -38,16 +30,18 @@ class PythonRule(Decorated):
         self.kind, self.name, self.file = kind, written.node.name, written.file
         self.parameters: Mapping[str, Any] = {name: written.defaults.get(name) for name in names}
 
-    def __call__(self, **parameters: Any) -> Program:
+    def __call__(self, *unnamed: object, **parameters: Any) -> Program:
+        if unnamed:
+            raise ParameterError(f"{self.name}: name the parameters, for example `{self.name}({next(iter(self.parameters), 'p')}=..)`")
         try:
             self.written.bound([None], parameters)
         except TypeError as error:
             raise ParameterError(f"{self.name}: {error}; its parameters are {', '.join(self.parameters) or 'none'}") from None
-        made = compiled(self.kind, self.written, parameters, verdict)
-        program = Program(made.text)
-        program.budget, program.words = made.budget, frozenset(made.words)
-        program.counted = frozenset(word for word, is_given in made.words.items() if not is_given)
-        return program
+        try:
+            return compiled(self.kind, self.written, parameters, verdict)
+        except RecursionError:
+            raise RuleError(self.file, self.written.node.lineno, f"`{self.name}` has too many brackets inside each other: give their "
+                            "values names") from None
 
     def __repr__(self) -> str:
         return f"<{self.kind} rule {self.name} of {self.file}>"
@@ -92,6 +86,8 @@ def rules_in(text: str, file: str = "rule.py") -> dict[str, PythonRule]:
 
 def program_of(kind: str, given: object) -> object:
     """The program of a rule of this kind. Anything else is returned as it is."""
+    if isinstance(given, FunctionType):
+        raise ParameterError(f"`{given.__name__}` is not a rule yet: write `@trlab.{kind}` above it")
     if not isinstance(given, PythonRule):
         return given
     if given.kind != kind:
@@ -119,7 +115,7 @@ def _words_of(program: str) -> frozenset[int]:
     return frozenset(map(int, found))
 
 
-def verdict(text: str) -> Union[Budget, Refusal]:
+def verdict(text: str) -> Union[int, Refusal]:
     """The verifier's answer to a program."""
     try:
         answer = b"".join(run(Request(("check",), text))).decode()
@@ -129,4 +125,4 @@ def verdict(text: str) -> Union[Budget, Refusal]:
     if words[0] == "fault":
         raise AssertionError(f"the translation is not a program: {' '.join(words)}\n{text}")
     numbers = [int(word) for word in words if word.isdigit()]
-    return Budget(numbers[0]) if words[0] == "accepted" else Refusal(numbers[0], numbers[1])
+    return numbers[0] if words[0] == "accepted" else Refusal(numbers[0], numbers[1])

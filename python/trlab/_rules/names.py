@@ -2,6 +2,7 @@
 from __future__ import annotations
 
 import ast
+import builtins
 from collections.abc import Iterator
 from contextlib import contextmanager
 from dataclasses import dataclass, field
@@ -11,13 +12,17 @@ from typing import Any, NamedTuple, NoReturn, Optional, Union
 
 from .emission import Emitter, Label, Place, Register
 from .pairs import Arithmetic, Number
-from .reading import UNKNOWN, Function
+from .outside import instead_of
+from .reading import UNKNOWN, Function, plain
 
 _OPERATORS = (
     ast.Constant, ast.Name, ast.Load, ast.IfExp, ast.BoolOp, ast.boolop, ast.Compare, ast.Lt, ast.LtE, ast.Gt, ast.GtE, ast.Eq,
     ast.NotEq, ast.UnaryOp, ast.UAdd, ast.USub, ast.Not, ast.BinOp, ast.Add, ast.Sub, ast.Mult, ast.Div, ast.FloorDiv, ast.Mod,
 )
 """The syntax of expressions that Python itself calculates if all names in them are constants."""
+
+MOST_PARTS = 10000
+"""The most statements and expressions of a function, with all turns and calls written out: a program has 128 instructions."""
 
 
 class Car:
@@ -36,19 +41,16 @@ Value = Union[Number, Flag]
 @dataclass
 class Attempt:
     """What earlier translations of the function have shown: the differences that may be negative, by their numbers, the variables
-    that may be, and those that are not always a flag. `shares` is that of `Emitter`; `texts` and `names` are those of expressions
-    that were asked for before."""
+    that may be, and those that are not always a flag. `shares` is that of `Emitter`."""
 
     shares: bool
     below: set[int] = field(default_factory=set)
     paired: set[int] = field(default_factory=set)
     numbers: set[int] = field(default_factory=set)
-    texts: dict[ast.AST, str] = field(default_factory=dict)
-    names: dict[ast.AST, Optional[list[ast.Name]]] = field(default_factory=dict)
 
-
-class AgainError(Exception):
-    """The translation has to begin again, because it needs another form of a variable that it has used already."""
+    def forms(self) -> int:
+        """How many variables need another form than the first one."""
+        return len(self.paired) + len(self.numbers)
 
 
 class Variable:
@@ -88,22 +90,28 @@ class Names:
         self.to = Emitter(attempt.shares)
         self.numbers = Arithmetic(self.to, attempt.below)
         self.frames: list[Frame] = []
-        self._variables = count()
+        self._variables, self._parts = count(), 0
 
     def place(self, node: ast.AST) -> Place:
-        written, texts = self.frames[-1].function, self.attempt.texts
-        if node not in texts:
-            texts[node] = ast.unparse(node).split("\n")[0]
-        return Place(written.file, getattr(node, "lineno", written.node.lineno), texts[node])
+        written = self.frames[-1].function
+        return Place(written.file, getattr(node, "lineno", written.node.lineno), _first_line_of(node))
 
     def fail(self, node: ast.AST, message: str) -> NoReturn:
         """Raises the error of a node; the message begins with its text."""
         place = self.place(node)
         place.fail(f"`{place.text}` {message}")
 
+    def reject(self, node: ast.AST, part: ast.AST, otherwise: str) -> NoReturn:
+        """Raises the error of a node that has a part outside of the subset."""
+        self.fail(node, instead_of(part, otherwise))
+
     @contextmanager
     def at(self, node: ast.AST) -> Iterator[None]:
         """Instructions in this block come from this node."""
+        self._parts += 1
+        if self._parts > MOST_PARTS:
+            self.fail(node, "is one part too many, because the text of the function is written out with all turns and calls: write "
+                            "fewer of them")
         before, self.to.place = self.to.place, self.place(node)
         yield
         self.to.place = before
@@ -140,41 +148,58 @@ class Names:
         except KeyError:
             self.fail(node, "is unknown here: make it a parameter, or give it a constant above the function")
 
+    def is_own(self, name: str) -> bool:
+        """Whether a name has the meaning that Python itself gives it."""
+        frame = self.frames[-1]
+        if name in frame.assigned or name in frame.constants or name in frame.counters or not hasattr(builtins, name):
+            return False
+        try:
+            return frame.function.outside(name) is getattr(builtins, name)
+        except KeyError:
+            return True
+
     def is_car(self, node: ast.expr) -> bool:
         return isinstance(node, ast.Name) and isinstance(self.named(node), Car)
 
     def constant(self, node: ast.expr) -> Any:
         """The value of an expression of constants, as Python calculates it; None if it depends on the car."""
-        found = self._names_in(node)
+        found = _names_in(node)
         if found is None:
             return None
-        names = {it.id: self.named(it) for it in found}
+        names = {it.id: plain(self.named(it)) for it in found}
         if any(isinstance(it, (Car, Function, Number, Flag)) for it in names.values()):
             return None
         if any(it is UNKNOWN for it in names.values()):
             self.fail(node, "is not known before the run: give it a number in the file, or make it a parameter")
-        if isinstance(node, ast.Constant):
-            return node.value
-        return names[node.id] if isinstance(node, ast.Name) else self._calculated(node, names)
-
-    def _names_in(self, node: ast.AST) -> Optional[list[ast.Name]]:
-        """The names in an expression; None if it has more than operators, names and constants."""
-        known = self.attempt.names
-        if node not in known:
-            parts = [self._names_in(it) for it in ast.iter_child_nodes(node)] if isinstance(node, _OPERATORS) else [None]
-            own = [node] if isinstance(node, ast.Name) else []
-            known[node] = None if None in parts else own + [name for part in parts for name in part or []]
-        return known[node]
-
-    def _calculated(self, node: ast.expr, names: dict[str, Any]) -> Any:
-        values = [*names.values(), *(it.value for it in ast.walk(node) if isinstance(it, ast.Constant))]
-        is_text = any(isinstance(it, (str, bytes)) for it in values) and any(isinstance(it, ast.BinOp) for it in ast.walk(node))
         try:
-            if is_text:
-                raise TypeError("a text is not a number")
-            code = compile(ast.Expression(node), "constant", "eval")
-            return eval(code, {"__builtins__": {}}, names)
+            value = plain(_calculated(node, names))
+            bool(value)  # an array has no truth value
         except (ArithmeticError, TypeError, ValueError) as error:
             if self.to.is_live:
                 self.fail(node, f"cannot be calculated: {error}")
             return 0
+        return value
+
+
+@lru_cache(maxsize=4096)
+def _first_line_of(node: ast.AST) -> str:
+    return ast.unparse(node).split("\n")[0]
+
+
+@lru_cache(maxsize=4096)
+def _names_in(node: ast.AST) -> Optional[list[ast.Name]]:
+    """The names in an expression; None if it has more than operators, names and constants."""
+    parts = [_names_in(it) for it in ast.iter_child_nodes(node)] if isinstance(node, _OPERATORS) else [None]
+    own = [node] if isinstance(node, ast.Name) else []
+    return None if None in parts else own + [name for part in parts for name in part or []]
+
+
+def _calculated(node: ast.expr, names: dict[str, Any]) -> Any:
+    """The value of an expression with these names. A text has no calculations, because it could become very long."""
+    if isinstance(node, (ast.Constant, ast.Name)):
+        return node.value if isinstance(node, ast.Constant) else names[node.id]
+    leaves = [it for operation in ast.walk(node) if isinstance(operation, ast.BinOp) for it in ast.walk(operation)]
+    values = [names[it.id] if isinstance(it, ast.Name) else getattr(it, "value", None) for it in leaves]
+    if any(isinstance(it, (str, bytes)) for it in values):
+        raise TypeError("a text is not a number")
+    return eval(compile(ast.Expression(node), "constant", "eval"), {"__builtins__": {}}, names)

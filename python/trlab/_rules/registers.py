@@ -10,6 +10,9 @@ from .emission import Instruction, Item, Label, Place, Register
 COUNT = 8
 """The registers of a program."""
 
+MOST_INSTRUCTIONS = 128
+"""The most instructions of a program."""
+
 _LONGEST_COMMENT = 70
 
 Conflicts = dict[Register, set[Register]]
@@ -21,6 +24,14 @@ class TooManyError(Exception):
     def __init__(self, place: Place, names: Sequence[str]) -> None:
         super().__init__(place, names)
         self.place, self.names = place, names
+
+
+class TooLongError(Exception):
+    """A program needs at least this number of instructions, which is too many."""
+
+    def __init__(self, count: int) -> None:
+        super().__init__(count)
+        self.count = count
 
 
 class Written(NamedTuple):
@@ -35,11 +46,20 @@ class Written(NamedTuple):
 
 
 def written(items: Sequence[Item]) -> Written:
-    """The program with eight registers. Raises `TooManyError` if they do not suffice."""
+    """The program with eight registers. Raises `TooManyError` if they do not suffice, and `TooLongError`."""
     needed = _without_unread(items)
+    # Copies and jumps may still be left out. (This is checked first, because very long programs would take very long.)
+    _need_short(sum(isinstance(it, Instruction) and it.target is None and it.name != "copy" for it in needed))
     numbers = _numbers(needed)
     kept = [it for it in needed if isinstance(it, Label) or not (it.name == "copy" and numbers[it.to] == numbers[it.reads[0]])]
-    return _lines(_without_short_jumps(kept), numbers)
+    program = _lines(_without_short_jumps(kept), numbers)
+    _need_short(len(program.lines))
+    return program
+
+
+def _need_short(count: int) -> None:
+    if count > MOST_INSTRUCTIONS:
+        raise TooLongError(count)
 
 
 def _living(items: Sequence[Item]) -> list[set[Register]]:
@@ -101,18 +121,11 @@ def _conflicts(items: Sequence[Item]) -> Conflicts:
 
 def _numbers(items: Sequence[Item]) -> dict[Optional[Register], int]:
     """A number for each register, so that those in conflict have different ones, and if possible a copy has that of its source.
-    The registers with the fewest conflicts come last."""
+    They get them in the order of the text."""
     conflicts, copies = _conflicts(items), _copies(items)
-    order: list[Register] = []
-    left = {register: set(others) for register, others in conflicts.items()}
-    while left:
-        easiest = min(left, key=lambda register: len(left[register]))
-        order.append(easiest)
-        for other in left.pop(easiest):
-            left[other].discard(easiest)
     numbers: dict[Optional[Register], int] = {}
-    for register in reversed(order):
-        free = set(range(COUNT)) - {numbers[other] for other in conflicts[register] if other in numbers}
+    for register, others in conflicts.items():
+        free = set(range(COUNT)) - {numbers[other] for other in others if other in numbers}
         if not free:
             raise _too_many(items)
         alike = [numbers[other] for other in copies[register] if numbers.get(other) in free]

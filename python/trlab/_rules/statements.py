@@ -3,6 +3,7 @@ from __future__ import annotations
 
 import ast
 from collections.abc import Sequence
+from typing import Optional
 
 from .calls import Calls
 from .emission import Label
@@ -36,10 +37,8 @@ class Translation(Calls):
             self._loop(node)
         elif isinstance(node, ast.Return):
             self._return(node)
-        elif isinstance(node, ast.While):
-            self.fail(node, "may not end: write `for i in range(n)` with a constant n")
         else:
-            self.fail(node, "is not possible: a rule has assignments to a name, `if`, `for i in range(n)` and `return`")
+            self.reject(node, node, "is not possible: a rule has assignments to a name, `if`, `for i in range(n)` and `return`")
 
     def _assign(self, target: ast.expr, node: ast.expr) -> None:
         if not isinstance(target, ast.Name):
@@ -49,20 +48,27 @@ class Translation(Calls):
             self.assign(self.variable(target.id), value)
 
     def _loop(self, node: ast.For) -> None:
-        frame, call, target = self.frames[-1], node.iter, node.target
-        is_range = isinstance(call, ast.Call) and isinstance(call.func, ast.Name) and call.func.id == "range" and not call.keywords
-        bounds = [self.constant(it) for it in call.args] if isinstance(call, ast.Call) and is_range else []
-        if not bounds or not all(isinstance(it, int) for it in bounds) or not isinstance(target, ast.Name) or node.orelse:
+        frame, target = self.frames[-1], node.target
+        turns = self._turns(node.iter)
+        if turns is None or not isinstance(target, ast.Name) or node.orelse:
             self.fail(node, "is not possible: write `for i in range(n)` with constants, and without `else`")
         if target.id in frame.assigned or target.id in frame.constants:
             self.fail(node, f"uses `{target.id}`, which has another value outside: take another name")
-        turns = range(*bounds)
-        if len(turns) > MOST_TURNS:
-            self.fail(node, f"has {len(turns)} turns, and at most {MOST_TURNS} are possible")
+        if turns[MOST_TURNS:]:
+            self.fail(node, f"has too many turns: at most {MOST_TURNS} are possible")
         for turn in turns:
             frame.constants[target.id] = turn
             self.block(node.body)
         frame.constants.pop(target.id, None)
+
+    def _turns(self, node: ast.expr) -> Optional[range]:
+        """The range of a loop, if it is one of constants."""
+        if not isinstance(node, ast.Call) or not isinstance(node.func, ast.Name) or not self.is_own("range") or node.func.id != "range":
+            return None
+        try:
+            return range(*(self.constant(it) for it in node.args)) if not node.keywords else None
+        except (TypeError, ValueError):
+            return None
 
     def _return(self, node: ast.Return) -> None:
         frame = self.frames[-1]

@@ -5,14 +5,14 @@ from collections.abc import Callable, Mapping
 from typing import Any, NamedTuple, NoReturn, Optional, Union
 
 from .._errors import RuleError
-from .emission import Instruction
-from .names import AgainError, Attempt, Car, Frame
-from .reading import UNKNOWN, Function
-from .registers import TooManyError, Written, written
+from .emission import Instruction, Place
+from .names import Attempt, Car, Frame
+from .reading import Function, plain
+from .registers import MOST_INSTRUCTIONS, TooLongError, TooManyError, written
 from .statements import Translation
 
-MOST_INSTRUCTIONS = 128
-"""The most instructions of a program."""
+LONGEST_VALUE = 60
+"""The most characters of a parameter's value in the title of a program."""
 
 NEGATIVE = 9
 """The verifier's reason for a difference that may be negative."""
@@ -25,12 +25,6 @@ _ADVICE = {
 }
 
 
-class Budget(NamedTuple):
-    """An accepted program: its maximum number of instructions per car and step."""
-
-    instructions: int
-
-
 class Refusal(NamedTuple):
     """The instruction that the verifier rejects, from 0, and its reason."""
 
@@ -38,18 +32,20 @@ class Refusal(NamedTuple):
     reason: int
 
 
-Verify = Callable[[str], Union[Budget, Refusal]]
+Verify = Callable[[str], Union[int, Refusal]]
+"""The verifier's answer to a program: its budget, or the refusal."""
 
 
-class Compiled(NamedTuple):
-    """A program: its text, its budget, and the random words that it uses, each with whether the function gives its number."""
+class Program(str):
+    """The text of a driver program that was a function. `budget` is its maximum number of instructions per car and step, `words`
+    are the random words that it uses, and `counted` those of them that got their numbers by their order."""
 
-    text: str
     budget: int
-    words: Mapping[int, bool]
+    words: frozenset[int]
+    counted: frozenset[int]
 
 
-def compiled(kind: str, function: Function, named: Mapping[str, Any], verify: Verify) -> Compiled:
+def compiled(kind: str, function: Function, named: Mapping[str, Any], verify: Verify) -> Program:
     """The program of a function with these parameters. Raises `RuleError`."""
     full: Optional[TooManyError] = None
     for shares in True, False:
@@ -62,48 +58,47 @@ def compiled(kind: str, function: Function, named: Mapping[str, Any], verify: Ve
                     f"them after it ({', '.join(full.names)})")
 
 
-def _compiled(kind: str, function: Function, named: Mapping[str, Any], verify: Verify, attempt: Attempt) -> Compiled:
-    given = [f"{name}={_plain(value)!r}" for name, value in function.bound([Car()], named).items()]
-    title = f"{function.node.name}({', '.join(given[1:])})".encode("ascii", "replace").decode().replace("\n", " ")
+def _compiled(kind: str, function: Function, named: Mapping[str, Any], verify: Verify, attempt: Attempt) -> Program:
+    given = [f"{name}={_shown(value)}" for name, value in function.bound([Car()], named).items()]
+    title = f"{function.node.name}({', '.join(given[1:])})".encode("ascii", "replace").decode()
     while True:
-        translation = Translation(kind, attempt)
-        try:
-            program = _program(translation, function, named)
-        except AgainError:
+        forms = attempt.forms()
+        translation, place = _translated(kind, function, named, attempt)
+        if attempt.forms() > forms:
             continue
-        text = program.text(kind, title)
+        try:
+            program = written(translation.to.items(place))
+        except TooLongError as error:
+            place.fail(f"`{function.node.name}` needs at least {error.count} instructions, and a program has at most "
+                       f"{MOST_INSTRUCTIONS}: write fewer turns of loops, or a simpler rule")
+        text = Program(program.text(kind, title))
         found = verify(text)
-        if isinstance(found, Budget):
-            return Compiled(text, found.instructions, translation.words)
+        if isinstance(found, int):
+            text.budget, text.words = found, frozenset(translation.words)
+            text.counted = frozenset(word for word, is_given in translation.words.items() if not is_given)
+            return text
         refused = program.instructions[found.pc]
         if found.reason != NEGATIVE or refused.difference is None:
             _explain(refused, found.reason)
         attempt.below.add(refused.difference)
 
 
-def _plain(value: Any) -> Any:
-    """A number of numpy as Python's own, so that equal rules have equal programs."""
-    if hasattr(value, "__index__"):
-        return int(value.__index__())
-    return float(value) if isinstance(value, float) else value
+def _shown(value: Any) -> str:
+    """The value of a parameter, on one line. Addresses of objects would be others in each run."""
+    shown = " ".join(repr(plain(value)).split())
+    return "?" if " at 0x" in shown or len(shown) > LONGEST_VALUE else shown
 
 
-def _program(translation: Translation, function: Function, named: Mapping[str, Any]) -> Written:
-    """The program of one translation, which the verifier has not seen yet."""
+def _translated(kind: str, function: Function, named: Mapping[str, Any], attempt: Attempt) -> tuple[Translation, Place]:
+    """One translation, which the verifier has not seen yet, and the place of its constants."""
+    translation = Translation(kind, attempt)
     translation.frames.append(Frame(function, None, None))
     place = translation.place(function.node)._replace(text="constants")
-    for name, value in named.items():
-        if value is UNKNOWN:
-            place.fail(f"the parameter `{name}` has no value that is known before the run")
     translation.enter(function.bound([Car()], named))
     translation.block(function.node.body)
     if translation.to.is_live:
         place.fail(f"`{function.node.name}` can end without `return`: return a value on every path")
-    program = written(translation.to.items(place))
-    if len(program.lines) > MOST_INSTRUCTIONS:
-        place.fail(f"`{function.node.name}` needs {len(program.lines)} instructions, and a program has at most {MOST_INSTRUCTIONS}: "
-                   "write fewer turns of loops, or a simpler rule")
-    return program
+    return translation, place
 
 
 def _explain(refused: Instruction, reason: int) -> NoReturn:
