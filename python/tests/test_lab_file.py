@@ -38,6 +38,9 @@ OF_THE_SERVER = (
     "test_an_interrupted_run", "test_two_pages", "test_reloading", "test_another_origin", "test_a_paused_run_ends_and_goes_on", "test_sliders",
     "test_a_rule_in_python", "test_rules_in_python_for_two_lanes", "test_a_change_in_words",
 )
+# Tests in which the program computes most. The served page has all tests in both browsers, and the file has them in Chromium, so that
+# in Firefox these suffice for the file.
+OF_THE_PROGRAM = ("test_every_snapshot_is_that_of_the_run", "test_exact_curves", "test_saving", "test_a_link", "test_a_sweep")
 # Counts the Workers that run the program: those that have been given it, and those that have been ended since.
 WATCH = """window.running = new Set();
 const {postMessage, terminate} = Worker.prototype;
@@ -178,6 +181,11 @@ class FileInChromium(FilePages, unittest.TestCase):
 @unittest.skipIf(missing("firefox") or WITHOUT, missing("firefox") or WITHOUT)
 class FileInFirefox(FilePages, unittest.TestCase):
     browser = "firefox"
+
+
+for name in dir(Pages):
+    if name.startswith("test_") and name not in OF_THE_PROGRAM:
+        setattr(FileInFirefox, name, None)
 
 
 @unittest.skipIf(missing("chromium") or WITHOUT, missing("chromium") or WITHOUT)
