@@ -13,8 +13,9 @@ from xml.etree import ElementTree
 
 import trlab
 from tests.browsers import Keys, Window, missing
+from tests.lab_pages import LabPages
 from trlab import Job, Nasch, Rickert, SlowToStart, Snapshots
-from trlab.lab import Lab, server
+from trlab.lab import server
 from trlab.lab.__main__ import fragment
 from trlab._rules.functions import rules_in
 from trlab._runs.calls import ask
@@ -49,71 +50,8 @@ def snapshots(text):
     return Snapshots(snapshots_in(ask(["run"], text).splitlines(True)))
 
 
-class Pages:
-    """The tests, in one browser with one page that is loaded again for each of them."""
-
-    browser = ""
-
-    @classmethod
-    def setUpClass(cls):
-        cls.lab = Lab()
-        cls.addClassCleanup(cls.lab.close)
-        thread = threading.Thread(target=cls.lab.serve_forever, kwargs={"poll_interval": 0.05}, daemon=True)
-        thread.start()
-        cls.addClassCleanup(thread.join)
-        cls.addClassCleanup(cls.lab.shutdown)
-        cls.page = Window(cls.browser, cls.lab.address)
-        cls.addClassCleanup(cls.page.close)
-
-    def setUp(self):
-        self.page.get("about:blank")
-        self.page.get(self.lab.address)
-        self.hold(lambda: self.page.js("return window.lab !== undefined && lab.player.film !== null && lab.player.step >= 0"))
-        self.page.errors()
-
-    def tearDown(self):
-        self.assertEqual(self.page.errors(), [])
-
-    def hold(self, condition):
-        """Wait for a condition. The page reacts to a control only when the server has written the new job file."""
-        if not self.page.holds(condition):
-            self.fail(self.page.js("return document.getElementById('fault')?.textContent") or "it does not become true")
-
-    def has(self, wanted, found):
-        """Wait until a call gives this value."""
-        if not self.page.holds(lambda: found() == wanted):
-            self.assertEqual(found(), wanted)
-
-    def has_job(self, wanted):
-        self.has(wanted, self.page.job)
-
-    def has_line(self, wanted):
-        if not self.page.holds(lambda: wanted in self.page.job()):
-            self.assertIn(wanted, self.page.job())
-
-    def has_marks(self, count):
-        """The fundamental diagram has so many points of one sweep; the run may have added its own."""
-        self.hold(lambda: self.page.js("return lab.marks.some(it => it.points.length === arguments[0])", count))
-
-    def pause(self):
-        self.hold(lambda: not self.page.js("return window.lab.isWriting"))
-        if self.page.text("play") == "Pause":
-            self.page.click("play")
-        self.hold(lambda: self.page.js("const it = lab.player; return it.scene?.step === it.step && it.phase === 1 && !it.moving && !it.stale"))
-
-    def run_to(self, step):
-        """Play fast to a step at least, and pause."""
-        self.page.set("rate", 100, "input")
-        self.hold(lambda: not self.page.js("return window.lab.isWriting"))
-        if self.page.text("play") == "Play":
-            self.page.click("play")
-        self.page.later("""const it = lab.player;
-            await new Promise(go => { const look = () => it.step >= words[0] ? go() : requestAnimationFrame(look); look(); });
-            if (it.playing) it.setPlaying(false)""", step)
-        self.pause()
-
-    def open(self, text, name="a.job"):
-        self.page.js("lab.open(arguments[0], arguments[1])", name, text)
+class Pages(LabPages):
+    """The tests, in one browser."""
 
     # The snapshot
 

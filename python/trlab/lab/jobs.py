@@ -10,7 +10,7 @@ from .._errors import ParameterError
 from .._inputs.reading import job_of, sweep_of
 from .._inputs.roads import cars_on
 from .._inputs.rules import Nasch, Own, Rickert, Rule, SlowToStart
-from .._inputs.states import InitialState, even, halved, jammed, lanes_are_told, random_cells
+from .._inputs.states import InitialState, even, halved, jammed, lanes_are_told, moving, random_cells
 from .._inputs.jobs import Job
 from .._inputs.sweeps import Sweep
 from .._inputs.numbers import ALWAYS, MAX_CELLS, MAX_SPEED, checked_key, key_digits, parts, whole
@@ -33,7 +33,7 @@ def job_file(controls: Controls) -> str:
         road: Controls = {"start": controls["road"]}
     else:
         road = {name: controls[name] for name in ("length", "lanes", "cars")}
-        road["start"] = _initial_state(controls["start"], _key(controls))
+        road["start"] = _initial_state(controls["start"], _key(controls, "seed" if "seed" in controls else "key"))
     numbers = {name: controls[name] for name in ("limit", "steps")}
     with lanes_are_told():
         # The page shows where the cars are.
@@ -51,20 +51,20 @@ def sweep_file(controls: Controls) -> str:
     return Sweep(rule=_rule(controls["rule"], lanes), cars=sorted(counts), key=_key(controls), **shape).text()
 
 
-def _key(controls: Controls) -> int:
-    """The key, which is a string of decimal digits, because numbers of JavaScript are too small for it."""
-    key = controls["key"]
+def _key(controls: Controls, name: str = "key") -> int:
+    """The key, or the seed of a random initial state if it is another number: a string of decimal digits, because numbers of
+    JavaScript are too small for it."""
+    key = controls[name]
     if not isinstance(key, str) or not re.fullmatch("[0-9]{1,78}", key):
-        raise ParameterError(f"the key must have 1 to 78 decimal digits, not {key!r:.80}")
+        raise ParameterError(f"the {name} must have 1 to 78 decimal digits, not {key!r:.80}")
     return int(checked_key(int(key)))
 
 
 def _initial_state(name: object, seed: int) -> InitialState:
-    if name == "random":
-        return random_cells(seed)
-    if name not in ("even", "jam"):
-        raise ParameterError(f"the initial state is even, random, jam or file, not {name!r:.80}")
-    return even if name == "even" else jammed
+    states = {"even": even, "moving": moving, "random": random_cells(seed), "jam": jammed}
+    if not isinstance(name, str) or name not in states:
+        raise ParameterError(f"the initial state is even, moving, random, jam or file, not {name!r:.80}")
+    return states[name]
 
 
 def _rule(rule: Controls, lanes: int) -> Rule:

@@ -4,8 +4,9 @@
 import { FIRST, answer, clamp, jobOf, linkOf, roadFits, soon, textOfLink } from "./job.js";
 import { bytesBefore } from "./film.js";
 import { FIGURES, colour, rowsOf } from "./draw.js";
-import { across, diagramFile, diagramOf, pointsOf } from "./diagram.js";
+import { across, boxOf, diagramFile, diagramOf } from "./diagram.js";
 import { Editor, explain, lineOf, messageOf } from "./editor.js";
+import { BRANCHES, Sweeps, stateOf } from "./sweeps.js";
 import { $, Player } from "./player.js";
 import { PythonRules } from "./rules.js";
 
@@ -48,7 +49,7 @@ function drive(source, step = -1) {
   settle();
   const { length, lanes, steps } = job;
   const open = (from, signal) => answer(`run?skip=${bytesBefore(from, { length, lanes })}`, source, signal);
-  means = { from: Math.max(0, step) + Math.min(200, steps >> 2), sum: 0, steps: 0, limit: job.limit, density: job.cars / length / lanes };
+  means = { from: Math.max(0, step) + Math.min(200, steps >> 2), sum: 0, steps: 0, limit: job.limit, length, lanes, density: job.cars / length / lanes };
   [turn, since] = [turn + 1, Infinity];
   complain("");
   if (step < 0) player.load(open, job);
@@ -60,7 +61,8 @@ function count(shot) {
 }
 /** The last run becomes a point of the fundamental diagram: its flow, averaged without the first 200 steps. */
 function settle() {
-  if (means?.steps >= 10) marks.push({ limit: means.limit, points: [{ density: means.density, flow: means.sum / means.steps }] });
+  const { limit, length, lanes, density, sum, steps } = means ?? {};
+  if (steps >= 10) marks.push({ limit, length, lanes, points: [{ density, flow: sum / steps }] });
   marks.splice(0, marks.length - 200);
   means = null;
 }
@@ -178,39 +180,28 @@ const findExact = soon(50, async () => {
   drawDiagram();
 });
 const diagram = () => ({
-  limit: job.limit, density: job.cars / (job.length * job.lanes), flow: means?.steps ? means.sum / means.steps : null, marks,
+  limit: job.limit, length: job.length, lanes: job.lanes, density: job.cars / (job.length * job.lanes), flow: means?.steps ? means.sum / means.steps : null, marks,
   exact: exact.words === asked() ? exact.curve : null,
 });
 function drawDiagram(now = 0) {
-  $("diagram").innerHTML = diagramOf(diagram());
+  const what = diagram();
+  $("diagram").setAttribute("viewBox", boxOf(what));
+  $("diagram").innerHTML = diagramOf(what);
   drawn = now;
 }
 const nameOf = ({ model, p, q }) => ({ nasch: `p ${p}`, vdr: `p ${p}, ${q}`, rickert: `p ${p}, two lanes`, own: "own program" })[model];
-/** Run a sweep, whose table becomes a curve. Its progress is shown on the button. */
-async function sweep(source, name) {
-  $("sweep").disabled = true;
-  try {
-    const reader = (await answer("sweep", source)).body.pipeThrough(new TextDecoderStream()).getReader();
-    let all = "";
-    for (let part = await reader.read(); !part.done; part = await reader.read()) {
-      all += part.value;
-      $("sweep").textContent = `${/.*trlab: (\d+) %/s.exec(all)?.[1] ?? 0} %`;
-    }
-    table = all.replace(/^trlab: .*\n/gm, "");
-    if (!table.startsWith("cars,")) throw new Error(messageOf(await explain("sweep", source)));
-    marks.push({ name, limit: +/^limit (\d+)/m.exec(source)[1], points: pointsOf(table) });
-    $("savesweep").disabled = false;
-    drawDiagram();
-  } catch (fault) {
-    complain(fault);
-  }
-  $("sweep").textContent = "Sweep";
-  $("sweep").disabled = false;
-}
-function sweepNow() {
+const sweeps = new Sweeps((mark, csv) => {
+  marks.push(mark);
+  table = csv;
+  $("savesweep").disabled = false;
+  drawDiagram();
+}, complain);
+/** Sweep the road with the rule in force, from its initial state or from several ones. */
+function sweepNow(id, states) {
   const [warm, measure] = [["warm", 0], ["measure", 1]].map(([id, least]) => $(id).value = clamp(Math.round(+$(id).value) || least, least, 10000));
-  const name = nameOf(inForce());
-  fileOf("sweep", { rule: inForce(), warm, measure }).then(source => sweep(source, name)).catch(complain);
+  const now = structuredClone(job), rule = { ...inForce(), at: 0 };
+  const write = async (kind, more) => (await answer(`file/${kind}`, JSON.stringify({ ...now, rule, rules: [rule], ...more }))).text();
+  return sweeps.from(id, now, nameOf(rule), { warm, measure }, states, write);
 }
 
 // Inputs that you type
@@ -284,7 +275,7 @@ async function load(name, source) {
   }
   job = await jobOf(source);
   await begin();
-  await sweep(source, name.replace(".sweep", "").replaceAll("_", " "));
+  await sweeps.file(source, name.replace(".sweep", "").replaceAll("_", " "));
 }
 /** Rules in Python drive the road from the start; if they change lanes, there are two of them. */
 function loadPython(source) {
@@ -343,11 +334,13 @@ function listen() {
   }
   $("controls").addEventListener("submit", event => event.preventDefault());
   const click = {
-    newkey: () => again({ key: String(crypto.getRandomValues(new Uint32Array(1))[0]) }), sweep: sweepNow, clear: () => { marks = []; drawDiagram(); },
+    newkey: () => again({ key: String(crypto.getRandomValues(new Uint32Array(1))[0]) }), clear: () => { marks = []; drawDiagram(); },
     open: () => $("file").click(), savejob: () => lastFile().then(file => save("traffic.job", [file], "text/plain")), savetable: saveTable,
     savesweep: () => save("sweep.csv", [table], "text/csv"), savefigure: saveFigure, link: copyLink,
   };
   for (const id in click) $(id).onclick = click[id];
+  $("sweep").onclick = () => sweepNow("sweep", [stateOf(job.start)]);
+  $("branches").onclick = () => sweepNow("branches", BRANCHES);
   $("file").onchange = event => event.target.files[0] && openFile(event.target.files[0]);
   $("example").onchange = event => {
     const name = event.target.value;

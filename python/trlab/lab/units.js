@@ -1,0 +1,33 @@
+// Units: those of the model, or kilometres and hours. Nagel and Schreckenberg (1992) take both numbers from traffic: in a jam each
+// car occupies about 7.5 m, which is the length of a cell, and free traffic of 4.5 cells per step drives at about 120 km/h, so
+// that a step takes about 1 s.
+
+const METRES = 7.5, SECONDS = 1;
+const SYSTEMS = {
+  cells: {
+    density: { times: 1, digits: 3, words: "cars per cell", short: "per cell" },
+    flow: { times: 1, digits: 3, words: "cars per step", short: "per step" },
+    speed: { times: 1, digits: 2, words: "cells per step", short: "cells/step" },
+  },
+  road: {
+    density: { times: 1000 / METRES, digits: 1, words: "vehicles per km", short: "per km" },
+    flow: { times: 3600 / SECONDS, digits: 0, words: "vehicles per hour", short: "per hour" },
+    speed: { times: 3.6 * METRES / SECONDS, digits: 0, words: "km/h", short: "km/h" },
+  },
+};
+
+/** The units that the page shows: "cells" or "road". */
+export const units = { now: "cells" };
+export const unitOf = kind => SYSTEMS[units.now][kind];
+/** A density, flow or speed in the shown unit, as a number and in words. */
+export const converted = (kind, number) => number * unitOf(kind).times;
+export const shownAs = (kind, number) => converted(kind, number).toFixed(unitOf(kind).digits);
+/** A speed in cells per step with its unit. */
+export const speedWords = number => `${+converted("speed", number).toFixed(2)} ${unitOf("speed").words}`;
+
+/** The ticks of an axis from 0 to `most` of the model's unit: round numbers of the shown unit, each with its place. */
+export function ticks(kind, most, count = 5) {
+  const { times } = unitOf(kind), high = most * times, rough = high / count, power = 10 ** Math.floor(Math.log10(rough));
+  const step = [1, 2, 5, 10].find(it => it * power >= rough * 0.999) * power;
+  return Array.from({ length: Math.floor(high / step + 1e-9) + 1 }, (_, k) => ({ at: k * step / times, words: String(+(k * step).toPrecision(6)) }));
+}
