@@ -321,7 +321,8 @@ class Pages(LabPages):
 
     def test_every_example(self):
         texts = server.examples()
-        self.assertEqual(self.page.js("return [...document.querySelectorAll('#example option')].slice(1).map(it => it.value)"), list(texts))
+        listed = self.page.js("return [...document.querySelectorAll('#example option')].slice(1).map(it => it.value)")
+        self.assertCountEqual([name for name in listed if "." in name], texts)
         for name, text in texts.items():
             with self.subTest(name=name):
                 self.page.set("example", name)

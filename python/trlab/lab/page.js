@@ -6,6 +6,8 @@ import { bytesBefore } from "./film.js";
 import { FIGURES, colour, rowsOf } from "./draw.js";
 import { across, boxOf, diagramFile, diagramOf } from "./diagram.js";
 import { Editor, explain, lineOf, messageOf } from "./editor.js";
+import { tellModel } from "./models.js";
+import { listExamples, tellExample } from "./phenomena.js";
 import { BRANCHES, Sweeps, stateOf } from "./sweeps.js";
 import { $, Player } from "./player.js";
 import { PythonRules } from "./rules.js";
@@ -151,6 +153,7 @@ function show(force = false) {
   $("q").parentNode.hidden = rule.model !== "vdr" && rule.model !== "rickert";
   $("q").parentNode.querySelector("label").textContent = rule.model === "vdr" ? "When stopped" : "Lane changes";
   $("start").querySelector("[value=file]").hidden = !job.road;
+  tellModel(rule.model);
   $("own").hidden = !own;
   $("changepart").hidden = job.lanes === 1;
   python.compare(rule, job.lanes);
@@ -277,6 +280,13 @@ async function load(name, source) {
   await begin();
   await sweeps.file(source, name.replace(".sweep", "").replaceAll("_", " "));
 }
+/** An example that has no file: set the controls, and sweep from moving and from jammed cars. */
+async function showBranches(what) {
+  Object.assign(job, structuredClone(what));
+  await begin();
+  show(true);
+  await sweepNow("branches", BRANCHES);
+}
 /** Rules in Python drive the road from the start; if they change lanes, there are two of them. */
 function loadPython(source) {
   if (/^@(trlab\.)?change\b/m.test(source) && job.lanes === 1) resize({ lanes: 2 });
@@ -343,8 +353,9 @@ function listen() {
   $("branches").onclick = () => sweepNow("branches", BRANCHES);
   $("file").onchange = event => event.target.files[0] && openFile(event.target.files[0]);
   $("example").onchange = event => {
-    const name = event.target.value;
-    if (name) load(name, examples[name]).catch(complain);
+    const name = event.target.value, found = tellExample(name);
+    if (found?.job) showBranches(found.job).catch(complain);
+    else if (name) load(name, examples[name]).catch(complain);
   };
   $("numbers").ontoggle = () => player.redraw();
   $("diagram").onclick = event => {
@@ -359,7 +370,7 @@ function listen() {
 }
 async function start() {
   examples = await (await fetch("examples")).json();
-  $("example").append(...Object.keys(examples).map(name => new Option(name, name)));
+  listExamples($("example"), examples);
   listen();
   if (!await openLink()) begin();
 }

@@ -27,7 +27,7 @@ PIECE = 65536
 PATIENCE = 2.0
 """How long a run waits for a free processor, in seconds."""
 
-SCRIPTS = ("job", "units", "film", "draw", "sweeps", "diagram", "editor", "player", "rules", "page")
+SCRIPTS = ("job", "units", "film", "draw", "editor", "sweeps", "diagram", "player", "rules", "models", "phenomena", "page")
 FILES = {
     "": ("page.html", "text/html"),
     "page.css": ("page.css", "text/css"),
