@@ -69,7 +69,7 @@ function drawAxes({ up, ground, most, top, exact }) {
   const sample = (x, name, stroke, width) => tag("path", { d: `M${x} ${ground + 28}h16`, stroke, "stroke-width": width }) + words(x + 21, ground + 32, name);
   return [
     tag("path", { d: `M${across(0)} ${ground}H${across(1)}`, stroke: INK }),
-    ...ticks("density", 1, 6).map(it => words(across(it.at), ground + 16, it.words, { "text-anchor": "middle" })),
+    ...ticks("density", 1, 7).map(it => words(across(it.at), ground + 16, it.words, { "text-anchor": "middle" })),
     ...ticks("flow", top).slice(1).filter(it => it.at < 0.97 * top).map(it => words(28, up(it.at) + 4, it.words, { "text-anchor": "end" })),
     words(across(1), ground + 32, `density (${unitOf("density").words})`, { "text-anchor": "end" }),
     sample(34, "maximum", SOFT, 1), exact ? sample(124, "exact", EXACT, 3) : "",

@@ -2,6 +2,7 @@
 // { film, step, scene, share, lens, car }. `share` is the part of the way from the step before, 0 to 1.
 
 import { EMPTY, clamp, speedOf, upTo } from "./job.js";
+import { mostOf, unitOf } from "./units.js";
 
 export const ACCENT = "#1d5f9e", INK = "#16191d", SOFT = "#656d78";
 const LINE = "#e3e6ea", WASH = "#f1f3f5", FAINT = "#cdd3da", OTHER = "#c8501e";
@@ -284,6 +285,8 @@ export function drawCurves(pen, width, height, view, rows) {
     };
     pen.fillStyle = LINE;
     pen.fillRect(left, 0, 1, height);
+    pen.fillStyle = WASH;
+    for (const part of [0.5, 1]) pen.fillRect(left + 1 + (wide - 2) * part, 0, 1, height);
     if (name === "density") return upTo(film.lanes).forEach(lane => curve(lane ? OTHER : ACCENT, shots.map(it => it.densities[lane])));
     curve(FAINT, shots.map(it => it[name]));
     curve(ACCENT, smooth(film, name, top, step));
@@ -328,8 +331,12 @@ export const FIGURES = {
   curves(view) {
     const pen = new SvgPen(), foot = timeAxis(pen, view);
     drawCurves(pen, 480, foot, view, rowsOf(view, 1000, 300));
-    const { limit } = view.film, titles = [`flow, 0 to ${+(limit / (limit + 1)).toFixed(2)}`, "density, 0 to 1", `speed, 0 to ${limit}`, "stopped, 0 to 1"];
-    titles.forEach((words, k) => pen.text(words, k * 123.5, -8));
-    return pen.image(480, foot, [28, 8, 8, 70]);
+    const { limit } = view.film, most = { flow: limit / (limit + 1), density: 1, speed: limit };
+    const titles = Object.entries(most).map(([kind, end]) => [`${kind}, 0 to ${mostOf(kind, end)}`, unitOf(kind).words]);
+    [...titles, ["stopped, 0 to 1", ""]].forEach(([words, unit], k) => {
+      pen.text(words, k * 123.5, -22);
+      if (unit) pen.text(unit, k * 123.5, -8);
+    });
+    return pen.image(480, foot, [42, 8, 8, 70]);
   },
 };

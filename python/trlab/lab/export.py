@@ -18,7 +18,7 @@ if TYPE_CHECKING:
     from .._results.snapshots import Snapshots
 
 HERE = Path(__file__).resolve().parent
-SCRIPTS = ("job", "film", "draw", "player", "exported")
+SCRIPTS = ("job", "units", "film", "draw", "following", "player", "exported")
 MAX_BYTES = 256 * 1024 * 1024
 """The maximum size of the snapshots in one file, before they are compressed."""
 

@@ -6,8 +6,10 @@ import { bytesBefore } from "./film.js";
 import { FIGURES, colour, rowsOf } from "./draw.js";
 import { across, boxOf, diagramFile, diagramOf } from "./diagram.js";
 import { Editor, explain, lineOf, messageOf } from "./editor.js";
+import { disturbanceWords, disturbed } from "./disturbance.js";
 import { tellModel } from "./models.js";
 import { listExamples, tellExample } from "./phenomena.js";
+import { units } from "./units.js";
 import { BRANCHES, Sweeps, stateOf } from "./sweeps.js";
 import { $, Player } from "./player.js";
 import { PythonRules } from "./rules.js";
@@ -29,6 +31,8 @@ const python = new PythonRules(({ motion, change }, isNew) => {
 const fileOf = async (kind, more) => (await answer(`file/${kind}`, JSON.stringify({ ...job, ...more }))).text();
 const player = new Player({
   shot: count,
+  rule: step => step < 0 ? undefined : ruleAt(step),
+  keys: { b: brake, B: brake },
   moved(now) {
     if (inForce() !== shown) show();
     if (now - drawn > 100 || !player.playing) drawDiagram(now);
@@ -42,7 +46,8 @@ globalThis.lab = { // for the console and for tests
 
 /** The rule that the cars follow at the step that is shown. */
 let shown = null;
-const inForce = () => job.rules.findLast(rule => rule.at <= Math.max(0, player.step)) ?? job.rules[0];
+const inForce = () => ruleAt(Math.max(0, player.step));
+function ruleAt(step) { return job.rules.findLast(rule => rule.at <= step) ?? job.rules[0]; }
 
 // Runs
 
@@ -103,6 +108,17 @@ function changeRule(what) {
   }
   job.rules = [...job.rules.filter(other => other.at < step), { ...rule, at: step }];
   return runJob(step);
+}
+/** The followed car brakes to a stop: the run goes on from this road, as a new job. */
+async function brake() {
+  const { car, film } = player, { length, lanes, limit } = job;
+  if (!car || since < Infinity || film.length !== length || film.lanes !== lanes || film.limit !== limit) return;
+  job = disturbed(job, film, car);
+  $("story").textContent = disturbanceWords(car, lanes);
+  await begin();
+  player.car = { ...car, step: 0 };
+  player.redraw();
+  show(true);
 }
 /** Change the length or the lanes, and keep the density. */
 function resize(what) {
@@ -344,12 +360,18 @@ function listen() {
   }
   $("controls").addEventListener("submit", event => event.preventDefault());
   const click = {
-    newkey: () => again({ key: String(crypto.getRandomValues(new Uint32Array(1))[0]) }), clear: () => { marks = []; drawDiagram(); },
+    brake, newkey: () => again({ key: String(crypto.getRandomValues(new Uint32Array(1))[0]) }), clear: () => { marks = []; drawDiagram(); },
     open: () => $("file").click(), savejob: () => lastFile().then(file => save("traffic.job", [file], "text/plain")), savetable: saveTable,
     savesweep: () => save("sweep.csv", [table], "text/csv"), savefigure: saveFigure, link: copyLink,
   };
   for (const id in click) $(id).onclick = click[id];
   $("sweep").onclick = () => sweepNow("sweep", [stateOf(job.start)]);
+  $("units").onchange = () => {
+    units.now = $("units").value;
+    player.legend(job.limit);
+    player.redraw();
+    drawDiagram();
+  };
   $("branches").onclick = () => sweepNow("branches", BRANCHES);
   $("file").onchange = event => event.target.files[0] && openFile(event.target.files[0]);
   $("example").onchange = event => {

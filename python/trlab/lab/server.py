@@ -27,7 +27,10 @@ PIECE = 65536
 PATIENCE = 2.0
 """How long a run waits for a free processor, in seconds."""
 
-SCRIPTS = ("job", "units", "film", "draw", "editor", "sweeps", "diagram", "player", "rules", "models", "phenomena", "page")
+SCRIPTS = (
+    "job", "units", "film", "draw", "editor", "sweeps", "diagram", "following", "player", "rules", "models", "phenomena",
+    "disturbance", "page",
+)
 FILES = {
     "": ("page.html", "text/html"),
     "page.css": ("page.css", "text/css"),

@@ -10,7 +10,7 @@ const SYSTEMS = {
     speed: { times: 1, digits: 2, words: "cells per step", short: "cells/step" },
   },
   road: {
-    density: { times: 1000 / METRES, digits: 1, words: "vehicles per km", short: "per km" },
+    density: { times: 1000 / METRES, digits: 0, words: "vehicles per km", short: "per km" },
     flow: { times: 3600 / SECONDS, digits: 0, words: "vehicles per hour", short: "per hour" },
     speed: { times: 3.6 * METRES / SECONDS, digits: 0, words: "km/h", short: "km/h" },
   },
@@ -19,15 +19,26 @@ const SYSTEMS = {
 /** The units that the page shows: "cells" or "road". */
 export const units = { now: "cells" };
 export const unitOf = kind => SYSTEMS[units.now][kind];
-/** A density, flow or speed in the shown unit, as a number and in words. */
+/** A density, flow or speed in the shown unit, as a number and in words, with more digits if they are asked for. */
 export const converted = (kind, number) => number * unitOf(kind).times;
-export const shownAs = (kind, number) => converted(kind, number).toFixed(unitOf(kind).digits);
+export const shownAs = (kind, number, more = 0) => converted(kind, number).toFixed(unitOf(kind).digits + more);
 /** A speed in cells per step with its unit. */
-export const speedWords = number => `${+converted("speed", number).toFixed(2)} ${unitOf("speed").words}`;
+export const speedWords = number => `${+converted("speed", number).toFixed(2)} ${units.now === "cells" && number === 1 ? "cell per step" : unitOf("speed").words}`;
+/** A number of cells as a length. */
+export const lengthWords = cells => units.now === "road" ? `${cells * METRES} m` : `${cells} ${cells === 1 ? "cell" : "cells"}`;
 
 /** The ticks of an axis from 0 to `most` of the model's unit: round numbers of the shown unit, each with its place. */
-export function ticks(kind, most, count = 5) {
+export function ticks(kind, most, count = 6) {
   const { times } = unitOf(kind), high = most * times, rough = high / count, power = 10 ** Math.floor(Math.log10(rough));
   const step = [1, 2, 5, 10].find(it => it * power >= rough * 0.999) * power;
   return Array.from({ length: Math.floor(high / step + 1e-9) + 1 }, (_, k) => ({ at: k * step / times, words: String(+(k * step).toPrecision(6)) }));
 }
+
+/** Write the units and the scales above the curves, whose axes end at the most that a run can have. */
+export function tellUnits(limit) {
+  const most = { flow: limit / (limit + 1), density: 1, speed: limit };
+  for (const place of document.querySelectorAll("[data-unit]")) place.textContent = unitOf(place.dataset.unit).short;
+  for (const place of document.querySelectorAll("[data-most]")) place.textContent = mostOf(place.dataset.most, most[place.dataset.most]);
+}
+/** The end of an axis in the shown unit. */
+export const mostOf = (kind, most) => String(converted(kind, most) < 100 ? +converted(kind, most).toPrecision(2) : Math.round(converted(kind, most)));
