@@ -8,8 +8,7 @@ from fractions import Fraction
 from pathlib import Path
 
 from trlab import Job, Nasch, Own, ParameterError, RejectedInputError, Rickert, SlowToStart, Sweep, TrlabWarning
-from trlab import check, exact, explain, random_cells
-from trlab.lab import jobs as lab_jobs
+from trlab import check, explain
 
 TOP = Path(__file__).resolve().parents[2]
 ZERO = f"key {64 * '0'}\n"
@@ -110,94 +109,6 @@ def explain_as(command, text):
     return explained(text, command).stdout.rstrip("\n")
 
 
-class Controls(unittest.TestCase):
-    def test_every_job_is_the_same_after_the_page(self):
-        for path in files(".job"):
-            controls = json.loads(lab_jobs.answer("controls", path.read_bytes()))
-            self.assertEqual(lab_jobs.answer("file/job", json.dumps(controls).encode()), path.read_bytes(), path)
-
-    def test_the_work_grows_with_the_lines_only(self):
-        text = JOB.replace("lane 0..3.\n", 200000 * "lane 0..3.\n")
-        # One reader: it goes through the lines once, and makes one list of the lanes.
-        self.assertEqual(len(lab_jobs.controls_of(text)["road"]), 200000)
-
-    RULE = {"at": 0, "model": "vdr", "p": 0.25, "q": "1/3", "motion": "", "change": ""}
-    RULES = [RULE, {**RULE, "at": 3}]
-    ROAD = {"key": "7", "limit": 5, "lanes": 2, "length": 50, "cars": 20, "start": "random", "steps": 9, "rules": RULES}
-    SWEPT = {**ROAD, "rule": RULE, "warm": 3, "measure": 4}
-    OTHERS = [True, False, 1.5, None, [], {}, float("nan"), float("inf"), -1, 10**400, "x", "5"]
-
-    def refuses(self, name, body):
-        with self.assertRaises(ValueError, msg=(name, body)):
-            lab_jobs.answer(name, json.dumps(body).encode())
-
-    def job(self, **controls):
-        return lab_jobs.answer("file/job", json.dumps({**self.ROAD, **controls}).encode()).decode()
-
-    def test_the_job_of_a_request(self):
-        rule = SlowToStart(0.25, "1/3")
-        job = Job(limit=5, lanes=2, length=50, cars=20, start=random_cells(7), rule=rule, steps=9, key=7, at={3: rule})
-        self.assertEqual(self.job(), job.text())
-        for lanes in ["0..", "1.."], ["0.."]:
-            self.assertIn(f"lane {lanes[0]}\n", self.job(start="file", road=lanes))
-
-    def test_numbers_of_requests(self):
-        for value in self.OTHERS:
-            for field in "limit", "lanes", "length", "cars", "steps":
-                self.refuses("file/job", {**self.ROAD, field: value})
-            for field in "limit", "lanes", "length", "warm", "measure":
-                self.refuses("file/sweep", {**self.SWEPT, field: value})
-            for step in {"at": value}, {"model": value}:
-                self.refuses("file/job", {**self.ROAD, "rules": [{**self.RULE, **step}]})
-                self.refuses("file/job", {**self.ROAD, "rules": [self.RULE, {**self.RULE, **step}]})
-            self.refuses("file/job", {**self.ROAD, "start": value})
-        for value in [*self.OTHERS[:-1], 7, -1, "-1", "7.0", " 7", "1_0", "\u0663", str(2**256), ""]:
-            self.refuses("file/job", {**self.ROAD, "key": value})
-            self.refuses("file/sweep", {**self.SWEPT, "key": value})
-        for value in [*self.OTHERS, "nan", "1e-99999999", 1.001, "5/4"]:
-            self.refuses("file/job", {**self.ROAD, "rules": [{**self.RULE, "p": value}]})
-            self.refuses("file/sweep", {**self.SWEPT, "rule": {**self.RULE, "q": value}})
-        self.refuses("file/job", {**self.ROAD, "rules": [self.RULE, {**self.RULE, "at": 3}, {**self.RULE, "at": 3}]})
-        for lanes in ["0..", "1."], ["0..", "..", ".."], [0, 1], ["x"], None:
-            self.refuses("file/job", {**self.ROAD, "start": "file", "road": lanes})
-
-    def curve(self, rule, limit=1, length=12, lanes=1):
-        body = {"limit": limit, "length": length, "lanes": lanes, "rule": {**self.RULE, **rule}}
-        return json.loads(lab_jobs.answer("exact", json.dumps(body).encode()))
-
-    def test_exact_curves(self):
-        triangle = {"kind": "triangle", "points": [[0, 0], [0.25, 0.75], [1, 0]]}
-        gap_rule = {"model": "own", "motion": f"motion\n{exact.gap_rule.motion}"}
-        for rule in {"model": "nasch", "p": 0}, {"model": "vdr", "p": 0, "q": 0}, gap_rule:
-            self.assertEqual(self.curve(rule, limit=3), triangle)
-            self.assertIsNone(self.curve(rule, limit=3, lanes=2))
-        flows = [[cars / 12, exact.flow_as_float(12, cars, "1/3")] for cars in range(13)]
-        for rule in {"model": "nasch", "p": "1/3"}, {"model": "vdr", "p": "1/3", "q": "1/3"}:
-            self.assertEqual(self.curve(rule), {"kind": "stationary", "points": flows})
-            self.assertIsNone(self.curve(rule, limit=2))
-            self.assertIsNone(self.curve(rule, lanes=2))
-        self.assertEqual(len(self.curve({"model": "nasch", "p": 0.5}, length=100000)["points"]), 101)
-        for rule in {"model": "vdr", "p": 0, "q": 0.5}, {"model": "own", "motion": "motion\nnum r0, 0\ngo r0\n"}:
-            self.assertIsNone(self.curve(rule))
-        for value in self.OTHERS:
-            for field in "limit", "length", "lanes", "rule":
-                self.refuses("exact", {"limit": 1, "length": 12, "lanes": 1, "rule": self.RULE, field: value})
-            self.refuses("exact", {"limit": 1, "length": 12, "lanes": 1, "rule": {**self.RULE, "p": value}})
-
-    def test_the_sweep_of_two_lanes_has_cars_on_both(self):
-        rule = {"model": "nasch", "p": 0, "q": 0}
-        body = {"key": "7", "limit": 5, "lanes": 2, "length": 500, "rule": rule, "warm": 3, "measure": 4}
-        with warnings.catch_warnings():
-            warnings.simplefilter("error")
-            text = lab_jobs.answer("file/sweep", json.dumps(body).encode()).decode()
-            counts = Sweep.from_text(text).counts()
-        for cars in counts:
-            lanes = Job(limit=5, lanes=2, length=500, cars=cars, rule=Nasch(0), steps=0).run()[0].lanes
-            self.assertLessEqual(abs(lanes[0].count("0") - lanes[1].count("0")), 1)
-        self.assertEqual(len(counts), 30)
-        self.assertTrue(all(abs(cars - density * 1000) <= 2 for cars, density in zip(counts, lab_jobs.DENSITIES)))
-
-
 try:
     from hypothesis import given, settings, strategies as st
 except ImportError:
@@ -241,10 +152,6 @@ else:
         @given(jobs())
         def test_jobs(self, job):
             self.again(job)
-            controls = json.loads(lab_jobs.answer("controls", job.text().encode()))
-            # The page writes keys in small letters.
-            again = lab_jobs.answer("file/job", json.dumps(controls).encode()).decode()
-            self.assertEqual(again, replace(job, key=f"{int(controls['key']):064x}").text())
 
         @settings(deadline=None, database=None, derandomize=True, max_examples=100)
         @given(sweeps())

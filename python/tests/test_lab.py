@@ -20,7 +20,7 @@ from pathlib import Path
 from unittest import mock
 
 from tests.waiting import LIMIT, holds
-from trlab import Job, Nasch, Snapshot, Snapshots, RejectedInputError, Rickert, random_cells
+from trlab import Job, Nasch, Snapshot, Snapshots, RejectedInputError
 from trlab.lab import Lab, page_of, server
 from trlab.lab.__main__ import fragment, main
 from trlab._rules.functions import rules_in
@@ -163,34 +163,9 @@ class Rules(Serving):
         # The text is read, and not run.
         self.assertEqual(self.rules("import os\nos.abort()\n" + text, values={"f": {"g": 1}})["line"], 5)
 
-
-class Files(Serving):
-    def controls(self, text):
-        return json.loads(self.text("controls", text))
-
-    def file(self, kind, controls):
-        return self.ask(f"file/{kind}", json.dumps(controls))
-
-    def test_every_job_again(self):
-        wordy = "road 1\nkey " + "f" * 64 + "\nlimit 35\nlane z.\nlane ..\nrule own\ncode 0\nchange\nstay\nend\nsteps 9\nat 3 rule vdr 1 2147483648\n"
-        for text in [wordy, *(text for name, text in server.examples().items() if name.endswith(".job"))]:
-            got = self.file("job", self.controls(text))
-            self.assertEqual((got.status, got.read().decode()), (200, text))
-
-    def test_controls(self):
-        found = self.controls((EXAMPLES / "weather.job").read_text())
-        self.assertEqual([rule["at"] for rule in found["rules"]], [0, *(rule["at"] for rule in found["rules"][1:])])
-        rule = {"at": 0, "model": "rickert", "p": 0.25, "q": "1/3", "motion": "", "change": ""}
-        road = {"key": "7", "limit": 5, "lanes": 2, "length": 50, "cars": 20, "start": "random", "steps": 9, "rules": [rule]}
-        job = Job(limit=5, lanes=2, length=50, cars=20, start=random_cells(7), rule=Rickert(0.25, "1/3"), steps=9, key=7)
-        self.assertEqual(self.file("job", road).read().decode(), job.text())
-        sweep = self.file("sweep", {**road, "rule": rule, "warm": 3, "measure": 4}).read().decode()
-        self.assertIn("\nlength 50\nlanes 2\nrule rickert 536870912 715827883\nwarm 3\nmeasure 4\ncars 1\ncars 4\n", sweep)
-        self.assertEqual(ask(["explain", "sweep"], sweep).splitlines()[0], "This is a valid sweep: `trlab sweep` runs it.")
-
-    def test_errors(self):
-        for name, body in ("file/job", b"{"), ("file/job", b"{}"), ("file/sweep", b"[]"), ("controls", b"\xff"), ("controls", b"road 1\nat"):
-            self.assertEqual(self.ask(name, body).status, 400, (name, body))
+    def test_requests_of_another_form(self):
+        for body in b"{", b"[]", b"\xff", b"null", b'{"text": 1}', b"[" * 100000:
+            self.assertEqual(self.ask("rules", body).status, 400, body[:9])
 
 
 class Refusals(Serving):

@@ -4,7 +4,9 @@
 import { EMPTY, clamp, speedOf, upTo } from "./job.js";
 import { mostOf, unitOf } from "./units.js";
 
-export const ACCENT = "#1d5f9e", INK = "#16191d", SOFT = "#656d78";
+export const ACCENT = "#1d5f9e";
+export const INK = "#16191d";
+export const SOFT = "#656d78";
 const LINE = "#e3e6ea", WASH = "#f1f3f5", FAINT = "#cdd3da", OTHER = "#c8501e";
 // Dark red, orange, sky, blue: these differ in lightness too, and without red and green.
 const RAMP = [[122, 16, 22], [208, 66, 24], [243, 154, 46], [142, 196, 232], [76, 142, 200], [26, 86, 150]];

@@ -1,6 +1,7 @@
 // Editors of inputs, and the verdicts of trlab on them.
 
-import { answer, upTo } from "./job.js";
+import { answer } from "./carrier.js";
+import { upTo } from "./job.js";
 
 /** What trlab says of an input: the object that `trlab explain --json` prints. */
 export const explain = async (kind, text) => (await answer(`explain/${kind}`, text)).json();

@@ -3,22 +3,19 @@ from __future__ import annotations
 
 import base64
 import gzip
-import hashlib
 import json
 import re
 from html import escape
-from pathlib import Path
 from collections.abc import Iterator
 from typing import TYPE_CHECKING, Optional
 
 from .._runs.calls import ask_by_line
 from .._inputs.states import SPEEDS
+from .scripts import HERE, joined, sum_of
 
 if TYPE_CHECKING:
     from .._results.snapshots import Snapshots
 
-HERE = Path(__file__).resolve().parent
-SCRIPTS = ("job", "units", "film", "draw", "following", "player", "exported")
 MAX_BYTES = 256 * 1024 * 1024
 """The maximum size of the snapshots in one file, before they are compressed."""
 
@@ -75,18 +72,12 @@ def _page(lines: Iterator[str], limit: int, title: str) -> str:
     job = {"length": len(lanes[0]), "lanes": len(lanes), "limit": limit, "steps": steps}
     rings = "two rings" if len(lanes) == 2 else "a ring"
     lead = f"{cars} {'car' if cars == 1 else 'cars'} on {rings} of {len(lanes[0])} cells, at most {limit} cells per step"
-    script, style = _script(), (HERE / "page.css").read_text("utf-8")
+    script, style = joined("exported"), (HERE / "page.css").read_text("utf-8")
     packed = base64.b64encode(gzip.compress("".join(output).encode(), 9, mtime=0)).decode()
     return _PAGE.format(
         title=escape(title or lead), lead=escape(title or lead) + ("" if title else "."), style=style, script=script,
-        style_sum=_sum(style), script_sum=_sum(script), parts=_parts(), job=json.dumps(job), run=packed,
+        style_sum=sum_of(style), script_sum=sum_of(script), parts=_parts(), job=json.dumps(job), run=packed,
     )
-
-
-def _script() -> str:
-    """The scripts as one: without `import` lines and the word `export`."""
-    texts = [(HERE / f"{name}.js").read_text("utf-8") for name in SCRIPTS]
-    return re.sub(r"^export ", "", re.sub(r"^import .*;\n", "", "\n".join(texts), flags=re.M), flags=re.M)
 
 
 def _parts() -> str:
@@ -94,7 +85,3 @@ def _parts() -> str:
     page = (HERE / "page.html").read_text("utf-8")
     forms = r'<figure class="ring">.*?</figure>', r'<section class="transport".*?</section>', r'<section class="time".*?role="status"></p>'
     return "\n".join(found[0] for form in forms if (found := re.search(form, page, re.S)))
-
-
-def _sum(text: str) -> str:
-    return f"'sha256-{base64.b64encode(hashlib.sha256(text.encode()).digest()).decode()}'"

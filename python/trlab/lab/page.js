@@ -1,7 +1,11 @@
-// The page of trlab-lab. The job file is the only truth: a control changes the job, the server writes the job as a file,
-// trlab reads the file, and the page draws the snapshots that come back. A file that you type goes back into the controls.
+// The page of trlab-lab. The job file is the only truth: a control changes the job, which is written as a file, trlab reads the
+// file, and the page draws the snapshots that come back. A file that you type goes back into the controls.
 
-import { FIRST, answer, clamp, jobOf, linkOf, roadFits, soon, textOfLink } from "./job.js";
+import { FIRST, clamp, linkOf, roadFits, soon, textOfLink } from "./job.js";
+import { answer, exampleInputs, isAlone } from "./carrier.js";
+import { jobFile, sweepFile } from "./jobs.js";
+import { jobOf } from "./reading.js";
+import { exactCurve } from "./exact.js";
 import { bytesBefore } from "./film.js";
 import { FIGURES, colour, rowsOf } from "./draw.js";
 import { across, boxOf, diagramFile, diagramOf } from "./diagram.js";
@@ -12,11 +16,13 @@ import { listExamples, tellExample } from "./phenomena.js";
 import { units } from "./units.js";
 import { BRANCHES, Sweeps, stateOf } from "./sweeps.js";
 import { $, Player } from "./player.js";
-import { PythonRules } from "./rules.js";
+import { PythonRules, WITHOUT_SERVER } from "./rules.js";
 
 const MOST_BYTES = 4194304, MAX_CELLS = 100000;
+/** The milliseconds for which changes are collected before they are run, for example those of a slider that moves. */
+const COLLECTING = 25;
 let job = structuredClone(FIRST), examples = {}, marks = [], means = null, table = "", drawn = 0;
-let turn = 0, since = Infinity; // the number of the last request for a file, and the first step that it changes (-1: the road)
+let since = Infinity; // the first step that changes, as long as the change is not run (-1: the road)
 const motion = new Editor("motion"), change = new Editor("change"), text = new Editor("text");
 const complain = fault => { $("fault").textContent = fault.message ?? fault; };
 /** The rules in Python, whose programs the cars follow from the shown step on. */
@@ -27,8 +33,6 @@ const python = new PythonRules(({ motion, change }, isNew) => {
     begin();
   } else if (rule.model !== "own" || found.motion !== rule.motion || found.change !== rule.change) changeRule({ model: "own", ...found });
 }, complain);
-/** The file that the server writes for the job. */
-const fileOf = async (kind, more) => (await answer(`file/${kind}`, JSON.stringify({ ...job, ...more }))).text();
 const player = new Player({
   shot: count,
   rule: step => step < 0 ? undefined : ruleAt(step),
@@ -57,7 +61,7 @@ function drive(source, step = -1) {
   const { length, lanes, steps } = job;
   const open = (from, signal) => answer(`run?skip=${bytesBefore(from, { length, lanes })}`, source, signal);
   means = { from: Math.max(0, step) + Math.min(200, steps >> 2), sum: 0, steps: 0, limit: job.limit, length, lanes, density: job.cars / length / lanes };
-  [turn, since] = [turn + 1, Infinity];
+  since = Infinity;
   complain("");
   if (step < 0) player.load(open, job);
   else player.resume(open, steps, step);
@@ -79,20 +83,20 @@ function begin() {
   if (job.rules.some(rule => rule.live)) job.rules = [{ ...inForce(), at: 0, live: false }];
   return runJob();
 }
-let written;
+let written = null;
 /** The job file, once it has the last change of the controls. */
 const lastFile = async () => (await written, text.value);
-/** Run the job from the start, or on from a step. If it changes again while the server writes its file, it is run once, from
- * the first step that has changed. */
+/** Run the job from the start, or on from a step. If it changes again soon, it is run once, from the first step that has changed. */
 function runJob(step = -1) {
-  return written = writeJob(step);
-}
-async function writeJob(step) {
   since = Math.min(since, step);
-  const now = ++turn, source = await fileOf("job").catch(complain);
-  if (now !== turn || source === undefined) return;
-  text.value = source;
-  drive(source, since);
+  return written ??= new Promise(go => setTimeout(go, COLLECTING)).then(() => {
+    written = null;
+    if (since < Infinity) writeJob();
+  }).catch(complain);
+}
+function writeJob() {
+  text.value = jobFile(job);
+  drive(text.value, since);
   show();
   judge();
 }
@@ -178,29 +182,30 @@ function show(force = false) {
     place.value = rule[id];
     judgeProgram(id, place);
   }
-  findExact();
   drawDiagram();
 }
 
 // The fundamental diagram
 
-/** The road and the rule of the exact curve, and the last curve that the server has sent, with the words that asked for it. */
-const asked = () => {
-  const { limit, length, lanes } = job, { model, p, q, motion, change } = inForce();
-  return JSON.stringify({ limit, length, lanes, rule: { model, p, q, motion, change } });
-};
 let exact = { words: "", curve: null };
-const findExact = soon(50, async () => {
-  const words = asked();
-  if (words === exact.words) return;
-  const curve = await answer("exact", words).then(got => got.json()).catch(() => null);
-  if (words !== asked()) return; // the call for the new words is on its way
-  exact = { words, curve: curve && { ...curve, points: curve.points.map(([density, flow]) => ({ density, flow })) } };
-  drawDiagram();
-});
+/** The exact curve of the road and the rule, made again if they have changed; null if it is not known, or if the rule is not one. */
+function exactNow() {
+  const { limit, length, lanes } = job, { model, p, q, motion, change } = inForce(), asked = { limit, length, lanes, rule: { model, p, q, motion, change } };
+  const words = JSON.stringify(asked);
+  if (words !== exact.words) exact = { words, curve: known(asked) };
+  return exact.curve;
+}
+function known(asked) {
+  try {
+    return exactCurve(asked);
+  } catch (fault) {
+    if (fault instanceof RangeError) return null; // The job file of this rule has the same fault, which is shown.
+    throw fault;
+  }
+}
 const diagram = () => ({
-  limit: job.limit, length: job.length, lanes: job.lanes, density: job.cars / (job.length * job.lanes), flow: means?.steps ? means.sum / means.steps : null, marks,
-  exact: exact.words === asked() ? exact.curve : null,
+  limit: job.limit, length: job.length, lanes: job.lanes, density: job.cars / (job.length * job.lanes),
+  flow: means?.steps ? means.sum / means.steps : null, marks, exact: exactNow(),
 });
 function drawDiagram(now = 0) {
   const what = diagram();
@@ -219,7 +224,7 @@ const sweeps = new Sweeps((mark, csv) => {
 function sweepNow(id, states) {
   const [warm, measure] = [["warm", 0], ["measure", 1]].map(([id, least]) => $(id).value = clamp(Math.round(+$(id).value) || least, least, 10000));
   const now = structuredClone(job), rule = { ...inForce(), at: 0 };
-  const write = async (kind, more) => (await answer(`file/${kind}`, JSON.stringify({ ...now, rule, rules: [rule], ...more }))).text();
+  const write = (kind, more) => (kind === "sweep" ? sweepFile : jobFile)({ ...now, rule, rules: [rule], ...more });
   return sweeps.from(id, now, nameOf(rule), { warm, measure }, states, write);
 }
 
@@ -251,10 +256,7 @@ async function judgeProgram(id, place) {
   return "";
 }
 const judge = soon(250, judgeText);
-text.changed = soon(300, async () => {
-  const source = await judgeText();
-  if (source !== null) take(source, () => source === text.value).catch(complain);
-});
+text.changed = soon(300, () => judgeText().then(source => source !== null && take(source)).catch(complain));
 for (const [id, place] of [["motion", motion], ["change", change]]) {
   place.changed = soon(200, async () => {
     const source = await judgeProgram(id, place);
@@ -265,11 +267,9 @@ for (const [id, place] of [["motion", motion], ["change", change]]) {
     $(id + "facts").textContent = facts?.length ? `Known before line ${line}: ${facts.join("; ")}.` : facts ? `Nothing is known before line ${line}.` : "";
   };
 }
-/** Run a job file that trlab accepts, as it is, unless it is no longer wanted. */
-async function take(source, isWanted = () => true) {
-  const now = ++turn, found = await jobOf(source);
-  if (now !== turn || !isWanted()) return;
-  job = found;
+/** Run a job file that trlab accepts, as it is. */
+function take(source) {
+  job = jobOf(source);
   text.value = source;
   drive(source);
   show(true);
@@ -289,10 +289,10 @@ async function load(name, source) {
     return begin();
   }
   if (kind === "run") {
-    await take(source);
+    take(source);
     return judge();
   }
-  job = await jobOf(source);
+  job = jobOf(source);
   await begin();
   await sweeps.file(source, name.replace(".sweep", "").replaceAll("_", " "));
 }
@@ -305,6 +305,7 @@ async function showBranches(what) {
 }
 /** Rules in Python drive the road from the start; if they change lanes, there are two of them. */
 function loadPython(source) {
+  if (isAlone) return complain(WITHOUT_SERVER);
   if (/^@(trlab\.)?change\b/m.test(source) && job.lanes === 1) resize({ lanes: 2 });
   python.text = source;
   $("own").hidden = false;
@@ -391,7 +392,7 @@ function listen() {
   }
 }
 async function start() {
-  examples = await (await fetch("examples")).json();
+  examples = await exampleInputs();
   listExamples($("example"), examples);
   listen();
   if (!await openLink()) begin();

@@ -1,9 +1,13 @@
 // Rules in Python: an editor, a choice among the rules in it, and a slider for each of their parameters.
 
-import { answer, soon } from "./job.js";
+import { answer, isAlone } from "./carrier.js";
+import { soon } from "./job.js";
 import { Editor } from "./editor.js";
 
 const $ = id => document.getElementById(id);
+/** What a page without a server says instead of translating rules. */
+export const WITHOUT_SERVER = "Rules in Python need the command trlab-lab of the Python package, whose server translates them. Here you can " +
+  "write the programs below.";
 const KINDS = { motion: "Motion rule", change: "Lane-change rule" };
 
 /** A labelled number with a slider, or a labelled choice. */
@@ -23,6 +27,8 @@ export class PythonRules {
   constructor(accepted, complain) {
     Object.assign(this, { accepted, complain, editor: new Editor("python"), chosen: {}, values: {}, programs: null, turn: 0 });
     this.editor.changed = soon(200, () => this.translate());
+    if (isAlone) this.say("", WITHOUT_SERVER);
+    $("python").hidden = isAlone;
   }
   set text(now) {
     Object.assign(this, { chosen: {}, values: {}, isNew: true });

@@ -2,6 +2,7 @@
 and never run, so a page can only make programs, which the verifier judges."""
 from __future__ import annotations
 
+import json
 from fractions import Fraction
 from typing import Any, Optional
 
@@ -9,6 +10,14 @@ from .._errors import ParameterError, RuleError
 from .._rules.functions import PythonRule, rules_in
 
 Answer = dict[str, Any]
+
+
+def answer(text: bytes) -> bytes:
+    """The answer to a request of the page, both in JSON; raises `ValueError` if it is not a good one."""
+    try:
+        return json.dumps(translated(json.loads(text))).encode()
+    except (LookupError, TypeError, AttributeError, ArithmeticError, RecursionError) as error:
+        raise ValueError(f"{type(error).__name__}: {error}") from None
 
 
 def translated(asked: Answer) -> Answer:

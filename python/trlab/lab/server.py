@@ -18,23 +18,19 @@ from typing import Any, Optional
 
 from .._runs.location import find_program
 from .._runs.signals import exit_status, need_exit_statuses
-from . import jobs
+from . import rules
+from .scripts import HERE, reached
 
-HERE = Path(__file__).resolve().parent
 MAX_BYTES = 4 * 1024 * 1024
 """The maximum size of an input, which is also that of trlab."""
 PIECE = 65536
 PATIENCE = 2.0
 """How long a run waits for a free processor, in seconds."""
 
-SCRIPTS = (
-    "job", "units", "film", "draw", "editor", "sweeps", "diagram", "following", "player", "rules", "models", "phenomena",
-    "disturbance", "page",
-)
 FILES = {
     "": ("page.html", "text/html"),
     "page.css": ("page.css", "text/css"),
-    **{f"{name}.js": (f"{name}.js", "text/javascript") for name in SCRIPTS},
+    **{f"{name}.js": (f"{name}.js", "text/javascript") for name in reached("page")},
 }
 RUNS = {"run": ["run"], "series": ["series"], "sweep": ["sweep", "--progress"]}
 """Commands that may take long: at most one per processor runs at a time."""
@@ -42,8 +38,8 @@ QUESTIONS = {
     "explain": ["explain", "run"],
     **{f"explain/{kind}": ["explain", "--json", kind] for kind in ("run", "sweep", "check")},
 }
-WRITTEN = ("controls", "file/job", "file/sweep", "exact", "rules")
-"""Requests that Python answers, for `rules` with short calls of the verifier: see `jobs.answer`."""
+RULES = "rules"
+"""The request that Python answers, with short calls of the verifier: see `rules.answer`."""
 HEADERS = {
     "Cache-Control": "no-store",
     "Content-Security-Policy": "default-src 'none'; script-src 'self'; style-src 'self'; connect-src 'self'; "
@@ -148,7 +144,7 @@ class Page(BaseHTTPRequestHandler):
         if name is None:
             return
         length = self.headers.get("Content-Length", "")
-        if name not in RUNS and name not in QUESTIONS and name not in WRITTEN:
+        if name not in RUNS and name not in QUESTIONS and name != RULES:
             self.close_connection = True
             self.answer(404, b"There is no such command.\n")
         elif not re.fullmatch("[0-9]{1,18}", length, re.ASCII):
@@ -157,9 +153,9 @@ class Page(BaseHTTPRequestHandler):
         elif int(length) > MAX_BYTES:
             self.close_connection = True
             self.answer(413, b"The input is too long: at most 4194304 bytes are allowed.\n")
-        elif name in WRITTEN:
+        elif name == RULES:
             try:
-                self.answer(200, jobs.answer(name, self.rfile.read(int(length))))
+                self.answer(200, rules.answer(self.rfile.read(int(length))))
             except ValueError as error:
                 self.answer(400, f"{error}\n".encode())
         else:

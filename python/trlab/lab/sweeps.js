@@ -1,7 +1,7 @@
 // Sweeps of the fundamental diagram from every initial state. A sweep file begins with evenly spaced, stopped cars, and `trlab
 // sweep` counts it. From another state each density is a job, whose rows after the warm-up are added up as a sweep counts them.
 
-import { answer } from "./job.js";
+import { answer } from "./carrier.js";
 import { explain, messageOf } from "./editor.js";
 
 const $ = id => document.getElementById(id);
@@ -36,7 +36,7 @@ async function tableFrom(job, counts, { warm, measure }, fileOf, tell) {
   for (const [number, cars] of counts.entries()) {
     tell(Math.floor(100 * number / counts.length));
     const [key, seed] = [await derivedKey("point", job.key, number), await derivedKey("seed", job.key, number)];
-    rows.push(await rowOf(await fileOf({ cars, key, seed, steps: warm + measure }), warm));
+    rows.push(await rowOf(fileOf({ cars, key, seed, steps: warm + measure }), warm));
   }
   return [`${COLUMNS.join(",")},flow`, ...rows].join("\n") + "\n";
 }
@@ -88,7 +88,7 @@ export class Sweeps {
   from(id, job, name, spans, states, fileOf) {
     this.group += 1;
     return this.busy(id, async tell => {
-      const source = await fileOf("sweep", spans);
+      const source = fileOf("sweep", spans);
       for (const [number, start] of states.entries()) {
         const share = percent => tell(Math.floor((100 * number + +percent) / states.length));
         const write = changes => fileOf("job", { start, road: null, ...changes });

@@ -1,0 +1,35 @@
+"""The functions of the page's scripts, called by Node."""
+import json
+import shutil
+import subprocess
+import tempfile
+from pathlib import Path
+
+from trlab.lab.scripts import joined
+
+NODE = shutil.which("node") or shutil.which("nodejs")
+MISSING = "" if NODE else "Node is not installed (nodejs)"
+CALLER = Path(__file__).with_suffix(".mjs").read_text()
+
+
+class Thrown(Exception):
+    """An error of a script: its message is the argument. It is one that the script throws on purpose."""
+
+
+def answers(calls, edit=lambda script: script):
+    """The values of calls, each (module, function, argument, ..), or `Thrown` errors. `edit` changes the scripts first."""
+    with tempfile.TemporaryDirectory() as folder:
+        path = Path(folder) / "scripts.mjs"
+        path.write_text(edit(joined("reading", "jobs", "exact")) + CALLER)
+        ended = subprocess.run([NODE, path], input=json.dumps([[it[0], it[1], it[2:]] for it in calls]), capture_output=True, text=True)
+    if ended.returncode != 0:
+        raise AssertionError(ended.stderr)
+    return [Thrown(it["error"]) if "error" in it else it["value"] for it in json.loads(ended.stdout)]
+
+
+def answer(*call):
+    """The value of one call; raises `Thrown`."""
+    [found] = answers([call])
+    if isinstance(found, Thrown):
+        raise found
+    return found

@@ -1,0 +1,322 @@
+"""The page's scripts that write and read job files, against the Python package: the same controls give the same files."""
+import math
+import random
+import unittest
+import warnings
+from decimal import Decimal
+from fractions import Fraction
+from pathlib import Path
+from unittest import mock
+
+import trlab
+from tests.page_scripts import MISSING, Thrown, answer, answers
+from trlab import Job, Nasch, Own, ParameterError, Rickert, SlowToStart, Sweep
+from trlab._inputs.numbers import ALWAYS, parts, probability
+from trlab._inputs.states import halved, lanes_are_told
+from trlab.lab import scripts
+
+EXAMPLES = Path(__file__).resolve().parents[2] / "examples"
+STATES = {"even": lambda seed: trlab.even, "moving": lambda seed: trlab.moving, "jam": lambda seed: trlab.jammed, "random": trlab.random_cells}
+MOTION = "get r0, limit\nget r1, gap\nmin r0, r0, r1\ngo r0\n"
+PROGRAMS = [MOTION, f"motion\n{MOTION}", f"\n\n{MOTION}\n\n", MOTION[:-1], "code 00ff\n", "; a caf\u00e9\ngo r0"]
+CHANGES = ["", " \n", "stay\n", "change\nstay", "code 01"]
+
+
+def rule_of(controls, lanes):
+    """The rule of these controls in Python."""
+    if controls["model"] == "own":
+        return Own(controls["motion"], controls["change"] if lanes == 2 and controls["change"].strip() else None)
+    models = {"nasch": lambda p, q: Nasch(p), "vdr": SlowToStart, "rickert": Rickert}
+    return models[controls["model"]](controls["p"], controls["q"])
+
+
+def job_of(controls):
+    """The job of these controls in Python."""
+    first, *later = controls["rules"]
+    if controls["start"] == "file":
+        road = {"start": controls["road"]}
+    else:
+        road = {name: controls[name] for name in ("length", "lanes", "cars")}
+        road["start"] = STATES[controls["start"]](int(controls.get("seed", controls["key"])))
+    at = {rule["at"]: rule_of(rule, controls["lanes"]) for rule in later}
+    with lanes_are_told():
+        return Job(
+            limit=controls["limit"], steps=controls["steps"], key=int(controls["key"]), rule=rule_of(first, controls["lanes"]), at=at, **road
+        )
+
+
+def sweep_of(controls):
+    """The sweep of these controls in Python, with the densities of docs/LAB.md."""
+    cells, lanes = controls["length"] * controls["lanes"], controls["lanes"]
+    cars = {round((k / 50 if k <= 16 else 0.32 + (k - 16) * 0.045) * cells) for k in range(1, 31)}
+    if lanes == 2:
+        cars = {min(halved(count, controls["length"]), key=lambda near: abs(near - count)) for count in cars}
+    names = "limit", "length", "lanes", "warm", "measure"
+    return Sweep(rule=rule_of(controls["rule"], lanes), cars=sorted(cars), key=int(controls["key"]), **{name: controls[name] for name in names})
+
+
+class Controls:
+    """Random controls, the same in every run."""
+
+    def __init__(self, seed):
+        self.numbers = random.Random(seed)
+
+    def probability(self):
+        draw = self.numbers
+        return draw.choice([0, 1, 0.5, 0.25, round(draw.random(), 2), draw.random(), draw.randrange(2**31) / 2**31, (draw.randrange(2**31) + 0.5) / 2**31])
+
+    def rule(self, at):
+        choose = self.numbers.choice
+        return {
+            "at": at, "model": choose(["nasch", "vdr", "rickert", "own"]), "p": self.probability(), "q": self.probability(),
+            "motion": choose(PROGRAMS), "change": choose(CHANGES),
+        }
+
+    def job(self):
+        draw = self.numbers
+        lanes, length, steps = draw.choice([1, 2]), draw.choice([1, 2, draw.randint(1, 60), draw.randint(1, 3000)]), draw.choice([0, 1, 500000, draw.randint(1, 9999)])
+        limit, cars = draw.randint(1, 35), draw.choice([0, lanes * length, draw.randint(0, lanes * length)])
+        key = draw.choice([0, 1, 2**256 - 1, draw.getrandbits(31), draw.getrandbits(256)])
+        signs = ".." + "0123456789abcdefghijklmnopqrstuvwxyz"[: limit + 1]
+        road = ["".join(draw.choice(signs) for _ in range(length)) for _ in range(lanes)]
+        steps_of_rules = draw.sample(range(steps), min(steps, draw.choice([0, 0, 1, 3])))
+        return {
+            "key": str(key), "limit": limit, "lanes": lanes, "length": length, "cars": cars, "density": 0, "steps": steps, "road": road,
+            "start": draw.choice(["even", "moving", "jam", "random", "file"]), **draw.choice([{}, {}, {"seed": str(draw.getrandbits(200))}]), "rules": [self.rule(at) for at in [0, *steps_of_rules]],
+        }
+
+    def sweep(self):
+        measure = self.numbers.randint(1, 9999)
+        return {**self.job(), "rule": self.rule(0), "warm": self.numbers.randint(0, 6000), "measure": measure}
+
+
+def text_of(made):
+    """The file of an input, or None if Python rejects it."""
+    try:
+        return made().text()
+    except ParameterError:
+        return None
+
+
+@unittest.skipIf(MISSING, MISSING)
+class Files(unittest.TestCase):
+    """Job files and sweep files from controls."""
+
+    def same(self, calls, wanted):
+        for call, found, text in zip(calls, answers(calls), wanted):
+            self.assertEqual(found, text, call)
+
+    def test_random_jobs(self):
+        draw = Controls(1)
+        jobs = [draw.job() for _ in range(600)]
+        self.same([("jobs", "jobFile", it) for it in jobs], [job_of(it).text() for it in jobs])
+
+    def test_random_sweeps(self):
+        draw = Controls(2)
+        sweeps = [it for it in (draw.sweep() for _ in range(300)) if it["warm"] + it["measure"] <= 500000 // 30]
+        self.assertGreater(len(sweeps), 200)
+        with warnings.catch_warnings():
+            warnings.simplefilter("error")  # if a number of cars is not halved between the lanes
+            wanted = [sweep_of(it).text() for it in sweeps]
+        self.same([("jobs", "sweepFile", it) for it in sweeps], wanted)
+
+    def test_random_cells(self):
+        """Random cells for seeds of one word and of many, and for more cells than the generator has words."""
+        seeds = [0, 1, 2**32 - 1, 2**32, 2**64 + 7, 2**255, 2**256 - 1, *(random.Random(5).getrandbits(bits) for bits in range(1, 256, 5))]
+        shapes = [(1, 1, 1), (10, 1, 3), (624, 1, 311), (3000, 2, 2000), (9999, 1, 1), (50, 2, 100), (50, 2, 0)]
+        tries = [(7, (100000, 2, 60000)), *((seed, shapes[k % 7]) for k, seed in enumerate(seeds))]
+        what = {"limit": 5, "start": "random", "steps": 0, "rules": [{"at": 0, "model": "nasch", "p": 0, "q": 0}]}
+        jobs = [{**what, "key": str(seed), "length": length, "lanes": lanes, "cars": cars} for seed, (length, lanes, cars) in tries]
+        self.same([("jobs", "jobFile", it) for it in jobs], [job_of(it).text() for it in jobs])
+
+    def test_probabilities(self):
+        """Each probability becomes the multiple of 1 / 2**31 that Python rounds it to, and each of those has its shortest decimal."""
+        draw = random.Random(3)
+        tries = [0.0, 1.0, 0.5, 1e-9, 1 - 1e-9, 2**-31, 1.5 * 2**-31, 2.5 * 2**-31, 5e-324, 1e-10, 2**-32, *(draw.random() ** 9 for _ in range(3000))]
+        tries += [(draw.randrange(2**31) + 0.5) / 2**31 for _ in range(3000)] + [k / 1000 for k in range(1001)]
+        for found, number in zip(answers([("numbers", "partsOf", "brake", it) for it in tries]), tries):
+            try:
+                self.assertEqual(found, parts(probability("brake", number)), number)
+            except ParameterError as error:
+                self.assertEqual(str(found).split(" is ")[1:2] and str(found)[-9:], str(error)[-9:], number)
+                self.assertIn("in multiples of 1 / 2**31", str(found))
+
+    def test_decimals(self):
+        draw = random.Random(4)
+        tries = [0, 1, ALWAYS, ALWAYS - 1, *(2**k for k in range(31)), *(3 * 2**k for k in range(29)), *(draw.randrange(ALWAYS) for _ in range(3000))]
+        for found, number in zip(answers([("numbers", "decimalOf", it) for it in tries]), tries):
+            written = Fraction(repr(found))
+            self.assertEqual((parts(found), parts(written)), (number, number), found)
+            fewer = -Decimal(repr(found)).normalize().as_tuple().exponent - 1
+            if fewer >= 0:
+                self.assertNotEqual(parts(Fraction(round(number * 10**fewer / ALWAYS), 10**fewer)), number, found)
+
+
+@unittest.skipIf(MISSING, MISSING)
+class Errors(unittest.TestCase):
+    """Controls that make no file: the messages are those of Python, unless the page has something else to do."""
+
+    job = {
+        "key": "7", "limit": 5, "lanes": 1, "length": 50, "cars": 20, "start": "random", "steps": 9, "road": None,
+        "rules": [{"at": 0, "model": "nasch", "p": 0.25, "q": 0.5, "motion": "", "change": ""}],
+    }
+
+    def test_messages_of_python(self):
+        own = lambda **what: {"rules": [{**self.job["rules"][0], "model": "own", **what}]}
+        tries = [
+            {"limit": 0}, {"limit": 36}, {"limit": 2.5}, {"length": 0}, {"length": 100001}, {"lanes": 3}, {"cars": 51}, {"cars": -1}, {"cars": 0.5},
+            {"key": str(2**256), "start": "even"}, {"start": "file", "road": ["0.6"]}, {"start": "file", "road": ["0..", "0."]}, {"start": "file", "road": ["0X."]},
+            {"rules": self.job["rules"] + [{**self.job["rules"][0], "at": 9}]}, own(motion=""), own(motion="  "), own(motion="change\nstay"),
+            own(motion="code 00\ncode 01"), own(motion="go r0\nend\n"), own(motion="go r0 ; \ud800"),
+            *({"rules": [{**self.job["rules"][0], "p": p}]} for p in (-0.5, 1.5, 1e-10, 1 - 1e-12)),
+            *({"rules": [{**self.job["rules"][0], "model": model, "q": 2}]} for model in ("vdr", "rickert")),
+        ]
+        found = answers([("jobs", "jobFile", {**self.job, **it}) for it in tries])
+        for change, thrown in zip(tries, found):
+            with self.subTest(change=change), self.assertRaises(ParameterError) as raised:
+                job_of({**self.job, **change}).text()
+            self.assertIsInstance(thrown, Thrown, change)
+            self.assertEqual(str(thrown), str(raised.exception))
+
+    def test_numbers_of_another_kind(self):
+        """Whatever is not a number of the right kind is an error, and never a file."""
+        sweep = {**self.job, "rule": self.job["rules"][0], "warm": 3, "measure": 4}
+        for value in True, False, 1.5, None, [], {}, -1, 1e300, "x", "5", "":
+            calls = [("jobs", "jobFile", {**self.job, field: value}) for field in ("limit", "lanes", "length", "cars", "steps", "key", "start")]
+            calls += [("jobs", "sweepFile", {**sweep, field: value}) for field in ("limit", "lanes", "length", "warm", "measure", "key")]
+            rules = [{**self.job["rules"][0], field: value} for field in ("at", "model", "p")]
+            calls += [("jobs", "jobFile", {**self.job, "rules": [it]}) for it in rules]
+            calls += [("jobs", "jobFile", {**self.job, "rules": [self.job["rules"][0], {"at": 3, **it}]}) for it in rules]
+            for call, found in zip(calls, answers([call for call in calls if not (value == "5" and call[2].get("key") == "5")])):
+                self.assertIsInstance(found, Thrown, call)
+
+    def test_messages_of_the_page(self):
+        rules = self.job["rules"]
+        tries = (
+            ({"steps": 500001}, "steps must be between 0 and 500000, not 500001"),
+            ({"key": "1e3"}, "the key must have 1 to 78 decimal digits, not '1e3'"),
+            ({"start": "moved"}, "the initial state is even, moving, random, jam or file, not 'moved'"),
+            ({"rules": [{**rules[0], "at": 1}]}, "the first step of the first rule must be between 0 and 0, not 1"),
+            ({"rules": rules + 2 * [{**rules[0], "at": 3}]}, "two rules take over at the same step"),
+            ({"rules": [{**rules[0], "model": "toString"}]}, "the rule is nasch, vdr, rickert or own, not 'toString'"),
+            ({"rules": [{**rules[0], "p": "0.5"}]}, "brake must be a number between 0 and 1, not '0.5'"),
+        )
+        found = answers([("jobs", "jobFile", {**self.job, **change}) for change, _ in tries])
+        self.assertEqual([str(it) for it in found], [message for _, message in tries])
+        with self.assertRaises(Thrown) as thrown:
+            answer("jobs", "sweepFile", {**self.job, "length": 1000, "rule": rules[0], "warm": 10000, "measure": 10000})
+        self.assertEqual(
+            str(thrown.exception),
+            "a sweep file has at most 200 points and 500000 steps of all points together, and this sweep has 30 points of 20000 steps: "
+            "choose fewer steps",
+        )
+
+
+@unittest.skipIf(MISSING, MISSING)
+class Reading(unittest.TestCase):
+    """Controls from files."""
+
+    def test_every_job_again(self):
+        """The controls of a file give the same file."""
+        draw = Controls(6)
+        texts = [text for text in (text_of(lambda: job_of(draw.job())) for _ in range(300)) if text]
+        texts += [path.read_text() for path in sorted(EXAMPLES.glob("*.job"))]
+        texts.append("road 1\nkey " + "f" * 64 + "\nlimit 35\nlane z.\nlane ..\nrule own\ncode 0\nchange\nstay\nend\nsteps 9\nat 3 rule vdr 1 2147483648\n")
+        found = answers([("reading", "jobOf", text) for text in texts])
+        for text, again in zip(texts, answers([("jobs", "jobFile", it) for it in found])):
+            self.assertEqual(again, text)
+
+    def test_controls(self):
+        text = "road 1\nkey " + "A" * 64 + "\nlimit 3\nlane 0.1\nlane ...\nrule vdr 1 2147483648\nsteps 9\nat 4 rule own\nmotion\ngo r0\nend\nat 5 rule nasch 715827883"
+        found = answer("reading", "controlsOf", text)
+        self.assertEqual([it["at"] for it in found["rules"]], [0, 4, 5])
+        self.assertEqual([(it["p"], it["q"], it["motion"]) for it in found["rules"]], [(5e-10, 1, ""), (5e-10, 1, "motion\ngo r0\n"), (0.3333333335, 1, "motion\ngo r0\n")])
+        del found["rules"]
+        wanted = {"key": str(int("A" * 64, 16)), "limit": 3, "lanes": 2, "length": 3, "cars": 2, "steps": 9, "start": "file", "road": ["0.1", "..."]}
+        self.assertEqual(found, wanted)
+
+    def test_a_sweep_file(self):
+        draw = Controls(7)
+        sweeps = [{**draw.sweep(), "warm": 3, "measure": 4} for _ in range(20)]
+        for controls, found in zip(sweeps, answers([("reading", "jobOf", sweep_of(it).text()) for it in sweeps])):
+            self.assertEqual({name: found[name] for name in ("key", "limit", "length", "lanes", "start")}, {
+                **{name: controls[name] for name in ("key", "limit", "length", "lanes")}, "start": "even"})
+            self.assertEqual(found["cars"], round(0.15 * controls["length"] * controls["lanes"]))
+
+    def test_a_word_that_the_page_does_not_know(self):
+        tries = (
+            ("road 1\nbridge 3\n", "line 2 of the file begins with a word that the page does not know: bridge"),
+            ("road 1\nrule own\nmotion\ngo r0\n", "the file ends too early"), ("steps x\n", "the file has x instead of a number"),
+        )
+        found = answers([("reading", "controlsOf", text) for text, _ in tries])
+        self.assertEqual([str(it) for it in found], [message for _, message in tries])
+
+
+@unittest.skipIf(MISSING, MISSING)
+class Curves(unittest.TestCase):
+    """Exact curves. A plot of 316 pixels shows three digits; nine are demanded."""
+
+    def curves(self, *asked):
+        """The curves of (limit, length, rule, lanes)."""
+        rest = {"motion": "", "change": "", "p": 0.25, "q": 0.5}
+        names = "limit", "length", "rule", "lanes"
+        return answers([("exact", "exactCurve", dict(zip(names, (limit, length, {**rest, **rule}, lanes)))) for limit, length, rule, lanes in asked])
+
+    def test_the_triangle(self):
+        rules = {"model": "nasch", "p": 0}, {"model": "vdr", "p": 0, "q": 0}, {"model": "rickert", "p": 0, "q": 0}, {"model": "own", "motion": MOTION}
+        asked = [(limit, 77, rule, 1) for rule in rules for limit in (1, 2, 5, 35)]
+        for (limit, *_), found in zip(asked, self.curves(*asked)):
+            self.assertEqual(found["kind"], "triangle")
+            self.assertEqual([it["density"] for it in found["points"]], [0, 1 / (limit + 1), 1])
+            for point in found["points"]:
+                self.assertAlmostEqual(point["flow"], float(trlab.exact.triangle(limit, point["density"])), places=15)
+
+    def test_the_stationary_flow(self):
+        asked = [(1, length, {"model": "nasch", "p": brake}, 1) for length in (1, 2, 3, 12, 99, 100, 1000, 100000) for brake in (1e-9, 0.01, 1 / 3, 0.9999, 1 - 1e-9, 1)]
+        for (_, length, rule, _), found in zip(asked, self.curves(*asked)):
+            counts = sorted({round(k * length / 100) for k in range(101)})
+            self.assertEqual([it["density"] for it in found["points"]], [cars / length for cars in counts])
+            for cars, point in list(zip(counts, found["points"]))[:: 1 if length < 100000 else 9]:
+                wanted = trlab.exact.flow_as_float(length, cars, rule["p"])
+                self.assertTrue(math.isclose(point["flow"], wanted, rel_tol=1e-9, abs_tol=1e-300), (length, rule, cars, point["flow"], wanted))
+
+    def test_flows_that_are_not_known(self):
+        *unknown, known = self.curves(
+            (2, 50, {"model": "nasch"}, 1), (1, 50, {"model": "vdr"}, 1), (1, 50, {"model": "own", "motion": "go r0"}, 1), (1, 50, {"model": "nasch"}, 2),
+            (1, 50, {"model": "rickert"}, 1), (5, 50, {"model": "vdr", "p": 0}, 1), (1, 50, {"model": "vdr", "q": 0.25}, 1),
+        )
+        self.assertEqual(unknown, [None] * 6)
+        self.assertEqual(known["kind"], "stationary")
+
+
+@unittest.skipIf(MISSING, MISSING)
+class LongFiles(unittest.TestCase):
+    def test_work_is_proportional_to_the_length(self):
+        """Each line is taken once: counted, because no test depends on time."""
+        count = "if (this.all.counted = (this.all.counted ?? 0) + 1, this.all.counted > this.all.length) throw new Error('lines are taken again');"
+        edit = lambda script: script.replace("  take() {\n", f"  take() {{\n{count}\n", 1)
+        heads = ["sweep 1", "key " + "0" * 64, "limit 5", "length 9", "lanes 1", "rule nasch 0", "warm 0", "measure 1", *["cars 3"] * 10000]
+        rules = ["road 1", "key " + "0" * 64, "limit 5", "lane 0.", "rule nasch 0", "steps 500000", *(f"at {k} rule rickert 1 2" for k in range(1, 10000))]
+        lanes = ["road 1", "key " + "0" * 64, "limit 5", *["lane 0."] * 10000]
+        own = ["road 1", *["rule own", "motion", "go r0", "end"] * 10000]
+        for lines in heads, rules, lanes, own:
+            [found] = answers([("reading", "controlsOf", "\n".join(lines) + "\n")], edit)
+            self.assertIsInstance(found, dict)
+        self.assertIn("this.all.counted", edit(scripts.joined("reading")))
+
+
+@unittest.skipIf(MISSING, MISSING)
+class Joining(unittest.TestCase):
+    def test_a_name_that_is_not_exported(self):
+        texts = {"one": 'import { there, gone } from "./two.js";\n', "two": "export const there = 1;\n"}
+        with mock.patch.object(Path, "read_text", lambda path, _: texts[path.stem]):
+            self.assertRaisesRegex(ValueError, "^one.js imports gone, which two.js does not export$", scripts.joined, "one")
+            self.assertEqual(scripts.reached("two"), ["two"])
+
+    def test_a_text_that_would_end_its_element(self):
+        for text in "'</script>'", "'</SCRIPT x'", "a <!--b":
+            self.assertRaises(ValueError, scripts.element, text, "")
+
+
+if __name__ == "__main__":
+    unittest.main()
