@@ -11,6 +11,7 @@ import { FIGURES, colour, rowsOf } from "./draw.js";
 import { across, boxOf, diagramFile, diagramOf } from "./diagram.js";
 import { Editor, explain, lineOf, messageOf } from "./editor.js";
 import { disturbanceWords, disturbed } from "./disturbance.js";
+import { filmOf } from "./filming.js";
 import { tellModel } from "./models.js";
 import { listExamples, tellExample } from "./phenomena.js";
 import { units } from "./units.js";
@@ -322,6 +323,12 @@ function save(name, parts, type) {
   link.click();
   setTimeout(() => URL.revokeObjectURL(link.href), 10000);
 }
+/** The film of the whole run, from its start. */
+async function saveFilm() {
+  $("savefilm").disabled = true;
+  await lastFile().then(filmOf).then(parts => save("traffic.html", parts, "text/html")).catch(complain);
+  $("savefilm").disabled = false;
+}
 const saveTable = () => lastFile().then(file => answer("series", file)).then(got => got.blob()).then(blob => save("series.csv", [blob], "text/csv")).catch(complain);
 function saveFigure() {
   const name = $("figure").value, image = name === "diagram" ? diagramFile(diagram()) : FIGURES[name](player.view);
@@ -362,7 +369,7 @@ function listen() {
   $("controls").addEventListener("submit", event => event.preventDefault());
   const click = {
     brake, newkey: () => again({ key: String(crypto.getRandomValues(new Uint32Array(1))[0]) }), clear: () => { marks = []; drawDiagram(); },
-    open: () => $("file").click(), savejob: () => lastFile().then(file => save("traffic.job", [file], "text/plain")), savetable: saveTable,
+    open: () => $("file").click(), savejob: () => lastFile().then(file => save("traffic.job", [file], "text/plain")), savetable: saveTable, savefilm: saveFilm,
     savesweep: () => save("sweep.csv", [table], "text/csv"), savefigure: saveFigure, link: copyLink,
   };
   for (const id in click) $(id).onclick = click[id];
