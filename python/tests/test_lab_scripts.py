@@ -134,7 +134,7 @@ class Files(unittest.TestCase):
         draw = random.Random(3)
         tries = [0.0, 1.0, 0.5, 1e-9, 1 - 1e-9, 2**-31, 1.5 * 2**-31, 2.5 * 2**-31, 5e-324, 1e-10, 2**-32, *(draw.random() ** 9 for _ in range(3000))]
         tries += [(draw.randrange(2**31) + 0.5) / 2**31 for _ in range(3000)] + [k / 1000 for k in range(1001)]
-        for found, number in zip(answers([("numbers", "partsOf", "brake", it) for it in tries]), tries):
+        for found, number in zip(answers([("checks", "partsOf", "brake", it) for it in tries]), tries):
             try:
                 self.assertEqual(found, parts(probability("brake", number)), number)
             except ParameterError as error:
@@ -144,7 +144,7 @@ class Files(unittest.TestCase):
     def test_decimals(self):
         draw = random.Random(4)
         tries = [0, 1, ALWAYS, ALWAYS - 1, *(2**k for k in range(31)), *(3 * 2**k for k in range(29)), *(draw.randrange(ALWAYS) for _ in range(3000))]
-        for found, number in zip(answers([("numbers", "decimalOf", it) for it in tries]), tries):
+        for found, number in zip(answers([("checks", "decimalOf", it) for it in tries]), tries):
             written = Fraction(repr(found))
             self.assertEqual((parts(found), parts(written)), (number, number), found)
             fewer = -Decimal(repr(found)).normalize().as_tuple().exponent - 1

@@ -3,18 +3,23 @@ from __future__ import annotations
 
 import argparse
 import base64
+import contextlib
 import errno
 import io
+import re
 import signal
 import sys
-import webbrowser
 import zlib
 from pathlib import Path
 from typing import Optional
 
 from .._errors import TrlabError
 from .export import exported
+from .opening import opened
 from .server import MAX_BYTES, Lab
+
+MAX_ADDRESS = 1000000
+"""The maximum length of an address with a job; Firefox opens no address beyond 1 MiB."""
 
 
 def main(words: Optional[list[str]] = None) -> None:
@@ -35,7 +40,7 @@ def main(words: Optional[list[str]] = None) -> None:
                 sys.stdin.reconfigure(encoding="utf-8", errors="surrogateescape")
             if options.job:
                 parser.error("--export reads the job from standard input: trlab-lab --export FILE < JOB")
-            Path(options.export).write_text(exported(sys.stdin.read()), encoding="utf-8")
+            Path(options.export).write_text(exported(sys.stdin.read(MAX_BYTES + 1)), encoding="utf-8")
         else:
             _serve(options.port, fragment(options.job) if options.job else "", options.no_browser)
     except (TrlabError, OSError, ValueError, OverflowError) as error:
@@ -43,17 +48,25 @@ def main(words: Optional[list[str]] = None) -> None:
 
 
 def fragment(job: str) -> str:
-    """The part of the page's address that holds a job: that of a link, or made from a job file."""
+    """The part of the page's address that holds a job: that of a link, or made from a job file. Raises `ValueError` if the link is
+    damaged or the file too long."""
     if "#job=" in job:
-        return job[job.index("#job=") :]
-    text = Path(job).read_bytes()
+        part = job[job.index("#job=") :]
+        if not re.fullmatch("#job=[A-Za-z0-9_-]+", part):
+            raise ValueError("the link is damaged: only letters, digits, - and _ may follow #job=")
+        return part
+    with open(job, "rb") as file:
+        text = file.read(MAX_BYTES + 1)
     if len(text) > MAX_BYTES:
         raise ValueError(f"{job} is too long: at most {MAX_BYTES} bytes are allowed")
     packer = zlib.compressobj(9, zlib.DEFLATED, -15)
-    return "#job=" + base64.urlsafe_b64encode(packer.compress(text) + packer.flush()).rstrip(b"=").decode()
+    part = "#job=" + base64.urlsafe_b64encode(packer.compress(text) + packer.flush()).rstrip(b"=").decode()
+    if len(part) > MAX_ADDRESS:
+        raise ValueError(f"{job} is too long for an address: run trlab-lab without it, and click *Open a file* in the page")
+    return part
 
 
-def _serve(port: int, opened: str, no_browser: bool) -> None:
+def _serve(port: int, job: str, no_browser: bool) -> None:
     if not 0 <= port <= 65535:
         raise ValueError(f"the port must be between 0 and 65535, not {port}")
     for ending in signal.SIGTERM, signal.SIGHUP, signal.SIGQUIT:
@@ -64,11 +77,11 @@ def _serve(port: int, opened: str, no_browser: bool) -> None:
         if error.errno not in (errno.EADDRINUSE, errno.EACCES):
             raise
         raise OSError(f"cannot listen on port {port}: {error.strerror}; choose another with --port") from None
+    address = lab.address + job
     try:
-        print(lab.address + opened, flush=True)
-        if not no_browser:
-            webbrowser.open(lab.address + opened)
-        lab.serve_forever()
+        print(address, flush=True)
+        with contextlib.nullcontext() if no_browser else opened(address):
+            lab.serve_forever()
     except KeyboardInterrupt:
         pass
     finally:

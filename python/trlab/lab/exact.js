@@ -1,6 +1,6 @@
 // The exact curve of a fundamental diagram: the flow of a ring at each density, for the rules for which it is known.
 
-import { ALWAYS, rounded } from "./numbers.js";
+import { ALWAYS, rounded } from "./checks.js";
 import { ruleLines } from "./jobs.js";
 import { upTo } from "./job.js";
 

@@ -9,7 +9,7 @@ from html import escape
 from collections.abc import Iterator
 from typing import TYPE_CHECKING, Optional
 
-from .._inputs.numbers import ALWAYS, key_digits, parts
+from .._inputs.numbers import ALWAYS, MAX_SPEED, key_digits, parts, whole
 from .._inputs.reading import job_of
 from .._inputs.states import SPEEDS
 from .._runs.calls import ask_by_line
@@ -47,13 +47,14 @@ _PAGE = """<!doctype html>
 
 def page_of(snapshots: Snapshots, limit: Optional[int] = None, title: str = "") -> str:
     """A web page that plays these snapshots. `limit` is the maximum speed in cells per step, for the colours; None means
-    the highest speed of the snapshots. Raises `ValueError` if there are no snapshots, if they do not begin at step 0, or
-    if they are too long."""
+    the highest speed of the snapshots. Raises `ValueError` if there are no snapshots, if they do not begin at step 0, if
+    they are too long, or if a car is faster than `limit`."""
     if not snapshots or snapshots[0].step != 0:
         raise ValueError("a page needs the snapshots of a run from step 0 on")
     lines = (line for it in snapshots for line in (f"step {it.step}", *it.lanes))
-    fastest = limit or max([1, *(SPEEDS.find(sign) for snapshot in snapshots for sign in set().union(*snapshot.lanes))])
-    return _page((line + "\n" for line in lines), fastest, title)
+    fastest = max([1, *(SPEEDS.find(sign) for snapshot in snapshots for sign in set().union(*snapshot.lanes))])
+    most = fastest if limit is None else whole("limit", limit, fastest, MAX_SPEED)
+    return _page((line + "\n" for line in lines), most, title)
 
 
 def exported(text: str, title: str = "") -> str:

@@ -1,4 +1,4 @@
-// The page's job, and links that contain a job file.
+// The page's job.
 
 export const EMPTY = 46; // the byte `.`
 /** A car's speed from its character. */
@@ -23,18 +23,3 @@ export const FIRST = {
 /** Whether the road of a file still fits the job's length, lanes and maximum speed. */
 export const roadFits = ({ road, lanes, length, limit }) => road.length === lanes && road[0].length === length &&
   ![...road.join("")].some(sign => sign !== "." && speedOf(sign.charCodeAt(0)) > limit);
-
-// Links: the job file, compressed, in the fragment of the address, which no server sees
-
-const through = async (bytes, stream) =>
-  new Uint8Array(await new Response(new Blob([bytes]).stream().pipeThrough(stream)).arrayBuffer());
-export async function linkOf(text) {
-  const packed = await through(new TextEncoder().encode(text), new CompressionStream("deflate-raw"));
-  const bytes = upTo(packed.length).map(k => String.fromCharCode(packed[k])).join("");
-  return "#job=" + btoa(bytes).replace(/\+/g, "-").replace(/\//g, "_").replace(/=+$/, "");
-}
-export async function textOfLink(fragment) {
-  const bytes = atob(fragment.slice(5).replace(/-/g, "+").replace(/_/g, "/"));
-  const packed = Uint8Array.from(bytes, it => it.charCodeAt(0));
-  return new TextDecoder().decode(await through(packed, new DecompressionStream("deflate-raw")));
-}

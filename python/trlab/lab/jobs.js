@@ -1,6 +1,6 @@
 // Job files and sweep files from the controls of the page. The same controls give the same files as `Job` and `Sweep` in Python.
 
-import { MAX_CELLS, MAX_POINTS, MAX_SPEED, MAX_STEPS, need, partsOf, rounded, shown, whole } from "./numbers.js";
+import { MAX_CELLS, MAX_POINTS, MAX_SPEED, MAX_STEPS, need, partsOf, rounded, shown, whole } from "./checks.js";
 import { randomCells } from "./random.js";
 import { upTo } from "./job.js";
 

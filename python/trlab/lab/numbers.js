@@ -1,50 +1,43 @@
-// The numbers of job files: whole numbers in their range, and probabilities as multiples of 1 / 2**31. The errors are those of the
-// Python package, except where the page has something else to do.
+// Numbers as you write them, which Python reads in the same way: whole numbers, decimals, and fractions such as 1/3.
 
-/** The number in files for the probability 1. */
-export const ALWAYS = 2 ** 31;
-export const MAX_CELLS = 100000;
-export const MAX_SPEED = 35;
-export const MAX_STEPS = 500000;
-export const MAX_POINTS = 200;
+const WRITTEN = /^[-+]?(?:(\d+)\/(\d+)|(?:\d+\.?\d*|\.\d+)(?:e[-+]?\d{1,3})?)$/i;
+const ALWAYS = 2 ** 31; // a file has a probability as a multiple of 1 / 2 ** 31
 
-/** Raises an error with the words that a call returns, unless the condition is true. */
-export function need(condition, words) {
-  if (!condition) throw new RangeError(words());
-}
-/** A value in a message, cut to a readable length. */
-export function shown(value) {
-  const text = typeof value === "string" ? `'${value}'` : String(value);
-  return text.length <= 80 ? text : `${text.slice(0, 77)}...`;
-}
-/** A whole number from `least` to `most`; raises an error that names it if it is anything else. */
-export function whole(name, number, least, most) {
-  need(Number.isInteger(number), () => `${name} must be a whole number, from ${least} to ${most}, not ${shown(number)}`);
-  need(number >= least && number <= most, () => `${name} must be between ${least} and ${most}, not ${shown(number)}`);
+/** A text is not the number that is wanted; the message says what to write instead. */
+export class NumberError extends Error {}
+/** The number in a text. Raises a `NumberError` if it is not a number, or out of its range. */
+export function numberOf(text, { least = -Infinity, most = Infinity, isWhole = false } = {}) {
+  const written = text.trim(), wanted = isWhole ? "a whole number" : "a number", bounds = least > -Infinity ? ` from ${least} to ${most}` : "";
+  const example = isWhole ? "" : ", such as 0.25 or 1/4";
+  if (!written) throw new NumberError(`Write ${wanted}${bounds}.`);
+  if (/^\d+,\d+$/.test(written)) {
+    throw new NumberError(isWhole ? `Write ${written.replace(",", "")}, without a comma.` : `Write ${written.replace(",", ".")} instead of ${written}.`);
+  }
+  const [found, above, below] = WRITTEN.exec(written) ?? [], number = above === undefined ? +written : above / below;
+  if (found === undefined || !Number.isFinite(number)) throw new NumberError(`${shortened(written)} is not a number: write ${wanted}${bounds}${example}.`);
+  if (isWhole && !Number.isInteger(number)) throw new NumberError(`${shortened(written)} is not a whole number: write one${bounds}.`);
+  if (number < least) throw new NumberError(`${shortened(written)} is less than ${least}: write ${wanted}${bounds}.`);
+  if (number > most) throw new NumberError(`${shortened(written)} is more than ${most}: write ${wanted}${bounds}.`);
   return number;
 }
-/** The nearest whole number, and of two the even one, as Python rounds. */
-export function rounded(number) {
-  const low = Math.floor(number), rest = number - low;
-  return rest > 0.5 || rest === 0.5 && low % 2 === 1 ? low + 1 : low;
-}
-/** A probability as files have it: the nearest multiple of 1 / 2**31. The product is exact, because it is one with a power of two. */
-const parts = probability => rounded(probability * ALWAYS);
-
-/** The same, or an error that names the probability. A number so close to 0 or 1 that files would have 0 or 1 is an error too. */
-export function partsOf(name, number) {
-  need(typeof number === "number" && Number.isFinite(number), () => `${name} must be a number between 0 and 1, not ${shown(number)}`);
-  need(number >= 0 && number <= 1, () => `${name} must be between 0 and 1, not ${shown(number)}`);
-  const found = parts(number), nearest = found / ALWAYS;
-  need(number === nearest || found > 0 && found < ALWAYS,
-    () => `${name} is ${shown(number)}, which is ${nearest} in multiples of 1 / 2**31: write ${nearest}`);
-  return found;
-}
-/** The shortest decimal of a probability in a file. Ten digits suffice, because they are closer than half of 1 / 2**31. */
-export function decimalOf(found) {
-  const exact = found / ALWAYS;
-  for (let power = 1; ; power *= 10) {
-    const decimal = Math.round(exact * power) / power;
-    if (parts(decimal) === found) return decimal;
+/** A probability, as the shortest decimal that files write in the same way. */
+export function probabilityOf(text) {
+  const number = numberOf(text, { least: 0, most: 1 }), parts = Math.round(number * ALWAYS);
+  if (parts % ALWAYS === 0 && parts / ALWAYS !== number) {
+    throw new NumberError(`${shortened(text.trim())} would be ${parts / ALWAYS} in a file, which has multiples of 1 / 2^31: write ${parts / ALWAYS}.`);
   }
+  for (let digits = 0; digits < 12; digits++) {
+    const short = +number.toFixed(digits);
+    if (Math.round(short * ALWAYS) === parts) return short;
+  }
+  return number;
 }
+/** A random seed, as decimal digits: it may be too large for a number. */
+export function seedOf(text) {
+  const written = text.trim();
+  if (!/^\d{1,78}$/.test(written) || BigInt(written) >= 2n ** 256n) {
+    throw new NumberError(`${shortened(written) || "Nothing"} is not a seed: write a whole number from 0 to 2^256 - 1, without signs or spaces.`);
+  }
+  return String(BigInt(written));
+}
+const shortened = text => text.length > 30 ? `${text.slice(0, 27)}...` : text;

@@ -1,11 +1,14 @@
 // The page of trlab-lab. The job file is the only truth: a control changes the job, which is written as a file, trlab reads the
 // file, and the page draws the snapshots that come back. A file that you type goes back into the controls.
 
-import { FIRST, clamp, linkOf, roadFits, soon, textOfLink } from "./job.js";
+import { FIRST, clamp, roadFits, soon } from "./job.js";
 import { answer, exampleInputs, isAlone } from "./carrier.js";
 import { jobFile, sweepFile } from "./jobs.js";
 import { jobOf } from "./reading.js";
 import { exactCurve } from "./exact.js";
+import { MOST_BYTES, linkOf, textOfLink } from "./links.js";
+import { attempt, free, isKept, watch } from "./boxes.js";
+import { NumberError, numberOf, probabilityOf, seedOf } from "./numbers.js";
 import { bytesBefore } from "./film.js";
 import { FIGURES, colour, rowsOf } from "./draw.js";
 import { across, boxOf, diagramFile, diagramOf } from "./diagram.js";
@@ -19,12 +22,13 @@ import { BRANCHES, Sweeps, stateOf } from "./sweeps.js";
 import { $, Player } from "./player.js";
 import { PythonRules, WITHOUT_SERVER } from "./rules.js";
 
-const MOST_BYTES = 4194304, MAX_CELLS = 100000;
+const MAX_CELLS = 100000;
 /** The milliseconds for which changes are collected before they are run, for example those of a slider that moves. */
 const COLLECTING = 25;
 let job = structuredClone(FIRST), examples = {}, marks = [], means = null, table = "", drawn = 0;
 let since = Infinity; // the first step that changes, as long as the change is not run (-1: the road)
 const motion = new Editor("motion"), change = new Editor("change"), text = new Editor("text");
+let stays = false; // whether the message outlives the start of the next run
 const complain = fault => { $("fault").textContent = fault.message ?? fault; };
 /** The rules in Python, whose programs the cars follow from the shown step on. */
 const python = new PythonRules(({ motion, change }, isNew) => {
@@ -45,7 +49,7 @@ const player = new Player({
   over() { settle(); drawDiagram(); },
 }, complain);
 globalThis.lab = { // for the console and for tests
-  player, colour, python, open: load, get job() { return job; }, get marks() { return marks; }, get table() { return table; }, get isWriting() { return since < Infinity; },
+  player, colour, python, open: (name, source) => load(name, source).catch(complain), get job() { return job; }, get marks() { return marks; }, get table() { return table; }, get isWriting() { return since < Infinity; },
   rows: () => rowsOf(player.view, $("spacetime").clientWidth, $("spacetime").clientHeight),
 };
 
@@ -63,7 +67,8 @@ function drive(source, step = -1) {
   const open = (from, signal) => answer(`run?skip=${bytesBefore(from, { length, lanes })}`, source, signal);
   means = { from: Math.max(0, step) + Math.min(200, steps >> 2), sum: 0, steps: 0, limit: job.limit, length, lanes, density: job.cars / length / lanes };
   since = Infinity;
-  complain("");
+  if (!stays) complain("");
+  stays = false;
   if (step < 0) player.load(open, job);
   else player.resume(open, steps, step);
 }
@@ -104,6 +109,7 @@ function writeJob() {
 /** The rule has changed: from the step that is shown on, if cars are driving. */
 function changeRule(what) {
   const rule = { ...inForce(), ...what, live: true }, step = since < 0 ? 0 : player.step;
+  release("p", "q");
   if (rule.model === "own" && !rule.motion) Object.assign(rule, { motion: examples["nasch.rule"], change: examples["lane_change.rule"] });
   const needsRoad = rule.model === "rickert" && job.lanes === 1;
   if (needsRoad) resize({ lanes: 2 });
@@ -129,44 +135,59 @@ async function brake() {
 function resize(what) {
   Object.assign(job, what);
   job.cars = Math.round(job.density * job.length * job.lanes);
+  release("cars", "density");
 }
 
 // Controls
 
-const RANGES = { p: [0, 1], q: [0, 1], density: [0, 1], limit: [1, 35], length: [1, MAX_CELLS], lanes: [1, 2], steps: [0, 500000] };
-function set(name, value) {
-  const cells = job.length * job.lanes, number = clamp(+value, ...(RANGES[name] ?? [0, cells]));
-  if (name === "model") return value === inForce().model || changeRule({ model: value });
-  if (name === "key") return /^\d{1,77}$/.test(value) && BigInt(value) < 2n ** 256n ? again({ key: value }) : show(true);
-  if (name === "start") return again({ start: value });
-  if (value.trim() === "" || Number.isNaN(number)) return show(true);
-  if (name === "p" || name === "q") return number === inForce()[name] ? show(true) : changeRule({ [name]: number });
-  const whole = name === "density" ? Math.round(number * cells) : Math.round(number);
-  if (name === "cars" || name === "density") again({ cars: whole, density: name === "density" ? number : +(whole / cells).toFixed(4), start: job.start === "file" ? "random" : job.start });
-  else if (name === "length" || name === "lanes") {
-    resize({ [name]: whole });
-    if (job.lanes === 1 && inForce().model === "rickert") job.rules = [{ ...inForce(), at: 0, model: "nasch" }];
-    again({});
-  } else again({ [name]: whole });
+/** The range of a number of the job, which is whole unless it is a density. */
+function rangeOf(name) {
+  const [least, most] = { density: [0, 1], limit: [1, 35], length: [1, MAX_CELLS], lanes: [1, 2], steps: [0, 500000], cars: [0, job.length * job.lanes] }[name];
+  return { least, most, isWhole: name !== "density" };
+}
+/** Boxes show these values of the job again, whatever was typed into them. */
+const release = (...names) => names.forEach(name => document.querySelectorAll(`[data-set=${name}]`).forEach(free));
+/** Set a value of the job as a text. Raises a `NumberError` if it is not one, and then nothing changes. */
+function set(name, text) {
+  if (name === "model") return text === inForce().model || changeRule({ model: text });
+  if (name === "start") return again({ start: text });
+  const isProbability = name === "p" || name === "q", cells = job.length * job.lanes;
+  const number = name === "key" ? seedOf(text) : isProbability ? probabilityOf(text) : numberOf(text, rangeOf(name));
+  const cars = name === "density" ? Math.round(number * cells) : number, isDensity = name === "density";
+  if (isDensity && number > 0 && cars === 0) {
+    throw new NumberError(`${text} is less than one car on ${cells} cells: write at least ${+(1 / cells).toPrecision(3)}, or 0.`);
+  }
+  release(name);
+  if (number === (isProbability ? inForce() : job)[name] && (!isDensity || cars === job.cars)) return show();
+  if (isProbability) return changeRule({ [name]: number });
+  if (isDensity || name === "cars") {
+    return again({ cars, density: isDensity ? number : +(cars / cells).toFixed(6), start: job.start === "file" ? "random" : job.start });
+  }
+  if (name !== "length" && name !== "lanes") return again({ [name]: number });
+  resize({ [name]: number });
+  if (job.lanes === 1 && inForce().model === "rickert") job.rules = [{ ...inForce(), at: 0, model: "nasch" }];
+  again({});
 }
 function again(what) {
   if (what.steps !== undefined) job.rules = job.rules.filter(rule => rule.at === 0 || rule.at < what.steps);
   Object.assign(job, what);
+  release(...Object.keys(what));
   begin();
-  show(true);
+  show();
 }
 /** Make a control of the sentence as wide as its text, if the browser does not. */
 const fit = place => place.closest(".lead") && !CSS.supports("field-sizing: content") && (place.style.width = `${Math.max(1, place.value.length)}ch`);
-/** Show the job in the controls and in the sentence above them. A control that has the focus keeps its text, unless forced. */
-function show(force = false) {
-  const rule = shown = inForce(), values = { ...job, model: rule.model, p: rule.p, q: rule.q }, own = rule.model === "own";
+/** Show the job in the controls and in the sentence above them. A box that you type into keeps its text. */
+function show() {
+  const rule = shown = inForce(), cells = job.length * job.lanes, own = rule.model === "own";
+  const values = { ...job, density: +(job.cars / cells).toFixed(6), model: rule.model, p: rule.p, q: rule.q };
   for (const place of document.querySelectorAll("[data-set]")) {
-    if (!force && document.activeElement === place && place.tagName === "INPUT") continue;
+    if (isKept(place)) continue;
     place.value = values[place.dataset.set];
     fit(place);
   }
-  $("cars").parentNode.querySelector("[type=range]").max = job.length * job.lanes;
-  for (const slider of document.querySelectorAll(".field [type=range]")) slider.value = slider.parentNode.querySelector("input").value;
+  $("cars").parentNode.querySelector("[type=range]").max = cells;
+  for (const slider of document.querySelectorAll("[data-range] [type=range]")) slider.value = values[slider.parentNode.querySelector("input").id];
   for (const part of document.querySelectorAll("[data-model]")) part.hidden = !part.dataset.model.split(" ").includes(rule.model);
   $("carword").textContent = job.cars === 1 ? "car" : "cars";
   $("rings").textContent = job.lanes === 2 ? "two rings" : "a ring";
@@ -221,9 +242,11 @@ const sweeps = new Sweeps((mark, csv) => {
   $("savesweep").disabled = false;
   drawDiagram();
 }, complain);
+const SWEEP = { warm: { least: 0, most: 10000, isWhole: true }, measure: { least: 1, most: 10000, isWhole: true } };
 /** Sweep the road with the rule in force, from its initial state or from several ones. */
 function sweepNow(id, states) {
-  const [warm, measure] = [["warm", 0], ["measure", 1]].map(([id, least]) => $(id).value = clamp(Math.round(+$(id).value) || least, least, 10000));
+  const [warm, measure] = Object.keys(SWEEP).map(id => attempt($(id), () => numberOf($(id).value, SWEEP[id])));
+  if (warm === undefined || measure === undefined) return;
   const now = structuredClone(job), rule = { ...inForce(), at: 0 };
   const write = (kind, more) => (kind === "sweep" ? sweepFile : jobFile)({ ...now, rule, rules: [rule], ...more });
   return sweeps.from(id, now, nameOf(rule), { warm, measure }, states, write);
@@ -272,8 +295,9 @@ for (const [id, place] of [["motion", motion], ["change", change]]) {
 function take(source) {
   job = jobOf(source);
   text.value = source;
+  release(...Object.keys(job), "p", "q");
   drive(source);
-  show(true);
+  show();
 }
 
 // Files, examples and links
@@ -282,7 +306,7 @@ async function load(name, source) {
   if (name.endsWith(".py")) return loadPython(source);
   const kind = name.endsWith(".rule") || /^(motion|change)\b/.test(source) ? "check" : /^sweep/i.test(source) ? "sweep" : "run";
   const found = await explain(kind, source);
-  if (found.error) return complain(`${name} is rejected at line ${lineOf(found.error)}.\n${messageOf(found)}`);
+  if (found.error) throw new Error(`${name} is rejected at line ${lineOf(found.error)}.\n${messageOf(found)}`);
   if (kind === "check") {
     const part = source.startsWith("change") ? "change" : "motion";
     if (part === "change" && job.lanes === 1) [job.lanes, job.cars] = [2, 2 * job.cars];
@@ -340,32 +364,36 @@ async function copyLink() {
   $("silent").textContent = $("link").textContent = "Link copied";
   setTimeout(() => $("link").textContent = "Copy a link", 2000);
 }
-/** The job of a link, if the address is one. */
+/** Open the job in the address, if there is one. If it cannot be opened, a message stays, because the page plays another job. */
 async function openLink() {
-  if (!location.hash.startsWith("#job=")) return false;
+  if (!location.hash.startsWith("#job=")) return;
   try {
-    await load("The link", await textOfLink(location.hash));
-    return player.film !== null;
-  } catch {
-    complain("The link is damaged: its job cannot be read.");
-    return false;
+    await load("The job in this address", await textOfLink(location.hash));
+  } catch (fault) {
+    stays = player.film === null;
+    complain(`${fault.message}\nThe page ${stays ? "plays its first job instead" : "still plays the job that it had before"}.`);
   }
 }
 
 function listen() {
   for (const field of document.querySelectorAll("[data-range]")) {
     const [least, most, step] = field.dataset.range.split(" "), [label, number] = field.children, slider = document.createElement("input");
-    Object.assign(number, { min: least, max: (RANGES[number.id] ?? [0, 200000])[1], step: "any" });
     Object.assign(slider, { type: "range", min: least, max: most, step, ariaLabel: `${label.textContent}, slider` });
-    slider.addEventListener("input", () => set(number.id, slider.value));
+    slider.addEventListener("input", () => {
+      number.value = slider.value;
+      attempt(number, () => set(number.id, slider.value));
+    });
     field.append(slider);
   }
-  for (const place of document.querySelectorAll("[data-set]")) {
-    place.addEventListener("change", () => set(place.dataset.set, place.value));
+  for (const [k, place] of document.querySelectorAll("[data-set]").entries()) {
+    const name = place.dataset.set;
+    if (place.tagName === "SELECT") place.addEventListener("change", () => set(name, place.value));
+    else watch(place, place.id || `lead${k}`, written => set(name, written), show);
     if (!place.closest(".lead")) continue;
     place.addEventListener("input", () => fit(place));
     place.addEventListener("keydown", event => event.key === "Enter" && place.blur());
   }
+  for (const id in SWEEP) watch($(id), id, written => numberOf(written, SWEEP[id]), () => $(id).value = $(id).defaultValue);
   $("controls").addEventListener("submit", event => event.preventDefault());
   const click = {
     brake, newkey: () => again({ key: String(crypto.getRandomValues(new Uint32Array(1))[0]) }), clear: () => { marks = []; drawDiagram(); },
@@ -390,7 +418,7 @@ function listen() {
   $("numbers").ontoggle = () => player.redraw();
   $("diagram").onclick = event => {
     const box = $("diagram").getBoundingClientRect(), x = (event.clientX - box.left) / box.width * 360;
-    set("density", clamp((x - across(0)) / (across(1) - across(0)), 0, 1).toFixed(3));
+    set("cars", String(Math.round(clamp((x - across(0)) / (across(1) - across(0)), 0, 1) * job.length * job.lanes)));
   };
   addEventListener("hashchange", openLink);
   // A hidden page draws nothing, and a page that is left may be kept for the way back: neither needs a run.
@@ -402,6 +430,7 @@ async function start() {
   examples = await exampleInputs();
   listExamples($("example"), examples);
   listen();
-  if (!await openLink()) begin();
+  await openLink();
+  if (!player.film) begin();
 }
 start().catch(fault => complain(`The page cannot reach trlab-lab: ${fault.message}`));

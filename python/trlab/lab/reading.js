@@ -1,7 +1,7 @@
 // The controls of the page from a job file or a sweep file that trlab accepts.
 
 import { FIRST } from "./job.js";
-import { decimalOf, need, rounded } from "./numbers.js";
+import { decimalOf, need, rounded } from "./checks.js";
 
 /** The controls that a file has, and those of the first page for the others. A sweep file gives its road and its rule. */
 export function jobOf(text) {

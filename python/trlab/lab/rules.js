@@ -3,6 +3,8 @@
 import { answer, isAlone } from "./carrier.js";
 import { soon } from "./job.js";
 import { Editor } from "./editor.js";
+import { attempt, free, isKept, watch } from "./boxes.js";
+import { numberOf } from "./numbers.js";
 
 const $ = id => document.getElementById(id);
 /** What a page without a server says instead of translating rules. */
@@ -67,7 +69,8 @@ export class PythonRules {
     }
     this.shape = shape;
     for (const { rule, name, value } of found?.parameters ?? []) {
-      for (const place of this.sliders.get(`${rule}.${name}`)) if (place !== document.activeElement) place.value = value;
+      const both = this.sliders.get(`${rule}.${name}`), [number] = both;
+      for (const place of both) if (!isKept(place) && (place !== document.activeElement || place === number)) place.value = value;
     }
     if (!found) this.say("", "");
   }
@@ -81,19 +84,21 @@ export class PythonRules {
   }
   slider({ rule, kind, name, value, most, step }) {
     const number = document.createElement("input"), slider = document.createElement("input"), id = `${rule}.${name}`;
-    Object.assign(number, { type: "number", min: 0, step: "any", value });
+    Object.assign(number, { className: "number", inputMode: "decimal", value });
     Object.assign(slider, { type: "range", min: 0, max: most, step, value, ariaLabel: `${name} of ${rule}, slider` });
-    const set = (from, to) => {
-      if (from.value.trim() === "" || Number.isNaN(+from.value)) return;
-      to.value = from.value;
-      (this.values[rule] ??= {})[name] = +from.value;
+    const set = text => {
+      (this.values[rule] ??= {})[name] = numberOf(text, { isWhole: step === 1 });
+      free(number);
       this.translate();
     };
-    number.onchange = () => set(number, slider);
-    slider.oninput = () => set(slider, number);
+    slider.oninput = () => {
+      number.value = slider.value;
+      attempt(number, () => set(slider.value));
+    };
     this.sliders.set(id, [number, slider]);
     const box = field(id, `${name} (${rule})`, number, kind);
     box.append(slider);
+    watch(number, id, set, () => number.value = this.values[rule]?.[name] ?? value);
     return box;
   }
   /** The programs may have been changed by hand, or come from another job: then the functions are not theirs any more. */

@@ -1,17 +1,20 @@
 """The server of trlab-lab: serve one page to this machine, and run trlab for it.
 
 Each request that has an input starts one process of trlab, and its output is streamed to the page. If the page goes away,
-the process ends. Nothing is kept, and nothing is written to disk."""
+the process ends. Nothing is kept, and the server writes nothing to disk."""
 from __future__ import annotations
 
+import errno
 import json
 import os
 import re
 import secrets
 import selectors
+import socket
 import subprocess
 import sys
 import threading
+import time
 from http.server import BaseHTTPRequestHandler, ThreadingHTTPServer
 from pathlib import Path
 from typing import Any, Optional
@@ -21,12 +24,18 @@ from .._runs.signals import exit_status, need_exit_statuses
 from . import rules
 from .export import film_page
 from .scripts import HERE, reached
+from .strangers import Strangers
 
 MAX_BYTES = 4 * 1024 * 1024
 """The maximum size of an input, which is also that of trlab."""
 PIECE = 65536
 PATIENCE = 2.0
 """How long a run waits for a free processor, in seconds."""
+FIRST_WAIT, WAIT = 10.0, 30.0
+"""How long a request may pause while it is read, in seconds: the first one of a connection, and the later ones. A stream has no
+limit, because a page may pause."""
+PAUSE = 0.1
+"""How long the server rests, in seconds, if it has no descriptors for another connection."""
 
 FILES = {
     "": ("page.html", "text/html"),
@@ -60,17 +69,25 @@ def examples() -> dict[str, str]:
     return {path.name: path.read_text("utf-8") for path in files}
 
 
+def hosts_at(port: int) -> set[str]:
+    """The names by which browsers ask for this server. They leave out port 80."""
+    names = {"127.0.0.1", "localhost"}
+    return {f"{name}:{port}" for name in names} | (names if port == 80 else set())
+
+
 class Lab(ThreadingHTTPServer):
     """The server on 127.0.0.1, at any free port if `port` is 0. `address` is the page's address."""
 
     daemon_threads = True
+    request_queue_size = 128
 
     def __init__(self, port: int = 0) -> None:
         need_exit_statuses()
         self.program = find_program()
+        self.strangers = Strangers()
         super().__init__(("127.0.0.1", port), Page)
         self.token = secrets.token_urlsafe(24)
-        self.hosts = {f"{name}:{self.server_port}" for name in ("127.0.0.1", "localhost")}
+        self.hosts = hosts_at(self.server_port)
         processors = len(os.sched_getaffinity(0))
         self.runs = threading.BoundedSemaphore(processors)
         self.questions = threading.BoundedSemaphore(processors)
@@ -80,6 +97,26 @@ class Lab(ThreadingHTTPServer):
     @property
     def address(self) -> str:
         return f"http://127.0.0.1:{self.server_port}/{self.token}/"
+
+    def get_request(self) -> tuple[socket.socket, Any]:
+        """The next connection. If there are no descriptors for it, a stranger has to go, and the server does not try in a loop."""
+        try:
+            return super().get_request()
+        except OSError as error:
+            if error.errno in (errno.EMFILE, errno.ENFILE, errno.ENOBUFS, errno.ENOMEM):
+                self.strangers.drop_oldest()
+                time.sleep(PAUSE)
+            raise
+
+    def process_request(self, request: Any, client_address: Any) -> None:
+        """Read the request in a thread of its own."""
+        self.strangers.add(request)
+        super().process_request(request, client_address)
+
+    def shutdown_request(self, request: Any) -> None:
+        """The connection is over."""
+        self.strangers.remove(request)
+        super().shutdown_request(request)
 
     def start(self, words: list[str], text: bytes) -> subprocess.Popen[bytes]:
         """A process of trlab that reads this input. Progress lines, if any, come before the output."""
@@ -128,7 +165,7 @@ class Page(BaseHTTPRequestHandler):
 
     protocol_version = "HTTP/1.1"
     server: Lab
-    timeout = 30  # seconds, for reading a request; a stream has no limit, because a page may pause
+    timeout = FIRST_WAIT
 
     def do_GET(self) -> None:
         name = self.allowed()
@@ -146,34 +183,51 @@ class Page(BaseHTTPRequestHandler):
         name = self.allowed()
         if name is None:
             return
-        length = self.headers.get("Content-Length", "")
         if name not in RUNS and name not in QUESTIONS and name != RULES:
-            self.close_connection = True
-            self.answer(404, b"There is no such command.\n")
-        elif not re.fullmatch("[0-9]{1,18}", length, re.ASCII):
-            self.close_connection = True
-            self.answer(411, b"The request has no Content-Length.\n")
-        elif int(length) > MAX_BYTES:
-            self.close_connection = True
-            self.answer(413, b"The input is too long: at most 4194304 bytes are allowed.\n")
-        elif name == RULES:
+            self.refuse(404, "There is no such command.")
+            return
+        text = self.body()
+        if text is not None and name == RULES:
             try:
-                self.answer(200, rules.answer(self.rfile.read(int(length))))
+                self.answer(200, rules.answer(text))
             except ValueError as error:
                 self.answer(400, f"{error}\n".encode())
-        else:
-            self.take_turn(name, self.rfile.read(int(length)))
+        elif text is not None:
+            self.take_turn(name, text)
+
+    def body(self) -> Optional[bytes]:
+        """The input of the request; None if the request is refused, because it has no length, is too long or is cut."""
+        lengths: list[str] = self.headers.get_all("Content-Length", [])
+        if len(lengths) != 1 or not re.fullmatch("[0-9]{1,18}", lengths[0], re.ASCII) or "Transfer-Encoding" in self.headers:
+            self.refuse(411, "The request needs one Content-Length, and no Transfer-Encoding.")
+            return None
+        length = int(lengths[0])
+        if length > MAX_BYTES:
+            self.refuse(413, f"The input is too long: at most {MAX_BYTES} bytes are allowed.")
+            return None
+        text = self.rfile.read(length)
+        if len(text) < length:
+            self.refuse(400, f"The input is cut: {len(text)} of {length} bytes have come.")
+            return None
+        return text
+
+    def refuse(self, status: int, message: str) -> None:
+        self.close_connection = True
+        self.answer(status, f"{message}\n".encode())
 
     def allowed(self) -> Optional[str]:
         """The requested name, if the request comes from a page of this server; otherwise the request is refused."""
-        host, origin = self.headers.get("Host"), self.headers.get("Origin")
+        hosts: list[str] = self.headers.get_all("Host", [])
+        origin = self.headers.get("Origin")
+        host = hosts[0] if len(hosts) == 1 else None
         origins: set[Optional[str]] = {f"http://{host}"} if self.command == "POST" else {f"http://{host}", None}
         own = host in self.server.hosts and origin in origins
         token, slash, name = self.path[1:].partition("?")[0].partition("/")
         if own and slash and secrets.compare_digest(token.encode(), self.server.token.encode()):
+            self.server.strangers.remove(self.connection)
+            self.connection.settimeout(WAIT)
             return name
-        self.close_connection = True
-        self.answer(403, b"This address is not valid. Use the one that trlab-lab printed.\n")
+        self.refuse(403, "This address is not valid. Use the one that trlab-lab printed.")
         return None
 
     def skipped(self) -> int:
@@ -182,7 +236,10 @@ class Page(BaseHTTPRequestHandler):
         return int(found[1]) if found else 0
 
     def take_turn(self, name: str, text: bytes) -> None:
-        """Stream the output of a command, as soon as a processor is free."""
+        """Stream the output of a command, as soon as a processor is free. Its chunks show whether it is whole."""
+        if self.request_version != self.protocol_version:
+            self.refuse(505, "This request needs HTTP/1.1.")
+            return
         turns = self.server.runs if name in RUNS else self.server.questions
         if not turns.acquire(timeout=PATIENCE):
             self.answer(503, b"Every processor is in use by a run. Pause or close another page of trlab-lab.\n")
@@ -192,7 +249,7 @@ class Page(BaseHTTPRequestHandler):
             try:
                 is_whole = self.stream(child, self.skipped()) and exit_status(child) in (0, 1)
                 # Without the last chunk the page knows that the output is cut.
-                self.close_connection = not is_whole
+                self.close_connection = self.close_connection or not is_whole
                 if is_whole:
                     self.wfile.write(b"0\r\n\r\n")
             finally:
@@ -213,7 +270,7 @@ class Page(BaseHTTPRequestHandler):
                     return False
                 piece = os.read(child.stdout.fileno(), PIECE)
                 if not piece:
-                    self.connection.settimeout(self.timeout)
+                    self.connection.settimeout(WAIT)
                     return True
                 piece, skip = piece[skip:], max(0, skip - len(piece))
                 if piece:

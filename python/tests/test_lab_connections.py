@@ -1,0 +1,247 @@
+"""Connections to the server of trlab-lab: strangers cannot shut the owner out, and no request is misread."""
+import contextlib
+import errno
+import http.client
+import io
+import os
+import random
+import signal
+import socket
+import socketserver
+import stat
+import subprocess
+import sys
+import tempfile
+import unittest
+from pathlib import Path
+from unittest import mock
+
+from tests.test_lab import EXAMPLES, LONG, TOP, Serving
+from tests.waiting import LIMIT, first_of, holds
+from trlab import Job, Nasch
+from trlab.lab import Lab, page_of, server, strangers
+from trlab.lab.__main__ import fragment, main
+
+JAMS = (EXAMPLES / "jams.job").read_text()
+
+
+def is_closed(connection):
+    """Whether the server has closed a connection on which nothing has come."""
+    connection.setblocking(False)
+    try:
+        return connection.recv(1) == b""
+    except BlockingIOError:
+        return False
+    except ConnectionError:
+        return True
+
+
+class Strangers(Serving):
+    def silent(self, count):
+        """Connections that send nothing."""
+        found = []
+        for _ in range(count):
+            found.append(socket.create_connection(("127.0.0.1", self.lab.server_port), timeout=LIMIT))
+            self.addCleanup(found[-1].close)
+        return found
+
+    def test_silent_connections_are_bounded(self):
+        all_of_them = self.silent(strangers.MOST + 40)
+        self.assertEqual(self.ask().status, 200)
+        self.assertTrue(holds(lambda: sum(map(is_closed, all_of_them)) >= 40))
+        # The newest ones are still there, and those that have shown the token do not count.
+        self.assertFalse(is_closed(all_of_them[-1]))
+        self.assertTrue(holds(lambda: len(self.lab.strangers.waiting) == strangers.MOST - is_closed(all_of_them[40])))
+
+    def test_a_page_keeps_its_connection(self):
+        port = self.lab.server_port
+        talk = http.client.HTTPConnection("127.0.0.1", port, timeout=LIMIT)
+        self.addCleanup(talk.close)
+        ask_again = lambda: (talk.request("GET", f"/{self.lab.token}/page.css"), talk.getresponse().read())[1]
+        first, own = ask_again(), talk.sock
+        self.silent(strangers.MOST + 40)
+        self.assertTrue(holds(lambda: len(self.lab.strangers.waiting) == strangers.MOST))
+        self.assertEqual(ask_again(), first)
+        self.assertIs(talk.sock, own)
+
+    def test_a_first_request_does_not_wait_for_long(self):
+        with mock.patch.object(server.Page, "timeout", 0.1):
+            [silent] = self.silent(1)
+            self.assertTrue(holds(lambda: is_closed(silent)))
+        self.assertLess(server.FIRST_WAIT, server.WAIT)
+
+    def test_without_descriptors_a_stranger_goes_and_the_server_rests(self):
+        silent = self.silent(3)
+        self.assertTrue(holds(lambda: len(self.lab.strangers.waiting) == 3))
+        rests = []
+        with mock.patch.object(socketserver.TCPServer, "get_request", side_effect=OSError(errno.EMFILE, "Too many open files")):
+            with mock.patch.object(server.time, "sleep", rests.append):
+                self.assertRaises(OSError, self.lab.get_request)
+        self.assertEqual(rests, [server.PAUSE])
+        self.assertTrue(holds(lambda: is_closed(silent[0])))
+        self.assertFalse(is_closed(silent[2]))
+
+    def test_a_queue_for_many_connections(self):
+        self.assertGreaterEqual(Lab.request_queue_size, 100)
+
+
+class Requests(Serving):
+    def send(self, head, body=b"", cut=False):
+        """The whole answer to a request that is written by hand; `cut` ends the sending side after it."""
+        netloc = f"127.0.0.1:{self.lab.server_port}"
+        fill = {"netloc": netloc, "token": self.lab.token}
+        with socket.create_connection(("127.0.0.1", self.lab.server_port), timeout=LIMIT) as connection:
+            connection.sendall(head.format(**fill).replace("\n", "\r\n").encode() + b"\r\n" + body)
+            if cut:
+                connection.shutdown(socket.SHUT_WR)
+            answer = b""
+            while piece := connection.recv(65536):
+                answer += piece
+        return answer.decode()
+
+    def test_a_close_after_a_run_is_heard(self):
+        head = "POST /{token}/%s HTTP/1.1\nHost: {netloc}\nOrigin: http://{netloc}\nConnection: close\nContent-Length: %d\n"
+        for name in "run", "series", "explain":
+            # `send` ends with the connection, which the server kept open for another 30 seconds.
+            with mock.patch.object(server, "WAIT", 10 * LIMIT), mock.patch.object(server, "FIRST_WAIT", 10 * LIMIT):
+                answer = self.send(head % (name, len(JAMS)), JAMS.encode())
+            self.assertIn("\r\nConnection: close\r\n", answer)
+            self.assertTrue(answer.endswith("\r\n0\r\n\r\n"), name)
+
+    def test_a_stream_needs_chunks(self):
+        head = "POST /{token}/%s HTTP/1.0\nHost: {netloc}\nOrigin: http://{netloc}\nContent-Length: %d\n"
+        answer = self.send(head % ("run", len(JAMS)), JAMS.encode())
+        self.assertTrue(answer.startswith("HTTP/1.1 505 "), answer)
+        self.assertNotIn("chunked", answer)
+        self.assertTrue(self.send(head % ("controls", len(JAMS)), JAMS.encode()).startswith("HTTP/1.1 200 "))
+
+    def test_one_host_one_length(self):
+        get = "GET /{token}/ HTTP/1.1\nHost: {netloc}\n%sConnection: close\n"
+        self.assertTrue(self.send(get % "").startswith("HTTP/1.1 200 "))
+        for other in "Host: {netloc}\n", "Host: evil.example\n":
+            self.assertTrue(self.send(get % other).startswith("HTTP/1.1 403 "), other)
+        post = "POST /{token}/explain/check HTTP/1.1\nHost: {netloc}\nOrigin: http://{netloc}\nConnection: close\nContent-Length: 1\n%s"
+        self.assertTrue(self.send(post % "", b"x").startswith("HTTP/1.1 200 "))
+        for other in "Content-Length: 1\n", "Content-Length: 2\n", "Transfer-Encoding: chunked\n":
+            self.assertTrue(self.send(post % other, b"x").startswith("HTTP/1.1 411 "), other)
+
+    def test_a_cut_input_is_refused(self):
+        head = "POST /{token}/%s HTTP/1.1\nHost: {netloc}\nOrigin: http://{netloc}\nContent-Length: %d\n"
+        for name in "run", "explain/run", "controls":
+            answer = self.send(head % (name, len(JAMS) + 1), JAMS.encode(), cut=True)
+            self.assertTrue(answer.startswith("HTTP/1.1 400 "), name)
+            self.assertIn(f"The input is cut: {len(JAMS)} of {len(JAMS) + 1} bytes", answer)
+
+    def test_browsers_leave_out_port_80(self):
+        self.assertEqual(server.hosts_at(80), {"127.0.0.1:80", "localhost:80", "127.0.0.1", "localhost"})
+        self.assertEqual(server.hosts_at(8080), {"127.0.0.1:8080", "localhost:8080"})
+        self.lab.hosts = server.hosts_at(80)
+        for host in "127.0.0.1", "localhost":
+            self.assertEqual(self.ask("explain/check", b"", host=host, origin=f"http://{host}").status, 200)
+        self.assertEqual(self.ask(host="evil.example", origin="http://evil.example").status, 403)
+
+
+class Opening(unittest.TestCase):
+    """The command, with a browser that is a script."""
+
+    def start(self, folder, browser, *words):
+        """The command, whose standard error is in a file."""
+        environment = {**os.environ, "TMPDIR": folder, "HOME": folder, "PYTHONPATH": str(TOP / "python"), "PYTHONDONTWRITEBYTECODE": "1"}
+        environment["BROWSER"] = browser
+        with open(Path(folder) / "errors", "w") as errors:
+            running = subprocess.Popen([sys.executable, "-m", "trlab.lab", *words], stdout=subprocess.PIPE, stderr=errors, text=True,
+                                       env=environment, cwd=folder, start_new_session=True)
+        self.addCleanup(running.communicate)
+        self.addCleanup(self.kill, running.pid)
+        return running
+
+    def kill(self, group):
+        """End the command and its browser."""
+        with contextlib.suppress(ProcessLookupError):
+            os.killpg(group, signal.SIGKILL)
+
+    def browser(self, folder):
+        """A browser that writes down what it was started with, and stays open."""
+        script = Path(folder) / "browser"
+        script.write_text(f"#!/bin/sh\nprintf '%s\\n' \"$@\" > '{folder}/new'\nmv '{folder}/new' '{folder}/opened'\nexec sleep 1000 > /dev/null\n")
+        script.chmod(0o700)
+        return str(script)
+
+    def end(self, running):
+        running.send_signal(signal.SIGTERM)
+        self.assertEqual(running.wait(LIMIT), 0)
+
+    def test_the_token_is_no_argument(self):
+        for words in [], [str(EXAMPLES / "jams.job")]:
+            with tempfile.TemporaryDirectory() as folder:
+                running = self.start(folder, self.browser(folder), *words)
+                address = running.stdout.readline().strip()
+                opened = Path(folder) / "opened"
+                self.assertTrue(holds(opened.exists))
+                [found] = opened.read_text().splitlines()
+                token = address.split("/")[3]
+                self.assertNotIn(token, found)
+                path = Path(found.replace("file://", "", 1))
+                self.assertEqual(stat.S_IMODE(path.stat().st_mode), 0o600)
+                self.assertIn(f'content="0; url={address}"', path.read_text())
+                # The server answers although the browser does not return.
+                talk = http.client.HTTPConnection(address.split("/")[2], timeout=LIMIT)
+                talk.request("GET", f"/{token}/")
+                self.assertEqual(talk.getresponse().status, 200)
+                talk.close()
+                for line in Path("/proc").glob("[0-9]*/cmdline"):
+                    with contextlib.suppress(OSError):
+                        self.assertNotIn(token.encode(), line.read_bytes())
+                self.end(running)
+                self.assertFalse(path.exists())
+                self.assertEqual((Path(folder) / "errors").read_text(), "")
+
+    def test_a_large_job_is_opened(self):
+        signs, chance = ".0123456789abcdefghijklmnopqrstuvwxyz", random.Random(1)
+        lanes = "".join(f"lane {''.join(chance.choices(signs, k=100000))}\n" for _ in range(2))
+        job = f"road 1\nkey {'0' * 64}\nlimit 35\n{lanes}rule nasch 0\nsteps 10\n"
+        with tempfile.TemporaryDirectory() as folder:
+            (Path(folder) / "large.job").write_text(job)
+            running = self.start(folder, self.browser(folder), "large.job")
+            address = running.stdout.readline().strip()
+            self.assertGreater(len(address), 2**17)  # no argument of a process is longer
+            opened = Path(folder) / "opened"
+            self.assertTrue(holds(opened.exists))
+            self.assertIn(address, Path(opened.read_text().strip().replace("file://", "", 1)).read_text())
+            self.end(running)
+
+    def test_without_a_browser_there_is_a_message(self):
+        with tempfile.TemporaryDirectory() as folder:
+            running = self.start(folder, f"{folder}/missing")
+            address = running.stdout.readline().strip()
+            said = lambda: (Path(folder) / "errors").read_text() or None
+            self.assertEqual(first_of(said), f"trlab-lab: no browser could be opened. Open this address in one: {address}\n")
+            self.end(running)
+
+    def test_an_input_that_does_not_end(self):
+        self.assertRaisesRegex(ValueError, "^/dev/zero is too long: at most 4194304 bytes", fragment, "/dev/zero")
+
+    def test_a_damaged_link(self):
+        for link in "x#job=\x1b[31m", "#job=", "#job=abc#job=abc", "#job=a b", "#job=%%%":
+            with contextlib.redirect_stdout(io.StringIO()) as said, self.assertRaises(SystemExit) as raised:
+                main([link])
+            self.assertIn("the link is damaged", raised.exception.code)
+            self.assertNotIn("\x1b", raised.exception.code + said.getvalue())
+
+    def test_a_job_that_no_address_can_hold(self):
+        with tempfile.TemporaryDirectory() as folder:
+            path = Path(folder) / "noise"
+            path.write_bytes(os.urandom(1000000))
+            self.assertRaisesRegex(ValueError, "too long for an address: run trlab-lab without it", fragment, str(path))
+
+
+class Exported(unittest.TestCase):
+    def test_a_limit_is_a_number(self):
+        found = Job(limit=5, length=50, density=0.2, rule=Nasch(0.25), steps=20).run()
+        for limit in "</script><script>alert(1)</script>", 0, 36, True, 2.5, 4:
+            self.assertRaises(ValueError, found.html, limit=limit)
+        self.assertIn('"limit": 35', page_of(found, 35))
+
+
+if __name__ == "__main__":
+    unittest.main()
