@@ -13,6 +13,7 @@ import { bytesBefore } from "./film.js";
 import { FIGURES, colour, rowsOf } from "./draw.js";
 import { across, boxOf, diagramFile, diagramOf } from "./diagram.js";
 import { Editor, explain, lineOf, messageOf } from "./editor.js";
+import { Comparison } from "./compare.js";
 import { disturbanceWords, disturbed } from "./disturbance.js";
 import { filmOf } from "./filming.js";
 import { tellModel } from "./models.js";
@@ -48,8 +49,9 @@ const player = new Player({
   },
   over() { settle(); drawDiagram(); },
 }, complain);
+const comparison = new Comparison(player, complain);
 globalThis.lab = { // for the console and for tests
-  player, colour, python, open: (name, source) => load(name, source).catch(complain), get job() { return job; }, get marks() { return marks; }, get table() { return table; }, get isWriting() { return since < Infinity; },
+  player, comparison, colour, python, open: (name, source) => load(name, source).catch(complain), get job() { return job; }, get marks() { return marks; }, get table() { return table; }, get isWriting() { return since < Infinity; },
   rows: () => rowsOf(player.view, $("spacetime").clientWidth, $("spacetime").clientHeight),
 };
 
@@ -71,6 +73,7 @@ function drive(source, step = -1) {
   stays = false;
   if (step < 0) player.load(open, job);
   else player.resume(open, steps, step);
+  comparison.follow(job);
 }
 function count(shot) {
   if (!means || shot.step <= means.from) return;

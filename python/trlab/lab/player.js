@@ -134,7 +134,7 @@ export class Player {
     const most = Math.min(limit, 9), bars = upTo(most + 1).map(() => document.createElement("i"));
     bars.forEach((bar, k) => bar.style.background = `rgb(${colour(k / most)})`);
     $("legend").replaceChildren("stopped", ...bars, speedWords(limit));
-    $("legend").setAttribute("aria-label", `Colours: dark red for stopped cars, dark blue for ${speedWords(limit)}`);
+    $("legend").setAttribute("aria-label", `Colours: red for stopped cars, blue for ${speedWords(limit)}`);
     tellUnits(limit);
   }
 
