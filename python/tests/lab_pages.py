@@ -1,12 +1,12 @@
 """What the tests of the page share: a server, a browser with its page, and calls that wait for a condition."""
 import threading
 
-from tests.browsers import Window
+from tests.browsers import Keys, Window
 from trlab.lab import Lab
 
 
-class LabPages:
-    """Tests in one browser with one page, which is loaded again for each of them."""
+class OnPage:
+    """A page in one browser, which is loaded again for each test."""
 
     browser = ""
 
@@ -51,18 +51,28 @@ class LabPages:
         """The fundamental diagram has so many points of one sweep; the run may have added its own."""
         self.hold(lambda: self.page.js("return lab.marks.some(it => it.points.length === arguments[0])", count))
 
+    def turn(self, words):
+        """Click on the button that plays and pauses, if it says this. A run may end between two scripts: this is one."""
+        self.page.js("const it = document.getElementById('play'); if (it.textContent === arguments[0]) it.click()", words)
+
+    def runs(self):
+        """The processes that run jobs for pages, without those that explain files."""
+        return [child for child in list(self.lab.children) if child.args[1] == "run"]
+
+    def follows_none(self):
+        self.page.keys(Keys.ESCAPE)
+        self.hold(lambda: self.page.js("return lab.player.car") is None)
+
     def pause(self):
         self.hold(lambda: not self.page.js("return window.lab.isWriting"))
-        if self.page.text("play") == "Pause":
-            self.page.click("play")
+        self.turn("Pause")
         self.hold(lambda: self.page.js("const it = lab.player; return it.scene?.step === it.step && it.phase === 1 && !it.moving && !it.stale"))
 
     def run_to(self, step):
         """Play fast to a step at least, and pause."""
         self.page.set("rate", 100, "input")
         self.hold(lambda: not self.page.js("return window.lab.isWriting"))
-        if self.page.text("play") == "Play":
-            self.page.click("play")
+        self.turn("Play")
         self.page.later("""const it = lab.player;
             await new Promise(go => { const look = () => it.step >= words[0] ? go() : requestAnimationFrame(look); look(); });
             if (it.playing) it.setPlaying(false)""", step)

@@ -2,7 +2,7 @@
 import unittest
 
 from tests.browsers import Keys, Window, missing
-from tests.lab_pages import LabPages
+from tests.lab_pages import OnPage
 
 # Controls that a keyboard reaches: what is shown, enabled, and in no closed part of the page.
 CONTROLS = """const shown = it => it.checkVisibility({visibilityProperty: true}) && !it.disabled;
@@ -21,7 +21,7 @@ const contrast = it => {
 };"""
 
 
-class ForEveryone(LabPages):
+class ForEveryone(OnPage):
     """The tests, in one browser."""
 
     def open_everything(self, page):

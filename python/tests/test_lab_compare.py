@@ -3,7 +3,7 @@ import unittest
 
 import trlab
 from tests.browsers import missing
-from tests.lab_pages import LabPages
+from tests.lab_pages import OnPage
 from trlab import Job, Nasch, Rickert, SlowToStart, Snapshots
 from trlab._runs.calls import ask
 from trlab._results.written import snapshots_in
@@ -12,7 +12,7 @@ OTHER = "const {film} = lab.comparison; return film && film.shots.map(it => [it.
 ROAD = {"limit": 3, "length": 60, "cars": 24, "start": trlab.random_cells(3), "key": 5, "steps": 4000}
 
 
-class Compared(LabPages):
+class Compared(OnPage):
     """The tests, in one browser."""
 
     def show_job(self, **changes):

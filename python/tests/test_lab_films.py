@@ -10,7 +10,7 @@ from pathlib import Path
 
 import trlab
 from tests.browsers import missing
-from tests.lab_pages import LabPages
+from tests.lab_pages import OnPage
 from trlab import Job, Nasch, Own, Rickert, SlowToStart
 from trlab._runs.calls import ask
 from trlab.lab.export import exported
@@ -27,7 +27,7 @@ def parts_of(page):
     return [*words[:2], json.loads(words[2])], gzip.decompress(base64.b64decode(run)).decode(), PARTS.sub("", page.replace(run, ""))
 
 
-class Films(LabPages):
+class Films(OnPage):
     """The tests, in one browser."""
 
     def test_a_film_is_that_of_the_command(self):

@@ -4,7 +4,7 @@ import unittest
 
 import trlab
 from tests.browsers import missing
-from tests.lab_pages import LabPages
+from tests.lab_pages import OnPage
 from trlab import Job, Nasch, SlowToStart, Sweep
 from trlab._runs.calls import ask
 
@@ -12,7 +12,7 @@ ROW = "return (await import('./sweeps.js')).rowOf(...words)"
 BRANCHES = {"moving": trlab.moving, "jam": trlab.jammed}
 
 
-class SweepsOfThePage(LabPages):
+class SweepsOfThePage(OnPage):
     """The tests, in one browser."""
 
     def small(self):

@@ -4,7 +4,7 @@ import unittest
 
 import trlab
 from tests.browsers import Keys, missing
-from tests.lab_pages import LabPages
+from tests.lab_pages import OnPage
 from trlab import Job, Nasch, Own, Rickert, SlowToStart, Snapshots
 from trlab.lab import server
 from trlab._runs.calls import ask
@@ -29,7 +29,7 @@ def speeds_by_origin(snapshot):
             for lane, signs in enumerate(snapshot.lanes) for cell, sign in enumerate(signs) if sign != "."}
 
 
-class Teaching(LabPages):
+class Teaching(OnPage):
     """The tests, in one browser."""
 
     def ready(self):

@@ -2,22 +2,16 @@
 // { film, step, scene, share, lens, car }. `share` is the part of the way from the step before, 0 to 1.
 
 import { EMPTY, clamp, speedOf, upTo } from "./job.js";
+import { colour } from "./colours.js";
+import { dotOf, isTight, paintColumns, styleOf, sumsOf } from "./columns.js";
 import { mostOf, unitOf } from "./units.js";
 
 export const ACCENT = "#1d5f9e";
 export const INK = "#16191d";
 export const SOFT = "#656d78";
 const LINE = "#e3e6ea", WASH = "#f1f3f5", FAINT = "#cdd3da", OTHER = "#c8501e";
-// Dark red, orange, sky, blue: these differ in lightness too, and without red and green.
-const RAMP = [[122, 16, 22], [208, 66, 24], [243, 154, 46], [142, 196, 232], [76, 142, 200], [26, 86, 150]];
-const MANY = 3000; // With more cars, one mark for each dot shows its slowest car, and nothing moves between steps.
 const turned = Math.PI * 2;
 
-/** The colour of a speed as a share of the maximum speed: red, green and blue. */
-export function colour(share) {
-  const place = clamp(share, 0, 1) * (RAMP.length - 1), k = Math.min(RAMP.length - 2, Math.floor(place));
-  return RAMP[k].map((from, part) => Math.round(from + (RAMP[k + 1][part] - from) * (place - k)));
-}
 const paint = (v, limit) => `rgb(${colour(v / limit).join(",")})`;
 
 /** The context of a canvas, cleared, at the size that it has on the page. */
@@ -76,19 +70,12 @@ export class SvgPen {
 export const svgFile = (viewBox, ...parts) =>
   tag("svg", { xmlns: "http://www.w3.org/2000/svg", viewBox, "font-family": "sans-serif", "font-size": 12 }, `\n${parts.join("\n")}\n`) + "\n";
 
-/** Call for each car of a speed, or for each dot whose slowest car has this speed, with its place and its lane. */
-function marksOf({ film, scene, share }, bins) {
-  const { starts, place, lane, origin, cars } = scene, turn = share * share * (3 - 2 * share);
-  if (cars <= MANY) {
-    return (v, call) => {
-      for (let k = starts[v]; k < starts[v + 1]; k++) call(place[k] - v * (1 - share), origin[k] + (lane[k] - origin[k]) * turn);
-    };
-  }
-  const found = new Uint8Array(bins * film.lanes).fill(255), scale = bins / film.length;
-  for (let v = film.limit; v >= 0; v--) {
-    for (let k = starts[v]; k < starts[v + 1]; k++) found[lane[k] * bins + Math.floor(place[k] * scale)] = v;
-  }
-  return (v, call) => found.forEach((slowest, k) => slowest === v && call((k % bins) / scale, Math.floor(k / bins)));
+/** Call for each car of a speed with its place and its lane. */
+function marksOf({ share }, { starts, place, lane, origin }) {
+  const turn = share * share * (3 - 2 * share);
+  return (v, call) => {
+    for (let k = starts[v]; k < starts[v + 1]; k++) call(place[k] - v * (1 - share), origin[k] + (lane[k] - origin[k]) * turn);
+  };
 }
 /** Draw all cars, the slowest last. */
 function paintCars(pen, { limit }, call, draw) {
@@ -110,7 +97,7 @@ const ringOf = ({ film }, size) => ({ middle: size / 2, outer: size / 2 - 4, tal
 /** Cars are boxes on a turned pen, which is much faster than lines in Firefox. */
 export function drawRing(pen, size, view) {
   const { film } = view, { middle, outer, tall } = ringOf(view, size), turn = turned / film.length;
-  const thick = clamp(turn * (outer - 12) * 0.72, 1.7, 12), call = marksOf(view, 1500), car = carNow(view);
+  const thick = clamp(turn * (outer - 12) * 0.72, 1.7, 12), dots = Math.round(outer * turned), car = carNow(view);
   Object.assign(pen, { strokeStyle: LINE, lineWidth: 1 });
   for (const k of upTo(film.lanes + 1)) {
     pen.beginPath();
@@ -119,17 +106,20 @@ export function drawRing(pen, size, view) {
   }
   drawArrow(pen, middle, outer - film.lanes * (tall + 5) - 12);
   let angle = 0;
-  const box = (x, lane, more = 0) => {
-    pen.rotate((x + 0.5) * turn - angle);
-    angle = (x + 0.5) * turn;
-    pen.fillRect(-thick / 2 - more, 2.5 + lane * (tall + 5) - outer - more, thick + 2 * more, tall + 2 * more);
+  const turnTo = (to, wide, lane, more) => {
+    pen.rotate(to - angle);
+    angle = to;
+    pen.fillRect(-wide / 2 - more, 2.5 + lane * (tall + 5) - outer - more, wide + 2 * more, tall + 2 * more);
   };
+  const box = (x, lane, more = 0) => turnTo((x + 0.5) * turn, thick, lane, more);
   pen.translate(middle, middle);
+  const tight = isTight(film.length, dots);
+  if (tight) paintColumns(pen, view, dots, (dot, lane) => turnTo((dot + 0.5) / dots * turned, 1.3, lane, 0));
   for (const [style, more] of car ? [["#fff", 3], [INK, 2]] : []) {
     pen.fillStyle = style;
     box(...car, more);
   }
-  paintCars(pen, film, call, box);
+  if (!tight) paintCars(pen, film, marksOf(view, view.scene), box);
 }
 /** The direction of the traffic: clockwise. */
 function drawArrow(pen, middle, radius) {
@@ -153,21 +143,23 @@ export function ringAt(view, size, x, y) {
 // The straight road: all of it, and below it a part of it that is drawn larger
 
 function drawRoad(pen, view, { top, tall, from, cells, width }) {
-  const scale = width / cells, wide = Math.max(1.4, scale * 0.78), { length, lanes } = view.film;
+  const { film, step, scene } = view, { length, lanes, limit } = film;
+  const scale = width / cells, wide = Math.max(1.4, scale * 0.78), between = tall > 14 ? 4 : 2, tight = isTight(cells, width);
   const box = (x, lane, more = 0) => {
     let place = (((x - from) % length) + length) % length;
     if (place > cells) place -= length;
-    const inset = (tall > 14 ? 4 : 2) - more;
+    const inset = between - more;
     if (place > -1) pen.fillRect(place * scale + (scale - wide) / 2 - more, top + lane * tall + inset + 0.5, wide + 2 * more, tall - 2 * inset);
   };
   pen.fillStyle = LINE;
   for (const k of upTo(lanes + 1)) pen.fillRect(0, top + k * tall, width, 1);
-  const call = marksOf(view, Math.ceil(width)), car = carNow(view);
+  const dots = Math.round(width), car = carNow(view);
+  if (tight) paintColumns(pen, view, dots, (dot, lane) => pen.fillRect(dot / dots * width, top + lane * tall + between + 0.5, width / dots, tall - 2 * between));
   if (car) {
     pen.fillStyle = INK;
     box(...car, tall > 14 ? 3 : 2);
   }
-  paintCars(pen, view.film, call, box);
+  if (!tight) paintCars(pen, film, marksOf(view, cells < length ? film.scene(step, Math.floor(from) - 1, cells + limit + 3) : scene), box);
 }
 /** The places of both bands; a short road has only one. */
 function bandsOf({ film: { length, lanes }, lens }, width, height) {
@@ -206,6 +198,8 @@ export function rowsOf({ film, step }, width, height) {
   const high = Math.max(film.lanes, clamp(Math.round(width / film.length), 1, 8)), rows = Math.max(1, Math.floor(height / high));
   return { high, rows, top: Math.max(film.first, step - rows + 1) };
 }
+/** Whether a pixel of the diagram stands for several cells. */
+export const isMixed = ({ length }, width) => isTight(length, width * devicePixelRatio);
 /** Rows are kept in a canvas, with a dot for each cell or for each pixel; the oldest row is overwritten. */
 export class Rows {
   constructor() { this.pen = document.createElement("canvas").getContext("2d", { willReadFrequently: true }); }
@@ -223,22 +217,16 @@ export class Rows {
     drawPath(pen, width, high, top, view);
   }
   begin(key, film, wide, rows) {
-    Object.assign(this, { key, film, step: -1, image: this.pen.createImageData(wide, 1), table: new Uint32Array(128) });
+    Object.assign(this, { key, film, step: -1, image: this.pen.createImageData(wide, 1) });
     Object.assign(this.pen.canvas, { width: wide, height: rows * film.lanes });
-    for (let sign = 48; sign < 123; sign++) { // from `0` to `z`
-      const [red, green, blue] = colour(speedOf(sign) / film.limit);
-      this.table[sign] = 0xff000000 | blue << 16 | green << 8 | red;
-    }
   }
   row(step, rows, wide) {
-    const { film, image, table } = this, { cells } = film.of(step), dots = new Uint32Array(image.data.buffer), scale = wide / film.length;
-    for (let lane = 0, k = 0; lane < film.lanes; lane++) {
-      const slowest = new Uint8Array(wide);
-      for (let x = 0; x < film.length; x++, k++) {
-        const dot = Math.floor(x * scale), sign = cells[k];
-        if (sign !== EMPTY && (slowest[dot] === 0 || sign < slowest[dot])) slowest[dot] = sign;
+    const { film, image } = this, { counts, sums, edges } = sumsOf(film, film.of(step), wide), dots = new Uint32Array(image.data.buffer);
+    const isMark = !isTight(film.length, wide);
+    for (let lane = 0, at = 0; lane < film.lanes; lane++) {
+      for (let dot = 0; dot < wide; dot++, at++) {
+        dots[dot] = counts[at] ? dotOf(edges[dot + 1] - edges[dot], counts[at], sums[at], film.limit, isMark) : 0;
       }
-      for (let dot = 0; dot < wide; dot++) dots[dot] = table[slowest[dot]];
       this.pen.putImageData(image, 0, step % rows * film.lanes + lane);
     }
   }
@@ -316,14 +304,16 @@ export const FIGURES = {
     return pen.image(1000, 84, [8, 8, 8, 8]);
   },
   spacetime(view) {
-    const pen = new SvgPen(), width = 1000, { film, step } = view, { high, top } = rowsOf(view, width, 300), scale = width / film.length;
+    const pen = new SvgPen(), width = 1000, { film, step } = view, { high, top } = rowsOf(view, width, 300);
+    const dots = isTight(film.length, width) ? width : film.length, wide = width / dots, tall = high / film.lanes;
     for (let now = top; now <= step; now++) {
-      const { cells } = film.of(now), tall = high / film.lanes;
-      for (let k = 0; k < cells.length; k++) {
-        if (cells[k] === EMPTY) continue;
-        pen.fillStyle = paint(speedOf(cells[k]), film.limit);
-        pen.fillRect(k % film.length * scale, (now - top) * high + Math.floor(k / film.length) * tall, scale, tall);
-      }
+      const { counts, sums, edges } = sumsOf(film, film.of(now), dots);
+      counts.forEach((count, k) => {
+        const dot = k % dots;
+        if (!count) return;
+        pen.fillStyle = styleOf(edges[dot + 1] - edges[dot], count, sums[k], film.limit);
+        pen.fillRect(dot * wide, (now - top) * high + Math.floor(k / dots) * tall, wide, tall);
+      });
     }
     drawPath(pen, width, high, top, view);
     const foot = timeAxis(pen, view);

@@ -82,21 +82,29 @@ export class Film {
   /** Forget the snapshots after a step. */
   cutAfter(step) { this.shots.length = clamp(step - this.first + 1, 0, this.shots.length); }
 
-  /** The cars of a step by speed: their cell and lane, and the lane that they come from. Cars change lanes before they
-   * move, and only to an empty cell: so a car comes from the other lane if the cell it comes from was empty on its lane. */
-  scene(step) {
-    const { length, lanes, limit } = this, { cells, cars } = this.of(step), before = this.of(step - 1)?.cells;
-    const starts = new Int32Array(limit + 2), place = new Int32Array(cars), lane = new Uint8Array(cars), origin = new Uint8Array(cars);
-    for (let k = 0; k < cells.length; k++) if (cells[k] !== EMPTY) starts[speedOf(cells[k]) + 1]++;
+  /** The cars of a step by speed, of the whole road or of a part of it: their cell and lane, and the lane that they come from. Cars
+   * change lanes before they move, and only to an empty cell: so a car comes from the other lane if the cell it comes from was
+   * empty on its lane. */
+  scene(step, from = 0, part = this.length) {
+    const { length, lanes, limit } = this, { cells } = this.of(step), before = this.of(step - 1)?.cells;
+    const first = (from % length + length) % length, count = Math.min(part, length), starts = new Int32Array(limit + 2);
+    for (let on = 0; on < lanes; on++) {
+      for (let n = 0, x = first; n < count; n++, x = x + 1 === length ? 0 : x + 1) {
+        const sign = cells[on * length + x];
+        if (sign !== EMPTY) starts[speedOf(sign) + 1]++;
+      }
+    }
     for (let v = 0; v <= limit; v++) starts[v + 1] += starts[v];
-    const next = starts.slice();
-    for (let on = 0, k = 0; on < lanes; on++) {
-      for (let x = 0; x < length; x++, k++) {
-        if (cells[k] === EMPTY) continue;
-        const v = speedOf(cells[k]), car = next[v]++;
+    const cars = starts[limit + 1], next = starts.slice();
+    const place = new Int32Array(cars), lane = new Uint8Array(cars), origin = new Uint8Array(cars);
+    for (let on = 0; on < lanes; on++) {
+      for (let n = 0, x = first; n < count; n++, x = x + 1 === length ? 0 : x + 1) {
+        const sign = cells[on * length + x];
+        if (sign === EMPTY) continue;
+        const v = speedOf(sign), car = next[v]++;
         place[car] = x;
         lane[car] = on;
-        origin[car] = lanes === 2 && before && before[k - x + (x - v + length) % length] === EMPTY ? 1 - on : on;
+        origin[car] = lanes === 2 && before && before[on * length + (x - v + length) % length] === EMPTY ? 1 - on : on;
       }
     }
     return { step, cars, starts, place, lane, origin };

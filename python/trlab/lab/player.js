@@ -3,9 +3,10 @@
 
 import { clamp, upTo } from "./job.js";
 import { Film, Run } from "./film.js";
+import { colour } from "./colours.js";
 import { followedWords } from "./following.js";
 import { shownAs, speedWords, tellUnits, unitOf } from "./units.js";
-import { Rows, bandAt, carNow, colour, drawBands, drawCurves, drawRing, fresh, ringAt, rowsOf, smooth } from "./draw.js";
+import { Rows, bandAt, carNow, drawBands, drawCurves, drawRing, fresh, isMixed, ringAt, rowsOf, smooth } from "./draw.js";
 
 export const $ = id => document.getElementById(id);
 const calm = matchMedia("(prefers-reduced-motion: reduce)").matches;
@@ -15,7 +16,7 @@ export class Player {
   /** `hear` has shot(shot), moved(), over(), rule(step) and keys, and each may be missing. `fail` shows a message. */
   constructor(hear, fail) {
     Object.assign(this, { hear, fail, film: null, run: null, step: -1, car: null, lens: 0, phase: 1, drawn: -1 });
-    Object.assign(this, { playing: !calm, moving: false, stale: true, rows: new Rows(), before: 0, paused: 0 });
+    Object.assign(this, { playing: !calm, moving: false, isDue: false, stale: true, rows: new Rows(), before: 0, paused: 0 });
     this.listen();
     this.setPlaying(this.playing);
     this.setRate();
@@ -70,6 +71,7 @@ export class Player {
     this.before = now;
     if (!this.film || (this.step < 0 && !this.next())) return;
     if (!this.playing && this.run && now - this.paused > REST) this.rest();
+    if (this.isDue && this.next()) Object.assign(this, { isDue: false, phase: 0, moving: true });
     if (this.moving) this.move(passed);
     if (this.stale) this.draw(now);
   }
@@ -117,6 +119,7 @@ export class Player {
       step, steps: `of ${film.steps} steps`, flow, speed, stopped, dense: shownAs("density", film.of(step).cars / (film.length * film.lanes)),
       kept: `The page keeps the last ${film.most.toLocaleString("en")} snapshots: back to step ${film.first.toLocaleString("en")}.`,
       car: followed ?? (this.hint ??= $("car").textContent),
+      mixed: isMixed(film, $("spacetime").clientWidth) ? "Colours of pixels are mean speeds, paler where there are fewer cars." : "",
     };
     for (const id in words) $(id).textContent = words[id];
     $("follow").setAttribute("aria-pressed", car !== null);
@@ -143,6 +146,7 @@ export class Player {
   setPlaying(now) {
     if (now && this.film && this.over) this.restart();
     this.playing = now;
+    this.isDue = false;
     this.moving ||= now;
     this.paused = performance.now();
     $("play").textContent = now ? "Pause" : "Play";
@@ -155,7 +159,7 @@ export class Player {
   }
   one() {
     this.setPlaying(false);
-    if (this.next()) [this.phase, this.moving] = [0, true];
+    this.isDue = !this.over; // the run may have ended in a long pause, and its snapshots come again
   }
   back() {
     this.setPlaying(false);

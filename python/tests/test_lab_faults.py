@@ -1,0 +1,250 @@
+"""The page of trlab-lab on long roads, with numbers that are not accepted, and with addresses whose job cannot be opened."""
+import base64
+import math
+import unittest
+import zlib
+
+import trlab
+from tests.browsers import Keys, missing
+from tests.test_lab_page import OnPage, snapshots
+from trlab import Job, Nasch, Rickert
+
+SPEEDS = "0123456789abcdefghijklmnopqrstuvwxyz"
+
+
+class Faults(OnPage):
+    def job_of(self, **changes):
+        what = {"limit": 5, "length": 1000, "cars": 150, "start": trlab.random_cells(1), "rule": Nasch(0.25), "steps": 5000, "key": 1}
+        return Job(**{**what, **changes}).text()
+
+    # Long roads
+
+    def long(self, **changes):
+        """Open a long road and run some of its steps; its lanes at the step that is shown."""
+        self.open(self.job_of(steps=400, **changes))
+        self.hold(lambda: self.page.js("return lab.job.length === arguments[0] && lab.job.cars === arguments[1]", changes["length"], changes["cars"]))
+        self.run_to(40)
+        found = snapshots(self.page.job())
+        return found, self.page.step()
+
+    def near(self, drawn, wanted):
+        """Compare colours, which may differ by rounding."""
+        self.assertEqual(len(drawn), len(wanted))
+        for k, (one, other) in enumerate(zip(drawn, wanted)):
+            self.assertLessEqual(max(abs(a - b) for a, b in zip(one, other)), 6, (k, one, other))
+
+    def colour_of(self, cells, colours):
+        """The colour on white of cells that share a pixel, by their mean speed and their density."""
+        speeds = [SPEEDS.index(sign) for sign in cells if sign != "."]
+        if not speeds:
+            return (255, 255, 255)
+        strength = math.sqrt(len(speeds) / len(cells))
+        return [255 - (255 - part) * strength for part in colours[round(100 * sum(speeds) / len(speeds))]]
+
+    def colours(self):
+        """The colours of all speeds up to 5 cells per step, in hundredths."""
+        return self.page.js("return Array.from({length: 501}, (_, k) => lab.colour(k / 500))")
+
+    def dots(self, name, dots, y):
+        """The colours on white of so many pixels at a height of a drawing."""
+        return self.page.js("""const canvas = document.getElementById(arguments[0]), pen = canvas.getContext('2d');
+            return Array.from({length: arguments[1]}, (_, k) => {
+                const [red, green, blue, all] = pen.getImageData(Math.floor((k + 0.5) * canvas.width / arguments[1]), arguments[2], 1, 1).data;
+                return [red, green, blue].map(part => 255 + (part - 255) * all / 255);
+            })""", name, dots, y)
+
+    def pixels(self, lane, dots):
+        edges = [math.ceil(k * len(lane) / dots) for k in range(dots + 1)]
+        return [lane[first:last] for first, last in zip(edges, edges[1:])]
+
+    def test_a_pixel_for_many_cells_shows_their_mean_speed_and_density(self):
+        for lanes, length, cars in (1, 20000, 6000), (1, 5000, 200), (2, 4000, 3000):
+            with self.subTest(lanes=lanes, length=length, cars=cars):
+                rule = Nasch(0.25) if lanes == 1 else Rickert(0.25, 0.5)
+                found, step = self.long(length=length, lanes=lanes, cars=cars, rule=rule)
+                colours, wide = self.colours(), self.page.js("return document.getElementById('spacetime').width")
+                top, high = self.page.js("const {top, high} = lab.rows(); return [top, high]")
+                for now in range(max(top, step - 20), step + 1):
+                    for lane, cells in enumerate(found[now].lanes):
+                        wanted = [self.colour_of(it, colours) for it in self.pixels(cells, wide)]
+                        self.near(self.dots("spacetime", wide, (now - top) * high + math.floor((lane + 0.5) / lanes * high)), wanted)
+                for lane, cells in enumerate(found[step].lanes):  # the whole road, above its enlarged part
+                    wanted = [self.colour_of(it, colours) for it in self.pixels(cells, wide)]
+                    self.near(self.dots("band", wide, 10 if lanes == 1 else 5 + 11 * lane), wanted)
+                self.assertIn("Colours of pixels are mean speeds", self.page.text("mixed"))
+        self.open(self.job_of(length=100, cars=30))
+        self.hold(lambda: self.page.js("return lab.job.length === 100 && lab.player.step >= 0") and self.page.text("mixed") == "")
+
+    def test_every_car_of_the_enlarged_part_is_drawn(self):
+        for lanes, length, cars in (1, 20000, 20000), (1, 100000, 30000), (2, 20000, 20000):
+            with self.subTest(lanes=lanes, length=length, cars=cars):
+                rule = Nasch(0.25) if lanes == 1 else Rickert(0.25, 0.5)
+                start = trlab.even if cars == length * lanes else trlab.random_cells(2)
+                found, step = self.long(length=length, lanes=lanes, cars=cars, rule=rule, start=start)
+                width, height, lens = self.page.js("const it = document.getElementById('band'); return [it.width, it.height, lab.player.lens]")
+                near = round(width / 9 + 1e-9)
+                tall, top = (26, height - 27) if lanes == 1 else (19, height - 39)
+                colours = {tuple(it): str(v) for v, it in enumerate(self.colours()[::100])}
+                for lane, cells in enumerate(found[step].lanes):
+                    first = lens - near / 2
+                    drawn = self.page.js("""const [first, near, y] = arguments, canvas = document.getElementById('band'), pen = canvas.getContext('2d');
+                        return Array.from({length: near - 2}, (_, k) => {
+                            const x = (Math.ceil(first) + k + 0.5 - first) * canvas.width / near;
+                            return [...pen.getImageData(Math.floor(x), y, 1, 1).data].slice(0, 3);
+                        })""", first, near, top + lane * tall + tall // 2)
+                    from_cell = math.ceil(first)
+                    wanted = (cells + cells)[from_cell:from_cell + near - 2]
+                    self.assertEqual("".join(colours.get(tuple(it), ".") for it in drawn), wanted)
+
+    # Numbers
+
+    def type(self, selector, text):
+        """Replace the text of a box as a user does, and end with Enter."""
+        self.page.select(selector)
+        self.page.press(*text, Keys.ENTER)
+
+    def box(self, selector):
+        """The text of a box, whether it is marked as invalid, and the message that describes it."""
+        return self.page.js("""const it = document.querySelector(arguments[0]), words = document.getElementById(it.getAttribute('aria-describedby'));
+            return [it.value, it.getAttribute('aria-invalid') === 'true', words.textContent, words.getAttribute('role')]""", selector)
+
+    def test_fractions_and_decimals(self):
+        self.pause()
+        self.page.click("again")
+        self.type("#p", "1/3")
+        self.has_job(self.job_of(rule=Nasch("1/3")))
+        self.has(["0.3333333333", False, "", "alert"], lambda: self.box("#p"))
+        for selector, text, wanted in (
+            (".lead [data-set=p]", "1/4", {}), ("#p", " 5e-1", {"rule": Nasch(0.5)}), ("#p", ".25", {}), ("#density", "1/3", {"cars": 333}),
+            ("#cars", "150", {}), (".lead [data-set=length]", "2000", {"length": 2000, "cars": 300}),
+        ):
+            with self.subTest(selector=selector, text=text):
+                self.type(selector, text)
+                self.has_job(self.job_of(**wanted))
+                self.assertFalse(self.box(selector)[1])
+        self.has(["0.15", "300"], lambda: [self.page.value("density"), self.page.value("cars")])
+
+    def test_a_box_shows_the_number_of_the_job(self):
+        self.page.set("length", "30")
+        self.has_line("\nlane ")
+        self.hold(lambda: self.page.js("return lab.job.length") == 30)
+        self.type("#density", "0.34")
+        self.has(["0.333333", "10"], lambda: [self.page.value("density"), self.page.value("cars")])
+
+    def test_what_is_not_accepted_keeps_its_text_and_changes_nothing(self):
+        self.pause()
+        self.page.click("again")
+        self.page.set("model", "vdr")
+        self.has_line("rule vdr ")
+        job, runs = self.page.job(), self.page.js("return lab.player.film.steps")
+        film = "return (window.film ??= lab.player.film) === lab.player.film"
+        self.assertTrue(self.page.js(film))
+        for selector, text, said in (
+            ("#p", "0,5", "Write 0.5 instead of 0,5."), ("#q", "1.5", "1.5 is more than 1: write a number from 0 to 1."),
+            (".lead [data-set=p]", "a half", "a half is not a number: write a number from 0 to 1, such as 0.25 or 1/4."),
+            ("#limit", "40", "40 is more than 35: write a whole number from 1 to 35."), ("#limit", "0", "0 is less than 1: "),
+            ("#length", "100,000", "Write 100000, without a comma."), ("#cars", "1001", "1001 is more than 1000: "),
+            ("#cars", "1.5", "1.5 is not a whole number: "), ("#density", "0.0001", "less than one car on 1000 cells: write at least 0.001, or 0."),
+            ("#density", "1/0", "1/0 is not a number"), ("#stepcount", "", "Write a whole number from 0 to 500000."), ("#key", "x", "x is not a seed"),
+            ("#p", "1e-11", "would be 0 in a file"), ("#key", str(2**256), "is not a seed"), ("#p", "-0.1", "-0.1 is less than 0"),
+        ):
+            with self.subTest(selector=selector, text=text):
+                self.page.select(selector)
+                self.page.press(*([*text] or [Keys.DELETE]), Keys.ENTER)
+                self.hold(lambda: self.box(selector)[1])
+                value, _, words, role = self.box(selector)
+                self.assertEqual((value, role), (text, "alert"))
+                self.assertIn(said, words)
+                self.assertEqual((self.page.job(), self.page.js(film)), (job, True))
+        self.page.select("#limit")
+        self.page.press(Keys.ESCAPE)
+        self.has(["5", False, "", "alert"], lambda: self.box("#limit"))
+        self.page.set("limit", "4")  # the other boxes keep their texts, until they get other values
+        self.has_line("\nlimit 4\n")
+        self.assertEqual(self.box("#cars")[:2], ["1.5", True])
+        self.page.set("cars", "10")
+        self.has(["10", False, "", "alert"], lambda: self.box("#cars"))
+        self.page.set("example", "jams.job")
+        self.hold(lambda: self.page.js("return document.querySelectorAll('[data-set][aria-invalid=true]').length") == 0)
+        self.assertEqual(runs, 5000)
+
+    def test_seeds_of_256_bits(self):
+        self.page.set("key", str(2**256 - 1))
+        self.has_line("key " + "f" * 64 + "\n")
+        self.page.set("key", "007")
+        self.has("7", lambda: self.page.value("key"))
+
+    def test_a_sweep_with_steps_that_are_not_numbers(self):
+        self.page.set("measure", "0")
+        self.page.click("sweep")
+        self.assertEqual(self.box("#measure"), ["0", True, "0 is less than 1: write a whole number from 1 to 10000.", "alert"])
+        self.assertEqual(self.page.text("sweep"), "Sweep")
+        self.page.set("measure", "1/2")
+        self.assertIn("1/2 is not a whole number", self.box("#measure")[2])
+
+    def test_parameters_of_rules_in_python(self):
+        self.page.set("example", "keep_distance.py")
+        self.has_line("; keep_distance(g=1, p=0.25)\n")
+        selector = "[id='keep_distance.p']"
+        self.type(selector, "1/2")
+        self.has_line("; keep_distance(g=1, p=0.5)\n")
+        self.type(selector, "0,1")
+        self.has(["0,1", True, "Write 0.1 instead of 0,1.", "alert"], lambda: self.box(selector))
+        self.type("[id='keep_distance.g']", "1.5")
+        self.hold(lambda: "1.5 is not a whole number" in self.box("[id='keep_distance.g']")[2])
+        self.has_line("; keep_distance(g=1, p=0.5)\n")
+
+    # Addresses
+
+    def start_at(self, fragment):
+        """Open the page anew at an address."""
+        self.page.get("about:blank")
+        self.page.get(self.lab.address + fragment)
+        self.hold(lambda: self.page.js("return window.lab !== undefined && lab.player.step > 3"))
+
+    def link(self, text):
+        packer = zlib.compressobj(9, zlib.DEFLATED, -15)
+        return "#job=" + base64.urlsafe_b64encode(packer.compress(text.encode()) + packer.flush()).rstrip(b"=").decode()
+
+    def test_the_message_about_an_address_stays(self):
+        for fragment, said in (
+            ("#job=%%%", "The job in this address is damaged and cannot be read."), ("#job=abcd", "The job in this address is damaged"),
+            (self.link(self.job_of().replace("limit 5", "limit 99")), "The job in this address is rejected at line 3."),
+            (self.link("a" * 64 * 2**20), "The job in this address is too long: at most 4194304 bytes are allowed."),
+        ):
+            with self.subTest(said=said):
+                self.start_at(fragment)
+                self.has_job(self.job_of())
+                shown = self.page.text("fault")
+                self.assertTrue(shown.startswith(said), shown)
+                self.assertTrue(shown.endswith("The page plays its first job instead."), shown)
+        self.page.set("density", "0.2")
+        self.has_job(self.job_of(cars=200))
+        self.hold(lambda: self.page.text("fault") == "")
+        self.page.js("location.hash = '#job=!'")
+        self.hold(lambda: self.page.text("fault").endswith("The page still plays the job that it had before."))
+        self.has_job(self.job_of(cars=200))
+
+    # Playback
+
+    def test_a_step_after_a_long_pause(self):
+        """The run has ended in the pause, and its snapshots have to come again."""
+        self.run_to(20)
+        self.hold(lambda: not self.lab.children)
+        step = self.page.step()
+        self.page.click("one")
+        self.has(step + 1, self.page.step)
+
+
+@unittest.skipIf(missing("chromium"), missing("chromium"))
+class InChromium(Faults, unittest.TestCase):
+    browser = "chromium"
+
+
+@unittest.skipIf(missing("firefox"), missing("firefox"))
+class InFirefox(Faults, unittest.TestCase):
+    browser = "firefox"
+
+
+if __name__ == "__main__":
+    unittest.main()
