@@ -141,6 +141,8 @@ MUTANTS = [
     ("_analysis/peak.py", "numpy.cov(by_key.to_numpy().T)) / len(by_key)", "numpy.cov(by_key.to_numpy().T))"),
     ("_analysis/peak.py", "part[f\"{y}_sem\"].to_numpy() ** 2", "part[f\"{y}_sem\"].to_numpy()"),
     ("_analysis/peak.py", "SIGNIFICANT = 3", "SIGNIFICANT = 0"),
+    ("_analysis/peak.py", "return is_lower(first - 1), is_lower(first + len(part))", "return True, True"),
+    ("_analysis/peak.py", "SIGNIFICANT * math.hypot", "0 * math.hypot"),
     ("_analysis/peak.py", "LEAST_RUNS, LEAST_POINTS, MAX_DEGREE = 5, 5, 5", "LEAST_RUNS, LEAST_POINTS, MAX_DEGREE = 2, 5, 5"),
     ("_analysis/peak.py", "if chi2 > dof + 3 * math.sqrt(2 * dof):", "if False:"),
     ("_analysis/peak.py", "float(fitted(top)), height_sem", "float(fitted(top)) + 3 * height_sem, height_sem"),

@@ -140,12 +140,12 @@ class Peaks(unittest.TestCase):
                 continue
         self.assertGreater(highest - 0.318, 2 * abs(numpy.mean(fitted) - 0.318))
 
-    def peaks(self, count, *curve, **how):
+    def peaks(self, count, *curve, within=0.05, **how):
         """The peaks of so many curves, without those that are refused."""
         found = []
         for _ in range(count):
             with contextlib.suppress(EstimateError):
-                found.append(trlab.peak(self.curve(*curve, **how), over="seed"))
+                found.append(trlab.peak(self.curve(*curve, **how), over="seed", within=within))
         return found
 
     def test_chi2_is_about_the_degrees_of_freedom(self):
@@ -165,6 +165,18 @@ class Peaks(unittest.TestCase):
         found = self.peaks(20, flow)
         self.assertGreater(len(found), 15)
         self.assertLess(abs(numpy.mean([it.y for it in found]) - 0.318), 0.001)
+
+    def test_a_plateau_has_no_peak(self):
+        def rising(x):
+            return 0.318 - (20 * (x - 0.086) ** 2 if x < 0.086 else 0.0)
+
+        def falling(x):
+            return rising(0.18 - x)
+
+        for flow in rising, falling:
+            self.assertLess(len(self.peaks(60, flow)), 3)
+        # Here noise ends the part that is fitted, and not a fall of the curve.
+        self.assertLess(len(self.peaks(40, lambda x: 0.3, numpy.linspace(0.05, 0.13, 60), within=0.006)), 3)
 
     def test_what_it_returns(self):
         frame = self.curve(self.parabola, runs=7, noise=1e-4)
@@ -200,7 +212,7 @@ class Peaks(unittest.TestCase):
             ("points are within", self.curve(lambda x: x, at, 8, 0.0005)),
             ("points are within", self.curve(lambda x: 1 - x, at, 8, 0.0005)),
             ("points are within", self.curve(self.parabola, self.AT[:4])),
-            ("not bent significantly|kink|points are within", self.curve(lambda x: 0.3, noise=0.001)),
+            ("does not fall significantly|kink|points are within", self.curve(lambda x: 0.3, noise=0.001)),
             ("at least 5 runs", self.curve(self.parabola, runs=4)),
             ("all equal", self.curve(self.parabola, noise=0.0)),
         ):

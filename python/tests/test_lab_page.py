@@ -321,8 +321,12 @@ class Pages(OnPage):
 
     # Inputs
 
+    def examples(self):
+        """The examples that the page offers."""
+        return server.examples()
+
     def test_every_example(self):
-        texts = server.examples()
+        texts = self.examples()
         listed = self.page.js("return [...document.querySelectorAll('#example option')].slice(1).map(it => it.value)")
         self.assertCountEqual([name for name in listed if "." in name], texts)
         for name, text in texts.items():
@@ -436,6 +440,8 @@ class Pages(OnPage):
             self.fix("motion")
             wanted = f"motion\nget r1, limit\n{fixed}\n".replace("go r0", "min r0, r0, r1\ngo r0")
             self.hold(lambda: f"rule own\n{wanted}end\n" in self.page.job())
+
+    def test_a_change_in_words(self):
         edits = [{"line": 2, "first": 3, "last": 2, "replacement": "\\x5c"}, {"line": 3, "first": 1, "last": 2, "replacement": ""}]
         fixed = self.page.later("""const {repaired} = await import('./editor.js');
             return repaired("\u00e9\\n\u00e9a\\nb\\nc\\n", {why: "so.", edits: words[0]})""", edits)

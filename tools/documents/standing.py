@@ -26,7 +26,7 @@ MAX_WORDS = {
     "docs/FAQ.md": 900,
     "docs/FILES.md": 2230,
     "docs/GLOSSARY.md": 830,
-    "docs/LAB.md": 1000,
+    "docs/LAB.md": 1300,
     "docs/LAWS.md": 3850,
     "docs/LAWS_BY_EXAMPLE.md": 4000,
     "docs/PROGRAMS.md": 2950,
@@ -37,14 +37,15 @@ MAX_WORDS = {
     "docs/STUDIES.md": 3120,
     "docs/TUTORIAL.md": 1240,
     "docs/VERIFIER.md": 870,
-    "docs/dev/ARCHITECTURE.md": 2050,
+    "docs/dev/ARCHITECTURE.md": 2400,
+    "docs/dev/CALLS.md": 800,
     "docs/dev/BOOK.md": 1290,
-    "docs/dev/DECISIONS.md": 2660,
+    "docs/dev/DECISIONS.md": 3000,
     "docs/dev/EMBEDDING.md": 690,
     "docs/dev/EXTENDING.md": 1250,
     "docs/dev/GLOSSARY.md": 980,
-    "docs/dev/GUARANTEES.md": 4750,
-    "docs/dev/README.md": 90,
+    "docs/dev/GUARANTEES.md": 4800,
+    "docs/dev/README.md": 110,
 }
 MAX_CHARACTERS = 110
 # A paragraph is indented by a list in a list at most.

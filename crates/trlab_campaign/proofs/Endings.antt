@@ -49,6 +49,7 @@ engine_ends_among source sink own whole e before after old new among ends = reco
   device = ends.device;
   read = ends.read;
   stops = ends.stops;
+  whole = ends.whole;
 }
 
 -- what is written for what a text says, where it has no fault

@@ -9,6 +9,11 @@ abbrev pub transferred_bytes : {E : Type 0} → Result ℕ E → List ℕ → Li
 transferred_bytes (Ok count) bytes = take count bytes
 transferred_bytes (Err fault) bytes = []
 
+-- a call of a reader reported the end of the input: it gave no byte to a buffer with room
+abbrev pub ReportsEnd : {E : Type 0} → Result ℕ E → List ℕ → Type 0
+ReportsEnd (Ok count) buffer = (count ≡ 0) × (0 < length buffer)
+ReportsEnd (Err fault) buffer = ⊥
+
 -- all bytes that the calls of a reader have given, first `before` and then `after`, have grown by bytes with
 -- the property `Holds`
 abbrev pub GaveBytes : (List ℕ → Type 0) → List ℕ → List ℕ → Type 0

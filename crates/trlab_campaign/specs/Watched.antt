@@ -11,6 +11,10 @@ inner_device watched = watched.inner
 abbrev pub has_failed : {X : Type 0} → Watched X → Bool
 has_failed watched = watched.failed
 
+-- whether the last call of the wrapped reader reported the end of its input
+abbrev pub is_at_end : {X : Type 0} → Watched X → Bool
+is_at_end watched = watched.at_end
+
 -- all bytes that the wrapped reader has given so far, in order
 abbrev pub given_bytes : {X : Type 0} → Watched X → List ℕ
 given_bytes watched = watched.given.bytes

@@ -4,10 +4,10 @@
 mod watched;
 mod whole;
 
-ghost use Rattle.std.specs.Prelude.{◌≡◌, ℕ, ◌≤◌, ◌<◌, ◌||◌, ◌++◌, List, length, Option, Bool};
+ghost use Rattle.std.specs.Prelude.{◌≡◌, ℕ, ◌≤◌, ◌<◌, ◌||◌, ◌↔◌, ◌++◌, List, length, Option, Bool};
 ghost use Rattle.std.specs.Prelude.{true, false, IfOk, OnOk, is_err};
 ghost use Rattle.std.specs.Io.KnownBytes.{ReadConsumes, WriteAppends, Keeps};
-ghost use Rattle.trlab_campaign.specs.Device.{transferred_bytes};
+ghost use Rattle.trlab_campaign.specs.Device.{ReportsEnd, transferred_bytes};
 ghost use Rattle.trlab_campaign.specs.Flushes.{once_more};
 ghost use Rattle.trlab_campaign.specs.declared.device.Flushes.{Flushes};
 
@@ -47,6 +47,8 @@ pub trait Source {
     ghost left: { Self → Option (List ℕ) };
     // All bytes that its calls have given so far, known or not.
     ghost given: { Self → List ℕ };
+    // Whether the last call has reported the end of the input.
+    ghost at_end: { Self → Bool };
     // Whether a call has failed.
     ghost failed: { Self → Bool };
 
@@ -59,6 +61,7 @@ pub trait Source {
         ensures count { IfOk result (λ n. n ≤ length buffer.new) }
         ensures bytes { ReadConsumes (left self.old) (left self.new) result buffer.new }
         ensures gives { given self.new ≡ given self.old ++ transferred_bytes result buffer.new }
+        ensures ends { (at_end self.new ≡ true) ↔ ReportsEnd result buffer.new }
         ensures fails { failed self.new ≡ (failed self.old || is_err result) };
 }
 

@@ -1,11 +1,11 @@
 -- The end of a command: its exit status, and what it has read and written.
-use Rattle.std.specs.Prelude.{◌≡◌, ◌↔◌, ◌⊎◌, ℕ, true, false}
+use Rattle.std.specs.Prelude.{◌≡◌, ◌↔◌, ◌⊎◌, ◌||◌, ℕ, List, true, false}
 use Rattle.clap.specs.declared.error.kind.ErrorKind.{ErrorKind}
 use Rattle.trlab_campaign.specs.declared.device.Sink as Sink
 use Rattle.trlab_campaign.specs.declared.device.Source as Source
 use Rattle.trlab_campaign.specs.declared.end.End.{End}
-use Rattle.trlab_campaign.specs.declared.end.End.TheVariants.{Memory}
-use Rattle.trlab_campaign.specs.Ending.{EngineEnds}
+use Rattle.trlab_campaign.specs.declared.end.End.TheVariants.{DeviceFault, Memory}
+use Rattle.trlab_campaign.specs.Ending.{EngineEnds, LeavesWriter, WroteAtEnd}
 use Rattle.trlab_campaign.specs.Flushes.{FlushedOnce}
 use Rattle.trlab_campaign.specs.Writers.{AddsNone, bytes_of}
 use Rattle.trlab_command_line.specs.declared.arguments.Request.{Request}
@@ -16,8 +16,13 @@ use Rattle.trlab_command_line.specs.Statuses.{asks_for_help, status_of_end, stat
 -- the end of a request: `before` and `after` are the reader, `old` and `new` the writer
 pub record RequestEnds {S K : Type 0} (source : Source.Ghosts S) (sink : Sink.Ghosts K)
     (request : Request) (end : End) (before after : S) (old new : K) : Type 0 where
-  -- an engine with the outputs of the request has ended so
-  pub engine : EngineEnds source sink (output_of request) end before after old new
+  -- a request that reads an input: an engine with the outputs of the request has ended so
+  pub engine : reads_input request ≡ true → EngineEnds source sink (output_of request) end before after old new
+  -- any other request: its output was written so, whatever there is to read
+  pub page : reads_input request ≡ false
+      → (text : List ℕ) → LeavesWriter sink (WroteAtEnd (output_of request text)) end old new
+  -- the end is `DeviceFault` exactly if the reader or the writer has failed
+  pub device : (end ≡ DeviceFault) ↔ ((source.failed after || sink.failed new) ≡ true)
   -- if an allocation failed, nothing was written, unless the output is written as it is made
   pub kept : writes_at_once request ≡ true → end ≡ Memory → AddsNone (bytes_of sink old) (bytes_of sink new)
   -- a request that reads no input leaves the reader as it was

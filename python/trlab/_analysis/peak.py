@@ -13,9 +13,12 @@ from .._errors import EstimateError
 LEAST_RUNS, LEAST_POINTS, MAX_DEGREE = 5, 5, 5
 
 SIGNIFICANT = 3
-"""How much the curve must be bent or fall, in standard errors, because a flat curve has a highest point too."""
+"""How much the curve must fall on both sides, in standard errors, because a flat curve has a highest point too."""
 
-_FLAT = "the curve is not bent significantly around its highest point: take more runs, or a larger `within`"
+_FLAT = (
+    "the curve does not fall significantly on both sides of its highest point: take more runs, or points farther from the peak, or a "
+    "larger `within`"
+)
 
 
 class Peak(NamedTuple):
@@ -50,20 +53,21 @@ def peak(frame: pandas.DataFrame, over: str, x: str = "density", y: str = "flow"
 
     Raises `EstimateError` if there are fewer than 5 runs at a point or fewer than 5 points, if the peak is at an end of the
     curve, if no such polynomial fits because the curve has a kink (take points closer to the peak, and a smaller `within`), and
-    if the curve is not bent (take more runs, or a larger `within`): a parabola through the points must be bent down by 3 standard
-    errors, or the polynomial must fall by as much on both sides. Raises `FrameError` as `means` does."""
+    if the curve does not fall by 3 standard errors on both sides, as on a plateau: either the polynomial or the next point beyond
+    those that it fits must be lower than the peak by as much. Raises `FrameError` as `means` does."""
     if isinstance(within, bool) or not 0 < within < 1:
         raise EstimateError(f"`within` is a share between 0 and 1, not {within!r}")
     runs = _one_curve(frame, over, x, y)
-    part = _top(means(runs, over=over, of=[y]).sort_index(), y, within)
+    curve = means(runs, over=over, of=[y]).sort_index()
+    part = _top(curve, y, within)
     at = part.index.to_numpy(dtype=float)
     middle, width = (at[0] + at[-1]) / 2, (at[-1] - at[0]) / 2
     n, covariance = int(part["n"].min()), _covariance(runs, over, x, y, part)
     degree, chi2, solve = _fit((at - middle) / width, part[y].to_numpy(), covariance, n)
     dof = len(part) - degree - 1
     scatter = max(1.0, chi2 / dof)
-    is_bent = _is_bent((at - middle) / width, part[y].to_numpy(), covariance)
-    top, top_sem, height, height_sem = _maximum(solve @ part[y].to_numpy(), scatter * (solve @ covariance @ solve.T), is_bent)
+    has_fallen = _has_fallen(curve, part, y)
+    top, top_sem, height, height_sem = _maximum(solve @ part[y].to_numpy(), scatter * (solve @ covariance @ solve.T), has_fallen)
     return Peak(middle + top * width, top_sem * width, height, height_sem, n, len(part), degree, chi2, dof)
 
 
@@ -139,15 +143,21 @@ def _fit(t: Array, mean: Array, covariance: Array, n: int) -> tuple[int, float, 
     return degree, chi2, solve
 
 
-def _is_bent(t: Array, mean: Array, covariance: Array) -> bool:
-    """Whether a parabola through the means is bent down significantly."""
-    row = numpy.linalg.pinv(numpy.vander(t, 3, increasing=True))[2]
-    return bool(row @ mean <= -SIGNIFICANT * math.sqrt(row @ covariance @ row))
+def _has_fallen(curve: pandas.DataFrame, part: pandas.DataFrame, y: str) -> tuple[bool, bool]:
+    """Whether the next point below, and the next one above, those of the fit is significantly lower than the highest one."""
+    values, errors = curve[y].to_numpy(), curve[f"{y}_sem"].to_numpy()
+    first = curve.index.get_loc(part.index[0])
+    top = first + int(part[y].to_numpy().argmax())
+
+    def is_lower(at: int) -> bool:
+        return 0 <= at < len(curve) and bool(values[top] - values[at] >= SIGNIFICANT * math.hypot(errors[top], errors[at]))
+
+    return is_lower(first - 1), is_lower(first + len(part))
 
 
-def _maximum(coefficients: Array, covariance: Array, is_bent: bool) -> tuple[float, float, float, float]:
-    """The place and the height of the maximum of a polynomial between -1 and 1, each with its standard error. Unless the points are
-    bent, it has to fall significantly on both sides, as a sharp peak beside a plateau does."""
+def _maximum(coefficients: Array, covariance: Array, has_fallen: tuple[bool, bool]) -> tuple[float, float, float, float]:
+    """The place and the height of the maximum of a polynomial between -1 and 1, each with its standard error. On a side where the
+    curve has not fallen beyond the fit, the polynomial itself has to fall significantly."""
     fitted: Any = numpy.polynomial.Polynomial(coefficients)
     slope, bend = fitted.deriv(), fitted.deriv(2)
     roots = [float(root.real) for root in slope.roots() if abs(root.imag) < 1e-12 and abs(root.real) < 1]
@@ -158,8 +168,8 @@ def _maximum(coefficients: Array, covariance: Array, is_bent: bool) -> tuple[flo
     height_sem, slope_sem = (math.sqrt(row @ covariance @ row) for row in (at, slopes))
     top_sem = slope_sem / abs(float(bend(top))) if bend(top) else math.inf
     falls = [at - end**powers for end in (-1.0, 1.0)]
-    least = 0 if is_bent else SIGNIFICANT
-    is_flat = any(fall @ coefficients < least * math.sqrt(fall @ covariance @ fall) for fall in falls)
+    least = [0 if is_sure else SIGNIFICANT for is_sure in has_fallen]
+    is_flat = any(fall @ coefficients < much * math.sqrt(fall @ covariance @ fall) for much, fall in zip(least, falls))
     if not roots or bend(top) >= 0 or is_flat or top_sem > 0.5:
         raise EstimateError(_FLAT)
     return top, top_sem, float(fitted(top)), height_sem

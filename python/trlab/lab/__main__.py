@@ -14,6 +14,7 @@ from pathlib import Path
 from typing import Optional
 
 from .._errors import TrlabError
+from .alone import open_page, page_needed
 from .export import exported
 from .opening import opened
 from .server import MAX_BYTES, Lab
@@ -32,8 +33,9 @@ def main(words: Optional[list[str]] = None) -> None:
     parser.add_argument("--no-browser", action="store_true", help="print the address, but do not open the browser")
     parser.add_argument("--export", metavar="FILE", help="write FILE, which plays the run of the job on standard input")
     options = parser.parse_args(words)
-    # It may be ignored since before Python started, and then exit statuses of trlab are lost.
-    signal.signal(signal.SIGCHLD, signal.SIG_DFL)
+    # It may be ignored since before Python started, and then exit statuses of trlab are lost. Windows does not have it.
+    if hasattr(signal, "SIGCHLD"):
+        signal.signal(signal.SIGCHLD, signal.SIG_DFL)
     try:
         if options.export:
             if isinstance(sys.stdin, io.TextIOWrapper):
@@ -42,7 +44,7 @@ def main(words: Optional[list[str]] = None) -> None:
                 parser.error("--export reads the job from standard input: trlab-lab --export FILE < JOB")
             Path(options.export).write_text(exported(sys.stdin.read(MAX_BYTES + 1)), encoding="utf-8")
         else:
-            _serve(options.port, fragment(options.job) if options.job else "", options.no_browser)
+            _show(options.port, fragment(options.job) if options.job else "", options.no_browser)
     except (TrlabError, OSError, ValueError, OverflowError) as error:
         sys.exit(f"trlab-lab: {error}")
 
@@ -66,9 +68,18 @@ def fragment(job: str) -> str:
     return part
 
 
-def _serve(port: int, job: str, no_browser: bool) -> None:
+def _show(port: int, job: str, no_browser: bool) -> None:
+    """Serve the page, or open the one that contains the program if there is no native program."""
     if not 0 <= port <= 65535:
         raise ValueError(f"the port must be between 0 and 65535, not {port}")
+    page = page_needed()
+    if page is None:
+        _serve(port, job, no_browser)
+    else:
+        open_page(page, job, no_browser)
+
+
+def _serve(port: int, job: str, no_browser: bool) -> None:
     for ending in signal.SIGTERM, signal.SIGHUP, signal.SIGQUIT:
         signal.signal(ending, lambda *_: sys.exit())
     try:

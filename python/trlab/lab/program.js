@@ -42,11 +42,23 @@ export class Program {
   }
   async answer(path, text, signal) {
     const [name, skip = "0"] = path.split("?skip="), words = RUNS.get(name);
-    if (!words) return new Response("There is no such command.", { status: 404 });
+    if (!words) throw new Error(`There is no command ${name}.`);
     const run = new Run(this, { module: await this.module, words, text, room: ROOM }, +skip, signal);
     signal?.throwIfAborted();
-    return new Response(new ReadableStream(run, new ByteLengthQueuingStrategy({ highWaterMark: ROOM })));
+    return new Answer(new ReadableStream(run, new ByteLengthQueuingStrategy({ highWaterMark: ROOM })));
   }
+}
+
+/** The answer to a request, as `fetch` gives it. A `Response` would hide the error of a run behind one of its own. */
+class Answer {
+  constructor(body) { Object.assign(this, { body, ok: true }); }
+  async blob() {
+    const reader = this.body.getReader(), parts = [];
+    for (let part = await reader.read(); !part.done; part = await reader.read()) parts.push(part.value);
+    return new Blob(parts);
+  }
+  async text() { return (await this.blob()).text(); }
+  async json() { return JSON.parse(await this.text()); }
 }
 
 /** The output of a run without its first `skip` bytes, as the source of a stream. */

@@ -1,7 +1,7 @@
 //! Wrappers of std's readers and writers that remember whether a call has failed and, only in contracts, the bytes of
 //! the calls.
 
-ghost use Rattle.std.specs.Prelude.{◌≡◌, ℕ, List, [], ◌++◌, false};
+ghost use Rattle.std.specs.Prelude.{◌≡◌, ◌↔◌, ◌<◌, ℕ, List, [], ◌++◌, true, false};
 ghost use Rattle.std.specs.Borrow.{ftrue};
 ghost use Rattle.trlab_campaign.specs.declared.device.Flushes.TheVariants.{Never};
 
@@ -34,13 +34,23 @@ impl Transcript {
     {}
 }
 
-/// A std reader or writer as a `Source` or `Sink`. It remembers whether a call has failed, whether everything written
-/// was flushed, and how often it was flushed. In contracts it also remembers the bytes that it gave or took.
+/// Whether a call that gave `count` bytes to a buffer of the size `room` has reported the end of the input.
+fn reports_end(count: usize, room: usize) -> bool
+    ensures { (result ≡ true) ↔ ((count ≡ 0) × (0 < room)) }
+{
+    count == 0 && room > 0
+}
+
+/// A std reader or writer as a `Source` or `Sink`. It remembers whether a call has failed, whether the last read has
+/// reported the end of the input, whether everything written was flushed, and how often it was flushed. In contracts it
+/// also remembers the bytes that it gave or took.
 #[derive(Drop)]
 pub struct Watched<X> {
     inner: X,
     /// Whether a call has failed.
     failed: bool,
+    /// Whether the last read has reported the end of the input.
+    at_end: bool,
     given: Transcript,
     accepted: Transcript,
     /// Whether everything that was written has been flushed.
@@ -49,12 +59,14 @@ pub struct Watched<X> {
 }
 
 impl<X> Watched<X> {
-    ghost use Rattle.trlab_campaign.specs.Watched.{inner_device, has_failed, given_bytes, accepted_bytes, flush_count};
+    ghost use Rattle.trlab_campaign.specs.Watched.{inner_device, has_failed, is_at_end};
+    ghost use Rattle.trlab_campaign.specs.Watched.{given_bytes, accepted_bytes, flush_count};
 
     /// Wraps a reader or writer. The wrapper starts without a failure, a flush or transferred bytes.
     pub fn new(inner: X) -> Watched<X>
         ensures inner { inner_device result ≡ inner }
         ensures fresh { has_failed result ≡ false }
+        ensures begins { is_at_end result ≡ false }
         ensures none_given { given_bytes result ≡ [] }
         ensures none_accepted { accepted_bytes result ≡ [] }
         ensures unflushed { flush_count result ≡ Never }
@@ -62,6 +74,7 @@ impl<X> Watched<X> {
         Watched {
             inner,
             failed: false,
+            at_end: false,
             given: Transcript::new(),
             accepted: Transcript::new(),
             is_flushed: false,
@@ -71,11 +84,13 @@ impl<X> Watched<X> {
 }
 
 impl<X: Read> Source for Watched<X> {
-    ghost use Rattle.trlab_campaign.specs.Watched.{inner_device, has_failed, given_bytes};
+    ghost use Rattle.trlab_campaign.specs.Watched.{inner_device, has_failed, is_at_end, given_bytes};
 
     ghost left = { λ watched. X.remaining (inner_device watched) };
 
     ghost given = { given_bytes };
+
+    ghost at_end = { is_at_end };
 
     ghost failed = { has_failed };
 
@@ -83,9 +98,11 @@ impl<X: Read> Source for Watched<X> {
         match self.inner.read(buffer) {
             Ok(count) => {
                 self.given.add(&buffer[..count]);
+                self.at_end = reports_end(count, buffer.len());
                 Ok(count)
             }
             Err(_) => {
+                self.at_end = false;
                 self.failed = true;
                 Err(DeviceError)
             }

@@ -24,6 +24,7 @@ pub fn read_text<S: Source>(alloc: Global, reader: &mut S) -> Result<Vec<u8>, Fa
     ensures read { ConsumesUpTo (TEXT_LIMIT + 1) (S.left reader.old) (S.left reader.new) }
     ensures given { IfOk result (λ text. S.given reader.new ≡ S.given reader.old ++ text.items) }
     ensures stops { GaveBytes (λ bytes. length bytes ≤ TEXT_LIMIT + 1) (S.given reader.old) (S.given reader.new) }
+    ensures whole { IfOk result (λ text. length text.items ≤ TEXT_LIMIT → S.at_end reader.new ≡ true) }
     ensures fails { IfErr result (λ failure. (S.failed reader.new ≡ true) ↔ (failure ≡ Device)) }
     ensures works { OnOk result (S.failed reader.new ≡ false) }
 {

@@ -1,7 +1,7 @@
-use Rattle.std.proofs.Common.{◌≡◌, ℕ, List, Bool, true, false, refl, sym, ◌∙◌, inl}
+use Rattle.std.proofs.Common.{◌≡◌, ◌⊎◌, ℕ, List, Bool, true, false, refl, sym, ◌∙◌, inl, inr}
 use Rattle.std.proofs.lemmas.Bool.{false≢true}
 use Rattle.std.proofs.lemmas.Option.{IfSome_then}
-use Rattle.trlab_campaign.specs.declared.end.End.TheVariants.{Memory, DeviceFault}
+use Rattle.trlab_campaign.specs.declared.end.End.TheVariants.{Done, Refused, Memory, DeviceFault}
 use Rattle.trlab_campaign.specs.Ending.{WroteAtEnd}
 use Rattle.trlab_campaign.specs.Writers.{bytes_of}
 use Rattle.trlab_campaign.proofs.Endings.{if_told}
@@ -16,6 +16,14 @@ not_true false never = refl
 memory≢device : Memory ≡ DeviceFault → ⊥
 memory≢device e = cc e
 
+memory_is_incomplete : (Memory ≡ Done) ⊎ (Memory ≡ Refused) → ⊥
+memory_is_incomplete (inl e) = cc e
+memory_is_incomplete (inr e) = cc e
+
+device_is_incomplete : (DeviceFault ≡ Done) ⊎ (DeviceFault ≡ Refused) → ⊥
+device_is_incomplete (inl e) = cc e
+device_is_incomplete (inr e) = cc e
+
 pub returns-in-Ok-clause-ends : goal.returns-in-Ok-clause-ends
 returns-in-Ok-clause-ends g c =
     let read = c.in-Ok.ensures in
@@ -29,6 +37,7 @@ returns-in-Ok-clause-ends g c =
       device = rw read.works here.device;
       read = read.read;
       stops = read.stops;
+      whole = λ complete. (c.in-Ok.text.items, (read.given, read.whole));
     }
 
 pub returns-in-Err-Memory-clause-ends : goal.returns-in-Err-Memory-clause-ends
@@ -44,6 +53,7 @@ returns-in-Err-Memory-clause-ends g c =
       device = rw (works, c.requires.writer_works) (λ e. absurd (memory≢device e), λ e. absurd (false≢true e));
       read = read.read;
       stops = read.stops;
+      whole = λ complete. absurd (memory_is_incomplete complete);
     }
 
 pub returns-clause-ends : goal.returns-clause-ends
@@ -59,6 +69,7 @@ returns-clause-ends g c =
       device = rw failed (λ e. refl, λ e. refl);
       read = read.read;
       stops = read.stops;
+      whole = λ complete. absurd (device_is_incomplete complete);
     }
 
 pub returns-in-Err-Memory-clause-kept : goal.returns-in-Err-Memory-clause-kept

@@ -1,7 +1,8 @@
-use Rattle.std.proofs.Common.{◌≡◌, ◌++◌, ◌∙◌, take, arith, refl, sym, ap, append-nil, length, length-append, length-take}
+use Rattle.std.proofs.Common.{◌≡◌, ◌<◌, ◌++◌, ◌∙◌, take, arith, refl, sym, ap, append-nil, length, length-append, length-take}
 use Rattle.std.proofs.lemmas.List.{take-append-le}
 use Rattle.std.proofs.Math.Bool.{or-false}
 use Rattle.std.proofs.lemmas.Bool.{false≢true}
+use Rattle.trlab_bounds.specs.declared.texts.TheConstants.{TEXT_LIMIT}
 use Rattle.trlab_campaign.proofs.KnownBytes.{consumes_more, consumes_none, consumes_kept, consumes_last, given_last, given_more, given_more_none, read_over, read_whole}
 use Rattle.trlab_campaign.proofs.device.whole.read_text.Goals as goal
 
@@ -71,6 +72,21 @@ returns-then-count-eq0-clause-read g c =
 
 pub returns-then-count-eq0-clause-fails : goal.returns-then-count-eq0-clause-fails
 returns-then-count-eq0-clause-fails g c = tt
+
+pub returns-clause-whole : goal.returns-clause-whole
+returns-clause-whole g c =
+    let over : TEXT_LIMIT < length c.loop-piece.text.items = omega arith in
+    λ small. absurd (omega (arith, over, small))
+
+pub returns-in-Err-clause-whole : goal.returns-in-Err-clause-whole
+returns-in-Err-clause-whole g c = tt
+
+pub returns-then-is_err-clause-whole : goal.returns-then-is_err-clause-whole
+returns-then-is_err-clause-whole g c = tt
+
+pub returns-then-count-eq0-clause-whole : goal.returns-then-count-eq0-clause-whole
+returns-then-count-eq0-clause-whole g c =
+    λ small. c.in-Ok.ensures.ends.1 (c.if-count-eq0.true, omega (arith, length-take c.min-room.result c.loop-piece.piece))
 
 pub returns-clause-given : goal.returns-clause-given
 returns-clause-given g c = c.loop-piece.invariant.given

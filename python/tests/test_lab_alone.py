@@ -1,0 +1,89 @@
+"""`trlab-lab` on a machine that no native program fits: it opens the page that contains the program."""
+import contextlib
+import io
+import os
+import tempfile
+import unittest
+from pathlib import Path
+from unittest import mock
+
+from trlab import ProgramNotFoundError
+from trlab.lab import alone
+from trlab.lab.__main__ import fragment, main
+
+JOB = Path(__file__).resolve().parents[2] / "examples" / "jams.job"
+
+
+class Opening(unittest.TestCase):
+    def setUp(self):
+        folder = tempfile.TemporaryDirectory()
+        self.addCleanup(folder.cleanup)
+        self.page = Path(folder.name) / "trlab-lab.html"
+        self.page.write_text("")
+        self.opened, self.is_open = [], True
+        self.patch(alone, "PLACES", (Path(folder.name) / "other.html", self.page))
+        self.patch(alone.webbrowser, "open", lambda address: self.opened.append(address) or self.is_open)
+        self.patch(os, "environ", {name: value for name, value in os.environ.items() if name != "TRLAB"})
+
+    def patch(self, place, name, value):
+        patch = mock.patch.object(place, name, value)
+        patch.start()
+        self.addCleanup(patch.stop)
+
+    def find(self, found):
+        self.patch(alone, "find_program", mock.Mock(side_effect=[found, found]))
+
+    def run_main(self, *words):
+        """What the command prints on standard output and standard error."""
+        with contextlib.redirect_stdout(io.StringIO()) as out, contextlib.redirect_stderr(io.StringIO()) as errors, mock.patch("signal.signal"):
+            main(list(words))
+        return out.getvalue(), errors.getvalue()
+
+    def test_no_program(self):
+        self.find(ProgramNotFoundError("trlab is not found"))
+        reason = "trlab-lab: trlab is not found, so the page computes by itself: it needs no server, and this command ends\n"
+        self.assertEqual(self.run_main(), (f"{self.page.as_uri()}\n", reason))
+        self.assertEqual(self.opened, [self.page.as_uri()])
+
+    def test_a_script_that_runs_the_program_in_web_assembly(self):
+        self.find("/package/trlab-node.mjs")
+        out, errors = self.run_main("--no-browser", str(JOB))
+        self.assertEqual(out, f"{self.page.as_uri()}{fragment(str(JOB))}\n")
+        self.assertIn("no native program of trlab fits this machine, so the page computes by itself", errors)
+        self.assertEqual(self.opened, [])
+
+    def test_no_browser_can_be_opened(self):
+        self.find(ProgramNotFoundError("trlab is not found"))
+        self.is_open = False
+        self.assertIn("no browser could be opened. Open this address in one.\n", self.run_main()[1])
+
+    def test_a_native_program(self):
+        self.find("/usr/bin/trlab")
+        self.assertIsNone(alone.page_needed())
+
+    def test_no_page(self):
+        self.find(ProgramNotFoundError("trlab is not found"))
+        self.page.unlink()
+        with self.assertRaises(SystemExit) as raised:
+            self.run_main()
+        self.assertIn("trlab is not found; and there is no page that contains the program, ", raised.exception.code)
+        self.assertEqual(self.opened, [])
+
+    def test_a_wrong_name_in_the_environment(self):
+        with mock.patch.dict(os.environ, {"TRLAB": "/nothing"}), self.assertRaises(SystemExit) as raised:
+            self.run_main()
+        self.assertIn("TRLAB is '/nothing'", raised.exception.code)
+        self.assertEqual(self.opened, [])
+
+    def test_a_system_without_the_signal(self):
+        self.find(ProgramNotFoundError("trlab is not found"))
+        import signal
+
+        with mock.patch.object(signal, "SIGCHLD", create=True):
+            del signal.SIGCHLD
+            self.run_main()
+        self.assertEqual(len(self.opened), 1)
+
+
+if __name__ == "__main__":
+    unittest.main()

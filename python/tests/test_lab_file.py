@@ -1,0 +1,229 @@
+"""The page of trlab-lab as one file that contains the program: the tests of the page that need no server, and how a run ends there.
+
+The program is that of the file that the environment variable TRLAB_WASM names, or of release/trlab-lab.html. The page around it is
+always that of the sources here."""
+import base64
+import gzip
+import hashlib
+import os
+import re
+import tempfile
+import unittest
+from pathlib import Path
+from unittest import mock
+
+from tests import stub_modules
+from tests.browsers import Window, missing
+from tests.test_lab_page import SHOTS, Pages, snapshots
+from trlab._runs.calls import ask
+from trlab.lab import server
+from trlab.lab.whole import whole_page
+
+RELEASED = Path(__file__).resolve().parents[2] / "release" / "trlab-lab.html"
+PROGRAM = re.compile(r'<script type="text/plain" id="program">([^<]*)<')
+
+
+def module():
+    """The program in WebAssembly, or None."""
+    if named := os.environ.get("TRLAB_WASM"):
+        return Path(named).read_bytes()
+    found = PROGRAM.search(RELEASED.read_text("utf-8")) if RELEASED.is_file() else None
+    return gzip.decompress(base64.b64decode(found[1])) if found else None
+
+
+MODULE = module()
+WITHOUT = "" if MODULE else "there is no program in WebAssembly: release/trlab-lab.html, or the file that TRLAB_WASM names"
+# Tests about the server and its processes, about rules in Python, and those that import a script of the server.
+OF_THE_SERVER = (
+    "test_an_interrupted_run", "test_two_pages", "test_reloading", "test_another_origin", "test_a_paused_run_ends_and_goes_on", "test_sliders",
+    "test_a_rule_in_python", "test_rules_in_python_for_two_lanes", "test_a_change_in_words",
+)
+# Counts the Workers that run the program: those that have been given it, and those that have been ended since.
+WATCH = """window.running = new Set();
+const {postMessage, terminate} = Worker.prototype;
+Worker.prototype.postMessage = function(data, ...more) { if (data.module) running.add(this); window.taken = data.taken ?? 0; postMessage.call(this, data, ...more); };
+Worker.prototype.terminate = function() { running.delete(this); terminate.call(this); }"""
+
+
+class File:
+    """A page in a file, as the tests of the page know the server."""
+
+    def __init__(self, test, text):
+        folder = tempfile.TemporaryDirectory()
+        test.addClassCleanup(folder.cleanup)
+        path = Path(folder.name) / "trlab-lab.html"
+        path.write_text(text, "utf-8")
+        self.address = path.as_uri()
+
+
+class InFile(Pages):
+    """One browser with one page in a file."""
+
+    @classmethod
+    def text(cls):
+        return whole_page(MODULE, server.examples())
+
+    @classmethod
+    def setUpClass(cls):
+        cls.lab = File(cls, cls.text())
+        cls.page = Window(cls.browser, cls.lab.address)
+        cls.addClassCleanup(cls.page.close)
+
+
+class FilePages(InFile):
+    """The tests of the page, but not those of the server."""
+
+    def examples(self):
+        return {name: text for name, text in server.examples().items() if not name.endswith(".py")}
+
+    def test_a_paused_run_ends_and_goes_on_in_its_place(self):
+        self.page.js(WATCH)
+        self.page.click("again")
+        self.run_to(20)
+        self.hold(lambda: self.page.js("return running.size") == 0)
+        self.run_to(1000)
+        found = snapshots(self.page.job())
+        for step, cells, *_ in self.page.js(SHOTS):
+            self.assertEqual(cells, "".join(found[step].lanes), step)
+
+    def test_a_run_that_is_replaced_ends(self):
+        self.page.js(WATCH)
+        for cars in range(100, 140):
+            self.page.set("cars", cars)
+        self.has_line("lane ")
+        self.has("139", lambda: self.page.value("cars"))
+        self.hold(lambda: self.page.step() > 2 and self.page.js("return running.size") <= 1)
+
+    def test_unread_output_is_bounded(self):
+        self.page.set("stepcount", 500000)
+        self.page.set("length", 100000)
+        self.hold(lambda: self.page.js("return lab.player.film.length") == 100000)
+        self.page.js(WATCH)
+        self.page.click("again")
+        self.run_to(60)
+        taken, step, most = self.page.js("return [taken, lab.player.step, lab.player.run?.most ?? 40]")
+        self.assertLess(taken, (step + most + 2) * 100020 + 2**22)
+
+    def test_rules_in_python_need_the_server(self):
+        self.page.set("model", "own")
+        self.hold(lambda: "Rules in Python need the command trlab-lab" in self.page.text("pythonverdict"))
+        self.assertTrue(self.page.js("return document.getElementById('python').hidden"))
+        self.open(server.examples()["overtake.py"], "overtake.py")
+        self.hold(lambda: "Rules in Python need the command trlab-lab" in self.page.text("fault"))
+
+
+for name in OF_THE_SERVER:
+    setattr(FilePages, name, None)
+
+
+class Alone(InFile):
+    """Pages whose tests are not those of the served page."""
+
+
+for name in dir(Pages):
+    if name.startswith("test"):
+        setattr(Alone, name, None)
+
+
+class WithoutWaiting(Alone):
+    """A browser that cannot suspend the program: a run with much unread output ends, and is run again."""
+
+    @classmethod
+    def text(cls):
+        text = super().text()
+        found = text.replace("const canWait = ", "const canWait = false && ").replace("const MOST = 2 ** 26;", "const MOST = 2 ** 18;")
+        assert len(found) == len(text) + 9
+        return found
+
+    def test_it_is_run_again(self):
+        self.page.js(f"window.runs = 0; {WATCH}; const add = running.add; running.add = it => (runs++, add.call(running, it))")
+        self.page.click("again")
+        self.run_to(1500)
+        self.assertGreater(self.page.js("return runs"), 2)
+        self.assertEqual([it[1] for it in self.page.js(SHOTS)][:1500], ["".join(it.lanes) for it in snapshots(self.page.job())[:1500]])
+
+    def test_a_table(self):
+        self.page.set("stepcount", 12000)
+        self.hold(lambda: "steps 12000\n" in self.page.job() and not self.page.js("return lab.isWriting"))
+        self.assertEqual(self.saved("savetable"), ask(["series"], self.page.job()))
+
+
+class Ends:
+    """Runs without a result: a message says why, and the console has no error."""
+
+    def test_messages(self):
+        page = Window(self.browser, "about:blank")
+        self.addCleanup(page.close)
+        for code, message in (
+            (stub_modules.MEMORY_RAN_OUT, "The program needs more memory than this browser gives it."),
+            (stub_modules.UNKNOWN_STATUS, "The program has stopped because of an error, so its output is not complete: exit status 7"),
+            (stub_modules.TRAP, "The program has stopped because of an error, so its output is not complete: RuntimeError"),
+            (stub_modules.OUTSIDE, "The program has stopped because of an error, so its output is not complete: RuntimeError"),
+            (stub_modules.ENDLESS_CALLS, "The program has stopped because of an error, so its output is not complete: "),
+            (b"\0asm\1\0\0\0\x7f", "This browser cannot run the program."),
+        ):
+            with self.subTest(message=message):
+                page.get(File(self, whole_page(code, {})).address)
+                page.holds(lambda: page.text("fault"))
+                self.assertEqual(page.text("fault")[:len(message)], message)
+                self.assertEqual(page.errors(), [])
+
+
+@unittest.skipIf(missing("chromium"), missing("chromium"))
+class EndsInChromium(Ends, unittest.TestCase):
+    browser = "chromium"
+
+
+@unittest.skipIf(missing("firefox"), missing("firefox"))
+class EndsInFirefox(Ends, unittest.TestCase):
+    browser = "firefox"
+
+
+@unittest.skipIf(missing("chromium") or WITHOUT, missing("chromium") or WITHOUT)
+class FileInChromium(FilePages, unittest.TestCase):
+    browser = "chromium"
+
+
+@unittest.skipIf(missing("firefox") or WITHOUT, missing("firefox") or WITHOUT)
+class FileInFirefox(FilePages, unittest.TestCase):
+    browser = "firefox"
+
+
+@unittest.skipIf(missing("chromium") or WITHOUT, missing("chromium") or WITHOUT)
+class WithoutWaitingInChromium(WithoutWaiting, unittest.TestCase):
+    browser = "chromium"
+
+
+@unittest.skipIf(missing("firefox") or WITHOUT, missing("firefox") or WITHOUT)
+class WithoutWaitingInFirefox(WithoutWaiting, unittest.TestCase):
+    browser = "firefox"
+
+
+class Whole(unittest.TestCase):
+    """The text of the page."""
+
+    def setUp(self):
+        self.text = whole_page(stub_modules.TRAP, {"a.job": "</script><!-- \u00e9", "b.py": "no"})
+
+    def test_it_loads_nothing(self):
+        policy = re.search('http-equiv="Content-Security-Policy" content="([^"]*)"', self.text)[1]
+        style, script = re.search("<style>(.*?)</style>", self.text, re.S)[1], re.search('<script type="module">(.*?)</script>', self.text, re.S)[1]
+        sums = [f"'sha256-{base64.b64encode(hashlib.sha256(it.encode()).digest()).decode()}'" for it in (script, style)]
+        self.assertEqual(policy, f"default-src 'none'; script-src {sums[0]} 'wasm-unsafe-eval'; style-src {sums[1]}; worker-src blob:; "
+                         "img-src data:; base-uri 'none'; form-action 'none'")
+        addresses = set(re.findall(r"""\b\w+://[^\s"'`<]*|\b(?:src|href)=[^\s>]*""", self.text))
+        self.assertEqual(addresses, {"http://www.w3.org/2000/svg", 'href="data:,"'})
+        self.assertNotIn("import ", script)
+
+    def test_the_examples_and_the_program(self):
+        self.assertIn('id="examples">{"a.job": "\\u003c/script>\\u003c!-- \\u00e9"}</script>', self.text)
+        self.assertEqual(gzip.decompress(base64.b64decode(PROGRAM.search(self.text)[1])), stub_modules.TRAP)
+        self.assertEqual(self.text, whole_page(stub_modules.TRAP, {"a.job": "</script><!-- \u00e9"}))
+
+    def test_a_page_of_another_form(self):
+        with mock.patch.object(Path, "read_text", lambda path, _: "" if path.suffix in (".html", ".css") else path.read_bytes().decode()):
+            self.assertRaisesRegex(ValueError, "^page.html needs ", whole_page, b"", {})
+
+
+if __name__ == "__main__":
+    unittest.main()
