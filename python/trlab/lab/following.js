@@ -26,16 +26,20 @@ function byRule(from, to, gap, limit) {
   const change = changeWords(from, to);
   if (to > from) return `It sped up ${change}.`;
   if (to < from && !isRandom) return `It braked ${change}, because its gap was ${lengthWords(gap)}.`;
-  if (to < from && gap < from) return `It braked ${change}: its gap was ${lengthWords(gap)}, and it braked by one more at random.`;
+  if (to < from && gap < from) {
+    return `It braked ${change}: its gap was ${lengthWords(gap)}, and it braked by one more at random.`;
+  }
   if (to < from) return `It braked ${change} at random.`;
   if (isRandom) return from ? "It could have sped up, but braked at random." : "It could have started, but braked at random.";
-  return from === limit ? "It keeps the maximum speed." : from ? `It could not speed up, because its gap was ${lengthWords(gap)}.` : "It waits, because it had no gap.";
+  if (from === limit) return "It keeps the maximum speed.";
+  return from ? `It could not speed up, because its gap was ${lengthWords(gap)}.` : "It waits, because it had no gap.";
 }
 /** The same for a rule of one's own, which decides for reasons that the snapshots do not show. */
 function byOwn(from, to, gap) {
   if (to >= from) return "";
   const change = `It braked ${changeWords(from, to)}`;
-  return gap < from ? `${change}: its gap was ${lengthWords(gap)}${to < gap ? ", and its rule chose less" : ""}.` : `${change}: its rule chose so, with a gap of ${lengthWords(gap)}.`;
+  return gap >= from ? `${change}: its rule chose so, with a gap of ${lengthWords(gap)}.`
+    : `${change}: its gap was ${lengthWords(gap)}${to < gap ? ", and its rule chose less" : ""}.`;
 }
 /** Why a car has its speed, if the step before is kept and the `rule` of that step is known. */
 export function reasonOf(film, car, rule) {
@@ -51,5 +55,6 @@ export function followedWords(film, car, rule) {
   const { gap, next } = ahead(length, cell, other => cells[lane * length + other] !== EMPTY);
   const front = next === null ? "No other car is on its lane."
     : `Its gap is ${lengthWords(gap)}, and the car ahead drives at ${speedWords(film.speed({ step, lane, cell: next }))}.`;
-  return `You follow the car in ${lanes === 2 ? `lane ${lane}, ` : ""}cell ${cell}, at ${speedWords(film.speed(car))}. ${front} ${reasonOf(film, car, rule)}`.trim();
+  const place = `${lanes === 2 ? `lane ${lane}, ` : ""}cell ${cell}`;
+  return `You follow the car in ${place}, at ${speedWords(film.speed(car))}. ${front} ${reasonOf(film, car, rule)}`.trim();
 }

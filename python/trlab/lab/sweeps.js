@@ -92,7 +92,8 @@ export class Sweeps {
       for (const [number, start] of states.entries()) {
         const share = percent => tell(Math.floor((100 * number + +percent) / states.length));
         const write = changes => fileOf("job", { start, road: null, ...changes });
-        this.keep(source, name, start, start === "even" ? await tableOf(source, share) : await tableFrom(job, countsOf(source), spans, write, share));
+        const table = start === "even" ? tableOf(source, share) : tableFrom(job, countsOf(source), spans, write, share);
+        this.keep(source, name, start, await table);
       }
     });
   }

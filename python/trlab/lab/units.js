@@ -23,15 +23,17 @@ export const unitOf = kind => SYSTEMS[units.now][kind];
 export const converted = (kind, number) => number * unitOf(kind).times;
 export const shownAs = (kind, number, more = 0) => converted(kind, number).toFixed(unitOf(kind).digits + more);
 /** A speed in cells per step with its unit. */
-export const speedWords = number => `${+converted("speed", number).toFixed(2)} ${units.now === "cells" && number === 1 ? "cell per step" : unitOf("speed").words}`;
+export const speedWords = number =>
+  `${+converted("speed", number).toFixed(2)} ${units.now === "cells" && number === 1 ? "cell per step" : unitOf("speed").words}`;
 /** A number of cells as a length. */
-export const lengthWords = cells => units.now === "road" ? `${cells * METRES} m` : `${cells} ${cells === 1 ? "cell" : "cells"}`;
+export const lengthWords = cells => units.now === "road" ? `${cells * METRES} m` : `${cells} cell${cells === 1 ? "" : "s"}`;
 
 /** The ticks of an axis from 0 to `most` of the model's unit: round numbers of the shown unit, each with its place. */
 export function ticks(kind, most, count = 6) {
   const { times } = unitOf(kind), high = most * times, rough = high / count, power = 10 ** Math.floor(Math.log10(rough));
   const step = [1, 2, 5, 10].find(it => it * power >= rough * 0.999) * power;
-  return Array.from({ length: Math.floor(high / step + 1e-9) + 1 }, (_, k) => ({ at: k * step / times, words: String(+(k * step).toPrecision(6)) }));
+  const places = Array.from({ length: Math.floor(high / step + 1e-9) + 1 }, (_, k) => k * step);
+  return places.map(it => ({ at: it / times, words: String(+it.toPrecision(6)) }));
 }
 
 /** Write the units and the scales above the curves, whose axes end at the most that a run can have. */
@@ -41,4 +43,7 @@ export function tellUnits(limit) {
   for (const place of document.querySelectorAll("[data-most]")) place.textContent = mostOf(place.dataset.most, most[place.dataset.most]);
 }
 /** The end of an axis in the shown unit. */
-export const mostOf = (kind, most) => String(converted(kind, most) < 100 ? +converted(kind, most).toPrecision(2) : Math.round(converted(kind, most)));
+export function mostOf(kind, most) {
+  const end = converted(kind, most);
+  return String(end < 100 ? +end.toPrecision(2) : Math.round(end));
+}
