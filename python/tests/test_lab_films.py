@@ -48,12 +48,10 @@ class Films(OnPage):
         text = Job(**ROAD, rule=Nasch("1/4")).text()
         self.open(text)
         self.has_job(text)
-        self.page.js("""globalThis.saved = [];
-            const make = URL.createObjectURL;
-            URL.createObjectURL = blob => { saved.push(blob); return make.call(URL, blob); };""")
+        self.page.js("window.URL.createObjectURL = blob => { window.saved = blob; return 'data:,'; }")
         self.page.click("savefilm")
-        self.hold(lambda: self.page.js("return saved.length") == 1)
-        film = self.page.later("return saved[0].text()")
+        self.hold(lambda: self.page.js("return window.saved !== undefined"))
+        film = self.page.later("return window.saved.text()")
         self.assertEqual(parts_of(film), parts_of(exported(text)))
         with tempfile.NamedTemporaryFile("w", suffix=".html", encoding="utf-8") as file:
             file.write(film)
