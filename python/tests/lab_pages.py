@@ -70,10 +70,12 @@ class OnPage:
 
     def run_to(self, step):
         """Play fast to a step at least, and pause."""
-        self.page.set("rate", 100, "input")
         self.hold(lambda: not self.page.js("return window.lab.isWriting"))
-        self.turn("Play")
-        self.page.later("""const it = lab.player;
+        # In one script, because the cars drive on between two scripts.
+        self.page.later("""const it = lab.player, rate = document.getElementById('rate');
+            rate.value = 100;
+            rate.dispatchEvent(new Event('input', {bubbles: true}));
+            if (!it.playing) document.getElementById('play').click();
             await new Promise(go => { const look = () => it.step >= words[0] ? go() : requestAnimationFrame(look); look(); });
             if (it.playing) it.setPlaying(false)""", step)
         self.pause()

@@ -565,7 +565,7 @@ class Pages(OnPage):
         self.hold(lambda: self.page.js("return window.lab?.player.step >= 0"))
         self.has_job(job)
         self.page.js("location.hash = '#job=!'")
-        self.hold(lambda: "The link is damaged" in self.page.text("fault"))
+        self.hold(lambda: "The job in this address is damaged" in self.page.text("fault"))
 
     def test_an_exported_file_plays(self):
         job = Job(limit=5, length=200, lanes=2, density=0.2, start=trlab.random_cells(2), rule=Rickert(0.25, 0.5), steps=120)
