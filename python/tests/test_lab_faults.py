@@ -31,7 +31,8 @@ class Faults(OnPage):
         """Compare colours, which may differ by rounding."""
         self.assertEqual(len(drawn), len(wanted))
         for k, (one, other) in enumerate(zip(drawn, wanted)):
-            self.assertLessEqual(max(abs(a - b) for a, b in zip(one, other)), 6, (k, one, other))
+            is_empty = tuple(other) == (255, 255, 255) and min(one) > 240  # grey above the enlarged part
+            self.assertTrue(is_empty or max(abs(a - b) for a, b in zip(one, other)) <= 6, (k, one, other))
 
     def colour_of(self, cells, colours):
         """The colour on white of cells that share a pixel, by their mean speed and their density."""
@@ -230,7 +231,7 @@ class Faults(OnPage):
     def test_a_step_after_a_long_pause(self):
         """The run has ended in the pause, and its snapshots have to come again."""
         self.run_to(20)
-        self.hold(lambda: not self.lab.children)
+        self.hold(lambda: self.page.js("return lab.player.run === null"))
         step = self.page.step()
         self.page.click("one")
         self.has(step + 1, self.page.step)

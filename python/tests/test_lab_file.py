@@ -14,7 +14,7 @@ from unittest import mock
 
 from tests import stub_modules
 from tests.browsers import Window, missing
-from tests.test_lab_page import SHOTS, Pages, snapshots
+from tests.test_lab_page import SHOTS, OnPage, Pages, snapshots
 from trlab._runs.calls import ask
 from trlab.lab import server
 from trlab.lab.whole import whole_page
@@ -56,8 +56,8 @@ class File:
         self.address = path.as_uri()
 
 
-class InFile(Pages):
-    """One browser with one page in a file."""
+class InFile(OnPage):
+    """A page in a file, in one browser."""
 
     @classmethod
     def text(cls):
@@ -70,7 +70,7 @@ class InFile(Pages):
         cls.addClassCleanup(cls.page.close)
 
 
-class FilePages(InFile):
+class FilePages(InFile, Pages):
     """The tests of the page, but not those of the server."""
 
     def examples(self):
@@ -116,16 +116,7 @@ for name in OF_THE_SERVER:
     setattr(FilePages, name, None)
 
 
-class Alone(InFile):
-    """Pages whose tests are not those of the served page."""
-
-
-for name in dir(Pages):
-    if name.startswith("test"):
-        setattr(Alone, name, None)
-
-
-class WithoutWaiting(Alone):
+class WithoutWaiting(InFile):
     """A browser that cannot suspend the program: a run with much unread output ends, and is run again."""
 
     @classmethod
@@ -145,7 +136,7 @@ class WithoutWaiting(Alone):
     def test_a_table(self):
         self.page.set("stepcount", 12000)
         self.hold(lambda: "steps 12000\n" in self.page.job() and not self.page.js("return lab.isWriting"))
-        self.assertEqual(self.saved("savetable"), ask(["series"], self.page.job()))
+        self.assertEqual(Pages.saved(self, "savetable"), ask(["series"], self.page.job()))
 
 
 class Ends:

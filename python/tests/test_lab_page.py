@@ -308,10 +308,8 @@ class Pages(OnPage):
             for (let k = 1; k <= 40; k++) {
                 slider.value = k / 40;
                 slider.dispatchEvent(new Event('input', {bubbles: true}));
-                if (k % 3 === 0) await new Promise(requestAnimationFrame);
-                // The cars drive on between some of the changes.
-                const from = lab.player.step;
-                while (k % 15 === 0 && (lab.isWriting || lab.player.step === from)) await new Promise(requestAnimationFrame);
+                const step = lab.player.step;
+                if (k % 10 === 0) while (lab.isWriting || lab.player.step === step) await new Promise(requestAnimationFrame);
             }""")
         self.has_line(" rule nasch 2147483648\n")
         self.run_to(self.page.step() + 50)

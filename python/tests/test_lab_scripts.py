@@ -129,6 +129,12 @@ class Files(unittest.TestCase):
         jobs = [{**what, "key": str(seed), "length": length, "lanes": lanes, "cars": cars} for seed, (length, lanes, cars) in tries]
         self.same([("jobs", "jobFile", it) for it in jobs], [job_of(it).text() for it in jobs])
 
+    def test_random_numbers(self):
+        seeds = [0, 7, 2**200 + 1]
+        for seed, found in zip(seeds, answers([("random", "draws", str(seed), 2000) for seed in seeds])):
+            numbers = random.Random(seed)
+            self.assertEqual(list(found.values()), [numbers.random() for _ in range(2000)])
+
     def test_probabilities(self):
         """Each probability becomes the multiple of 1 / 2**31 that Python rounds it to, and each of those has its shortest decimal."""
         draw = random.Random(3)
@@ -287,6 +293,56 @@ class Curves(unittest.TestCase):
         )
         self.assertEqual(unknown, [None] * 6)
         self.assertEqual(known["kind"], "stationary")
+
+
+# Errors that are planted into the scripts, one at a time: a text, and the wrong one in its place.
+PLANTED = (
+    ("rest > 0.5 || rest === 0.5 && low % 2 === 1", "rest >= 0.5"),  # halves are rounded up
+    ("rest > 0.5 || rest === 0.5 && low % 2 === 1", "rest > 0.5"),  # and down
+    ("number === nearest || found > 0", "number === nearest || found >= 0"),  # 1e-10 becomes 0
+    ("parts(decimal) === found", "Math.abs(decimal - exact) < 1e-9"),
+    ("19650218", "19650219"), ("1664525", "1664526"), ("1566083941", "1566083943"), ("0x9908b0df", "0x9908b0de"), ("word << 7", "word << 6"),
+    ("words[k % words.length] + k % words.length", "words[k % words.length]"),  # only keys of several words notice it
+    ("rest > 0n || !words.length", "rest > 0n"), ("2 ** 26 + (word() >>> 6)", "2 ** 26 + (word() >>> 5)"),
+    ("draw < highest ? found.push(cell)", "draw <= highest ? found.push(cell)"),  # the order among equal draws: see UNNOTICED
+    ("car * cells / cars", "car * Math.floor(cells / cars)"), ("rows[cell % lanes][Math.floor(cell / lanes)]", "rows[Math.floor(cell / lanes) % lanes][cell >> 1]"),
+    ("padStart(64", "padStart(63"), ("0.32 + (k - 16) * 0.045", "0.32 + (k - 16) * 0.044"), ("cars - away, cars + away", "cars + away, cars - away"),
+    ("2 * length / periods % 2 === 1", "2 * length / periods % 2 === 0"), ("lanes === 2 && change?.trim()", "change?.trim()"),
+    ('["vdr", ["brake", "stopped"]]', '["vdr", ["brake"]]'), ('replace(/\\n$/, "").split("\\n"), other', 'trimEnd().split("\\n"), other'),
+    ("(one, other) => one.at - other.at", "(one, other) => other.at - one.at"), ("lines[0] === kind ? [] : [kind]", "[kind]"),
+    ("lines.program() : \"\";", "\"\" : \"\";"), ("[p = before.p, q = before.q]", "[q = before.q, p = before.p]"),
+    ("this.next - 1).map", "this.next).map"), ("BigInt(`0x${values[0]}`)", "BigInt(`0x${values[0].slice(1)}`)"),
+    ("(k * k * brake)", "(k * (k + 1) * brake)"), ("roads + term / k", "roads + term"), ("term >= NEGLIGIBLE; k--", "term >= 1e-3; k--"),
+    ("rule.p === 0", "false"), ("limit > 1 || !isNasch", "!isNasch"), ("brake === other", "true"),
+)
+UNNOTICED = {"draw < highest ? found.push(cell)"}
+"""Two equal draws of 53 bits are needed, which do not come: the cells are the same."""
+
+
+@unittest.skipIf(MISSING, MISSING)
+class Planted(unittest.TestCase):
+    def test_planted_errors_are_noticed(self):
+        """Each planted error changes an answer that the other tests compare with Python."""
+        draw, vdr = Controls(8), {"model": "vdr", "p": 0.25, "q": 0.5, "motion": "", "change": ""}
+        jobs, sweeps = [draw.job() for _ in range(150)], [{**draw.sweep(), "warm": 3, "measure": 4} for _ in range(40)]
+        texts = [text for text in (text_of(lambda: job_of(it)) for it in jobs) if text]
+        calls = [("jobs", "jobFile", it) for it in jobs] + [("jobs", "sweepFile", it) for it in sweeps]
+        calls += [("reading", "controlsOf", it) for it in texts]
+        calls += [("checks", "partsOf", "brake", it) for it in (1e-10, 0.5 / 2**31, 1.5 / 2**31, 2.5 / 2**31, 0.3)]
+        calls += [("checks", "decimalOf", it) for it in (1, 715827883, 2**20, 2**31 - 1)]
+        calls.append(("random", "draws", "7", 99))
+        rules = vdr, {**vdr, "q": 0.25}, {**vdr, "p": 0, "q": 0}
+        calls += [("exact", "exactCurve", {"limit": limit, "length": 99, "lanes": 1, "rule": rule}) for rule in rules for limit in (1, 2)]
+        shown = lambda found: [str(it) if isinstance(it, Thrown) else it for it in found]
+        right = shown(answers(calls))
+        for old, new in PLANTED:
+            with self.subTest(old=old, new=new):
+                self.assertEqual(scripts.joined("reading", "jobs", "exact").count(old), 1)
+                try:
+                    found = shown(answers(calls, lambda script: script.replace(old, new)))
+                except AssertionError:
+                    found = None  # the scripts have ended with an error
+                self.assertEqual(found == right, old in UNNOTICED)
 
 
 @unittest.skipIf(MISSING, MISSING)

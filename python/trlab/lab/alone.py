@@ -23,8 +23,8 @@ class Page(NamedTuple):
 
 
 def page_needed() -> Optional[Page]:
-    """The page, or None if there is a native program. Raises `ProgramNotFoundError` if there is neither, or if the environment variable
-    TRLAB names another file."""
+    """The page, or None if there is a native program. Raises `ProgramNotFoundError` if there is neither, or if the environment
+    variable TRLAB names another file."""
     reason = "no native program of trlab fits this machine"
     try:
         # A script runs the program in WebAssembly, as the page does.

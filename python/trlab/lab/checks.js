@@ -1,5 +1,5 @@
-// The numbers of job files: whole numbers in their range, and probabilities as multiples of 1 / 2**31. The errors are those of the
-// Python package, except where the page has something else to do.
+// The numbers of job files: whole numbers in their range, and probabilities as multiples of 1 / 2**31. The errors are those of
+// the Python package, except where the page has something else to do.
 
 /** The number in files for the probability 1. */
 export const ALWAYS = 2 ** 31;
@@ -28,12 +28,13 @@ export function rounded(number) {
   const low = Math.floor(number), rest = number - low;
   return rest > 0.5 || rest === 0.5 && low % 2 === 1 ? low + 1 : low;
 }
-/** A probability as files have it: the nearest multiple of 1 / 2**31. The product is exact, because it is one with a power of two. */
-const parts = probability => rounded(probability * ALWAYS);
+/** A probability as files have it: the nearest multiple of 1 / 2**31. The product is exact, because it is one with a power of
+ * two. */
+export const parts = probability => rounded(probability * ALWAYS);
 
 /** The same, or an error that names the probability. A number so close to 0 or 1 that files would have 0 or 1 is an error too. */
 export function partsOf(name, number) {
-  need(typeof number === "number" && Number.isFinite(number), () => `${name} must be a number between 0 and 1, not ${shown(number)}`);
+  need(Number.isFinite(number), () => `${name} must be a number between 0 and 1, not ${shown(number)}`);
   need(number >= 0 && number <= 1, () => `${name} must be between 0 and 1, not ${shown(number)}`);
   const found = parts(number), nearest = found / ALWAYS;
   need(number === nearest || found > 0 && found < ALWAYS,

@@ -22,13 +22,15 @@ export function exactCurve({ limit, length, lanes, rule }) {
   }
   if (limit > 1 || !isNasch(model, numbers)) return null;
   const counts = new Set(upTo(INTERVALS + 1).map(k => rounded(k * length / INTERVALS)));
-  return { kind: "stationary", points: [...counts].map(cars => ({ density: cars / length, flow: flow(length, cars, numbers[0] / ALWAYS) })) };
+  const point = cars => ({ density: cars / length, flow: flow(length, cars, numbers[0] / ALWAYS) });
+  return { kind: "stationary", points: [...counts].map(point) };
 }
 /** Whether a rule is the Nagel-Schreckenberg model, possibly under another name. */
-const isNasch = (model, [brake, other]) => model === "nasch" || model === "vdr" && brake === other || model === "rickert" && other === "0";
+const isNasch = (model, [brake, other]) =>
+  model === "nasch" || model === "vdr" && brake === other || model === "rickert" && other === "0";
 
-/** The mean flow of the Nagel-Schreckenberg model with v_max = 1 in its stationary state. With N cars on n cells, E of them empty, and
- * the braking probability q, it is (1 - q) * S / Z cars per step and lane, where
+/** The mean flow of the Nagel-Schreckenberg model with v_max = 1 in its stationary state. With N cars on n cells, E of them
+ * empty, and the braking probability q, it is (1 - q) * S / Z cars per step and lane, where
  *
  *     S = sum over k from 1 to min(N, E) of C(N - 1, k - 1) * C(E - 1, k - 1) * q**(N - k)
  *     Z = sum of the same terms, each times n / k
@@ -44,7 +46,8 @@ export function flow(length, cars, brake) {
   for (let k = largest - 1, term = 1 / growth(k); k > 0 && term >= NEGLIGIBLE; k--, term /= growth(k)) add(term, k);
   return (1 - brake) * moving / (length * roads);
 }
-/** The k for which the term is largest: terms grow up to it, and then fall. `growth(k)` is the term of k + 1 divided by that of k. */
+/** The k for which the term is largest: terms grow up to it, and then fall. `growth(k)` is the term of k + 1 divided by that of
+ * k. */
 function largestTerm(most, growth) {
   let [low, high] = [1, most];
   while (low < high) {

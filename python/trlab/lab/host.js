@@ -78,8 +78,9 @@ class Heap {
     return to;
   }
 }
-const HEAD = 16, LEAST_POWER = 4, MOST_POWER = 31;
-/** The power of the smallest block that holds a number of bytes. */
+const HEAD = 16, LEAST_POWER = 4, MOST_POWER = 30;
+/** The power of the smallest block that holds a number of bytes. No block is larger than 1 GiB: compiled code counts bytes within a
+ * block with a sign. */
 function powerFor(size) {
   return size > 2 ** MOST_POWER ? MOST_POWER + 1 : Math.max(LEAST_POWER, 32 - Math.clz32(Math.max(size, 1) - 1));
 }

@@ -32,22 +32,24 @@ function atLines(rule, lanes) {
   return [`at ${rule.at} ${first}`, ...others];
 }
 
-/** The sweep file of the road for a `rule`, with its `warm` and `measure` steps. On two lanes the numbers of cars are those near the
- * densities that an even initial state halves between the lanes. */
+/** The sweep file of the road for a `rule`, with its `warm` and `measure` steps. On two lanes the numbers of cars are those
+ * near the densities that an even initial state halves between the lanes. */
 export function sweepFile({ key, limit, length, lanes, rule, warm, measure }) {
   whole("limit", limit, 1, MAX_SPEED);
   const cells = whole("length", length, 1, MAX_CELLS) * whole("lanes", lanes, 1, 2);
   const steps = whole("warm", warm, 0, MAX_STEPS) + whole("measure", measure, 1, MAX_STEPS);
-  const near = DENSITIES.map(density => rounded(density * cells)), counts = lanes === 2 ? near.map(cars => halved(cars, length)) : near;
+  const near = DENSITIES.map(density => rounded(density * cells));
+  const counts = lanes === 2 ? near.map(cars => halved(cars, length)) : near;
   const cars = [...new Set(counts)].sort((one, other) => one - other);
   need(cars.length <= MAX_POINTS && cars.length * steps <= MAX_STEPS, () => `a sweep file has at most ${MAX_POINTS} points and ` +
     `${MAX_STEPS} steps of all points together, and this sweep has ${cars.length} points of ${steps} steps: choose fewer steps`);
-  return textOf(["sweep 1", keyLine(keyOf(key)), `limit ${limit}`, `length ${length}`, `lanes ${lanes}`, ...ruleLines(rule, lanes),
-    `warm ${warm}`, `measure ${measure}`, ...cars.map(count => `cars ${count}`)]);
+  return textOf(["sweep 1", keyLine(keyOf(key)), `limit ${limit}`, `length ${length}`, `lanes ${lanes}`,
+    ...ruleLines(rule, lanes), `warm ${warm}`, `measure ${measure}`, ...cars.map(count => `cars ${count}`)]);
 }
 const commonDivisor = (one, other) => other ? commonDivisor(other, one % other) : one;
-/** Whether evenly spaced cars on two lanes are halved between them, up to one car. Their cells repeat `periods` times; one more car
- * of a period is on lane 0 if the period has an even number of cells, and otherwise every second period begins on lane 1. */
+/** Whether evenly spaced cars on two lanes are halved between them, up to one car. Their cells repeat `periods` times; one more
+ * car of a period is on lane 0 if the period has an even number of cells, and otherwise every second period begins on lane 1.
+ * */
 function isHalved(cars, length) {
   const periods = commonDivisor(cars, 2 * length);
   return !cars || periods <= 1 || 2 * length / periods % 2 === 1;
@@ -61,7 +63,8 @@ function halved(cars, length) {
 
 /** The key, a BigInt, from its decimal digits, because numbers of JavaScript are too small for it. */
 function keyOf(digits) {
-  need(typeof digits === "string" && /^[0-9]{1,78}$/.test(digits), () => `the key must have 1 to 78 decimal digits, not ${shown(digits)}`);
+  const isKey = typeof digits === "string" && /^[0-9]{1,78}$/.test(digits);
+  need(isKey, () => `the key must have 1 to 78 decimal digits, not ${shown(digits)}`);
   const key = BigInt(digits);
   need(key < 2n ** 256n, () => `key must be between 0 and 2**256 - 1, not ${shown(key)}`);
   return key;
@@ -70,10 +73,13 @@ const keyLine = key => `key ${key.toString(16).padStart(64, "0")}`;
 
 function lanesOf({ start, road, length, lanes, cars }, seed, limit) {
   if (start === "file") return checkedRoad(road, limit);
-  const cells = whole("length", length, 1, MAX_CELLS) * whole("lanes", lanes, 1, 2), rows = upTo(lanes).map(() => new Array(length).fill("."));
+  const cells = whole("length", length, 1, MAX_CELLS) * whole("lanes", lanes, 1, 2);
+  const rows = upTo(lanes).map(() => new Array(length).fill("."));
   // Cells are counted across the lanes: on two lanes cell 0 is on lane 0, and cell 1 next to it on lane 1.
   const sign = SPEEDS[start === "moving" ? limit : 0];
-  for (const cell of cellsOf(start, whole("cars", cars, 0, cells), cells, seed)) rows[cell % lanes][Math.floor(cell / lanes)] = sign;
+  for (const cell of cellsOf(start, whole("cars", cars, 0, cells), cells, seed)) {
+    rows[cell % lanes][Math.floor(cell / lanes)] = sign;
+  }
   return rows.map(row => row.join(""));
 }
 function cellsOf(start, cars, cells, seed) {
@@ -97,13 +103,16 @@ function checkedRoad(road, limit) {
 const PROBABILITIES = new Map([["nasch", ["brake"]], ["vdr", ["brake", "stopped"]], ["rickert", ["brake", "change"]]]);
 /** The lines of a rule in a file. On one lane there is no program for lane changes. */
 export function ruleLines({ model, p, q, motion, change }, lanes) {
-  if (model === "own") return ["rule own", ...programLines("motion", motion), ...lanes === 2 && change?.trim() ? programLines("change", change) : []];
+  if (model === "own") {
+    const changes = lanes === 2 && change?.trim() ? programLines("change", change) : [];
+    return ["rule own", ...programLines("motion", motion), ...changes];
+  }
   const names = PROBABILITIES.get(model);
   need(names, () => `the rule is nasch, vdr, rickert or own, not ${shown(model)}`);
   return [`rule ${model} ${names.map((name, k) => partsOf(name, [p, q][k])).join(" ")}`];
 }
-/** The lines of a program in a file. Its first line may be left out, and `end` is not one of them. Empty lines at its start do not
- * count. */
+/** The lines of a program in a file. Its first line may be left out, and `end` is not one of them. Empty lines at its start do
+ * not count. */
 function programLines(kind, program) {
   const lines = program.replace(/^\n+/, "").replace(/\n$/, "").split("\n"), other = kind === "motion" ? "change" : "motion";
   need(program.isWellFormed(), () => `the ${kind} program has a character that UTF-8 does not have`);

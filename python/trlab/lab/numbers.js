@@ -1,7 +1,8 @@
 // Numbers as you write them, which Python reads in the same way: whole numbers, decimals, and fractions such as 1/3.
 
+import { ALWAYS, decimalOf, parts } from "./checks.js";
+
 const WRITTEN = /^[-+]?(?:(\d+)\/(\d+)|(?:\d+\.?\d*|\.\d+)(?:e[-+]?\d{1,3})?)$/i;
-const ALWAYS = 2 ** 31; // a file has a probability as a multiple of 1 / 2 ** 31
 
 /** A text is not the number that is wanted; the message says what to write instead. */
 export class NumberError extends Error {}
@@ -22,15 +23,11 @@ export function numberOf(text, { least = -Infinity, most = Infinity, isWhole = f
 }
 /** A probability, as the shortest decimal that files write in the same way. */
 export function probabilityOf(text) {
-  const number = numberOf(text, { least: 0, most: 1 }), parts = Math.round(number * ALWAYS);
-  if (parts % ALWAYS === 0 && parts / ALWAYS !== number) {
-    throw new NumberError(`${shortened(text.trim())} would be ${parts / ALWAYS} in a file, which has multiples of 1 / 2^31: write ${parts / ALWAYS}.`);
+  const number = numberOf(text, { least: 0, most: 1 }), found = parts(number), nearest = found / ALWAYS;
+  if (found % ALWAYS === 0 && nearest !== number) {
+    throw new NumberError(`${shortened(text.trim())} would be ${nearest} in a file, which has multiples of 1 / 2^31: write ${nearest}.`);
   }
-  for (let digits = 0; digits < 12; digits++) {
-    const short = +number.toFixed(digits);
-    if (Math.round(short * ALWAYS) === parts) return short;
-  }
-  return number;
+  return decimalOf(found);
 }
 /** A random seed, as decimal digits: it may be too large for a number. */
 export function seedOf(text) {

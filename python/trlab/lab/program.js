@@ -1,5 +1,6 @@
-// The program in WebAssembly, if the page contains it. It answers the requests that a page with a server sends to trlab-lab: each of
-// them runs the program in a Worker of its own, with the body as standard input, and the answer is a stream of its output.
+// The program in WebAssembly, if the page contains it. It answers the requests that a page with a server sends to trlab-lab:
+// each of them runs the program in a Worker of its own, with the body as standard input, and the answer is a stream of its
+// output.
 
 const RUNS = new Map([
   ["run", ["run"]], ["series", ["series"]], ["sweep", ["sweep", "--progress"]], ["explain", ["explain", "run"]],
@@ -25,12 +26,15 @@ async function unpacked(text) {
 export class Program {
   /** The program that the page contains, or null. */
   static ofPage() {
-    return document.getElementById("program") && new Program(contentOf("program"), contentOf("worker"), JSON.parse(contentOf("examples")));
+    if (!document.getElementById("program")) return null;
+    return new Program(contentOf("program"), contentOf("worker"), JSON.parse(contentOf("examples")));
   }
   constructor(packed, script, examples) {
     this.examples = examples;
     this.script = URL.createObjectURL(new Blob([script], { type: "text/javascript" }));
-    this.module = unpacked(packed).then(bytes => WebAssembly.compile(bytes)).catch(fault => Promise.reject(new Error(`${UNUSABLE} (${fault.message})`)));
+    this.module = unpacked(packed).then(bytes => WebAssembly.compile(bytes)).catch(fault => {
+      throw new Error(`${UNUSABLE} (${fault.message})`);
+    });
     this.module.catch(() => {}); // Each request reports it.
     this.spare = new Worker(this.script);
   }

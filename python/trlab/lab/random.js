@@ -1,9 +1,10 @@
-// Random cells, the same as `trlab.random_cells(seed)` in Python, whose random numbers are those of the Mersenne Twister (Matsumoto
-// and Nishimura 1998, ACM Trans. Model. Comput. Simul. 8, 3).
+// Random cells, the same as `trlab.random_cells(seed)` in Python, whose random numbers are those of the Mersenne Twister
+// (Matsumoto and Nishimura 1998, ACM Trans. Model. Comput. Simul. 8, 3).
 
 const SIZE = 624, MIDDLE = 397;
 
-/** A call that returns the random words of 32 bits of `random.Random(seed)` in Python. The seed is a BigInt that is not negative. */
+/** A call that returns the random words of 32 bits of `random.Random(seed)` in Python. The seed is a BigInt, or decimal digits.
+ * */
 function randomWords(seed) {
   const state = stateOf(seed);
   let next = SIZE;
@@ -26,7 +27,7 @@ function renew(state) {
 /** The state for the 32-bit words of a seed, as `init_by_array` of the authors fills it. */
 function stateOf(seed) {
   const state = new Uint32Array(SIZE), words = [];
-  for (let rest = seed; rest > 0n || !words.length; rest >>= 32n) words.push(Number(rest & 0xffffffffn));
+  for (let rest = BigInt(seed); rest > 0n || !words.length; rest >>= 32n) words.push(Number(rest & 0xffffffffn));
   const mixed = (k, factor) => Math.imul(state[k - 1] ^ state[k - 1] >>> 30, factor);
   state[0] = 19650218;
   for (let k = 1; k < SIZE; k++) state[k] = mixed(k, 1812433253) + k;
@@ -44,12 +45,15 @@ function stateOf(seed) {
   return state;
 }
 
-/** Random cells, of which there are `cells`: each draws a number from 0 to 1 with 53 bits, and the lowest numbers win. */
-export function randomCells(seed, cars, cells) {
+/** The first random numbers from 0 to 1, which have 53 bits. */
+export function draws(seed, count) {
   const word = randomWords(seed);
-  const draws = Float64Array.from({ length: cells }, () => ((word() >>> 5) * 2 ** 26 + (word() >>> 6)) / 2 ** 53);
+  return Float64Array.from({ length: count }, () => ((word() >>> 5) * 2 ** 26 + (word() >>> 6)) / 2 ** 53);
+}
+/** Random cells, of which there are `cells`: each draws a number, and the lowest numbers win. */
+export function randomCells(seed, cars, cells) {
   if (!cars) return [];
-  const highest = draws.toSorted()[cars - 1], found = [], equal = [];
-  draws.forEach((draw, cell) => draw < highest ? found.push(cell) : draw === highest && equal.push(cell));
+  const drawn = draws(seed, cells), highest = drawn.toSorted()[cars - 1], found = [], equal = [];
+  drawn.forEach((draw, cell) => draw < highest ? found.push(cell) : draw === highest && equal.push(cell));
   return [...found, ...equal].slice(0, cars);
 }

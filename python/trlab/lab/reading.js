@@ -19,12 +19,13 @@ export function controlsOf(text) {
     else if (word === "at") found.rules.push(ruleOf(numberOf(values[0]), values.slice(2), lines, found.rules.at(-1)));
     else if (word === "key") found.key = BigInt(`0x${values[0]}`).toString();
     else if (NUMBERS.has(word)) found[word] = numberOf(values[0]);
-    else need(OTHERS.has(word), () => `line ${lines.next} of the file begins with a word that the page does not know: ${word.slice(0, 80)}`);
+    else need(OTHERS.has(word), () => unknown(lines.next, word));
   }
   if (!road.length) return found;
   const cars = road.reduce((sum, lane) => sum + lane.replaceAll(".", "").length, 0);
   return { ...found, start: "file", road, lanes: road.length, length: road[0].length, cars };
 }
+const unknown = (line, word) => `line ${line} of the file begins with a word that the page does not know: ${word.slice(0, 80)}`;
 const NUMBERS = new Set(["limit", "length", "lanes", "steps"]);
 /** The words of lines for which the page has no control, or several. */
 const OTHERS = new Set(["road", "sweep", "warm", "measure", "cars"]);

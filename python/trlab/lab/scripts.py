@@ -12,8 +12,8 @@ _EXPORT = re.compile(r"^export ((?:async )?(?:function|class|const) ([\w$]+))", 
 
 
 def joined(*names: str) -> str:
-    """The scripts of these names with all scripts that they import, each once, and in a scope of its own. Raises `ValueError` if a
-    script imports a name that the other one does not export at the beginning of a line."""
+    """The scripts of these names with all scripts that they import, each once, and in a scope of its own. Raises `ValueError` if
+    a script imports a name that the other one does not export at the beginning of a line."""
     exported: dict[str, list[str]] = {}
     return "const modules = {};\n" + "".join(text for name in names for text in _scopes(name, exported))
 

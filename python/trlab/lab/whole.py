@@ -15,8 +15,8 @@ from .scripts import HERE, element, joined, sum_of
 from .server import examples
 
 _POLICY = (
-    "default-src 'none'; script-src {script} 'wasm-unsafe-eval'; style-src {style}; worker-src blob:; img-src data:; base-uri 'none'; "
-    "form-action 'none'"
+    "default-src 'none'; script-src {script} 'wasm-unsafe-eval'; style-src {style}; worker-src blob:; img-src data:; "
+    "base-uri 'none'; form-action 'none'"
 )
 
 

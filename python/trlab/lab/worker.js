@@ -1,5 +1,6 @@
-// The Worker in which the program runs once. If the browser can suspend the program (JavaScript Promise Integration), it waits while
-// too much of its output is unread, as it would at a pipe. Otherwise it ends, and the page runs it again when it has read everything.
+// The Worker in which the program runs once. If the browser can suspend the program (JavaScript Promise Integration), it waits
+// while too much of its output is unread, as it would at a pipe. Otherwise it ends, and the page runs it again when it has read
+// everything.
 
 import { Exit, hostOf } from "./host.js";
 
@@ -38,6 +39,7 @@ async function run(request) {
     const instance = await WebAssembly.instantiate(module, host.importsOf(module));
     postMessage({ status: await host.start(instance, canWait ? WebAssembly.promising : undefined)() });
   } catch (fault) {
-    postMessage(fault instanceof Exit ? { status: fault.status } : fault instanceof Full ? { isFull: true } : { fault: `${fault.name}: ${fault.message}` });
+    if (fault instanceof Exit) postMessage({ status: fault.status });
+    else postMessage(fault instanceof Full ? { isFull: true } : { fault: `${fault.name}: ${fault.message}` });
   }
 }
