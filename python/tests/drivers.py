@@ -37,9 +37,9 @@ COMMANDS = {
 
 
 class Chromium(Chrome):
-    """A driver for Chromium. With `calm` the user wants no motion."""
+    """A driver for Chromium. With `calm` the user wants no motion, and with `dark` a dark page."""
 
-    def __init__(self, calm=False):
+    def __init__(self, calm=False, dark=False):
         options = ChromeOptions()
         options.binary_location = CHROMIUM
         for word in "--headless=new", "--no-sandbox", "--disable-gpu", "--hide-scrollbars":
@@ -48,6 +48,8 @@ class Chromium(Chrome):
             options.add_argument("--force-prefers-reduced-motion")
         options.set_capability("goog:loggingPrefs", {"browser": "ALL"})
         super().__init__(options=options, service=Service(CHROMEDRIVER))
+        scheme = {"name": "prefers-color-scheme", "value": "dark" if dark else "light"}
+        self.execute_cdp_cmd("Emulation.setEmulatedMedia", {"features": [scheme]})
 
     def resize(self, width, height):
         """Give the page a size in pixels."""
@@ -62,9 +64,9 @@ class Chromium(Chrome):
 class Marionette:
     """A Firefox without a window, and the connection to it, over which selenium executes its commands."""
 
-    def __init__(self, calm):
+    def __init__(self, calm, dark):
         self.folder = tempfile.TemporaryDirectory()
-        settings = {**SETTINGS, "ui.prefersReducedMotion": int(calm)}
+        settings = {**SETTINGS, "ui.prefersReducedMotion": int(calm), "layout.css.prefers-color-scheme.content-override": int(not dark)}
         lines = [f"user_pref({json.dumps(name)}, {json.dumps(value)});\n" for name, value in settings.items()]
         (Path(self.folder.name) / "user.js").write_text("".join(lines))
         words = ["--headless", "--marionette", "--remote-allow-system-access", "--no-remote", "--profile", self.folder.name]
@@ -105,10 +107,10 @@ class Marionette:
 
 
 class Firefox(Remote):
-    """A driver for Firefox. With `calm` the user wants no motion."""
+    """A driver for Firefox. With `calm` the user wants no motion, and with `dark` a dark page."""
 
-    def __init__(self, calm=False):
-        self.marionette, self.seen = Marionette(calm), 0
+    def __init__(self, calm=False, dark=False):
+        self.marionette, self.seen = Marionette(calm, dark), 0
         super().__init__(self.marionette, options=FirefoxOptions())
         self._is_remote = False  # otherwise keys that are the name of a file would be sent as this file
 

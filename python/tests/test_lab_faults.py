@@ -6,7 +6,7 @@ import zlib
 
 import trlab
 from tests.browsers import Keys, missing
-from tests.test_lab_page import OnPage, snapshots
+from tests.lab_pages import OnPage, snapshots
 from trlab import Job, Nasch, Rickert
 
 SPEEDS = "0123456789abcdefghijklmnopqrstuvwxyz"

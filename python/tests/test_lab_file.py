@@ -14,7 +14,8 @@ from unittest import mock
 
 from tests import stub_modules
 from tests.browsers import Window, missing
-from tests.test_lab_page import SHOTS, OnPage, Pages, snapshots
+from tests.lab_pages import SHOTS, OnPage, snapshots
+from tests.test_lab_page import Pages
 from trlab._runs.calls import ask
 from trlab.lab import server
 from trlab.lab.whole import whole_page

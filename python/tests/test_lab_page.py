@@ -8,24 +8,20 @@ import tempfile
 import threading
 import unittest
 from pathlib import Path
-from urllib.parse import urlsplit
 from xml.etree import ElementTree
 
 import trlab
 from tests.browsers import Keys, Window, missing
-from trlab import Job, Nasch, Rickert, SlowToStart, Snapshots
-from trlab.lab import Lab, server
+from tests.lab_pages import SHOTS, OnPage, snapshots
+from trlab import Job, Nasch, Rickert, SlowToStart
+from trlab.lab import server
 from trlab.lab.__main__ import fragment
 from trlab._rules.functions import rules_in
 from trlab._runs.calls import ask
 from trlab._results.tables import Window as Row, Table
-from trlab._results.written import snapshots_in
 
 SPEEDS = "0123456789abcdefghijklmnopqrstuvwxyz"
 KEY = "key " + "0" * 64
-SHOTS = """const {film} = lab.player;
-return film.shots.map(it => [it.step, String.fromCharCode(...it.cells), it.flow, it.speed, it.stopped])"""
-
 
 # How eyes without red, green or blue cones see linear red, green and blue (Machado, Oliveira and Fernandes 2009).
 SIGHTS = {
@@ -43,96 +39,6 @@ def lightness_and_hue(colour, sight):
     to_xyz = ((0.4339, 0.3762, 0.1899), (0.2126, 0.7152, 0.0722), (0.0178, 0.1096, 0.8730))  # white is 1, 1, 1
     x, y, z = (max(it, 0.0089) ** (1 / 3) for it in times(to_xyz, light))
     return 116 * y - 16, 500 * (x - y), 200 * (y - z)
-
-
-def snapshots(text):
-    return Snapshots(snapshots_in(ask(["run"], text).splitlines(True)))
-
-
-class OnPage:
-    """A page in one browser, which is loaded again for each test."""
-
-    browser = ""
-
-    @classmethod
-    def setUpClass(cls):
-        cls.lab = Lab()
-        cls.addClassCleanup(cls.lab.close)
-        thread = threading.Thread(target=cls.lab.serve_forever, kwargs={"poll_interval": 0.05}, daemon=True)
-        thread.start()
-        cls.addClassCleanup(thread.join)
-        cls.addClassCleanup(cls.lab.shutdown)
-        cls.page = Window(cls.browser, cls.lab.address)
-        cls.addClassCleanup(cls.page.close)
-
-    def setUp(self):
-        self.page.get("about:blank")
-        self.page.get(self.lab.address)
-        self.hold(lambda: self.page.js("return window.lab !== undefined && lab.player.film !== null && lab.player.step >= 0"))
-        self.page.errors()
-
-    def tearDown(self):
-        self.assertEqual(self.page.errors(), [])
-
-    def hold(self, condition):
-        """Wait for a condition. The page reacts to a control only when the server has written the new job file."""
-        if not self.page.holds(condition):
-            self.fail(self.page.js("return document.getElementById('fault')?.textContent") or "it does not become true")
-
-    def has(self, wanted, found):
-        """Wait until a call gives this value."""
-        if not self.page.holds(lambda: found() == wanted):
-            self.assertEqual(found(), wanted)
-
-    def has_job(self, wanted):
-        self.has(wanted, self.page.job)
-
-    def has_line(self, wanted):
-        if not self.page.holds(lambda: wanted in self.page.job()):
-            self.assertIn(wanted, self.page.job())
-
-    def has_marks(self, count):
-        """The fundamental diagram has so many points of one sweep; the run may have added its own."""
-        self.hold(lambda: self.page.js("return lab.marks.some(it => it.points.length === arguments[0])", count))
-
-    def turn(self, words):
-        """Click on the button that plays and pauses, if it says this. A run may end between two scripts: this is one."""
-        self.page.js("const it = document.getElementById('play'); if (it.textContent === arguments[0]) it.click()", words)
-
-    def runs(self):
-        """The processes that run jobs for pages, without those that explain files."""
-        return [child for child in list(self.lab.children) if child.args[1] == "run"]
-
-    def follows_none(self):
-        self.page.keys(Keys.ESCAPE)
-        self.hold(lambda: self.page.js("return lab.player.car") is None)
-
-    def pause(self):
-        self.hold(lambda: not self.page.js("return window.lab.isWriting"))
-        self.turn("Pause")
-        self.hold(lambda: self.page.js("const it = lab.player; return it.scene?.step === it.step && it.phase === 1 && !it.moving && !it.stale"))
-
-    def run_to(self, step):
-        """Play fast to a step at least, and pause."""
-        self.hold(lambda: not self.page.js("return window.lab.isWriting"))
-        # In one script: between two of them, a page on a busy machine may play thousands of steps.
-        self.page.later("""const it = lab.player, rate = document.getElementById('rate');
-            rate.value = 100;
-            rate.dispatchEvent(new Event('input', {bubbles: true}));
-            if (!it.playing) document.getElementById('play').click();
-            await new Promise(go => { const look = () => it.step >= words[0] ? go() : requestAnimationFrame(look); look(); });
-            if (it.playing) it.setPlaying(false)""", step)
-        self.pause()
-
-    def are_those_of_the_run(self):
-        """The kept snapshots, which are those of the job file. On a busy machine the first ones may be gone."""
-        shots, found = self.page.js(SHOTS), snapshots(self.page.job())
-        for step, cells, *_ in shots:
-            self.assertEqual((step, cells), (found[step].step, "".join(found[step].lanes)))
-        return shots
-
-    def open(self, text, name="a.job"):
-        self.page.js("lab.open(arguments[0], arguments[1])", name, text)
 
 
 class Pages(OnPage):
@@ -407,7 +313,8 @@ class Pages(OnPage):
 
     def test_every_example(self):
         texts = self.examples()
-        self.assertEqual(self.page.js("return [...document.querySelectorAll('#example option')].slice(1).map(it => it.value)"), list(texts))
+        listed = self.page.js("return [...document.querySelectorAll('#example option')].slice(1).map(it => it.value)")
+        self.assertCountEqual([name for name in listed if "." in name], texts)
         for name, text in texts.items():
             with self.subTest(name=name):
                 self.page.set("example", name)

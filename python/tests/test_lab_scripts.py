@@ -16,7 +16,7 @@ from trlab._inputs.states import halved, lanes_are_told
 from trlab.lab import scripts
 
 EXAMPLES = Path(__file__).resolve().parents[2] / "examples"
-STATES = {"even": lambda seed: trlab.even, "jam": lambda seed: trlab.jammed, "random": trlab.random_cells}
+STATES = {"even": lambda seed: trlab.even, "moving": lambda seed: trlab.moving, "jam": lambda seed: trlab.jammed, "random": trlab.random_cells}
 MOTION = "get r0, limit\nget r1, gap\nmin r0, r0, r1\ngo r0\n"
 PROGRAMS = [MOTION, f"motion\n{MOTION}", f"\n\n{MOTION}\n\n", MOTION[:-1], "code 00ff\n", "; a caf\u00e9\ngo r0"]
 CHANGES = ["", " \n", "stay\n", "change\nstay", "code 01"]
@@ -37,7 +37,7 @@ def job_of(controls):
         road = {"start": controls["road"]}
     else:
         road = {name: controls[name] for name in ("length", "lanes", "cars")}
-        road["start"] = STATES[controls["start"]](int(controls["key"]))
+        road["start"] = STATES[controls["start"]](int(controls.get("seed", controls["key"])))
     at = {rule["at"]: rule_of(rule, controls["lanes"]) for rule in later}
     with lanes_are_told():
         return Job(
@@ -82,7 +82,7 @@ class Controls:
         steps_of_rules = draw.sample(range(steps), min(steps, draw.choice([0, 0, 1, 3])))
         return {
             "key": str(key), "limit": limit, "lanes": lanes, "length": length, "cars": cars, "density": 0, "steps": steps, "road": road,
-            "start": draw.choice(["even", "jam", "random", "file"]), "rules": [self.rule(at) for at in [0, *steps_of_rules]],
+            "start": draw.choice(["even", "moving", "jam", "random", "file"]), **draw.choice([{}, {}, {"seed": str(draw.getrandbits(200))}]), "rules": [self.rule(at) for at in [0, *steps_of_rules]],
         }
 
     def sweep(self):
@@ -201,7 +201,7 @@ class Errors(unittest.TestCase):
         tries = (
             ({"steps": 500001}, "steps must be between 0 and 500000, not 500001"),
             ({"key": "1e3"}, "the key must have 1 to 78 decimal digits, not '1e3'"),
-            ({"start": "moved"}, "the initial state is even, random, jam or file, not 'moved'"),
+            ({"start": "moved"}, "the initial state is even, moving, random, jam or file, not 'moved'"),
             ({"rules": [{**rules[0], "at": 1}]}, "the first step of the first rule must be between 0 and 0, not 1"),
             ({"rules": rules + 2 * [{**rules[0], "at": 3}]}, "two rules take over at the same step"),
             ({"rules": [{**rules[0], "model": "toString"}]}, "the rule is nasch, vdr, rickert or own, not 'toString'"),

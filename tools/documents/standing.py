@@ -26,7 +26,7 @@ MAX_WORDS = {
     "docs/FAQ.md": 900,
     "docs/FILES.md": 2230,
     "docs/GLOSSARY.md": 830,
-    "docs/LAB.md": 1750,
+    "docs/LAB.md": 1900,
     "docs/LAWS.md": 3850,
     "docs/LAWS_BY_EXAMPLE.md": 4000,
     "docs/PROGRAMS.md": 2950,

@@ -12,7 +12,7 @@ export const isKept = place => kept.has(place);
 export function watch(place, id, take, restore) {
   const words = document.createElement("span");
   Object.assign(words, { id: `${id}wrong`, className: "wrong", role: "alert" });
-  place.closest(".field, .lead, figcaption").append(words);
+  place.closest(".field, .lead, figcaption, .compare").append(words);
   place.setAttribute("aria-describedby", words.id);
   place.words = words;
   place.addEventListener("input", () => kept.add(place));

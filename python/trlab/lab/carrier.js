@@ -14,3 +14,5 @@ export async function answer(path, body, signal) {
 }
 /** The example inputs by file name. */
 export const exampleInputs = async () => program ? program.examples : (await fetch("examples")).json();
+/** The page of a film, in which the film itself is missing. */
+export const filmPage = async () => program ? JSON.parse(document.getElementById("filmpage").textContent) : (await fetch("film")).text();

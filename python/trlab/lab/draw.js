@@ -4,6 +4,7 @@
 import { EMPTY, clamp, speedOf, upTo } from "./job.js";
 import { colour } from "./colours.js";
 import { dotOf, isTight, paintColumns, styleOf, sumsOf } from "./columns.js";
+import { mostOf, unitOf } from "./units.js";
 
 export const ACCENT = "#1d5f9e";
 export const INK = "#16191d";
@@ -274,6 +275,8 @@ export function drawCurves(pen, width, height, view, rows) {
     };
     pen.fillStyle = LINE;
     pen.fillRect(left, 0, 1, height);
+    pen.fillStyle = WASH;
+    for (const part of [0.5, 1]) pen.fillRect(left + 1 + (wide - 2) * part, 0, 1, height);
     if (name === "density") return upTo(film.lanes).forEach(lane => curve(lane ? OTHER : ACCENT, shots.map(it => it.densities[lane])));
     curve(FAINT, shots.map(it => it[name]));
     curve(ACCENT, smooth(film, name, top, step));
@@ -320,8 +323,12 @@ export const FIGURES = {
   curves(view) {
     const pen = new SvgPen(), foot = timeAxis(pen, view);
     drawCurves(pen, 480, foot, view, rowsOf(view, 1000, 300));
-    const { limit } = view.film, titles = [`flow, 0 to ${+(limit / (limit + 1)).toFixed(2)}`, "density, 0 to 1", `speed, 0 to ${limit}`, "stopped, 0 to 1"];
-    titles.forEach((words, k) => pen.text(words, k * 123.5, -8));
-    return pen.image(480, foot, [28, 8, 8, 70]);
+    const { limit } = view.film, most = { flow: limit / (limit + 1), density: 1, speed: limit };
+    const titles = Object.entries(most).map(([kind, end]) => [`${kind}, 0 to ${mostOf(kind, end)}`, unitOf(kind).words]);
+    [...titles, ["stopped, 0 to 1", ""]].forEach(([words, unit], k) => {
+      pen.text(words, k * 123.5, -22);
+      if (unit) pen.text(unit, k * 123.5, -8);
+    });
+    return pen.image(480, foot, [42, 8, 8, 70]);
   },
 };

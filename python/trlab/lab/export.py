@@ -9,9 +9,10 @@ from html import escape
 from collections.abc import Iterator
 from typing import TYPE_CHECKING, Optional
 
-from .._runs.calls import ask_by_line
-from .._inputs.numbers import MAX_SPEED, whole
+from .._inputs.numbers import ALWAYS, MAX_SPEED, key_digits, parts, whole
+from .._inputs.reading import job_of
 from .._inputs.states import SPEEDS
+from .._runs.calls import ask_by_line
 from .scripts import HERE, joined, sum_of
 
 if TYPE_CHECKING:
@@ -26,21 +27,22 @@ _PAGE = """<!doctype html>
 <meta charset="utf-8">
 <meta name="viewport" content="width=device-width, initial-scale=1">
 <meta http-equiv="Content-Security-Policy" content="default-src 'none'; script-src {script_sum}; style-src {style_sum}; img-src data:">
-<title>{title}</title>
+<title>@title@</title>
 <link rel="icon" href="data:,">
 <style>{style}</style>
 </head>
 <body class="exported">
 <main>
-<p class="lead">{lead}</p>
+<p class="lead">@lead@</p>
 {parts}
 </main>
-<script type="application/json" id="job">{job}</script>
-<script type="text/plain" id="run">{run}</script>
+<script type="application/json" id="job">@job@</script>
+<script type="text/plain" id="run">@run@</script>
 <script type="module">{script}</script>
 </body>
 </html>
 """
+"""The page, in which `film_page` fills in the fields in braces, and each film those between `@`."""
 
 
 def page_of(snapshots: Snapshots, limit: Optional[int] = None, title: str = "") -> str:
@@ -58,10 +60,16 @@ def page_of(snapshots: Snapshots, limit: Optional[int] = None, title: str = "") 
 def exported(text: str, title: str = "") -> str:
     """A web page that plays the run of a job file. Raises `RejectedInputError` if trlab rejects it."""
     limit = re.search(r"^limit ([0-9]{1,2})$", text, re.M)
-    return _page(ask_by_line(["run"], text), int(limit[1]) if limit else 1, title)
+    return _page(ask_by_line(["run"], text), int(limit[1]) if limit else 1, title, text)
 
 
-def _page(lines: Iterator[str], limit: int, title: str) -> str:
+def film_page() -> str:
+    """The page of a film, without what one film has: `@title@`, `@lead@`, `@job@` and `@run@`."""
+    script, style = joined("exported"), (HERE / "page.css").read_text("utf-8")
+    return _PAGE.format(style=style, script=script, style_sum=sum_of(style), script_sum=sum_of(script), parts=_parts())
+
+
+def _page(lines: Iterator[str], limit: int, title: str, text: str = "") -> str:
     output, size = [], 0
     for line in lines:
         output.append(line)
@@ -74,12 +82,28 @@ def _page(lines: Iterator[str], limit: int, title: str) -> str:
     job = {"length": len(lanes[0]), "lanes": len(lanes), "limit": limit, "steps": steps}
     rings = "two rings" if len(lanes) == 2 else "a ring"
     lead = f"{cars} {'car' if cars == 1 else 'cars'} on {rings} of {len(lanes[0])} cells, at most {limit} cells per step"
-    script, style = joined("exported"), (HERE / "page.css").read_text("utf-8")
+    lead = f"{_model(text)}: {lead}" if text else lead
     packed = base64.b64encode(gzip.compress("".join(output).encode(), 9, mtime=0)).decode()
-    return _PAGE.format(
-        title=escape(title or lead), lead=escape(title or lead) + ("" if title else "."), style=style, script=script,
-        style_sum=sum_of(style), script_sum=sum_of(script), parts=_parts(), job=json.dumps(job), run=packed,
-    )
+    filled = {"title": escape(title or lead), "lead": escape(title or f"{lead}."), "job": json.dumps(job), "run": packed}
+    return re.sub("@(title|lead|job|run)@", lambda field: filled[field[1]], film_page())
+
+
+def _model(text: str) -> str:
+    """The model, its probabilities and the random seed of a job file, as the page's `filming.js` writes them."""
+    job = job_of(text)
+    kind, *numbers = job["rule"].lines()[0].split(" ")[1:]
+    p, q = [*map(_decimal, numbers), 0.0, 0.0][:2]
+    model = {
+        "nasch": f"Nagel and Schreckenberg (1992), p = {p:.10g}", "vdr": f"Barlovic et al. (1998), p = {p:.10g}, and {q:.10g} if stopped",
+        "rickert": f"Rickert et al. (1996), p = {p:.10g}, lane changes with {q:.10g}", "own": "A rule of one's own",
+    }[kind]
+    return f"{model}{', later another rule' if job['at'] else ''}, random seed {int(key_digits(job['key']), 16)}"
+
+
+def _decimal(number: str) -> float:
+    """The shortest decimal of a probability in a file."""
+    exact = int(number) / ALWAYS
+    return next(it for digits in range(12) if parts(it := round(exact, digits)) == int(number))
 
 
 def _parts() -> str:

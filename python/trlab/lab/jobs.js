@@ -10,10 +10,11 @@ const DENSITIES = upTo(31).slice(1).map(k => k <= 16 ? k / 50 : 0.32 + (k - 16) 
 
 const textOf = lines => lines.map(line => `${line}\n`).join("");
 
-/** The job file: `rules` in their order, each with the step `at` which it takes over, and a road by its `start`. */
+/** The job file: `rules` in their order, each with the step `at` which it takes over, and a road by its `start`. Random cells are
+ * drawn with the `seed`, or else with the key. */
 export function jobFile(job) {
-  const key = keyOf(job.key), limit = whole("limit", job.limit, 1, MAX_SPEED), steps = whole("steps", job.steps, 0, MAX_STEPS);
-  const lanes = lanesOf(job, key, limit).map(lane => `lane ${lane}`), [first, ...later] = job.rules;
+  const key = keyOf(job.key), seed = keyOf(job.seed ?? job.key), limit = whole("limit", job.limit, 1, MAX_SPEED), steps = whole("steps", job.steps, 0, MAX_STEPS);
+  const lanes = lanesOf(job, seed, limit).map(lane => `lane ${lane}`), [first, ...later] = job.rules;
   whole("the first step of the first rule", first.at, 0, 0);
   return textOf(["road 1", keyLine(key), `limit ${limit}`, ...lanes, ...ruleLines(first, job.lanes), `steps ${steps}`,
     ...inOrder(later, steps).flatMap(rule => atLines(rule, job.lanes))]);
@@ -70,18 +71,19 @@ function keyOf(digits) {
 }
 const keyLine = key => `key ${key.toString(16).padStart(64, "0")}`;
 
-function lanesOf({ start, road, length, lanes, cars }, key, limit) {
+function lanesOf({ start, road, length, lanes, cars }, seed, limit) {
   if (start === "file") return checkedRoad(road, limit);
   const cells = whole("length", length, 1, MAX_CELLS) * whole("lanes", lanes, 1, 2);
   const rows = upTo(lanes).map(() => new Array(length).fill("."));
   // Cells are counted across the lanes: on two lanes cell 0 is on lane 0, and cell 1 next to it on lane 1.
-  for (const cell of cellsOf(start, whole("cars", cars, 0, cells), cells, key)) {
-    rows[cell % lanes][Math.floor(cell / lanes)] = "0";
+  const sign = SPEEDS[start === "moving" ? limit : 0];
+  for (const cell of cellsOf(start, whole("cars", cars, 0, cells), cells, seed)) {
+    rows[cell % lanes][Math.floor(cell / lanes)] = sign;
   }
   return rows.map(row => row.join(""));
 }
 function cellsOf(start, cars, cells, seed) {
-  need(["even", "random", "jam"].includes(start), () => `the initial state is even, random, jam or file, not ${shown(start)}`);
+  need(["even", "moving", "random", "jam"].includes(start), () => `the initial state is even, moving, random, jam or file, not ${shown(start)}`);
   if (start === "random") return randomCells(seed, cars, cells);
   return upTo(cars).map(car => start === "jam" ? car : Math.floor(car * cells / cars));
 }

@@ -12,8 +12,15 @@ import { NumberError, numberOf, probabilityOf, seedOf } from "./numbers.js";
 import { bytesBefore } from "./film.js";
 import { colour } from "./colours.js";
 import { FIGURES, rowsOf } from "./draw.js";
-import { across, diagramFile, diagramOf, pointsOf } from "./diagram.js";
+import { across, boxOf, diagramFile, diagramOf } from "./diagram.js";
 import { Editor, explain, lineOf, messageOf } from "./editor.js";
+import { Comparison } from "./compare.js";
+import { disturbanceWords, disturbed } from "./disturbance.js";
+import { filmOf } from "./filming.js";
+import { tellModel } from "./models.js";
+import { listExamples, tellExample } from "./phenomena.js";
+import { units } from "./units.js";
+import { BRANCHES, Sweeps, stateOf } from "./sweeps.js";
 import { $, Player } from "./player.js";
 import { PythonRules, WITHOUT_SERVER } from "./rules.js";
 
@@ -35,20 +42,24 @@ const python = new PythonRules(({ motion, change }, isNew) => {
 }, complain);
 const player = new Player({
   shot: count,
+  rule: step => step < 0 ? undefined : ruleAt(step),
+  keys: { b: brake, B: brake },
   moved(now) {
     if (inForce() !== shown) show();
     if (now - drawn > 100 || !player.playing) drawDiagram(now);
   },
   over() { settle(); drawDiagram(); },
 }, complain);
+const comparison = new Comparison(player, complain);
 globalThis.lab = { // for the console and for tests
-  player, colour, python, open: (name, source) => load(name, source).catch(complain), get job() { return job; }, get marks() { return marks; }, get table() { return table; }, get isWriting() { return since < Infinity; },
+  player, comparison, colour, python, open: (name, source) => load(name, source).catch(complain), get job() { return job; }, get marks() { return marks; }, get table() { return table; }, get isWriting() { return since < Infinity; },
   rows: () => rowsOf(player.view, $("spacetime").clientWidth, $("spacetime").clientHeight),
 };
 
 /** The rule that the cars follow at the step that is shown. */
 let shown = null;
-const inForce = () => job.rules.findLast(rule => rule.at <= Math.max(0, player.step)) ?? job.rules[0];
+const inForce = () => ruleAt(Math.max(0, player.step));
+function ruleAt(step) { return job.rules.findLast(rule => rule.at <= step) ?? job.rules[0]; }
 
 // Runs
 
@@ -57,12 +68,13 @@ function drive(source, step = -1) {
   settle();
   const { length, lanes, steps } = job;
   const open = (from, signal) => answer(`run?skip=${bytesBefore(from, { length, lanes })}`, source, signal);
-  means = { from: Math.max(0, step) + Math.min(200, steps >> 2), sum: 0, steps: 0, limit: job.limit, density: job.cars / length / lanes };
+  means = { from: Math.max(0, step) + Math.min(200, steps >> 2), sum: 0, steps: 0, limit: job.limit, length, lanes, density: job.cars / length / lanes };
   since = Infinity;
   if (!stays) complain("");
   stays = false;
   if (step < 0) player.load(open, job);
   else player.resume(open, steps, step);
+  comparison.follow(job);
 }
 function count(shot) {
   if (!means || shot.step <= means.from) return;
@@ -70,7 +82,8 @@ function count(shot) {
 }
 /** The last run becomes a point of the fundamental diagram: its flow, averaged without the first 200 steps. */
 function settle() {
-  if (means?.steps >= 10) marks.push({ limit: means.limit, points: [{ density: means.density, flow: means.sum / means.steps }] });
+  const { limit, length, lanes, density, sum, steps } = means ?? {};
+  if (steps >= 10) marks.push({ limit, length, lanes, points: [{ density, flow: sum / steps }] });
   marks.splice(0, marks.length - 200);
   means = null;
 }
@@ -110,6 +123,17 @@ function changeRule(what) {
   }
   job.rules = [...job.rules.filter(other => other.at < step), { ...rule, at: step }];
   return runJob(step);
+}
+/** The followed car brakes to a stop: the run goes on from this road, as a new job. */
+async function brake() {
+  const { car, film } = player, { length, lanes, limit } = job;
+  if (!car || since < Infinity || film.length !== length || film.lanes !== lanes || film.limit !== limit) return;
+  job = disturbed(job, film, car);
+  $("story").textContent = disturbanceWords(car, lanes);
+  await begin();
+  player.car = { ...car, step: 0 };
+  player.redraw();
+  show(true);
 }
 /** Change the length or the lanes, and keep the density. */
 function resize(what) {
@@ -175,6 +199,7 @@ function show() {
   $("q").parentNode.hidden = rule.model !== "vdr" && rule.model !== "rickert";
   $("q").parentNode.querySelector("label").textContent = rule.model === "vdr" ? "When stopped" : "Lane changes";
   $("start").querySelector("[value=file]").hidden = !job.road;
+  tellModel(rule.model);
   $("own").hidden = !own;
   $("changepart").hidden = job.lanes === 1;
   python.compare(rule, job.lanes);
@@ -205,43 +230,30 @@ function known(asked) {
   }
 }
 const diagram = () => ({
-  limit: job.limit, density: job.cars / (job.length * job.lanes), flow: means?.steps ? means.sum / means.steps : null, marks, exact: exactNow(),
+  limit: job.limit, length: job.length, lanes: job.lanes, density: job.cars / (job.length * job.lanes),
+  flow: means?.steps ? means.sum / means.steps : null, marks, exact: exactNow(),
 });
 function drawDiagram(now = 0) {
-  $("diagram").innerHTML = diagramOf(diagram());
+  const what = diagram();
+  $("diagram").setAttribute("viewBox", boxOf(what));
+  $("diagram").innerHTML = diagramOf(what);
   drawn = now;
 }
 const nameOf = ({ model, p, q }) => ({ nasch: `p ${p}`, vdr: `p ${p}, ${q}`, rickert: `p ${p}, two lanes`, own: "own program" })[model];
-/** Run a sweep, whose table becomes a curve. Its progress is shown on the button. */
-async function sweep(source, name) {
-  $("sweep").disabled = true;
-  try {
-    const reader = (await answer("sweep", source)).body.pipeThrough(new TextDecoderStream()).getReader();
-    let all = "";
-    for (let part = await reader.read(); !part.done; part = await reader.read()) {
-      all += part.value;
-      $("sweep").textContent = `${/.*trlab: (\d+) %/s.exec(all)?.[1] ?? 0} %`;
-    }
-    table = all.replace(/^trlab: .*\n/gm, "");
-    if (!table.startsWith("cars,")) throw new Error(messageOf(await explain("sweep", source)));
-    marks.push({ name, limit: +/^limit (\d+)/m.exec(source)[1], points: pointsOf(table) });
-    $("savesweep").disabled = false;
-    drawDiagram();
-  } catch (fault) {
-    complain(fault);
-  }
-  $("sweep").textContent = "Sweep";
-  $("sweep").disabled = false;
-}
+const sweeps = new Sweeps((mark, csv) => {
+  marks.push(mark);
+  table = csv;
+  $("savesweep").disabled = false;
+  drawDiagram();
+}, complain);
 const SWEEP = { warm: { least: 0, most: 10000, isWhole: true }, measure: { least: 1, most: 10000, isWhole: true } };
-function sweepNow() {
+/** Sweep the road with the rule in force, from its initial state or from several ones. */
+function sweepNow(id, states) {
   const [warm, measure] = Object.keys(SWEEP).map(id => attempt($(id), () => numberOf($(id).value, SWEEP[id])));
   if (warm === undefined || measure === undefined) return;
-  try {
-    sweep(sweepFile({ ...job, rule: inForce(), warm, measure }), nameOf(inForce()));
-  } catch (fault) {
-    complain(fault);
-  }
+  const now = structuredClone(job), rule = { ...inForce(), at: 0 };
+  const write = (kind, more) => (kind === "sweep" ? sweepFile : jobFile)({ ...now, rule, rules: [rule], ...more });
+  return sweeps.from(id, now, nameOf(rule), { warm, measure }, states, write);
 }
 
 // Inputs that you type
@@ -311,7 +323,14 @@ async function load(name, source) {
   }
   job = jobOf(source);
   await begin();
-  await sweep(source, name.replace(".sweep", "").replaceAll("_", " "));
+  await sweeps.file(source, name.replace(".sweep", "").replaceAll("_", " "));
+}
+/** An example that has no file: set the controls, and sweep from moving and from jammed cars. */
+async function showBranches(what) {
+  Object.assign(job, structuredClone(what));
+  await begin();
+  show(true);
+  await sweepNow("branches", BRANCHES);
 }
 /** Rules in Python drive the road from the start; if they change lanes, there are two of them. */
 function loadPython(source) {
@@ -331,6 +350,12 @@ function save(name, parts, type) {
   link.download = name;
   link.click();
   setTimeout(() => URL.revokeObjectURL(link.href), 10000);
+}
+/** The film of the whole run, from its start. */
+async function saveFilm() {
+  $("savefilm").disabled = true;
+  await lastFile().then(filmOf).then(parts => save("traffic.html", parts, "text/html")).catch(complain);
+  $("savefilm").disabled = false;
 }
 const saveTable = () => lastFile().then(file => answer("series", file)).then(got => got.blob()).then(blob => save("series.csv", [blob], "text/csv")).catch(complain);
 function saveFigure() {
@@ -375,15 +400,24 @@ function listen() {
   for (const id in SWEEP) watch($(id), id, written => numberOf(written, SWEEP[id]), () => $(id).value = $(id).defaultValue);
   $("controls").addEventListener("submit", event => event.preventDefault());
   const click = {
-    newkey: () => again({ key: String(crypto.getRandomValues(new Uint32Array(1))[0]) }), sweep: sweepNow, clear: () => { marks = []; drawDiagram(); },
-    open: () => $("file").click(), savejob: () => lastFile().then(file => save("traffic.job", [file], "text/plain")), savetable: saveTable,
+    brake, newkey: () => again({ key: String(crypto.getRandomValues(new Uint32Array(1))[0]) }), clear: () => { marks = []; drawDiagram(); },
+    open: () => $("file").click(), savejob: () => lastFile().then(file => save("traffic.job", [file], "text/plain")), savetable: saveTable, savefilm: saveFilm,
     savesweep: () => save("sweep.csv", [table], "text/csv"), savefigure: saveFigure, link: copyLink,
   };
   for (const id in click) $(id).onclick = click[id];
+  $("sweep").onclick = () => sweepNow("sweep", [stateOf(job.start)]);
+  $("units").onchange = () => {
+    units.now = $("units").value;
+    player.legend(job.limit);
+    player.redraw();
+    drawDiagram();
+  };
+  $("branches").onclick = () => sweepNow("branches", BRANCHES);
   $("file").onchange = event => event.target.files[0] && openFile(event.target.files[0]);
   $("example").onchange = event => {
-    const name = event.target.value;
-    if (name) load(name, examples[name]).catch(complain);
+    const name = event.target.value, found = tellExample(name);
+    if (found?.job) showBranches(found.job).catch(complain);
+    else if (name) load(name, examples[name]).catch(complain);
   };
   $("numbers").ontoggle = () => player.redraw();
   $("diagram").onclick = event => {
@@ -398,7 +432,7 @@ function listen() {
 }
 async function start() {
   examples = await exampleInputs();
-  $("example").append(...Object.keys(examples).map(name => new Option(name, name)));
+  listExamples($("example"), examples);
   listen();
   await openLink();
   if (!player.film) begin();

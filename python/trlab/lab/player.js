@@ -4,6 +4,8 @@
 import { clamp, upTo } from "./job.js";
 import { Film, Run } from "./film.js";
 import { colour } from "./colours.js";
+import { followedWords } from "./following.js";
+import { shownAs, speedWords, tellUnits, unitOf } from "./units.js";
 import { Rows, bandAt, carNow, drawBands, drawCurves, drawRing, fresh, isMixed, ringAt, rowsOf, smooth } from "./draw.js";
 
 export const $ = id => document.getElementById(id);
@@ -11,7 +13,7 @@ const calm = matchMedia("(prefers-reduced-motion: reduce)").matches;
 const REST = 5000; // After so long a pause, in milliseconds, a run ends; it is run again when needed.
 
 export class Player {
-  /** `hear` has shot(shot), moved() and over(), and each may be missing. `fail` shows a message. */
+  /** `hear` has shot(shot), moved(), over(), rule(step) and keys, and each may be missing. `fail` shows a message. */
   constructor(hear, fail) {
     Object.assign(this, { hear, fail, film: null, run: null, step: -1, car: null, lens: 0, phase: 1, drawn: -1 });
     Object.assign(this, { playing: !calm, moving: false, isDue: false, stale: true, rows: new Rows(), before: 0, paused: 0 });
@@ -111,30 +113,32 @@ export class Player {
 
   tell() {
     const { film, step, car } = this, last = name => smooth(film, name, step, step)[0];
-    const [flow, speed, stopped] = [last("flow").toFixed(3), last("speed").toFixed(2), `${Math.round(100 * last("stopped"))} %`];
-    const followed = car && `You follow the car in ${film.lanes === 2 ? `lane ${car.lane}, ` : ""}cell ${car.cell}, at ${film.speed(car)} cells per step.`;
+    const [flow, speed, stopped] = [shownAs("flow", last("flow")), shownAs("speed", last("speed")), `${Math.round(100 * last("stopped"))} %`];
+    const followed = car && followedWords(film, car, this.hear.rule?.(car.step - 1));
     const words = {
-      step, steps: `of ${film.steps} steps`, flow, speed, stopped, dense: (film.of(step).cars / (film.length * film.lanes)).toFixed(3),
+      step, steps: `of ${film.steps} steps`, flow, speed, stopped, dense: shownAs("density", film.of(step).cars / (film.length * film.lanes)),
       kept: `The page keeps the last ${film.most.toLocaleString("en")} snapshots: back to step ${film.first.toLocaleString("en")}.`,
       car: followed ?? (this.hint ??= $("car").textContent),
       mixed: isMixed(film, $("spacetime").clientWidth) ? "Colours of pixels are mean speeds, paler where there are fewer cars." : "",
     };
     for (const id in words) $(id).textContent = words[id];
     $("follow").setAttribute("aria-pressed", car !== null);
-    if (!this.playing) $("silent").textContent = `Step ${step}: flow ${flow}, mean speed ${speed}, stopped ${stopped}. ${followed ?? ""}`;
+    if ($("brake")) $("brake").disabled = car === null;
+    if (!this.playing) $("silent").textContent = `Step ${step}: flow ${flow} ${unitOf("flow").words}, mean speed ${speed} ${unitOf("speed").words}, stopped ${stopped}. ${followed ?? ""}`;
     if ($("numbers")?.open) this.fillNumbers();
   }
   /** The last ten steps as a table. */
   fillNumbers() {
     const { film, step } = this, shots = upTo(Math.min(10, step - film.first + 1)).map(k => film.of(step - k));
-    const cells = ({ step, flow, speed, stopped }) => [step, flow.toFixed(4), speed.toFixed(3), stopped.toFixed(3)];
+    const cells = ({ step, flow, speed, stopped }) => [step, shownAs("flow", flow, 1), shownAs("speed", speed, 1), stopped.toFixed(3)];
     $("rows").innerHTML = shots.map(it => `<tr><td>${cells(it).join("</td><td>")}</td></tr>`).join("");
   }
   legend(limit) {
     const most = Math.min(limit, 9), bars = upTo(most + 1).map(() => document.createElement("i"));
     bars.forEach((bar, k) => bar.style.background = `rgb(${colour(k / most)})`);
-    $("legend").replaceChildren("stopped", ...bars, `${limit} cells per step`);
-    $("legend").setAttribute("aria-label", `Colours: dark red for stopped cars, dark blue for ${limit} cells per step`);
+    $("legend").replaceChildren("stopped", ...bars, speedWords(limit));
+    $("legend").setAttribute("aria-label", `Colours: red for stopped cars, blue for ${speedWords(limit)}`);
+    tellUnits(limit);
   }
 
   // Controls
@@ -236,6 +240,7 @@ export class Player {
     const what = {
       " ": () => this.setPlaying(!this.playing), ArrowRight: () => this.one(), ArrowLeft: () => this.back(), Home: () => this.restart(),
       ArrowUp: () => this.neighbour(1), ArrowDown: () => this.neighbour(-1), Escape: () => this.choose(null),
+      ...this.hear.keys,
     }[event.key];
     if (!what || !this.scene) return;
     event.preventDefault();

@@ -22,6 +22,7 @@ from typing import Any, Optional
 from .._runs.location import find_program
 from .._runs.signals import exit_status, need_exit_statuses
 from . import rules
+from .export import film_page
 from .scripts import HERE, reached
 from .strangers import Strangers
 
@@ -170,6 +171,8 @@ class Page(BaseHTTPRequestHandler):
         name = self.allowed()
         if name == "examples":
             self.answer(200, json.dumps(examples()).encode(), "application/json")
+        elif name == "film":
+            self.answer(200, film_page().encode())
         elif name in FILES:
             file, kind = FILES[name]
             self.answer(200, (HERE / file).read_bytes(), kind)

@@ -10,6 +10,7 @@ import sys
 from collections.abc import Mapping
 from pathlib import Path
 
+from .export import film_page
 from .scripts import HERE, element, joined, sum_of
 from .server import examples
 
@@ -26,6 +27,7 @@ def whole_page(module: bytes, inputs: Mapping[str, str]) -> str:
     policy = _POLICY.format(script=sum_of(script), style=sum_of(style))
     parts = [
         element(json.dumps(kept).replace("<", "\\u003c"), 'type="application/json" id="examples"'),
+        element(json.dumps(film_page()).replace("<", "\\u003c"), 'type="application/json" id="filmpage"'),
         element(joined("worker"), 'type="text/plain" id="worker"'),
         element(base64.b64encode(gzip.compress(module, 9, mtime=0)).decode(), 'type="text/plain" id="program"'),
         element(script, 'type="module"'),

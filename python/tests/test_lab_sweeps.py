@@ -1,0 +1,94 @@
+"""Sweeps of the page from every initial state: the numbers are those of `trlab sweep` and of Python's `Sweep`."""
+import re
+import unittest
+
+import trlab
+from tests.browsers import missing
+from tests.lab_pages import OnPage
+from trlab import Job, Nasch, SlowToStart, Sweep
+from trlab._runs.calls import ask
+
+ROW = "return (await import('./sweeps.js')).rowOf(...words)"
+BRANCHES = {"moving": trlab.moving, "jam": trlab.jammed}
+
+
+class SweepsOfThePage(OnPage):
+    """The tests, in one browser."""
+
+    def small(self):
+        """A short ring and short runs, so that sweeps take little time."""
+        self.page.set("stepcount", 5)
+        for name, value in ("key", 7), ("length", 60), ("limit", 3), ("warm", 5), ("measure", 8):
+            self.page.set(name, value)
+        self.page.set("model", "vdr")
+        self.page.set("p", "0.25")
+        self.page.set("q", "0.75")
+        self.hold(lambda: not self.page.js("return lab.isWriting"))
+        self.has_line("rule vdr 536870912 1610612736\n")
+        self.pause()
+
+    def swept(self, **changes):
+        cars = sorted({round(k / 50 * 60 if k <= 16 else (0.32 + (k - 16) * 0.045) * 60) for k in range(1, 31)})
+        what = {"limit": 3, "rule": SlowToStart("1/4", "3/4"), "length": 60, "warm": 5, "measure": 8, "cars": cars, "key": 7}
+        return Sweep(**{**what, **changes}).sweep()
+
+    def curves(self):
+        return self.page.js("return lab.marks.filter(it => it.name).map(it => [it.name, it.start, it.points.map(it => [it.density, it.flow])])")
+
+    def test_a_row_is_that_of_a_sweep(self):
+        # On two lanes a sweep counts its cars in another order than a job, so that they draw other random numbers.
+        for cars, lanes, warm, measure in (4, 1, 2, 7), (30, 1, 0, 1), (0, 1, 3, 3), (31, 2, 10, 90), (60, 1, 1, 5):
+            what = {"limit": 5, "rule": Nasch("1/3" if lanes == 1 else 0), "length": 60, "lanes": lanes, "key": 5}
+            with self.subTest(cars=cars, lanes=lanes):
+                sweep = ask(["sweep"], Sweep(**what, warm=warm, measure=measure, cars=[cars]).text())
+                job = Job(**what, cars=cars, start=trlab.even, steps=warm + measure).text()
+                self.assertEqual(self.page.later(ROW, job, warm), sweep.splitlines()[1])
+
+    def test_a_sweep_from_each_state(self):
+        self.small()
+        for name, start in ("even", trlab.even), ("random", trlab.random_cells(7)):
+            with self.subTest(state=name):
+                self.page.set("start", name)
+                self.hold(lambda: self.page.js("return lab.job.start") == name and not self.page.js("return lab.isWriting"))
+                self.page.click("clear")
+                self.page.click("sweep")
+                self.hold(lambda: len(self.curves()) == 1)
+                wanted = self.swept(start=start)
+                [[label, state, points]] = self.curves()
+                self.assertEqual((label, state), ("p 0.25, 0.75", name))
+                self.assertEqual(points, [[it.density, it.flow] for it in wanted])
+                self.assertEqual(self.page.js("return lab.table"), wanted.text())
+                self.hold(lambda: self.page.text("sweep") == "Sweep" and not self.page.js("return document.getElementById('sweep').disabled"))
+        self.assertEqual(self.page.text("fault"), "")
+
+    def test_both_branches(self):
+        self.small()
+        self.page.click("clear")
+        self.page.click("branches")
+        self.hold(lambda: len(self.curves()) == 2)
+        self.assertEqual([state for _, state, _ in self.curves()], ["moving", "jam"])
+        for name, state, points in self.curves():
+            self.assertEqual(points, [[it.density, it.flow] for it in self.swept(start=BRANCHES[state])])
+        rows = self.page.js("return [...document.querySelectorAll('.legend-row')].map(it => it.textContent)")
+        self.assertEqual(rows, [f"p 0.25, 0.75, {state} start: v_max 3, 60 cells" for state in ("moving", "jammed")])
+        colours = self.page.js("return [...document.querySelectorAll('#diagram polyline:not(.exact)')].map(it => it.getAttribute('stroke')).slice(-2)")
+        self.assertEqual(len(set(colours)), 2)
+
+    def test_moving_cars_replay(self):
+        self.page.set("start", "moving")
+        self.has_job(Job(limit=5, length=1000, cars=150, start=trlab.moving, rule=Nasch("1/4"), steps=5000, key=1).text())
+        self.assertEqual(set(re.search("^lane (.*)$", self.page.job(), re.M)[1]), {".", "5"})
+
+
+@unittest.skipIf(missing("chromium"), missing("chromium"))
+class InChromium(SweepsOfThePage, unittest.TestCase):
+    browser = "chromium"
+
+
+@unittest.skipIf(missing("firefox"), missing("firefox"))
+class InFirefox(SweepsOfThePage, unittest.TestCase):
+    browser = "firefox"
+
+
+if __name__ == "__main__":
+    unittest.main()

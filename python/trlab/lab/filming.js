@@ -1,0 +1,36 @@
+// A film: one file that plays the run without a server, as `trlab-lab --export` writes it.
+
+import { answer, filmPage } from "./carrier.js";
+import { bytesBefore } from "./film.js";
+import { jobOf } from "./reading.js";
+
+const MOST_BYTES = 2 ** 28;
+const TOO_LONG = "The run is too long for a film: its snapshots may have 256 MiB before they are compressed. Choose fewer steps or a shorter road.";
+const MODELS = {
+  nasch: ({ p }) => `Nagel and Schreckenberg (1992), p = ${p}`,
+  vdr: ({ p, q }) => `Barlovic et al. (1998), p = ${p}, and ${q} if stopped`,
+  rickert: ({ p, q }) => `Rickert et al. (1996), p = ${p}, lane changes with ${q}`,
+  own: () => "A rule of one's own",
+};
+/** The model, its probabilities, the random seed and the road in words. */
+function leadOf({ rules, key, cars, lanes, length, limit }) {
+  const model = MODELS[rules[0].model](rules[0]), later = rules.length > 1 ? ", later another rule" : "";
+  return `${model}${later}, random seed ${key}: ${cars} ${cars === 1 ? "car" : "cars"} on ${lanes === 2 ? "two rings" : "a ring"} of ` +
+    `${length} cells, at most ${limit} cells per step`;
+}
+const base64 = blob => new Promise((go, fail) => {
+  const reader = new FileReader();
+  Object.assign(reader, { onload: () => go(reader.result.split(",")[1]), onerror: () => fail(reader.error) });
+  reader.readAsDataURL(blob);
+});
+const safe = words => words.replace(/[&<>"']/g, it => `&#${it.charCodeAt(0)};`);
+
+/** The parts of the page that plays the run of a job file. */
+export async function filmOf(source) {
+  const job = jobOf(source), lead = leadOf(job), { length, lanes, limit, steps } = job;
+  if (bytesBefore(steps + 1, job) > MOST_BYTES) throw new Error(TOO_LONG);
+  const output = (await answer("run", source)).body.pipeThrough(new CompressionStream("gzip"));
+  const run = await base64(await new Response(output).blob());
+  const filled = { title: safe(lead), lead: safe(`${lead}.`), job: JSON.stringify({ length, lanes, limit, steps }), run };
+  return (await filmPage()).split(/@(title|lead|job|run)@/).map((part, k) => k % 2 ? filled[part] : part);
+}
