@@ -41,11 +41,11 @@ export function partsOf(name, number) {
     () => `${name} is ${shown(number)}, which is ${nearest} in multiples of 1 / 2**31: write ${nearest}`);
   return found;
 }
-/** The shortest decimal of a probability in a file. Ten digits suffice, because they are closer than half of 1 / 2**31. */
-export function decimalOf(found) {
-  const exact = found / ALWAYS;
+/** The shortest rounded decimal of a probability in a file, or of a number that files write in the same way. Ten digits suffice,
+ * because they are closer than half of 1 / 2**31. */
+export function decimalOf(found, number = found / ALWAYS) {
   for (let power = 1; ; power *= 10) {
-    const decimal = Math.round(exact * power) / power;
+    const decimal = Math.round(number * power) / power;
     if (parts(decimal) === found) return decimal;
   }
 }

@@ -27,7 +27,7 @@ export function probabilityOf(text) {
   if (found % ALWAYS === 0 && nearest !== number) {
     throw new NumberError(`${shortened(text.trim())} would be ${nearest} in a file, which has multiples of 1 / 2^31: write ${nearest}.`);
   }
-  return decimalOf(found);
+  return decimalOf(found, number);
 }
 /** A random seed, as decimal digits: it may be too large for a number. */
 export function seedOf(text) {
