@@ -71,6 +71,11 @@ class OnPage:
         """The processes that run jobs for pages, without those that explain files."""
         return [child for child in list(self.lab.children) if child.args[1] == "run"]
 
+    def only_run(self):
+        """The process of the only run, or None."""
+        found = self.runs()
+        return found[0] if len(found) == 1 else None
+
     def follows_none(self):
         self.page.keys(Keys.ESCAPE)
         self.hold(lambda: self.page.js("return lab.player.car") is None)

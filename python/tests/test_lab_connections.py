@@ -16,7 +16,7 @@ import unittest
 from pathlib import Path
 from unittest import mock
 
-from tests.test_lab import EXAMPLES, LONG, TOP, Serving
+from tests.test_lab import EXAMPLES, TOP, Serving
 from tests.waiting import LIMIT, first_of, holds
 from trlab import Job, Nasch
 from trlab.lab import Lab, page_of, server

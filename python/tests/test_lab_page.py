@@ -13,6 +13,7 @@ from xml.etree import ElementTree
 import trlab
 from tests.browsers import Keys, Window, missing
 from tests.lab_pages import SHOTS, OnPage, snapshots
+from tests.waiting import first_of
 from trlab import Job, Nasch, Rickert, SlowToStart
 from trlab.lab import server
 from trlab.lab.__main__ import fragment
@@ -572,8 +573,8 @@ class Pages(OnPage):
 
     def test_an_interrupted_run(self):
         self.page.set("length", 100000)
-        self.hold(lambda: self.page.js("return lab.player.film.length") == 100000 and self.page.step() >= 0 and len(self.runs()) == 1)
-        os.kill(self.runs()[0].pid, signal.SIGKILL)
+        self.hold(lambda: self.page.js("return lab.player.film.length") == 100000 and self.page.step() >= 0)
+        os.kill(first_of(self.only_run).pid, signal.SIGKILL)
         self.hold(lambda: self.page.text("fault") != "")
         self.page.set("length", 1000)
         self.hold(lambda: self.page.text("fault") == "" and self.page.step() > 2)
@@ -594,8 +595,9 @@ class Pages(OnPage):
 
     def test_reloading(self):
         self.page.set("stepcount", 500000)
-        self.hold(lambda: len(self.runs()) == 1 and self.page.step() > 2)
-        [child] = self.runs()
+        self.has_line("\nsteps 500000\n")
+        self.hold(lambda: not self.page.js("return lab.isWriting") and self.page.step() > 2)
+        child = first_of(self.only_run)
         self.page.refresh()
         self.hold(lambda: self.page.js("return window.lab?.player.step > 2"))
         self.hold(lambda: child.returncode is not None)

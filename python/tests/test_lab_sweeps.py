@@ -16,7 +16,10 @@ class SweepsOfThePage(OnPage):
     """The tests, in one browser."""
 
     def small(self):
-        """A short ring and short runs, so that sweeps take little time."""
+        """A short ring and short runs, so that sweeps take little time. At step 0 a new rule is that of the whole run."""
+        self.pause()
+        self.page.click("again")
+        self.hold(lambda: self.page.step() == 0)
         self.page.set("stepcount", 5)
         for name, value in ("key", 7), ("length", 60), ("limit", 3), ("warm", 5), ("measure", 8):
             self.page.set(name, value)
@@ -24,8 +27,7 @@ class SweepsOfThePage(OnPage):
         self.page.set("p", "0.25")
         self.page.set("q", "0.75")
         self.hold(lambda: not self.page.js("return lab.isWriting"))
-        self.has_line("rule vdr 536870912 1610612736\n")
-        self.pause()
+        self.has_line("\nrule vdr 536870912 1610612736\nsteps 5\n")
 
     def swept(self, **changes):
         cars = sorted({round(k / 50 * 60 if k <= 16 else (0.32 + (k - 16) * 0.045) * 60) for k in range(1, 31)})
