@@ -82,7 +82,8 @@ class Pages(Serving):
         for file in server.HERE.glob("*.*"):
             if file.suffix in {".html", ".css", ".js"}:
                 found = set(re.findall(r"(?:https?:)?//[\w.]+[^\s\"'`]*", file.read_text())) - {"http://www.w3.org/2000/svg"}
-                self.assertEqual([it for it in found if it.startswith("http")], [], file.name)
+                # Links to papers lead elsewhere, but only if you click them.
+                self.assertEqual([it for it in found if it.startswith("http") and not it.startswith("https://doi.org/")], [], file.name)
 
     def test_the_examples(self):
         wanted = {path.name: path.read_text() for path in EXAMPLES.iterdir() if path.suffix in {".job", ".sweep", ".rule", ".py"}}

@@ -23,6 +23,7 @@ from trlab.lab import Lab, page_of, server
 from trlab.lab.__main__ import fragment, main
 
 JAMS = (EXAMPLES / "jams.job").read_text()
+NO_RULES = b'{"text": "", "chosen": {}, "values": {}}'
 
 
 def is_closed(connection):
@@ -113,7 +114,7 @@ class Requests(Serving):
         answer = self.send(head % ("run", len(JAMS)), JAMS.encode())
         self.assertTrue(answer.startswith("HTTP/1.1 505 "), answer)
         self.assertNotIn("chunked", answer)
-        self.assertTrue(self.send(head % ("controls", len(JAMS)), JAMS.encode()).startswith("HTTP/1.1 200 "))
+        self.assertTrue(self.send(head % ("rules", len(NO_RULES)), NO_RULES).startswith("HTTP/1.1 200 "))
 
     def test_one_host_one_length(self):
         get = "GET /{token}/ HTTP/1.1\nHost: {netloc}\n%sConnection: close\n"
@@ -127,7 +128,7 @@ class Requests(Serving):
 
     def test_a_cut_input_is_refused(self):
         head = "POST /{token}/%s HTTP/1.1\nHost: {netloc}\nOrigin: http://{netloc}\nContent-Length: %d\n"
-        for name in "run", "explain/run", "controls":
+        for name in "run", "explain/run", "rules":
             answer = self.send(head % (name, len(JAMS) + 1), JAMS.encode(), cut=True)
             self.assertTrue(answer.startswith("HTTP/1.1 400 "), name)
             self.assertIn(f"The input is cut: {len(JAMS)} of {len(JAMS) + 1} bytes", answer)

@@ -224,7 +224,9 @@ class Whole(unittest.TestCase):
         sums = [f"'sha256-{base64.b64encode(hashlib.sha256(it.encode()).digest()).decode()}'" for it in (script, style)]
         self.assertEqual(policy, f"default-src 'none'; script-src {sums[0]} 'wasm-unsafe-eval'; style-src {sums[1]}; worker-src blob:; "
                          "img-src data:; base-uri 'none'; form-action 'none'")
-        addresses = set(re.findall(r"""\b\w+://[^\s"'`<]*|\b(?:src|href)=[^\s>]*""", self.text))
+        found = {it.replace("\\", "") for it in re.findall(r"""\b\w+://[^\s"'`<]*|\b(?:src|href)=[^\s>]*""", self.text)}
+        # Links to papers lead elsewhere, but only if you click them.
+        addresses = {it for it in found if not it.startswith("https://doi.org/")}
         self.assertEqual(addresses, {"http://www.w3.org/2000/svg", 'href="data:,"'})
         self.assertNotIn("import ", script)
 
