@@ -32,12 +32,16 @@ class ForEveryone(OnPage):
         page.set("model", "own")
         page.set("lanes", "2")
         page.set("against", "rickert")
-        self.hold(lambda: "Accepted" in page.text("changeverdict") and page.js("return !lab.isWriting && lab.job.lanes === 2"))
+        self.hold(lambda: page.js("return !lab.isWriting && lab.job.lanes === 2"))
+        self.hold(lambda: all("Accepted" in page.text(f"{name}verdict") for name in ("motion", "change", "text")))
         page.set("against", "vdr")
         page.set("againstp", "2")
         page.js("document.getElementById('numbers').open = true")
-        page.click("follow")
-        self.hold(lambda: "Its gap is" in page.text("car") and page.text("againstpwrong") != "")
+        # A new run follows no car, so that a car that was chosen too early has to be chosen again.
+        follows = """const {car, scene} = lab.player;
+            if (!car && scene) document.getElementById('follow').click();
+            return lab.player.car !== null"""
+        self.hold(lambda: page.js(follows) and "Its gap is" in page.text("car") and page.text("againstpwrong") != "")
 
     def test_roles_and_names(self):
         self.open_everything(self.page)

@@ -124,6 +124,8 @@ class FilePages(InFile, Pages):
         self.page.set("model", "own")
         self.hold(lambda: "Rules in Python need the command trlab-lab" in self.page.text("pythonverdict"))
         self.assertTrue(self.page.js("return document.getElementById('python').hidden"))
+        # A run that begins takes a message away.
+        self.hold(lambda: not self.page.js("return lab.isWriting"))
         self.open(server.examples()["overtake.py"], "overtake.py")
         self.hold(lambda: "Rules in Python need the command trlab-lab" in self.page.text("fault"))
 
